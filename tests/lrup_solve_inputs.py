@@ -112,7 +112,7 @@ def earlier_run(work: Path) -> None:
         written("of an earlier run\n", kept, name)
     written("\n".join([*names, "round-1.str"]), kept, "files")     # it was killed before it had written a name
     shutil.copy(example("bmc.cnf"), kept / "formula.cnf")
-    in_shell('cat "$2"/formula.cnf | "$0" --lrupd "$1" -j 2 --proofs "$2" -', SOLVE, PROGRAM, kept)
+    in_shell('cat "$2"/formula.cnf | "$0" --lrupd "$1" -j 2 --replace --proofs "$2" -', SOLVE, PROGRAM, kept)
     one = ["round-1.sizes", "round-1.stream-1"]
     found = ["command", "files", "formula.cnf", "formula.sha256", "report", *one, "round-1.stream-2"]
     want(sorted(os.listdir(kept)), sorted([*others, *found]), "what is there")
@@ -120,7 +120,7 @@ def earlier_run(work: Path) -> None:
     want((kept / "formula.cnf").read_text(), example("bmc.cnf").read_text(), "the formula")
     check_again(kept)
     one_round = {"FIRST_WORDS": 1 << 24}      # no machine fills its row before it is ended
-    with started(command(["-j", "1", "--proofs", kept, generated("pigeons 11", work)], one_round), env=in_environment(one_round),
+    with started(command(["-j", "1", "--replace", "--proofs", kept, generated("pigeons 11", work)], one_round), env=in_environment(one_round),
                  stdout=subprocess.PIPE, text=True) as running:
         until("lrupd is there", lambda: "lrupd" in children_of(running.pid) or running.poll() is not None)
         running.terminate()
@@ -179,7 +179,7 @@ def own_files(name: str, work: Path) -> None:
     want(said, wanted, "what is said of a record without a list")
     check_again(own)
     for text, status in ((FOUR, 20), ("x", 1), ("p cnf 1 0\n", 10), ("p cnf 1 1\n2 0\n", 1), (FOUR, 20)):
-        want(solve(["--proofs", work / "kept", "-"], given=text).status, status, f"the status with {text}")
+        want(solve(["--replace", "--proofs", work / "kept", "-"], given=text).status, status, f"the status with {text}")
 
 
 def own_list(text: Optional[str], work: Path) -> None:
@@ -195,6 +195,27 @@ def own_list(text: Optional[str], work: Path) -> None:
     want(sorted(os.listdir(own)), ["files", "report"], "what is there")
 
 
+def replaced(work: Path) -> None:
+    """A record with a proof stays unless --replace says that it goes; one without goes."""
+    kept, words = work / "kept", ["-j", "1", "--proofs", work / "kept"]
+    said = f"lrup-solve: {kept} has the proof of an earlier run: --replace, or another --proofs\n"
+    cube, under = written("-2 0\n", work, "cube"), written("p cnf 2 2\n1 2 0\n-1 2 0\n", work, "under")
+    sat = written("p cnf 1 1\n1 0\n", work, "sat")
+    for more, status in (([sat], 10), ([example("bmc.cnf")], 20), (["--assume", cube, under], 20), ([sat], 10), ([sat], 10)):
+        want(solve([*words, "--replace", *more]).status, status, "the status")
+        files = {path.name: path.read_bytes() for path in kept.iterdir()}
+        answer = solve([*words, example("four-clause.cnf")])
+        if status == 10:
+            want_answer(answer, 20)
+        else:
+            want((answer.out, answer.said, answer.status), ("", said, 1), "what is said of a record with a proof")
+            want({path.name: path.read_bytes() for path in kept.iterdir()}, files, "the record")
+    stream = (kept / "round-1.stream-1").rename(kept / "round-1.stream-1.xz")
+    answer = solve([*words, "--replace", sat])
+    own = f"lrup-solve: {stream} is there, and isn't of an earlier run: another --proofs\n"
+    want((answer.out, answer.said, answer.status, stream.exists()), ("", own, 1, True), "what is said of a stream that somebody has packed")
+
+
 LISTS = ["link", "hard link", "pipe", "", "\n", "files", "report\n", "files\n../mine\n", "files\n\nreport\n", "files\nround-1.cnf\n",
          "files\nmine\n", "files\nround-1.stream-0\n", "files\n.new\n", "files\nreport\0\n", "files\nfiles/../report\n"]
 
@@ -203,7 +224,7 @@ def formula_of_a_round(work: Path) -> None:
     """The formula lies in the record, with the name of what lrupd saves."""
     kept = work / "kept"
     formula = written(generated("random 180 3", work).read_bytes(), kept, "round-1.cnf")
-    words, text = ["-j", "2", "--proofs", kept, formula], formula.read_text()
+    words, text = ["-j", "2", "--replace", "--proofs", kept, formula], formula.read_text()
     for _ in range(2):
         want_answer(solve(words, tested={"SAME_WORDS": 1, "SLICE": 40, "FIRST_WORDS": 20000}), 20)
         want(len(list(kept.glob("round-*.sizes"))) > 1, True, "whether there are several rounds")
@@ -524,7 +545,7 @@ def words_and_files() -> List[Row]:
     runs += [(f"an own {name}", own_files, name) for name in (
         "formula.cnf", "formula.sha256", "assumptions", "report", "command", ".report.new", "round-7.sizes", "round-2.stream-3")]
     runs += [(f"an own list {text!r}", own_list, text) for text in LISTS]
-    runs += [("a formula of a round", formula_of_a_round)]
+    runs += [("a formula of a round", formula_of_a_round), ("a record with a proof", replaced)]
     runs += [(f"TMPDIR of mode {mode:o}", open_to_others, mode, taken)
              for mode, taken in ((0o777, False), (0o757, False), (0o1777, True), (0o775, True))]
     runs += [(f"another folder in place, {ends.name}", another_in_place, ends) for ends in (signal.SIGKILL, signal.SIGTERM)]
@@ -607,7 +628,8 @@ def refusals() -> List[Row]:
                          (["--lrupd", "{work}/none", "{formula}"], "none"), (["--lrupd", "", "{formula}"], "not ''"),
                          (["--lrupd", "{work}", "{formula}"], "no lrupd"), (["--lrupd", "none", "{formula}"], "no lrupd"),
                          (["--proofs", "{work}/none/none", "{formula}"], "none/none"), (["--proofs", "", "{formula}"], "not ''"),
-                         (["--proofs", "{formula}", "{formula}"], "Not a directory"), (["--", "{formula}", "-v"], "too many: -v"),
+                         (["--proofs", "{formula}", "{formula}"], "Not a directory"),
+                         (["--replace", "{formula}"], "--replace without --proofs"), (["--", "{formula}", "-v"], "too many: -v"),
                          (["{work}/none"], "{work}/none: No such file or directory"),
                          (["{work}/a\nb"], "a\\nb': No such file or directory"),
                          (["--assume", "{work}/none", "{formula}"], "{work}/none: No such file or directory"),

@@ -45,7 +45,7 @@ void Inputs::find() {
     std::vector<std::string> inputs = { options.formula };
     if (options.assume) inputs.push_back(options.assume);
     for (const std::string &path : inputs) check_input(path);
-    if (options.proofs) open_record(options.proofs, inputs);
+    if (options.proofs) open_record(options.proofs, inputs, options.replace);
     formula_path = again(inputs[0], front.formula, "formula.cnf");
     if (options.assume) assume_path = again(inputs[1], front.assumptions, "assumptions");
     if (!options.proofs) return;

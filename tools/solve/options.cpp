@@ -29,7 +29,8 @@ const char summary[] =
     "  --no-share         engines that share nothing\n"
     "  --seed N           other runs of the engines\n"
     "  --proofs DIR       keep the streams of all rounds there, the report, and the command that checks them again:\n"
-    "                     sh DIR/command. Those of an earlier run are removed\n"
+    "                     sh DIR/command. Those of an earlier run without a proof are removed\n"
+    "  --replace          those of one with a proof, too\n"
     "  --core FILE        write an unsatisfiable core, and have lrupd check it\n"
     "  --lrat FILE        write the proof as LRAT text, without what isn't needed, and have lrupd check it\n"
     "  --re-hint          find hints anew for both, which are smaller then; it takes longer\n"
@@ -174,6 +175,7 @@ Options read_words(int count, char **list) {
         if (strcmp(word, "--") == 0) only_words = true;
         else if (strcmp(word, "--no-share") == 0) options.share = false;
         else if (strcmp(word, "--re-hint") == 0) options.rehint = true;
+        else if (strcmp(word, "--replace") == 0) options.replace = true;
         else if (strcmp(word, "--verbose") == 0) options.verbose = true;
         else if (strcmp(word, "--quiet") == 0) options.quiet = true;
         else if (is_of_letters(word)) {
@@ -186,6 +188,7 @@ Options read_words(int count, char **list) {
     }
     if (!options.formula) options.formula = "-";
     if (options.rehint && !options.core && !options.lrat) refuse("--re-hint without --core or --lrat");
+    if (options.replace && !options.proofs) refuse("--replace without --proofs");
     if (options.solvers.size() + size_t(options.engines) > MOST_ENGINES) refuse("more than 64 engines, with those of --solver");
     if (!options.solvers.empty() && options.mpi) refuse("--solver and --mpi: a solver shares nothing with engines elsewhere");
     if (!options.solvers.empty() && options.assume) refuse("--assume and --solver: a solver isn't told of assumptions");

@@ -42,15 +42,19 @@ const char LIST[] = "files";
 int list_file = -1;
 std::set<std::string> listed;
 
-// round-R.stream-K or round-R.sizes.
+// round-R.stream-K, which somebody may have packed, or round-R.sizes.
 bool is_of_a_round(const std::string &name) {
     auto is_number = [](const std::string &word) {
         return !word.empty() && word[0] != '0' && word.find_first_not_of("0123456789") == std::string::npos;
     };
     size_t dot = name.find('.');
     if (name.rfind("round-", 0) != 0 || dot == std::string::npos || !is_number(name.substr(6, dot - 6))) return false;
-    std::string rest = name.substr(dot + 1);
-    return rest == "sizes" || (rest.rfind("stream-", 0) == 0 && is_number(rest.substr(7)));
+    std::string rest = name.substr(dot + 1), number = rest.substr(std::min<size_t>(7, rest.size()));
+    for (const std::string &form : { std::string(".xz"), std::string(".gz"), std::string(".zst") }) {
+        size_t length = number.size() - std::min(number.size(), form.size());
+        if (number.substr(length) == form) number.resize(length);
+    }
+    return rest == "sizes" || (rest.rfind("stream-", 0) == 0 && is_number(number));
 }
 
 // A name that a run gives a file, also while that is written.
@@ -102,6 +106,15 @@ void read_list(const std::string &path) {
         listed.insert(name);
     }
     if (begin == 0 || ftruncate(list_file, off_t(begin)) != 0) refuse_own(path);
+}
+
+// By its report, which is lrupd's.
+bool has_proof() {
+    if (listed.count("report") == 0) return false;
+    int file = openat(record_folder, "report", O_RDONLY | O_NOFOLLOW | O_NONBLOCK | O_CLOEXEC);
+    std::string report = "\n" + (file < 0 ? "" : text_of(file));
+    if (file >= 0) close(file);
+    return report.find("\ns UNSATISFIABLE") != std::string::npos;
 }
 
 void list_anew(const std::string &path, const std::set<std::string> &names) {
@@ -249,7 +262,7 @@ static void hold_folder(const std::string &folder) {
 }
 
 // A file with a name of a record's that no list names is somebody's own.
-void open_record(const std::string &folder, const std::vector<std::string> &inputs) {
+void open_record(const std::string &folder, const std::vector<std::string> &inputs, bool replaces) {
     struct stat input, found;
     std::string list = folder + "/" + LIST;
     if (mkdir(folder.c_str(), 0775) != 0 && errno != EEXIST) refuse("cannot make " + folder + ": " + error_text());
@@ -260,6 +273,7 @@ void open_record(const std::string &folder, const std::vector<std::string> &inpu
             if (find(path, found) && find(name, input) && is_same(found, input))
                 refuse(path + " would be written over: another --proofs");
     read_list(list);
+    if (!replaces && has_proof()) refuse(folder + " has the proof of an earlier run: --replace, or another --proofs");
     for (const std::string &path : paths)
         if (listed.count(path.substr(folder.size() + 1)) == 0) refuse_own(path);
     if (list_file < 0) {

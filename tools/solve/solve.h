@@ -26,6 +26,7 @@ struct Options {
     const char *proofs = nullptr, *assume = nullptr, *mpi = nullptr, *formula = nullptr;
     const char *core = nullptr, *lrat = nullptr;     // to be written
     bool rehint = false;        // for both
+    bool replace = false;       // a record with a proof
     bool verbose = false, quiet = false;
 
     bool shares() const { return share && size_t(engines) > solvers.size() + 1; }
@@ -113,7 +114,7 @@ struct Place { int folder; std::string name; };         // for openat and the li
 
 extern int record_folder;                               // open; -1: none
 Place place_of(const std::string &path);                // what is in the record is in that folder, whatever has its name by now
-void open_record(const std::string &folder, const std::vector<std::string> &inputs);    // refuses to write over these
+void open_record(const std::string &folder, const std::vector<std::string> &inputs, bool replaces);     // refuses to write over these
 void clear_record(const std::string &folder, const std::vector<std::string> &kept);     // of an earlier run
 bool claim(const Place &place);                         // before a file is made; false: another's
 bool is_there(const std::string &path);
