@@ -43,7 +43,8 @@ def keeps_lrat(words: str, work: Path) -> None:
     """The stream of an engine alone, in one round, is LRAT, for any checker of that."""
     kept, formula = work / "kept", generated(words, work)
     want_answer(solve(["-j", "1", "--memory", "256M", "--proofs", kept, formula], tested={"FIRST_WORDS": 1 << 24}), 20)
-    want(sorted(os.listdir(kept)), ["command", "files", "formula.sha256", "report", "round-1.sizes", "round-1.stream-1"], "what is kept")
+    want(sorted(os.listdir(kept)), ["about", "command", "files", "formula.sha256", "report", "round-1.sizes", "round-1.stream-1"],
+         "what is kept")
     want(lrat_fault(read_formula(formula), (kept / "round-1.stream-1").read_text()), "", "as LRAT")
 
 
@@ -107,14 +108,14 @@ def earlier_run(work: Path) -> None:
     kept = work / "kept"
     rounds = [f"round-{k}.{name}" for k in (1, 2, 9, 10, 123) for name in ("sizes", "stream-1", "stream-2", "stream-64")]
     others = ["another", "round-0.sizes", "round-1.stream-", "round-1.stream-x", "round-2.cnf", "round-2.cnf.old", "round.cnf", "stream1"]
-    names = ["files", "report", "command", "formula.sha256", "formula.cnf", "assumptions", ".round-9.sizes.new", *rounds, "round-7.sizes"]
+    names = ["files", "about", "report", "command", "formula.sha256", "formula.cnf", "assumptions", ".round-9.sizes.new", *rounds, "round-7.sizes"]
     for name in [*names[1:-1], *others]:
         written("of an earlier run\n", kept, name)
     written("\n".join([*names, "round-1.str"]), kept, "files")     # it was killed before it had written a name
     shutil.copy(example("bmc.cnf"), kept / "formula.cnf")
     in_shell('cat "$2"/formula.cnf | "$0" --lrupd "$1" -j 2 --replace --proofs "$2" -', SOLVE, PROGRAM, kept)
     one = ["round-1.sizes", "round-1.stream-1"]
-    found = ["command", "files", "formula.cnf", "formula.sha256", "report", *one, "round-1.stream-2"]
+    found = ["about", "command", "files", "formula.cnf", "formula.sha256", "report", *one, "round-1.stream-2"]
     want(sorted(os.listdir(kept)), sorted([*others, *found]), "what is there")
     want([name for name in listed(kept) if name[0] != "."], found, "what is listed")
     want((kept / "formula.cnf").read_text(), example("bmc.cnf").read_text(), "the formula")
@@ -175,7 +176,7 @@ def own_files(name: str, work: Path) -> None:
     want(other.read_text(), "mine\n", "what stands there")
     (own / "files").unlink()
     said = solve(["--proofs", own, example("bmc.cnf")]).said
-    wanted = f"lrup-solve: {own}/command is there, and isn't of an earlier run: another --proofs\n"
+    wanted = f"lrup-solve: {own}/about is there, and isn't of an earlier run: another --proofs\n"
     want(said, wanted, "what is said of a record without a list")
     check_again(own)
     for text, status in ((FOUR, 20), ("x", 1), ("p cnf 1 0\n", 10), ("p cnf 1 1\n2 0\n", 1), (FOUR, 20)):
@@ -543,7 +544,7 @@ def words_and_files() -> List[Row]:
     runs += [(f"a folder of mode {mode:o}", others_write, mode, taken)
              for mode, taken in ((0o777, False), (0o757, False), (0o1777, True), (0o775, True), (0o700, True))]
     runs += [(f"an own {name}", own_files, name) for name in (
-        "formula.cnf", "formula.sha256", "assumptions", "report", "command", ".report.new", "round-7.sizes", "round-2.stream-3")]
+        "about", "formula.cnf", "formula.sha256", "assumptions", "report", "command", ".report.new", "round-7.sizes", "round-2.stream-3")]
     runs += [(f"an own list {text!r}", own_list, text) for text in LISTS]
     runs += [("a formula of a round", formula_of_a_round), ("a record with a proof", replaced)]
     runs += [(f"TMPDIR of mode {mode:o}", open_to_others, mode, taken)

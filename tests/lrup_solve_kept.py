@@ -16,11 +16,12 @@ import shutil
 import signal
 import subprocess
 import sys
+import time
 from pathlib import Path
 from typing import Dict, List, Optional, Sequence, Tuple
 
 sys.dont_write_bytecode = True
-from harness import (EXPLAIN, FILTER, FOUR, TRIM, Ran, Row, by_another, example, generated, needs, run, started, until, want,
+from harness import (EXPLAIN, FILTER, FOUR, ROOT, TRIM, Ran, Row, by_another, example, generated, needs, run, started, until, want,
                      words_given, written)
 from lrat import lrat_fault
 from proof_forms import Clause, read_formula
@@ -340,6 +341,31 @@ def lrupd_moved(work: Path) -> None:
     checked_by(["sh", "d/command"], work, formula, env={**os.environ, "PATH": f"{work}/elsewhere:{os.environ['PATH']}"})
 
 
+def about(engines: int, given: str, tested: Optional[Dict[str, object]], work: Path) -> None:
+    """What ran, on which words, where and when; and the digest of lrupd, and of each file but the list and itself."""
+    formula = written(generated("random 180 3", work).read_bytes(), work, "a formula")
+    words = ["-j", engines, "--proofs", "d", *([] if given else ["a formula"])]
+    how = {"given": formula.read_text()} if given else {}
+    want(solve(words, tested=tested, cwd=work, **how).status, 20, "the status")
+    text, _, digests = (work / "d" / "about").read_text().partition("\n\n")
+    found = dict(line.split(": ", 1) for line in text.splitlines())
+    want(list(found), ["date", "words", "folder", "programs", "kit", "machine", "verdict", "record"], "what is told")
+    told = time.mktime(time.strptime(found["date"], "%Y-%m-%d %H:%M:%S UTC")) - time.timezone
+    want(abs(time.time() - told) < 60, True, f"whether {found['date']} is now")
+    want((found["words"].endswith("--proofs d" if given else "--proofs d 'a formula'"), found["folder"], found["verdict"]),
+         (True, str(work), PROVED), f"what is told of the run: {text}")
+    version = (ROOT / "VERSION").read_text().strip()
+    want(found["programs"].startswith(f"lrupd {version}; lrup-solve {version}, with CaDiCaL "), True, found["programs"])
+    want(f"`{found['kit']}`" in (ROOT / "README.md").read_text(), True, found["kit"])
+    files = {path.name: path for path in (work / "d").iterdir() if path.name not in ("about", "files")}
+    rounds = len(list((work / "d").glob("round-*.sizes")))
+    want(found["record"].split(" round")[0], str(rounds), "how many rounds there are")
+    want(rounds > 1, tested is not None, "whether there are several")
+    files[PROGRAM] = Path(PROGRAM)
+    want({line[66:]: line[:66] for line in digests.splitlines()},
+         {name: hashlib.sha256(path.read_bytes()).hexdigest() + "  " for name, path in files.items()}, "the digests")
+
+
 def first_line_of(name: str, shown: str, work: Path) -> None:
     """A name makes no line of its own."""
     formula = written(generated("pigeons 5", work).read_bytes(), work, name)
@@ -492,6 +518,8 @@ def rows() -> List[Row]:
     found += [(f"checked in rounds, {core!r}", checked_in_rounds, core, lrat, name) for core, lrat, name in OUTPUTS]
     found += [(f"a pipe as {name or 'the formula'}", pipe_in_a_record, name) for name in
               ("", "d/formula.sha256", "d/round-1.stream-1", "d/round-1.sizes")]
+    found += [(f"about, {engines} engines{', by a pipe' * bool(given)}{', rounds' if tested else ''}", about, engines, given, tested)
+              for engines, given, tested in ((1, "", None), (2, "pipe", None), (2, "", SMALL))]
     found += [("several checks", several_checks), ("names a formula", names_a_formula), ("lrupd moved", lrupd_moved)]
     found += [(f"moved together{', assuming' * assumes}", moved_together, assumes) for assumes in (False, True)]
     found += [(f"digests by {tool or 'nothing'}", digests_by, tool) for tool in ("sha256sum", "shasum", "openssl", "")]

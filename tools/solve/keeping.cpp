@@ -2,8 +2,10 @@
 #include <algorithm>
 #include <cctype>
 #include <csignal>
+#include <ctime>
 
 #include <fcntl.h>
+#include <sys/utsname.h>
 #include <unistd.h>
 
 #include "checker.h"
@@ -136,6 +138,12 @@ std::string Keeping::verdict_on(const Output &output, const Wait &wait) const {
     return goes_on && is_proved && !said.empty() ? lines_of(said).back() : "";
 }
 
+bool Keeping::wait_for_version(Child &child, std::string &said, const Wait &wait) const {
+    bool goes_on = run_tool({ checker_program, "--version" }, child, said, wait);
+    said = said.substr(0, said.find('\n'));
+    return goes_on;
+}
+
 // What was written stays where lrupd takes it.
 std::string Keeping::keep_if_right(const char *path, const Output &output, const Wait &wait) const {
     std::string verdict = verdict_on(output, wait);
@@ -174,6 +182,32 @@ std::string Keeping::keep(bool is_proved, const Wait &wait) const {
     if (!lrat.told.empty()) display.tell(lrat.told);
     if (options.lrat) other = keep_if_right(options.lrat, lrat, wait);
     return other.empty() ? why : other;
+}
+
+// What ran, where and when, and what is in the record. lrupd says its version on standard error.
+std::string Keeping::describe(const Checker &checker, uint64_t rounds, const Wait &wait) const {
+    const Options &options = inputs.options;
+    Child child;
+    std::string said, here = absolute("");
+    if (!options.record || !wait_for_version(child, said, wait)) return "";
+    char date[64];
+    time_t seconds = time(nullptr);
+    strftime(date, sizeof date, "%Y-%m-%d %H:%M:%S UTC", gmtime(&seconds));
+    utsname machine = {};
+    uname(&machine);
+    double memory = double(sysconf(_SC_PHYS_PAGES)) * double(sysconf(_SC_PAGESIZE)) / 1e6;
+    std::string text = format("date: %s\n", date);
+    text += "words: " + one_line(options.words) + "\n";
+    text += "folder: " + one_line(here.substr(0, here.size() - 1)) + "\n";
+    text += "programs: " + one_line(said) + "; " + version() + ", for engines and filters\n";
+    text += "kit: " KIT "\n";
+    text += format("machine: %s %s %s, %ld processors, %.0f MB\n", machine.sysname, machine.release,
+                   machine.machine, sysconf(_SC_NPROCESSORS_ONLN), memory);
+    text += "verdict: " + lines_of(checker.report).back() + "\n";
+    text += format("record: %s, %s\n", counted(rounds, "round").c_str(),
+                   counted(bytes_of_record(), "byte").c_str());
+    text += "\n" + digest_line(checker_program) + digests_of_record(checker.digests);
+    return write_file(std::string(options.proofs) + "/about", text);
 }
 
 // Why lrupd hasn't taken a line.

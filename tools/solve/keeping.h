@@ -5,6 +5,7 @@
 
 #include <functional>
 
+#include "checker.h"
 #include "display.h"
 #include "inputs.h"
 
@@ -18,6 +19,7 @@ public:
     Keeping(Inputs &its_inputs, const Display &its_display) : inputs(its_inputs), display(its_display) {}
     void prepare(const std::string &program);           // before anything is solved; the one that is lrupd
     std::string keep(bool is_proved, const Wait &wait) const;   // why it can't, where it can't
+    std::string describe(const Checker &checker, uint64_t rounds, const Wait &wait) const;
     void explain(const std::string &report, const Wait &wait) const;
 
 private:
@@ -27,6 +29,7 @@ private:
 
     bool is_wanted() const { return inputs.options.core || inputs.options.lrat; }
     std::string keep_if_right(const char *path, const Output &output, const Wait &wait) const;
+    bool wait_for_version(Child &child, std::string &said, const Wait &wait) const;
     std::string verdict_on(const Output &output, const Wait &wait) const;
 };
 

@@ -46,8 +46,6 @@ const char summary[] =
     "After -- a word is the formula. Statuses: 10 satisfiable, 20 unsatisfiable (or so under the assumptions),\n"
     "0 unknown, 1 a mistake, or a file that can't be used.\n";
 
-std::string version() { return std::string(program_name) + " " + VERSION + ", with CaDiCaL " + engine_version() + "\n"; }
-
 class Words {
 public:
     Words(int count, char **words) : next(words + 1), end(words + count) {}
@@ -160,8 +158,14 @@ void take_formula(Options &options, const char *word) {
 
 }
 
+std::string version() {
+    return std::string(program_name) + " " + VERSION + ", with CaDiCaL " + engine_version();
+}
+
 Options read_words(int count, char **list) {
     Options options;
+    options.words = program_name;
+    for (int k = 1; k < count; k++) options.words += " " + quoted(list[k]);
     Words words(count, list);
     bool only_words = false;        // after --
     while (words.more()) {
@@ -171,7 +175,7 @@ Options read_words(int count, char **list) {
             continue;
         }
         if (strcmp(word, "--help") == 0 || strcmp(word, "-h") == 0) show(summary);
-        if (strcmp(word, "--version") == 0) show(version().c_str());
+        if (strcmp(word, "--version") == 0) show((version() + "\n").c_str());
         if (strcmp(word, "--") == 0) only_words = true;
         else if (strcmp(word, "--no-share") == 0) options.share = false;
         else if (strcmp(word, "--re-hint") == 0) options.rehint = true;
@@ -186,6 +190,7 @@ Options read_words(int count, char **list) {
         else if (word[0] == '-' && word[1] != 0) refuse(std::string("no such option: ") + word + " (--help lists them)");
         else take_formula(options, word);
     }
+    options.record = options.proofs;
     if (!options.formula) options.formula = "-";
     if (options.rehint && !options.core && !options.lrat) refuse("--re-hint without --core or --lrat");
     if (options.replace && !options.proofs) refuse("--replace without --proofs");

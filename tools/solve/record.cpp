@@ -10,6 +10,7 @@
 #include <fcntl.h>
 #include <sys/file.h>
 #include <sys/stat.h>
+#include <sys/statvfs.h>
 #include <unistd.h>
 
 #include "../exact/digest.h"
@@ -35,7 +36,7 @@ bool is_standard_input(const std::string &path) {
 }
 
 // Beside what rounds leave.
-const char *const NAMES[] = { "formula.cnf", "formula.sha256", "assumptions", "report", "command" };
+const char *const NAMES[] = { "about", "assumptions", "command", "formula.cnf", "formula.sha256", "report" };
 
 // The record's list of its files, itself the first one. A name is there before its file is made.
 const char LIST[] = "files";
@@ -302,6 +303,37 @@ void clear_record(const std::string &folder, const std::vector<std::string> &kep
             refuse("cannot remove " + path + ": " + error_text());
     }
     list_anew(folder + "/" + LIST, left);
+}
+
+std::string digests_of_record(const std::vector<std::string> &known) {
+    std::string lines;
+    std::set<std::string> left = listed;
+    for (const std::string &line : known) {
+        lines += line + "\n";
+        left.erase(line.substr(DIGEST_DIGITS + 2));
+    }
+    for (const std::string &name : left) {
+        char digest[DIGEST_DIGITS + 1];
+        int file = openat(record_folder, name.c_str(), O_RDONLY | O_NOFOLLOW | O_NONBLOCK | O_CLOEXEC);
+        if (file < 0 || name == LIST || name == "about") continue;
+        digest_file(file, name.c_str(), digest);
+        close(file);
+        lines += std::string(digest) + "  " + name + "\n";
+    }
+    return lines;
+}
+
+uint64_t bytes_of_record() {
+    uint64_t bytes = 0;
+    struct stat found;
+    for (const std::string &name : listed)
+        if (fstatat(record_folder, name.c_str(), &found, AT_SYMLINK_NOFOLLOW) == 0) bytes += uint64_t(found.st_size);
+    return bytes;
+}
+
+uint64_t free_bytes() {
+    struct statvfs found;
+    return fstatvfs(record_folder, &found) == 0 ? uint64_t(found.f_bavail) * found.f_frsize : 0;
 }
 
 // As sha256sum writes it: it marks a name that has such bytes in it.

@@ -24,6 +24,7 @@ void Run::prepare() {
     if (options.engines == 0 && options.solvers.empty()) options.engines = half_of_the_cores();
     options.engines += int(options.solvers.size());
     keeping.prepare(program);
+    checker.keeps_digests = options.record != nullptr;
     inputs.find();
     teams.open();
     inputs.read();
@@ -221,6 +222,7 @@ void Run::verdict() {
     bool is_proved = checker.child.ended_with(0) || checker.child.ended_with(8);
     bool is_unknown = checker.child.ended_with(UNKNOWN_STATUS);
     if (is_proved || is_unknown) unkept = rounds.keep_report();
+    has_report = (is_proved || is_unknown) && unkept.empty();
     if (is_proved) return finish(UNSATISFIABLE, "");
     finish(UNKNOWN_ANSWER, is_unknown ? "lrupd hasn't taken the proof" : "lrupd " + checker.child.end());
 }
@@ -259,6 +261,7 @@ void Run::end_all() {
     for (Child *child : children()) child->signal(SIGKILL);
     for (Child *child : children()) wait_for(*child);
     Keeping::Wait wait_for_end = [this](Child &child) { return await_end(child); };
+    if (has_report) unkept = keeping.describe(checker, rounds.number, wait_for_end);
     std::string why = keeping.keep(answer == UNSATISFIABLE, wait_for_end);
     if (unkept.empty()) unkept = why;
     if (checker.child.ended()) keeping.explain(checker.report, wait_for_end);

@@ -37,6 +37,7 @@ private:
     Phase phase = SOLVING;
     Answer answer = UNKNOWN_ANSWER;
     std::string cause, unkept, unstarted;       // why there is no answer, no record, and nothing was done
+    bool has_report = false;                    // in the record
     std::vector<signed char> model;
     Loop loop;
     Keeping keeping{ inputs, display };

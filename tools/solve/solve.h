@@ -24,6 +24,8 @@ struct Options {
     bool share = true;
     int seed = 0;
     const char *proofs = nullptr, *assume = nullptr, *mpi = nullptr, *formula = nullptr;
+    const char *record = nullptr;       // the folder of --proofs, where the user names one
+    std::string words;          // all of them, for a shell
     const char *core = nullptr, *lrat = nullptr;     // to be written
     bool rehint = false;        // for both
     bool replace = false;       // a record with a proof
@@ -33,6 +35,7 @@ struct Options {
 };
 
 Options read_words(int count, char **words);
+std::string version();          // in one line
 
 // processes.cpp: children, pipes and files.
 [[noreturn]] void refuse(const std::string &cause);     // one line on standard error, and status 1; all children are ended
@@ -119,6 +122,9 @@ void clear_record(const std::string &folder, const std::vector<std::string> &kep
 bool claim(const Place &place);                         // before a file is made; false: another's
 bool is_there(const std::string &path);
 std::string digest_line(const std::string &path);       // of the file, for a record
+std::string digests_of_record(const std::vector<std::string> &known);   // of all files, of which these are known
+uint64_t bytes_of_record();
+uint64_t free_bytes();                                  // where the record is
 
 // engine.cpp: an engine's process. Doesn't return.
 struct Engine {
