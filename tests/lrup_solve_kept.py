@@ -21,11 +21,12 @@ from pathlib import Path
 from typing import Dict, List, Optional, Sequence, Tuple
 
 sys.dont_write_bytecode = True
-from harness import (EXPLAIN, FILTER, FOUR, ROOT, TRIM, Ran, Row, by_another, example, generated, needs, run, started, until, want,
+from harness import (EXPLAIN, FILTER, FOUR, ROOT, TRIM, Ran, Row, Skipped, by_another, example, generated, needs, run, started, until, want,
                      words_given, written)
 from lrat import lrat_fault
 from proof_forms import Clause, read_formula
-from solving import PROGRAM, SOLVE, Answer, before_lrupd, check_again, marked, none_left, run_built, solve
+from solving import (PROGRAM, SOLVE, Answer, before_lrupd, check_again, command, in_environment, marked, none_left, run_built,
+                     solve)
 
 words_given(__doc__, most=2)
 PROVED, PROVED_UNDER = "s UNSATISFIABLE", "s UNSATISFIABLE UNDER ASSUMPTIONS"
@@ -481,6 +482,57 @@ def check_interrupted(number: int, work: Path) -> None:
     want(os.listdir(files), [], "what is left there")
 
 
+# Room.
+
+
+def told_sizes(work: Path) -> None:
+    """How much is kept, and what is free, of a record and of what has its place."""
+    formula = generated("pigeons 6", work)
+    answer = solve(["-j", 1, "--proofs", "d", formula], cwd=work)
+    found = [re.fullmatch(r"d: ([\d.]+) MB kept, [\d,]+ MB free", line) for line in answer.comments]
+    size = sum(path.stat().st_size for path in (work / "d").iterdir())
+    want([round(float(one[1]) - size / 1e6) for one in found if one], [0], f"whether it is told in\n{answer.out}")
+    answer = solve(["-j", 1, "--lrat", "lrat", formula], cwd=work, env_more={"TMPDIR": str(work)})
+    wanted = rf"{work}/lrup-solve-\d+/kept: [\d.]+ MB kept, [\d,]+ MB free, until a core or LRAT text is written"
+    want(sum(re.fullmatch(wanted, line) is not None for line in answer.comments), 1, f"whether it is told in\n{answer.out}")
+    want([line for line in solve(["-j", 1, formula]).comments if " MB " in line], [], "what is told where nothing is kept")
+
+
+def unwritable(words: List[str], said: str, work: Path) -> None:
+    """What can't be written is told before the run, and nothing is left."""
+    formula = generated("pigeons 6", work)
+    (work / "folder").mkdir()
+    before = sorted(os.listdir(work))
+    lrupd = before_lrupd(f"touch {work}/began", work / "folder")
+    answer = solve(["--lrupd", lrupd, *words, formula], cwd=work)
+    want((answer.out, answer.said, answer.status), ("", f"lrup-solve: {said}\n", 1), "the answer")
+    want(sorted(os.listdir(work)), before, "what is there")
+
+
+def written_into_a_record(work: Path) -> None:
+    """The folder isn't there before."""
+    formula = generated("pigeons 5", work)
+    kept(["-j", 1, "--proofs", "d", formula], formula, work, names=("d/core.cnf", "d/proof.lrat"))
+
+
+def on_a_full_disk(kilobytes: int, words: List[object], tested: Optional[Dict[str, object]], said: str, work: Path) -> None:
+    """The record is lost, which is told, and not the verdict."""
+    (work / "full").mkdir()
+    how = ["unshare", "-m" if os.getuid() == 0 else "-rm", "sh", "-c"]
+    mounts = f"mount -t tmpfs -o size={kilobytes}k tmpfs full"
+    if run([*how, mounts], cwd=work).status != 0:
+        raise Skipped("no file system can be mounted")
+    formula = generated("random 180 3", work)
+    done = run([*how, mounts + ' && exec "$@"', "sh", *command([*words, formula], tested)], cwd=work,
+               env=in_environment(tested, {"TMPDIR": f"{work}/full"} if "--proofs" not in words else {}))
+    answer = Answer(done)
+    want((answer.answers, answer.status), ([PROVED], 1), f"the answer of\n{answer.out[-3000:]}{answer.said}")
+    want(re.fullmatch(f"lrup-solve: {said}: No space left on device\n", answer.said) is not None, True, f"what is said: {answer.said}")
+    want(any(line.startswith("the record is lost: cannot write ") for line in answer.comments) or not tested, True,
+         f"whether it is told meanwhile in\n{answer.out}")
+    want(" rounds with " in answer.out, tested is not None, f"whether there are several rounds in\n{answer.out}")
+
+
 # Why a line is bad.
 
 
@@ -529,6 +581,19 @@ def rows() -> List[Row]:
     found += [(f"the first line of {name!r}", first_line_of, name, shown) for name, shown in (
         ("a\ns UNSATISFIABLE", "a?s UNSATISFIABLE"), ("a\033[31m\r\177b", "a?[31m??b"), ("gr\u00f6\u00dfe", "gr\u00f6\u00dfe"))]
     found += [(f"a check that gets {number.name}", check_interrupted, number) for number in (signal.SIGTERM, signal.SIGINT, signal.SIGHUP)]
+    found += [("sizes that are told", told_sizes), ("outputs in a record", written_into_a_record)]
+    found += [(f"unwritable: {' '.join(words)}", unwritable, words, said) for words, said in (
+        (["--core", "none/core"], "cannot write none/core: No such file or directory"),
+        (["--proofs", "d", "--core", "none/core"], "cannot write none/core: No such file or directory"),
+        (["--lrat", "/proc/lrat"], "cannot write /proc/lrat: No such file or directory"),
+        (["--core", "one", "--lrat", "folder/lrupd/x"], "cannot write folder/lrupd/x: Not a directory"),
+        (["--core", "one", "--lrat", "./one"], "cannot write ./one: File exists"),
+        (["--lrat", "x" * 300], f"cannot write {'x' * 300}: File name too long"))]
+    lost = r"the record is lost: cannot write \S+/full/d/round-\d+\.\S+"
+    found += [(f"a disk of {size} kB{', rounds' if tested else ''}", on_a_full_disk, size, ["-j", engines, "--proofs", "full/d"], tested, lost)
+              for tested in (None, SMALL) for size in (8, 16, 64, 300, 700) for engines in (1, 3)]
+    found += [("a disk that is full for LRAT text", on_a_full_disk, 64, ["-j", 2, "--lrat", "lrat"], None,
+               r"no core and no LRAT text: cannot write \S+/full/lrup-solve-\d+/kept/round-1\.stream-\d")]
     return found + [(f"a bad line, {'with' if record else 'without'} a record", explained, record) for record in (True, False)]
 
 

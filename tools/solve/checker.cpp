@@ -160,6 +160,7 @@ void Checker::open_streams(const std::vector<int> &files) {
     for (int file : files) {
         streams.push_back({ file, -1, next + ".stream-" + std::to_string(streams.size() + 1) });
         create_pipe(streams.back().path);
+        streams.back().name = streams.back().path.substr(next.rfind('/') + 1);
         digest_begin(&streams.back().digest);
     }
     for (const Stream &stream : streams) opener.ask(stream.path);
@@ -226,7 +227,7 @@ bool Checker::feed(size_t number, uint64_t bytes, bool drop) {
         fallocate(stream.file, FALLOC_FL_PUNCH_HOLE | FALLOC_FL_KEEP_SIZE, 0, off_t(stream.fed / PAGE * PAGE));
         stream.dropped = stream.fed;
     }
-    return stream.pipe < 0 || stream.fed == bytes;
+    return stream.pipe < 0 || stream.fed >= bytes;
 }
 
 void Checker::end_stream(size_t number) {
@@ -236,7 +237,7 @@ void Checker::end_stream(size_t number) {
     close_file(stream.pipe);
     if (!keeps_digests) return;
     digest_end(&stream.digest, text);
-    digests.push_back(text + ("  " + next.substr(next.rfind('/') + 1)) + ".stream-" + std::to_string(number + 1));
+    digests.push_back(text + ("  " + stream.name));
 }
 
 uint64_t Checker::read_of(size_t number) const {

@@ -39,6 +39,10 @@ std::string grouped(uint64_t number) {
 
 std::string counted(uint64_t number, const char *what) { return grouped(number) + " " + what + (number == 1 ? "" : "s"); }
 
+static std::string sizes_of_record() {
+    return format("%.1f MB kept, %s MB free", double(bytes_of_record()) / 1e6, grouped(free_bytes() / 1000000).c_str());
+}
+
 std::string title(const std::string &path) { return path == "-" ? "standard input" : quoted(path); }
 
 // While it runs.
@@ -95,9 +99,10 @@ std::string Display::progress() const {
         if (uint64_t number = LOAD(teams.engine_status(k).stream)) read += checker.read_of(number - 1);
     double share = bytes > 0 ? std::min(1.0, double(read) / double(bytes)) : 0;
     uint64_t checked = rounds.lines_before + uint64_t(share * double(lines));
+    std::string room = inputs.options.proofs ? ", " + sizes_of_record() : "";
     return format("%.1f s, %s conflicts/s, %s checked, %s kB behind, round %llu at %.0f %%", time,
                   grouped(uint64_t(double(teams.all(&EngineStatus::conflicts)) / time)).c_str(), grouped(checked).c_str(),
-                  grouped(teams.all(&EngineStatus::behind) / 1000).c_str(), (unsigned long long)rounds.number, 100 * fullness());
+                  grouped(teams.all(&EngineStatus::behind) / 1000).c_str(), (unsigned long long)rounds.number, 100 * fullness()) + room;
 }
 
 // In the end.
@@ -132,6 +137,13 @@ void Display::causes(const std::string &cause) const {
     for (size_t end; (end = report.find('\n', begin)) != std::string::npos; begin = end + 1)
         if (report.compare(begin, 2, "c ") == 0) tell("lrupd: " + report.substr(begin + 2, end - begin - 2));
     tell(cause);
+}
+
+// Without --proofs it is in the run's folder, for a core and LRAT text.
+void Display::record() const {
+    const Options &options = inputs.options;
+    const char *what = options.record ? "" : ", until a core or LRAT text is written";
+    if (options.proofs) tell(quoted(options.proofs) + ": " + sizes_of_record() + what);
 }
 
 void Display::summary() const {

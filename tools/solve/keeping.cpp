@@ -104,6 +104,7 @@ void Keeping::prepare(const std::string &program) {
     if (!is_wanted()) return;
     for (const char *path : { options.core, options.lrat })
         if (path && is_there(path)) refuse(std::string(path) + " is there, and isn't written over");
+    check_outputs(false);
     if (find_tool("lrup-trim").empty()) refuse("no lrup-trim, neither beside this program nor on the PATH: `make trim` makes it");
     folder = Folder::name() + "/kept";
     if (!options.proofs) options.proofs = folder.c_str();
@@ -138,6 +139,27 @@ std::string Keeping::verdict_on(const Output &output, const Wait &wait) const {
     return goes_on && is_proved && !said.empty() ? lines_of(said).back() : "";
 }
 
+bool Keeping::is_in_record(const std::string &path) const {
+    const char *record = inputs.options.record;
+    std::string place = record ? absolute(record) + "/" : "";
+    return record && absolute(path).compare(0, place.size(), place) == 0;
+}
+
+// Each is there for a moment. They may be in the record's folder, which may be made first.
+void Keeping::check_outputs(bool has_record) const {
+    const int how = O_WRONLY | O_CREAT | O_EXCL | O_NOFOLLOW | O_CLOEXEC;
+    std::string why;
+    std::vector<const char *> made;
+    for (const char *path : { inputs.options.core, inputs.options.lrat }) {
+        if (!path || !why.empty() || (!has_record && is_in_record(path))) continue;
+        int file = open(path, how, 0666);
+        if (file < 0) why = "cannot write " + std::string(path) + ": " + error_text();
+        else made.push_back(path), close(file);
+    }
+    for (const char *path : made) unlink(path);
+    if (!why.empty()) refuse(why);
+}
+
 bool Keeping::wait_for_version(Child &child, std::string &said, const Wait &wait) const {
     bool goes_on = run_tool({ checker_program, "--version" }, child, said, wait);
     said = said.substr(0, said.find('\n'));
@@ -153,7 +175,7 @@ std::string Keeping::keep_if_right(const char *path, const Output &output, const
     return "lrupd hasn't taken " + quoted(path) + ", which is removed";
 }
 
-std::string Keeping::keep(bool is_proved, const Wait &wait) const {
+std::string Keeping::keep(bool is_proved, const std::string &lost, const Wait &wait) const {
     const Options &options = inputs.options;
     if (is_wanted() && !is_proved) display.tell("no proof, and so no core and no LRAT text");
     if (!is_wanted() || !is_proved) return "";
@@ -168,6 +190,7 @@ std::string Keeping::keep(bool is_proved, const Wait &wait) const {
     Child child;
     Known said;
     const std::string none = "no core and no LRAT text: ";
+    if (!lost.empty()) return none + lost;
     if (!run_tool(words, child, said.text, wait)) return none + "the run was ended";
     const std::vector<std::string> lines = lines_of(said.text);
     if (!child.ended_with(0) || lines.empty())

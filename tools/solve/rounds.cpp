@@ -243,15 +243,15 @@ std::string Rounds::command_again() const {
 
 // In the record.
 void Rounds::keep_sizes() const {
-    if (!inputs.options.proofs) return;
+    if (!inputs.options.proofs || !teams.lost.empty()) return;
     std::string text = sizes_text(LOAD(teams.shared->streams), rows.row);
-    std::string unwritten = write_file(teams.record + name_of_round(number) + ".sizes", text);
-    if (!unwritten.empty()) refuse(unwritten);
+    teams.lost = write_file(teams.record + name_of_round(number) + ".sizes", text);
 }
 
 // What one needs to have the streams checked again.
 std::string Rounds::keep_report() const {
-    if (!inputs.options.proofs) return "";
+    if (!inputs.options.record) return "";
+    if (!teams.lost.empty()) return "the record is lost: " + teams.lost;
     std::string folder = std::string(inputs.options.proofs) + "/", unkept = write_file(folder + "report", checker.report);
     return unkept.empty() ? write_file(folder + "command", command_again()) : unkept;
 }
@@ -275,7 +275,13 @@ void Rounds::feed(bool is_last) {
         uint64_t stream = LOAD(teams.engine_status(k).stream);
         if (stream == 0) continue;
         bool is_empty = state == MAPPING || teams[k].silent;
-        bool fed = checker.feed(stream - 1, is_empty ? 0 : LOAD(teams.engine_status(k).bytes), !inputs.options.proofs);
+        uint64_t bytes = is_empty ? 0 : LOAD(teams.engine_status(k).bytes), kept = teams.bytes_kept(k);
+        bool drop = !inputs.options.proofs || teams[k].stream == teams[k].spare;
+        bool fed = checker.feed(stream - 1, std::min(bytes, kept), drop);
+        if (fed && bytes > kept) {
+            checker.go_on_in(stream - 1, teams[k].spare);
+            fed = checker.feed(stream - 1, bytes, true);
+        }
         teams.tell_fed(k, checker.fed(stream - 1));
         if (fed && (is_last || state == SAVING)) checker.end_stream(stream - 1);
     }
@@ -289,6 +295,9 @@ void Rounds::end_streams() {
 // From round to round. The first lrupd starts once streams aren't short any more.
 std::string Rounds::look() {
     uint64_t least = test_hooks.first_words ? 1 : SHORT_STREAMS;
+    teams.look_at_record();
+    if (!teams.lost.empty() && !has_told_loss) display.tell("the record is lost: " + teams.lost);
+    has_told_loss = !teams.lost.empty();
     if (!checker.child.pid && teams.all(&EngineStatus::bytes) >= least) start_checker(rows.row);
     for (size_t k = 0; k < teams.size() && state == OPEN; k++)
         if (LOAD(teams.engine_status(k).ended_round) == number) end_round();

@@ -37,6 +37,7 @@ private:
     Row first = {};                             // of round 1
     uint64_t literals_before = 0;
     double pause_begun = 0;
+    bool has_told_loss = false;
 
     bool size(uint64_t clauses, uint64_t literals);
     std::string bytes_of_row() const;

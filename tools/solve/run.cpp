@@ -26,6 +26,7 @@ void Run::prepare() {
     keeping.prepare(program);
     checker.keeps_digests = options.record != nullptr;
     inputs.find();
+    keeping.check_outputs(true);
     teams.open();
     inputs.read();
     teams.open_models();
@@ -262,7 +263,7 @@ void Run::end_all() {
     for (Child *child : children()) wait_for(*child);
     Keeping::Wait wait_for_end = [this](Child &child) { return await_end(child); };
     if (has_report) unkept = keeping.describe(checker, rounds.number, wait_for_end);
-    std::string why = keeping.keep(answer == UNSATISFIABLE, wait_for_end);
+    std::string why = keeping.keep(answer == UNSATISFIABLE, teams.lost, wait_for_end);
     if (unkept.empty()) unkept = why;
     if (checker.child.ended()) keeping.explain(checker.report, wait_for_end);
     end_children();
@@ -275,6 +276,7 @@ void Run::send_answer() {
     if (inputs.options.verbose && others) others->details();
     display.lost();
     if (answer == UNKNOWN_ANSWER) display.causes(cause);
+    display.record();
     display.summary();
     if (answer == SATISFIABLE) tell_model(model);
     if (!unkept.empty()) refuse(unkept);

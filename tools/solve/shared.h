@@ -52,6 +52,9 @@ typedef struct {
     uint64_t mapped_round;      // what it holds has the identities of the next one
     int refuted;                // the line is in the stream that shows what is asked
     int unwritten;              // the stream couldn't be written
+    int spilled;                // nor in the record, so it goes on in memory
+    uint64_t kept;              // bytes of it that the record has then
+    char unkept[LONGEST_CAUSE]; // why it has no more
     char cause[LONGEST_CAUSE];  // why it stopped; to be read once it has ended
     int proof_ended;            // it had read all of the proof by then
     // The first process writes:
@@ -73,6 +76,7 @@ typedef struct {
     uint64_t ending_round;              // all streams of this one end after a whole line
     uint64_t saved_round;               // lrupd has saved this one's checkpoint: the two names below and the streams are the next one's
     uint64_t streams;
+    uint64_t memory_round;              // from this one on all streams are in memory, though there is a record; 0: none
     uint64_t most_lines, most_literals; // of a stream
     uint64_t variable_count;            // by which cubes are made; 0: it isn't known yet
     int variables[VARIABLES_OF_CUBES];
@@ -108,6 +112,7 @@ typedef struct {
     uint32_t *const *outboxes;      // by engine, from 0
     int engine;                     // counted from 1
     int proof, stream;              // the pipe of the engine's proof, and a file
+    int spare;                      // a file in memory for when there is no room for a record, or -1
     int record;                     // the folder in which each round's stream is a file, or -1
     Form form;                      // of the proof
     bool shares;

@@ -52,6 +52,7 @@ void close_all_but(const std::vector<int> &files);      // of a child
 Pipe make_pipe(int bytes);                              // so many, if the system gives them
 void close_file(int &file);
 int create_file(const std::string &path);               // a new one, whatever had the name
+int create_if_possible(const std::string &path);        // the same, or -1
 bool remove_file(const std::string &path);              // true where it isn't there, too
 bool rename_file(const std::string &path, const std::string &other);
 void create_pipe(const std::string &path);

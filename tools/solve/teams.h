@@ -10,7 +10,7 @@ enum Answer { UNKNOWN_ANSWER = 0, SATISFIABLE = 10, UNSATISFIABLE = 20 };
 struct Team {
     Child engine, filter;
     Pipe proof;
-    int stream = -1;
+    int stream = -1, spare = -1;    // a file; one in memory, with which the stream goes on where that can't be written
     signed char *model = nullptr;
     std::string command;    // of a solver
     bool told = false, wrong = false, paused = false;
@@ -52,6 +52,11 @@ public:
     void tell_filters() const;          // of what is stored by now
     void tell_fed(size_t k, uint64_t bytes) const;
 
+    std::string lost;                   // why the record has no more, where it has no more
+    void look_at_record();              // whether it is lost
+    uint64_t bytes_kept(size_t k) const;    // of the stream: what comes after them is in the other file
+    int file_to_write(size_t k) const;      // of a stream from another host
+    bool spill(size_t k);                   // false where there is no other file
     void number_streams();              // of the next round
     void open_streams(uint64_t round);  // they are empty
     void cut_streams();
@@ -72,6 +77,7 @@ private:
     bool has_refuted(size_t k) const;
     void pause_others();
     void cut_stream(size_t k, uint64_t bytes);
+    void open_in_memory(uint64_t round);
 };
 
 int half_of_the_cores();
