@@ -535,7 +535,7 @@ def words_and_files() -> List[Row]:
              ("a unit against the assumption", assuming, "p cnf 1 1\n1 0\n", "-1 0\n", 20, under)]
     runs += [(" ".join(["standard input as", *words]), another_name, words) for words in
              (["/dev/stdin"], ["/proc/self/fd/0"], ["{work}/link"], ["/dev/fd/5"], ["--", "-"],
-              ["--proofs", "{work}/kept", "/dev/stdin"])]
+              ["--replace", "--proofs", "{work}/kept", "/dev/stdin"])]
     many = {"FIRST_WORDS": 4000, "SAME_WORDS": 1}
     runs += [(f"names that aren't UTF-8 {number}", keeps_not_utf8, words, tested) for tested in ({"SLICE": 50}, {**many, "SLICE": 50})
              for number, words in enumerate(([], ["--assume", CUBE], ["--proofs", "kept"], ["--proofs", os.fsdecode(b"kept\xff")],
