@@ -78,6 +78,39 @@ def dies_at_each_moment(number: int, work: Path) -> None:
         want(answer.answers in ([], ["s UNKNOWN"]) or whole, True, f"the answer of\n{answer.out}{answer.said}")
 
 
+def expects(body: str, expected: str, line: str, status: int, text: str, work: Path) -> None:
+    """Only what is printed decides: 0 if it is that line, and else 1, with a line that says so."""
+    words = ["--assume", str(written("-2 0\n", work, "cube"))] if line.endswith("ASSUMPTIONS") else []
+    answer = run_with(body, ["--expect", expected, *words], text, work)
+    said = f"lrup-solve: --expect {expected}, and the answer is {line}\n" if status else ""
+    want((answer.answers, answer.status, answer.said.splitlines(True)[-1:]), ([line], status, [said] * status),
+         f"the answer of\n{answer.out[-2000:]}{answer.said[-2000:]}")
+
+
+def expects_nothing(body: str, work: Path) -> None:
+    """No line, and no status that says that it was as expected."""
+    for expected in ("unsat", "sat", "unsat-under-assumptions", "x", "unsat: s UNKNOWN", "unknown"):
+        folder = work / re.sub(r"\W", "", expected)
+        folder.mkdir()
+        answer = run_with(body, ["--expect", expected], FOUR, folder)
+        want((answer.status, answer.answers in ([], ["s UNKNOWN"])), (1, True), f"the answer of\n{answer.out}{answer.said}")
+
+
+def help_expected(work: Path) -> None:
+    """lrup-engines answers --help, so its status counts for nothing beside --expect."""
+    engines = in_place_of_lrupd("exit 0", work)
+    for word in ("--help", "--version", "-h"):
+        done = run([SOLVE, "--lrupd", PROGRAM, "--engines", engines, "--expect", "unsat", word, written(FOUR, work)])
+        want(done.status, 1, f"the status of {word}")
+
+
+def never_began(words: List[str], work: Path) -> None:
+    """lrup-engines, or MPI's command, can't be run: that is no answer."""
+    answer = run_with("os._exit(127)", words, FOUR, work)
+    want((answer.out, answer.status, answer.said),
+         ("", 1, "lrup-solve: lrup-engines ended with status 127, so nothing could run\n"), "the answer")
+
+
 def without_lines(work: Path) -> None:
     """Comments are printed one by one, without bytes that a terminal obeys, and cut where a block ends; not with -q."""
     body = r"""say("c one\x1b[2J\ns UNSATISFIABLE\r\x07\x00two")
@@ -334,6 +367,18 @@ def rows() -> List[Row]:
                ("lrupd's id again, by a solver", solvers_id_again), ("its reading stopped", reading_stopped),
                ("an empty file as lrupd", empty_checker), ("signals of the end", signals_of_the_end),
                ("a version in little memory", version_in_little_memory)]
+    for name, body, text, line in (
+            ("a proof", proves + ends, FOUR, proved), ("a model", "model('++-')", SATISFIABLE, found),
+            ("nothing", "told('probe')", FOUR, unknown), ("a wrong model", "model('---')", SATISFIABLE, unknown),
+            ("a proof under assumptions", "stream(1, '5 2 0 1 2 0\\n')\ncheck()\n" + ends, "p cnf 2 4\n1 2 0\n-1 2 0\n1 2 0\n1 2 0\n",
+             "s UNSATISFIABLE UNDER ASSUMPTIONS")):
+        listed += [(f"{name}, expecting {expected}", expects, body, expected, line, int(line != wanted), text)
+                   for expected, wanted in (("unsat", proved), ("sat", found), ("unsat-under-assumptions", "s UNSATISFIABLE UNDER ASSUMPTIONS"))]
+    listed += [(f"{name}, expecting an answer", expects_nothing, body) for name, body in (
+        ("status 0", "os._exit(0)"), ("status 20", "os._exit(20)"), ("refused", "say('refused')"),
+        ("a verdict", "say('s UNSATISFIABLE')\nsay('s SATISFIABLE')"), ("a crash", "os.abort()"))]
+    listed += [("help, expecting an answer", help_expected), ("never began", never_began, []),
+               ("never began, with -q", never_began, ["-q"])]
     listed += [(f"dies after {number}", dies_at_each_moment, number) for number in range(7)]
     under = "stream(1, '5 1 0 1 2 0\\n')\ncheck()\ntold('lrupd')"
     listed += [("under assumptions", assuming, "-2 0\n", "stream(1, '5 2 0 1 2 0\\n')\ncheck()\ntold('lrupd')",

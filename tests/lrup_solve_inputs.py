@@ -43,7 +43,8 @@ def keeps_lrat(words: str, work: Path) -> None:
     """The stream of an engine alone, in one round, is LRAT, for any checker of that."""
     kept, formula = work / "kept", generated(words, work)
     want_answer(solve(["-j", "1", "--memory", "256M", "--proofs", kept, formula], tested={"FIRST_WORDS": 1 << 24}), 20)
-    want(sorted(os.listdir(kept)), ["command", "files", "formula.sha256", "report", "round-1.sizes", "round-1.stream-1"], "what is kept")
+    want(sorted(os.listdir(kept)), ["about", "command", "files", "formula.sha256", "report", "round-1.sizes", "round-1.stream-1"],
+         "what is kept")
     want(lrat_fault(read_formula(formula), (kept / "round-1.stream-1").read_text()), "", "as LRAT")
 
 
@@ -107,20 +108,20 @@ def earlier_run(work: Path) -> None:
     kept = work / "kept"
     rounds = [f"round-{k}.{name}" for k in (1, 2, 9, 10, 123) for name in ("sizes", "stream-1", "stream-2", "stream-64")]
     others = ["another", "round-0.sizes", "round-1.stream-", "round-1.stream-x", "round-2.cnf", "round-2.cnf.old", "round.cnf", "stream1"]
-    names = ["files", "report", "command", "formula.sha256", "formula.cnf", "assumptions", ".round-9.sizes.new", *rounds, "round-7.sizes"]
+    names = ["files", "about", "report", "command", "formula.sha256", "formula.cnf", "assumptions", ".round-9.sizes.new", *rounds, "round-7.sizes"]
     for name in [*names[1:-1], *others]:
         written("of an earlier run\n", kept, name)
     written("\n".join([*names, "round-1.str"]), kept, "files")     # it was killed before it had written a name
     shutil.copy(example("bmc.cnf"), kept / "formula.cnf")
-    in_shell('cat "$2"/formula.cnf | "$0" --lrupd "$1" -j 2 --proofs "$2" -', SOLVE, PROGRAM, kept)
+    in_shell('cat "$2"/formula.cnf | "$0" --lrupd "$1" -j 2 --replace --proofs "$2" -', SOLVE, PROGRAM, kept)
     one = ["round-1.sizes", "round-1.stream-1"]
-    found = ["command", "files", "formula.cnf", "formula.sha256", "report", *one, "round-1.stream-2"]
+    found = ["about", "command", "files", "formula.cnf", "formula.sha256", "report", *one, "round-1.stream-2"]
     want(sorted(os.listdir(kept)), sorted([*others, *found]), "what is there")
     want([name for name in listed(kept) if name[0] != "."], found, "what is listed")
     want((kept / "formula.cnf").read_text(), example("bmc.cnf").read_text(), "the formula")
     check_again(kept)
     one_round = {"FIRST_WORDS": 1 << 24}      # no machine fills its row before it is ended
-    with started(command(["-j", "1", "--proofs", kept, generated("pigeons 11", work)], one_round), env=in_environment(one_round),
+    with started(command(["-j", "1", "--replace", "--proofs", kept, generated("pigeons 11", work)], one_round), env=in_environment(one_round),
                  stdout=subprocess.PIPE, text=True) as running:
         until("lrupd is there", lambda: "lrupd" in children_of(running.pid) or running.poll() is not None)
         running.terminate()
@@ -175,11 +176,11 @@ def own_files(name: str, work: Path) -> None:
     want(other.read_text(), "mine\n", "what stands there")
     (own / "files").unlink()
     said = solve(["--proofs", own, example("bmc.cnf")]).said
-    wanted = f"lrup-solve: {own}/command is there, and isn't of an earlier run: another --proofs\n"
+    wanted = f"lrup-solve: {own}/about is there, and isn't of an earlier run: another --proofs\n"
     want(said, wanted, "what is said of a record without a list")
     check_again(own)
     for text, status in ((FOUR, 20), ("x", 1), ("p cnf 1 0\n", 10), ("p cnf 1 1\n2 0\n", 1), (FOUR, 20)):
-        want(solve(["--proofs", work / "kept", "-"], given=text).status, status, f"the status with {text}")
+        want(solve(["--replace", "--proofs", work / "kept", "-"], given=text).status, status, f"the status with {text}")
 
 
 def own_list(text: Optional[str], work: Path) -> None:
@@ -195,6 +196,27 @@ def own_list(text: Optional[str], work: Path) -> None:
     want(sorted(os.listdir(own)), ["files", "report"], "what is there")
 
 
+def replaced(work: Path) -> None:
+    """A record with a proof stays unless --replace says that it goes; one without goes."""
+    kept, words = work / "kept", ["-j", "1", "--proofs", work / "kept"]
+    said = f"lrup-solve: {kept} has the proof of an earlier run: --replace, or another --proofs\n"
+    cube, under = written("-2 0\n", work, "cube"), written("p cnf 2 2\n1 2 0\n-1 2 0\n", work, "under")
+    sat = written("p cnf 1 1\n1 0\n", work, "sat")
+    for more, status in (([sat], 10), ([example("bmc.cnf")], 20), (["--assume", cube, under], 20), ([sat], 10), ([sat], 10)):
+        want(solve([*words, "--replace", *more]).status, status, "the status")
+        files = {path.name: path.read_bytes() for path in kept.iterdir()}
+        answer = solve([*words, example("four-clause.cnf")])
+        if status == 10:
+            want_answer(answer, 20)
+        else:
+            want((answer.out, answer.said, answer.status), ("", said, 1), "what is said of a record with a proof")
+            want({path.name: path.read_bytes() for path in kept.iterdir()}, files, "the record")
+    stream = (kept / "round-1.stream-1").rename(kept / "round-1.stream-1.xz")
+    answer = solve([*words, "--replace", sat])
+    own = f"lrup-solve: {stream} is there, and isn't of an earlier run: another --proofs\n"
+    want((answer.out, answer.said, answer.status, stream.exists()), ("", own, 1, True), "what is said of a stream that somebody has packed")
+
+
 LISTS = ["link", "hard link", "pipe", "", "\n", "files", "report\n", "files\n../mine\n", "files\n\nreport\n", "files\nround-1.cnf\n",
          "files\nmine\n", "files\nround-1.stream-0\n", "files\n.new\n", "files\nreport\0\n", "files\nfiles/../report\n"]
 
@@ -203,7 +225,7 @@ def formula_of_a_round(work: Path) -> None:
     """The formula lies in the record, with the name of what lrupd saves."""
     kept = work / "kept"
     formula = written(generated("random 180 3", work).read_bytes(), kept, "round-1.cnf")
-    words, text = ["-j", "2", "--proofs", kept, formula], formula.read_text()
+    words, text = ["-j", "2", "--replace", "--proofs", kept, formula], formula.read_text()
     for _ in range(2):
         want_answer(solve(words, tested={"SAME_WORDS": 1, "SLICE": 40, "FIRST_WORDS": 20000}), 20)
         want(len(list(kept.glob("round-*.sizes"))) > 1, True, "whether there are several rounds")
@@ -513,7 +535,7 @@ def words_and_files() -> List[Row]:
              ("a unit against the assumption", assuming, "p cnf 1 1\n1 0\n", "-1 0\n", 20, under)]
     runs += [(" ".join(["standard input as", *words]), another_name, words) for words in
              (["/dev/stdin"], ["/proc/self/fd/0"], ["{work}/link"], ["/dev/fd/5"], ["--", "-"],
-              ["--proofs", "{work}/kept", "/dev/stdin"])]
+              ["--replace", "--proofs", "{work}/kept", "/dev/stdin"])]
     many = {"FIRST_WORDS": 4000, "SAME_WORDS": 1}
     runs += [(f"names that aren't UTF-8 {number}", keeps_not_utf8, words, tested) for tested in ({"SLICE": 50}, {**many, "SLICE": 50})
              for number, words in enumerate(([], ["--assume", CUBE], ["--proofs", "kept"], ["--proofs", os.fsdecode(b"kept\xff")],
@@ -522,9 +544,9 @@ def words_and_files() -> List[Row]:
     runs += [(f"a folder of mode {mode:o}", others_write, mode, taken)
              for mode, taken in ((0o777, False), (0o757, False), (0o1777, True), (0o775, True), (0o700, True))]
     runs += [(f"an own {name}", own_files, name) for name in (
-        "formula.cnf", "formula.sha256", "assumptions", "report", "command", ".report.new", "round-7.sizes", "round-2.stream-3")]
+        "about", "formula.cnf", "formula.sha256", "assumptions", "report", "command", ".report.new", "round-7.sizes", "round-2.stream-3")]
     runs += [(f"an own list {text!r}", own_list, text) for text in LISTS]
-    runs += [("a formula of a round", formula_of_a_round)]
+    runs += [("a formula of a round", formula_of_a_round), ("a record with a proof", replaced)]
     runs += [(f"TMPDIR of mode {mode:o}", open_to_others, mode, taken)
              for mode, taken in ((0o777, False), (0o757, False), (0o1777, True), (0o775, True))]
     runs += [(f"another folder in place, {ends.name}", another_in_place, ends) for ends in (signal.SIGKILL, signal.SIGTERM)]
@@ -607,7 +629,8 @@ def refusals() -> List[Row]:
                          (["--lrupd", "{work}/none", "{formula}"], "none"), (["--lrupd", "", "{formula}"], "not ''"),
                          (["--lrupd", "{work}", "{formula}"], "no lrupd"), (["--lrupd", "none", "{formula}"], "no lrupd"),
                          (["--proofs", "{work}/none/none", "{formula}"], "none/none"), (["--proofs", "", "{formula}"], "not ''"),
-                         (["--proofs", "{formula}", "{formula}"], "Not a directory"), (["--", "{formula}", "-v"], "too many: -v"),
+                         (["--proofs", "{formula}", "{formula}"], "Not a directory"),
+                         (["--replace", "{formula}"], "--replace without --proofs"), (["--", "{formula}", "-v"], "too many: -v"),
                          (["{work}/none"], "{work}/none: No such file or directory"),
                          (["{work}/a\nb"], "a\\nb': No such file or directory"),
                          (["--assume", "{work}/none", "{formula}"], "{work}/none: No such file or directory"),

@@ -14,16 +14,19 @@ import re
 import shlex
 import shutil
 import signal
+import subprocess
 import sys
+import time
 from pathlib import Path
 from typing import Dict, List, Optional, Sequence, Tuple
 
 sys.dont_write_bytecode = True
-from harness import (EXPLAIN, FILTER, FOUR, TRIM, Ran, Row, by_another, example, generated, run, started, until, want, words_given,
-                     written)
+from harness import (EXPLAIN, FILTER, FOUR, ROOT, TRIM, Ran, Row, Skipped, by_another, example, generated, needs, run, started, until, want,
+                     words_given, written)
 from lrat import lrat_fault
 from proof_forms import Clause, read_formula
-from solving import PROGRAM, SOLVE, Answer, before_lrupd, check_again, run_built, solve
+from solving import (PROGRAM, SOLVE, Answer, before_lrupd, check_again, command, in_environment, marked, none_left, run_built,
+                     solve)
 
 words_given(__doc__, most=2)
 PROVED, PROVED_UNDER = "s UNSATISFIABLE", "s UNSATISFIABLE UNDER ASSUMPTIONS"
@@ -201,6 +204,177 @@ def strange_name(work: Path) -> None:
     want(run(["sha256sum", "--quiet", "-c", "d/formula.sha256"], cwd=work).status, 0, "what sha256sum says")
 
 
+def first_line(formula: Path) -> str:
+    return f"c formula {formula}, SHA-256 {hashlib.sha256(formula.read_bytes()).hexdigest()}"
+
+
+def checked_by(words: Sequence[object], work: Path, formula: Path, **how: object) -> None:
+    """It says first which formula it checks."""
+    done = run(words, cwd=work, **how)
+    lines = done.out.splitlines()
+    want((lines[:1], lines[-1:], done.err, done.status), ([first_line(formula)], [PROVED], "", 0), f"what {words} says")
+
+
+def names_a_formula(work: Path) -> None:
+    """The record is checked on the formula that is named, and on that alone."""
+    formula, here = generated("pigeons 5", work), work / "here"
+    here.mkdir()
+    want(solve(["-j", 1, "--proofs", "d", formula], cwd=work).status, 20, "the status")
+    checked_by(["sh", "d/command"], work, formula)
+    copy = formula.rename(here / "-copy;ran")
+    for words, cwd in ((["../d/command", copy.name], here), ([work / "d" / "command", copy], Path("/")), (["command", copy], work / "d")):
+        checked_by(["sh", *words], cwd, copy)
+    other = written("p cnf 1 1\n1 0\n", work, "other")
+    refused = [([], f"{formula} isn't there, or can't be read"), ([""], f"{work}/ is no regular file"), (["none"], f"{work}/none isn't there, or can't be read"),
+               ([other], f"{other} isn't the formula of this record, or was changed since"), ([copy, copy], "usage: sh command [FORMULA]"),
+               (["--serial", copy], "usage: sh command [FORMULA]"), (["--help"], f"{work}/--help isn't there, or can't be read")]
+    for words, said in refused:
+        want(run(["sh", "d/command", *words], cwd=work), Ran("", said + "\n", 1), f"what is said of {words}")
+
+
+def moved_together(assumes: bool, work: Path) -> None:
+    """The paths from the record come first: where the formula and the assumptions were others lie by now."""
+    project = work / "project"
+    formula = written(generated("pigeons 5", work).read_bytes(), project, "f.cnf")
+    cube = written("1 0\n", project / "cubes", "cube")
+    words = ["-j", 1, "--proofs", "records/d", *["--assume", "cubes/cube"] * assumes, "f.cnf"]
+    (project / "records").mkdir()
+    want(solve(words, cwd=project).status, 20, "the status")
+    moved = project.rename(work / "it's moved")
+    written("p cnf 1 1\n1 0\n", project, "f.cnf")
+    written("2 0\n", project / "cubes", "cube")
+    done = run(["sh", moved / "records" / "d" / "command"], cwd="/")
+    lines = done.out.splitlines()
+    want((lines[0], lines[-1], done.status), (first_line(moved / "f.cnf"), PROVED_UNDER if assumes else PROVED, 8 if assumes else 0),
+         f"what is said, with {done.err}")
+    if assumes:
+        want(lines[1], first_line(moved / "cubes" / "cube").replace("formula", "assumptions"), "the second line")
+        (moved / "cubes" / "cube").write_text("-1 0\n")
+        said = f"{moved}/cubes/cube isn't the assumptions of this record, or was changed since\n"
+        done = run(["sh", moved / "records" / "d" / "command"])
+        want((done.err, done.status), (said, 1), "what is said of other assumptions")
+
+
+def only_with(tools: Sequence[str], work: Path) -> Dict[str, str]:
+    """A PATH with these programs alone, of those that are there, beside what any script may call."""
+    place = work / "programs"
+    place.mkdir()
+    for name in [*tools, "sh", "tr", "find", "mktemp", "mkfifo", "ln", "rm", "rmdir", "perl"]:
+        found = shutil.which(name)
+        if found:
+            os.symlink(os.path.realpath(found), place / name)
+    return {**os.environ, "PATH": str(place)}
+
+
+def digests_by(tool: str, work: Path) -> None:
+    """Whatever finds a SHA-256, the formula is looked at; and nothing is checked where nothing does."""
+    if tool:
+        needs(tool)
+    formula, path = generated("pigeons 5", work), only_with([tool] if tool else [], work)
+    want(solve(["-j", 1, "--proofs", "d", formula], cwd=work).status, 20, "the status")
+    none = "no sha256sum, shasum or openssl on the PATH to find SHA-256s\n"
+    if not tool:
+        return want(run(["sh", "d/command"], cwd=work, env=path), Ran("", none, 1), "what is said")
+    checked_by(["sh", "d/command"], work, formula, env=path)
+    formula.write_text(formula.read_text() + "c another one\n")
+    said = f"{formula} isn't the formula of this record, or was changed since\n"
+    want(run(["sh", "d/command"], cwd=work, env=path), Ran("", said, 1), "what is said of another formula")
+
+
+PACKERS = {"xz": "xz", "gz": "gzip", "zst": "zstd"}
+
+
+def packed(forms: Sequence[str], tested: Optional[Dict[str, object]], work: Path) -> None:
+    """Streams are unpacked as they are read, each in the form that it has. Nothing is left, and no process."""
+    for form in forms:
+        needs(PACKERS[form])
+    files, mark = work / "temporary", marked(work)
+    files.mkdir()
+    formula = generated("random 180 3", work)
+    want(solve(["-j", 2, "--proofs", "d", formula], tested=tested, cwd=work).status, 20, "the status")
+    streams = sorted((work / "d").glob("round-*.stream-*"))
+    for number, path in enumerate(streams):
+        if number % (len(forms) + 1) < len(forms):
+            form = forms[number % (len(forms) + 1)]
+            want(run([PACKERS[form], "-q", *["--rm"] * (form == "zst"), path]).status, 0, "the packer's status")
+            want((path.exists(), path.with_name(f"{path.name}.{form}").exists()), (False, True), "whether it is packed")
+    check_again(work / "d", {"TMPDIR": str(files)})
+    want(os.listdir(files), [], "what is left")
+    none_left(mark)
+    first = streams[0].with_name(f"{streams[0].name}.{forms[0]}")
+    said = f"no {PACKERS[forms[0]]} on the PATH for {first}\n"
+    found = run(["sh", "d/command"], cwd=work, env=only_with(["sha256sum"], work))
+    want((found.err, found.status), (said, 1), "what is said where it can't be unpacked")
+    first.write_bytes(first.read_bytes()[:first.stat().st_size // 2])
+    found = run(["sh", "d/command"], cwd=work, env={**os.environ, "TMPDIR": str(files)})
+    want((found.err != "", os.listdir(files)), (True, []), f"whether it is told that one is cut, in {found.out}")
+    none_left(mark)
+
+
+def packed_and_interrupted(number: int, work: Path) -> None:
+    """Those that unpack end, too, also before lrupd has opened their pipes."""
+    files, slow, mark = work / "temporary", work / "slow", marked(work)
+    files.mkdir()
+    needs("xz")
+    lrupd = before_lrupd(f"[ ! -e {slow} ] || {{ touch {work}/begun; exec sleep 100; }}", work)
+    want(solve(["--lrupd", lrupd, "-j", 2, "--proofs", "d", generated("random 180 3", work)], tested=SMALL, cwd=work).status, 20, "the status")
+    want(run(["xz", *(work / "d").glob("round-*.stream-*")]).status, 0, "the packer's status")
+    slow.touch()
+    with started(["sh", "d/command"], cwd=work, env={**os.environ, "TMPDIR": str(files)}, stdout=subprocess.DEVNULL) as checking:
+        until("it is checked", (work / "begun").exists)
+        checking.send_signal(number)
+        want(checking.wait(20), 143, "the status")
+    want(os.listdir(files), [], "what is left")
+    none_left(mark)
+
+
+def lrupd_moved(work: Path) -> None:
+    """The one of the PATH then."""
+    lrupd = work / "bin" / "lrupd"
+    lrupd.parent.mkdir()
+    shutil.copy(PROGRAM, lrupd)
+    formula = generated("pigeons 5", work)
+    want(solve(["--lrupd", lrupd, "-j", 1, "--proofs", "d", formula], cwd=work).status, 20, "the status")
+    lrupd.parent.rename(work / "elsewhere")
+    path = only_with(["sha256sum"], work)
+    said = "no lrupd, neither where this record's was nor on the PATH\n"
+    want(run(["sh", "d/command"], cwd=work, env=path), Ran("", said, 1), "what is said")
+    checked_by(["sh", "d/command"], work, formula, env={**os.environ, "PATH": f"{work}/elsewhere:{os.environ['PATH']}"})
+
+
+def about(engines: int, given: str, tested: Optional[Dict[str, object]], work: Path) -> None:
+    """What ran, on which words, where and when; and the digest of lrupd, and of each file but the list and itself."""
+    formula = written(generated("random 180 3", work).read_bytes(), work, "a formula")
+    words = ["-j", engines, "--proofs", "d", *([] if given else ["a formula"])]
+    how = {"given": formula.read_text()} if given else {}
+    want(solve(words, tested=tested, cwd=work, **how).status, 20, "the status")
+    text, _, digests = (work / "d" / "about").read_text().partition("\n\n")
+    found = dict(line.split(": ", 1) for line in text.splitlines())
+    want(list(found), ["date", "words", "folder", "programs", "kit", "machine", "verdict", "record"], "what is told")
+    told = time.mktime(time.strptime(found["date"], "%Y-%m-%d %H:%M:%S UTC")) - time.timezone
+    want(abs(time.time() - told) < 60, True, f"whether {found['date']} is now")
+    want((found["words"].endswith("--proofs d" if given else "--proofs d 'a formula'"), found["folder"], found["verdict"]),
+         (True, str(work), PROVED), f"what is told of the run: {text}")
+    version = (ROOT / "VERSION").read_text().strip()
+    want(found["programs"].startswith(f"lrupd {version}; lrup-solve {version}, with CaDiCaL "), True, found["programs"])
+    want(f"`{found['kit']}`" in (ROOT / "README.md").read_text(), True, found["kit"])
+    files = {path.name: path for path in (work / "d").iterdir() if path.name not in ("about", "files")}
+    rounds = len(list((work / "d").glob("round-*.sizes")))
+    want(found["record"].split(" round")[0], str(rounds), "how many rounds there are")
+    want(rounds > 1, tested is not None, "whether there are several")
+    files[PROGRAM] = Path(PROGRAM)
+    want({line[66:]: line[:66] for line in digests.splitlines()},
+         {name: hashlib.sha256(path.read_bytes()).hexdigest() + "  " for name, path in files.items()}, "the digests")
+
+
+def first_line_of(name: str, shown: str, work: Path) -> None:
+    """A name makes no line of its own."""
+    formula = written(generated("pigeons 5", work).read_bytes(), work, name)
+    want(solve(["-j", 1, "--proofs", "d", formula], cwd=work).status, 20, "the status")
+    wanted = first_line(formula).replace(name, shown)
+    want(run(["sh", "d/command"], cwd=work).out.splitlines()[0], wanted, "the first line")
+
+
 # Names, and files that aren't what they should be.
 
 
@@ -308,6 +482,57 @@ def check_interrupted(number: int, work: Path) -> None:
     want(os.listdir(files), [], "what is left there")
 
 
+# Room.
+
+
+def told_sizes(work: Path) -> None:
+    """How much is kept, and what is free, of a record and of what has its place."""
+    formula = generated("pigeons 6", work)
+    answer = solve(["-j", 1, "--proofs", "d", formula], cwd=work)
+    found = [re.fullmatch(r"d: ([\d.]+) MB kept, [\d,]+ MB free", line) for line in answer.comments]
+    size = sum(path.stat().st_size for path in (work / "d").iterdir())
+    want([round(float(one[1]) - size / 1e6) for one in found if one], [0], f"whether it is told in\n{answer.out}")
+    answer = solve(["-j", 1, "--lrat", "lrat", formula], cwd=work, env_more={"TMPDIR": str(work)})
+    wanted = rf"{work}/lrup-solve-\d+/kept: [\d.]+ MB kept, [\d,]+ MB free, until a core or LRAT text is written"
+    want(sum(re.fullmatch(wanted, line) is not None for line in answer.comments), 1, f"whether it is told in\n{answer.out}")
+    want([line for line in solve(["-j", 1, formula]).comments if " MB " in line], [], "what is told where nothing is kept")
+
+
+def unwritable(words: List[str], said: str, work: Path) -> None:
+    """What can't be written is told before the run, and nothing is left."""
+    formula = generated("pigeons 6", work)
+    (work / "folder").mkdir()
+    before = sorted(os.listdir(work))
+    lrupd = before_lrupd(f"touch {work}/began", work / "folder")
+    answer = solve(["--lrupd", lrupd, *words, formula], cwd=work)
+    want((answer.out, answer.said, answer.status), ("", f"lrup-solve: {said}\n", 1), "the answer")
+    want(sorted(os.listdir(work)), before, "what is there")
+
+
+def written_into_a_record(work: Path) -> None:
+    """The folder isn't there before."""
+    formula = generated("pigeons 5", work)
+    kept(["-j", 1, "--proofs", "d", formula], formula, work, names=("d/core.cnf", "d/proof.lrat"))
+
+
+def on_a_full_disk(kilobytes: int, words: List[object], tested: Optional[Dict[str, object]], said: str, work: Path) -> None:
+    """The record is lost, which is told, and not the verdict."""
+    (work / "full").mkdir()
+    how = ["unshare", "-m" if os.getuid() == 0 else "-rm", "sh", "-c"]
+    mounts = f"mount -t tmpfs -o size={kilobytes}k tmpfs full"
+    if run([*how, mounts], cwd=work).status != 0:
+        raise Skipped("no file system can be mounted")
+    formula = generated("random 180 3", work)
+    done = run([*how, mounts + ' && exec "$@"', "sh", *command([*words, formula], tested)], cwd=work,
+               env=in_environment(tested, {"TMPDIR": f"{work}/full"} if "--proofs" not in words else {}))
+    answer = Answer(done)
+    want((answer.answers, answer.status), ([PROVED], 1), f"the answer of\n{answer.out[-3000:]}{answer.said}")
+    want(re.fullmatch(f"lrup-solve: {said}: No space left on device\n", answer.said) is not None, True, f"what is said: {answer.said}")
+    want(any(line.startswith("the record is lost: cannot write ") for line in answer.comments) or not tested, True,
+         f"whether it is told meanwhile in\n{answer.out}")
+    want(" rounds with " in answer.out, tested is not None, f"whether there are several rounds in\n{answer.out}")
+
+
 # Why a line is bad.
 
 
@@ -345,8 +570,30 @@ def rows() -> List[Row]:
     found += [(f"checked in rounds, {core!r}", checked_in_rounds, core, lrat, name) for core, lrat, name in OUTPUTS]
     found += [(f"a pipe as {name or 'the formula'}", pipe_in_a_record, name) for name in
               ("", "d/formula.sha256", "d/round-1.stream-1", "d/round-1.sizes")]
-    found += [("several checks", several_checks)]
+    found += [(f"about, {engines} engines{', by a pipe' * bool(given)}{', rounds' if tested else ''}", about, engines, given, tested)
+              for engines, given, tested in ((1, "", None), (2, "pipe", None), (2, "", SMALL))]
+    found += [("several checks", several_checks), ("names a formula", names_a_formula), ("lrupd moved", lrupd_moved)]
+    found += [(f"moved together{', assuming' * assumes}", moved_together, assumes) for assumes in (False, True)]
+    found += [(f"digests by {tool or 'nothing'}", digests_by, tool) for tool in ("sha256sum", "shasum", "openssl", "")]
+    found += [(f"packed, {' and '.join(forms)}{', rounds' if tested else ''}", packed, forms, tested)
+              for forms in (["xz"], ["gz"], ["zst"], ["xz", "gz", "zst"]) for tested in (None, SMALL)]
+    found += [(f"packed, and gets {number.name}", packed_and_interrupted, number) for number in (signal.SIGTERM, signal.SIGINT)]
+    found += [(f"the first line of {name!r}", first_line_of, name, shown) for name, shown in (
+        ("a\ns UNSATISFIABLE", "a?s UNSATISFIABLE"), ("a\033[31m\r\177b", "a?[31m??b"), ("gr\u00f6\u00dfe", "gr\u00f6\u00dfe"))]
     found += [(f"a check that gets {number.name}", check_interrupted, number) for number in (signal.SIGTERM, signal.SIGINT, signal.SIGHUP)]
+    found += [("sizes that are told", told_sizes), ("outputs in a record", written_into_a_record)]
+    found += [(f"unwritable: {' '.join(words)}", unwritable, words, said) for words, said in (
+        (["--core", "none/core"], "cannot write none/core: No such file or directory"),
+        (["--proofs", "d", "--core", "none/core"], "cannot write none/core: No such file or directory"),
+        (["--lrat", "/proc/lrat"], "cannot write /proc/lrat: No such file or directory"),
+        (["--core", "one", "--lrat", "folder/lrupd/x"], "cannot write folder/lrupd/x: Not a directory"),
+        (["--core", "one", "--lrat", "./one"], "cannot write ./one: File exists"),
+        (["--lrat", "x" * 300], f"cannot write {'x' * 300}: File name too long"))]
+    lost = r"the record is lost: cannot write \S+/full/d/round-\d+\.\S+"
+    found += [(f"a disk of {size} kB{', rounds' if tested else ''}", on_a_full_disk, size, ["-j", engines, "--proofs", "full/d"], tested, lost)
+              for tested in (None, SMALL) for size in (8, 16, 64, 300, 700) for engines in (1, 3)]
+    found += [("a disk that is full for LRAT text", on_a_full_disk, 64, ["-j", 2, "--lrat", "lrat"], None,
+               r"no core and no LRAT text: cannot write \S+/full/lrup-solve-\d+/kept/round-1\.stream-\d")]
     return found + [(f"a bad line, {'with' if record else 'without'} a record", explained, record) for record in (True, False)]
 
 

@@ -97,7 +97,7 @@ def late(form: str, work: Path) -> None:
     answer = solve(["-v", "-j", "1", "--proofs", work / "kept", *by([begins]), formula],
                    tested={"FIRST_WORDS": 20000, "SAME_WORDS": 1, "SLICE": 100})
     want_answer(answer, 20)
-    lines = re.findall(r"^c engine 2: .* ([\d,]+) lines?, ", answer.out, re.M)
+    lines = re.findall(r"^c solver 2: .* ([\d,]+) lines?, ", answer.out, re.M)
     rounds = sum(line.startswith("round ") for line in answer.comments)
     found = answer.lost(), rounds > 3, [int(count.replace(",", "")) > 100 for count in lines]
     want(found, ([], True, [True]), f"{answer.out[-3000:]}: whether the solver came late")
@@ -187,16 +187,22 @@ def sealed(work: Path) -> None:
 UNFOUNDED = "it says 'satisfiable', and gives no assignment in lines v"
 MODEL = "echo s SATISFIABLE; echo v {}; exit 10"
 # A command; the cause, where it is alone.
-WRONG = [("exit 1 # %formula %proof", "the engine ended with status 1"),
-         ("exit 0 # %formula %proof", "the engine ended with status 0"),
-         ("exit 127 # %formula %proof", "the engine ended with status 127"),
-         ("kill -9 $$ # %formula %proof", "the engine ended by a signal: Killed"),
-         ("kill -PIPE $$ # %formula %proof", "the engine ended by a signal: Broken pipe"),
-         ("no-such-solver %formula %proof", "the engine ended with status 127"),
+NOTHING = [("exit 1 # %formula %proof", "the solver ended with status 1"),
+           ("exit 127 # %formula %proof", "the solver ended with status 127: command not found"),
+           ("kill -9 $$ # %formula %proof", "the solver ended by a signal: Killed"),
+           ("kill -PIPE $$ # %formula %proof", "the solver ended by a signal: Broken pipe"),
+           ("no-such-solver %formula %proof", "the solver ended with status 127: "),
+           ("exec > /dev/null < /dev/null; exit 1 # %formula %proof", "the solver ended with status 1"),
+           ("(echo one; echo; echo last words; echo) >&2; exit 2 # %formula %proof", "the solver ended with status 2: last words"),
+           ("printf 'no end\\033' >&2; exit 2 # %formula %proof", "the solver ended with status 2: no end?"),
+           ("yes 1 | head -c 1000000 | tr -d '\\n' >&2; exit 2 # %formula %proof", "the solver ended with status 2: 11111")]
+WRONG = [("exit 0 # %formula %proof", "the solver ended with status 0"),
          ("exit 20 # %formula %proof", "its filter stopped: the proof ends without the empty clause"),
          ("echo s UNSATISFIABLE # %formula %proof", "its filter stopped: the proof ends without the empty clause"),
-         ("echo s SATISFIABLE; exit 20 # %formula %proof", "the engine ended with status 20"),
-         ("echo s UNSATISFIABLE; exit 10 # %formula %proof", "the engine ended with status 10"),
+         ("echo s SATISFIABLE; exit 20 # %formula %proof", "the solver ended with status 20"),
+         ("echo s UNSATISFIABLE; exit 10 # %formula %proof", "the solver ended with status 10"),
+         ("echo s UNSATISFIABLE; kill -ABRT $$ # %formula %proof",
+          "the solver ended by a signal: Aborted; its filter stopped: the proof ends without the empty clause"),
          ("exit 10 # %formula %proof", UNFOUNDED), ("echo s SATISFIABLE; exit 10 # %formula %proof", UNFOUNDED),
          ("echo s SATISFIABLE # %formula %proof", UNFOUNDED), (MODEL.format("x -") + " # %formula %proof", UNFOUNDED),
          (MODEL.format("1 -2 3 0") + " # %formula %proof", "its assignment doesn't satisfy the formula"),
@@ -211,8 +217,7 @@ WRONG = [("exit 1 # %formula %proof", "the engine ended with status 1"),
          ("echo 0 > %proof # %formula", "its filter stopped: line 1: no conflict by unit propagation"),
          ("printf a > %proof # %formula", "its filter stopped: "),
          ("echo '1 i 1 2 0' > %proof # %formula", "its filter stopped: line 1: an import"),
-         ("yes s UNSATISFIABLE | head -n 100000; yes v 1 | head -n 100000; exit 3 # %formula %proof", "its filter stopped: "),
-         ("exec > /dev/null < /dev/null; exit 1 # %formula %proof", "the engine ended with status 1")]
+         ("yes s UNSATISFIABLE | head -n 100000; yes v 1 | head -n 100000; exit 3 # %formula %proof", "its filter stopped: ")]
 STANDING = ["sleep 1000 # %formula %proof", "sleep 1000 > %proof # %formula", "yes # %formula %proof",
             "cat %formula; sleep 1000 # %proof",
             "trap '' TERM INT HUP; while :; do sleep 1; done # %formula %proof", "setsid sleep 1000 & wait # %formula %proof"]
@@ -223,9 +228,25 @@ def wrong(command: str, cause: str, work: Path) -> None:
     formula = given("random 120 5", work)
     answer = solve(["--time", "60", *by([command]), formula])
     want_answer(answer, 0)
-    want([line.startswith("engine 1 is lost: " + cause) for line in answer.comments[:1]], [True], f"the cause in\n{answer.out}")
-    want(answer.comments[0].endswith("; -v shows its standard error"), True, f"whether it says where more is told\n{answer.out}")
+    want([line.startswith("solver 1 is lost: " + cause) for line in answer.comments[:1]], [True], f"the cause in\n{answer.out}")
     want(answer.comments[1], "no engine is left", "what is said then")
+    beside_others(command, formula)
+
+
+def nothing_runs(command: str, cause: str, work: Path) -> None:
+    """It ends at its start: alone that is no answer, but a mistake."""
+    formula = given("random 120 5", work)
+    answer = solve(by([command]) + [formula])
+    said = f"lrup-solve: nothing could run: {cause}"
+    want((answer.answers, answer.status, answer.said.count("\n"), answer.said[:len(said)]), ([], 1, 1, said),
+         f"what is said: {answer.said}")
+    want(answer.comments[0].startswith("solver 1 is lost: " + cause), True, f"whether it is told in\n{answer.out}")
+    refused = solve(by([command]) + [written("p cnf 1 1\n", work, "bad")])
+    want((refused.status, "too few clauses" in refused.said), (1, True), f"what is said of a formula that lrupd refuses: {refused.said}")
+    beside_others(command, formula)
+
+
+def beside_others(command: str, formula: Path) -> None:
     want_answer(solve([*by([command, CADICAL]), formula]), 20)
     want_answer(solve(["-j", "2", *by([command]), formula]), 20)
 
@@ -234,8 +255,8 @@ def missing(work: Path) -> None:
     """Beside a good one: that it is lost is told, and the summary counts who is left."""
     answer = solve([*by(["sleep 1; " + CADICAL, "no-such-solver %formula %proof"]), given("random 120 5", work)])
     want_answer(answer, 20)
-    said = "engine 2 is lost: the engine ended with status 127; -v shows its standard error"
-    want((answer.comments[0], ", 1 of 2 engines, " in answer.comments[-1]), (said, True), f"what is told in\n{answer.out}")
+    said = "solver 2 is lost: the solver ended with status 127: "
+    want((answer.comments[0][:len(said)], ", 1 of 2 engines, " in answer.comments[-1]), (said, True), f"what is told in\n{answer.out}")
 
 
 def after_a_model(work: Path) -> None:
@@ -277,7 +298,7 @@ def killed(number: int, whom: str, work: Path) -> None:
         out = running.communicate(timeout=LIMIT)[0]
         none_left(mark)
     if whom != "first":
-        want("engine 1 is lost: " in out and out.endswith("s UNKNOWN\n"), True, f"that the engine is lost in\n{out}")
+        want("solver 1 is lost: " in out and out.endswith("s UNKNOWN\n"), True, f"that the engine is lost in\n{out}")
     elif number != signal.SIGKILL:
         want((out.endswith("s UNKNOWN\n"), running.returncode), (True, -number), "the end")
 
@@ -319,7 +340,7 @@ def told(work: Path) -> None:
     """-v tells the command; the summary counts engines and solvers."""
     answer = solve(["-v", "-j", "2", *by([CADICAL]), example("bmc.cnf")])
     want_answer(answer, 20)
-    commands = [line for line in answer.comments if line.startswith("engine 3: cadical -q ") and "/dev/fd/" in line]
+    commands = [line for line in answer.comments if line.startswith("solver 3: cadical -q ") and "/dev/fd/" in line]
     want((len(commands), ", 3 engines, " in answer.comments[-1]), (1, True), f"what is told in\n{answer.out}")
 
 
@@ -339,6 +360,7 @@ def rows() -> List[Row]:
     found += [(f"the example solver, {name}", by_example, name, status) for name, status in LARGER]
     found += [(f"random {seed}", randomly, seed) for seed in range(60)]
     found += [(f"wrong: {command}", wrong, command, cause) for command, cause in WRONG]
+    found += [(f"nothing runs: {command}", nothing_runs, command, cause) for command, cause in NOTHING]
     found += [(f"standing: {command}", standing, command) for command in STANDING]
     found += [("models", after_a_model), ("in the background", background), ("stopped", stopped)]
     found += [(f"{whom} ended by {number}", killed, number, whom) for whom in ("first", "engine 1", "cadical")

@@ -104,6 +104,11 @@ def prints(front: Path, work: Path) -> bool:
     return UNSATISFIABLE in run([front, "--lrupd", PROGRAM, "--engines", engines, written(SATISFIABLE, work)]).out.splitlines()
 
 
+def as_expected(front: Path, work: Path) -> bool:
+    """There is no answer, and the status says that it is the one that is expected."""
+    return answer_of(front, work, "told('probe')", ["--expect", "unsat"]).status == 0
+
+
 ENDS = "os.mkfifo(folder + '/round-1.stream-1')\ntold('probe')\ncheck()\nfeeding = open(folder + '/round-1.stream-1', 'w')\n"
 CHANGES = """os.pwrite(os.open(formula, os.O_RDWR), b"p cnf 1 2\\n1 0\\n-1 0\\n", 0)
 os.truncate(formula, 19)
@@ -126,7 +131,7 @@ ATTACKS: Dict[str, Attack] = {
     "whole file": breaks("2 " * 60000 + "3 0\n", STARVES), "lrupd reads them": breaks("c 3 0\n", "told('probe')\n"),
     "formula": says(UNSATISFIABLE, "stream(1, 'p cnf 1 2\\n1 0\\n-1 0\\n')\nstream(2, '3 0 1 2 0\\n')\ncheck('2 10 10 0')\ntold('lrupd')"),
     "comments": says(UNSATISFIABLE, "say('s UNSATISFIABLE')"), "one line": says(UNSATISFIABLE, "say('c x\\ns UNSATISFIABLE')"),
-    "signal": killed_by_its_status, "status": says(UNSATISFIABLE, FORGED), "exit": says(UNSATISFIABLE, FORGED),
+    "expected": as_expected, "signal": killed_by_its_status, "status": says(UNSATISFIABLE, FORGED), "exit": says(UNSATISFIABLE, FORGED),
     "last line": lambda front, work: UNSATISFIABLE in answer_of(
         front, work, "told('probe')\nstream(1, '')\ncheck()\ntold('lrupd')",
         lrupd=in_place_of_lrupd("echo another program; case \"$*\" in *' /dev/null') exit 3;; esac", work)).answers,

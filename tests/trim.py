@@ -221,6 +221,7 @@ BEGINS = "5 2 0 1 2 0\n5 d 1 2 0\n"
 OF_ONE = BEGINS + "6 1 0 5 3 0\n6 d 3 0\n7 0 5 6 4 0\n"
 OF_TWO = BEGINS + "6 1 0 5 3 0\n6 d 3 0\n7 -1 0 5 4 0\n7 d 5 4 0\n8 0 7 6 0\n"
 OF_FEWER = BEGINS + "6 1 0 5 3 0\n6 d 3 0\n7 0 6 5 4 0\n"
+SORTED = "5 -1 2 0 2 0\n5 d 2 0\n6 2 0 1 5 0\n6 d 1 5 0\n7 0 6 3 4 0\n"
 OF_THREE = BEGINS + "6 -1 0 5 4 0\n6 d 4 0\n7 0 5 6 3 0\n"
 
 
@@ -263,6 +264,7 @@ FEW = [("four clauses", ["5 2 0 1 2 0\n6 0 5 3 4 0\n"], CORE, BEGINS + "6 0 5 3 
         "p cnf 3 4\nc id 1\n1 2 0\nc id 2\n-1 2 0\nc id 4\n1 -2 0\nc id 5\n-1 -2 0\n", BEGINS + "6 0 5 3 4 0\n",
         "5 d 3 0\n6 2 0 1 2 0\n6 d 1 2 0\n7 0 6 4 5 0\n", FIVE),
        ("streams that wait for each other", ["8 0 7 9 3 0\n", "7 i 2 0\n9 -1 0 7 4 0\n", "7 2 0 1 2 0\n"], CORE, OF_THREE, OF_THREE, FOUR),
+       ("literals in another order, and twice", ["5 2 -1 2 -1 0 2 0\n6 2 2 0 1 5 0\n7 0 6 3 4 0\n"], CORE, SORTED, SORTED, FOUR),
        ("an empty clause in the formula", ["3 0 2 0\n"], "p cnf 1 1\nc id 2\n0\n", "2 0 1 0\n", "2 d 1 0\n3 0 2 0\n",
         "p cnf 1 2\n1 0\n0\n"),
        ("an empty clause alone", ["2 0 1 0\n"], "p cnf 0 1\nc id 1\n0\n", "2 0 1 0\n", "2 0 1 0\n",

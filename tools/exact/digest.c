@@ -1,6 +1,5 @@
 // Unverified, as all of this filter. SHA-256, as FIPS 180-4 has it.
 #include <errno.h>
-#include <stdint.h>
 #include <stdio.h>
 #include <string.h>
 #include <unistd.h>
@@ -8,7 +7,7 @@
 #include "digest.h"
 #include "errors.h"
 
-enum { BLOCK = 64, WORDS = 8, ROUNDS = 64, LENGTH_BYTES = 8, PIECE = 1 << 16 };
+enum { BLOCK = DIGEST_BLOCK, WORDS = DIGEST_WORDS, ROUNDS = 64, LENGTH_BYTES = 8, PIECE = 1 << 16 };
 
 static const uint32_t constants[ROUNDS] = {
     0x428a2f98, 0x71374491, 0xb5c0fbcf, 0xe9b5dba5, 0x3956c25b, 0x59f111f1, 0x923f82a4, 0xab1c5ed5, 0xd807aa98, 0x12835b01, 0x243185be,
@@ -42,39 +41,49 @@ static void take_block(uint32_t state[WORDS], const unsigned char *block) {
     for (int k = 0; k < WORDS; k++) state[k] += now[k];
 }
 
-// As many bytes as there are, up to so many.
-static size_t read_bytes(int file, const char *path, unsigned char *bytes, size_t most) {
-    size_t length = 0;
-    while (length < most) {
-        ssize_t count = read(file, bytes + length, most - length);
-        if (count < 0 && errno == EINTR) continue;
-        if (count < 0) stop("cannot read %s: %s", path, strerror(errno));
-        if (count == 0) break;
-        length += (size_t)count;
+void digest_begin(Digest *digest) {
+    static const uint32_t first[WORDS] = {
+        0x6a09e667, 0xbb67ae85, 0x3c6ef372, 0xa54ff53a, 0x510e527f, 0x9b05688c, 0x1f83d9ab, 0x5be0cd19 };
+    memcpy(digest->state, first, sizeof first);
+    digest->length = 0;
+}
+
+void digest_add(Digest *digest, const void *bytes, size_t count) {
+    const unsigned char *at = bytes;
+    size_t used = digest->length % BLOCK;
+    digest->length += count;
+    if (used > 0) {
+        size_t more = count < BLOCK - used ? count : BLOCK - used;
+        memcpy(digest->rest + used, at, more);
+        at += more;
+        count -= more;
+        if (used + more < BLOCK) return;
+        take_block(digest->state, digest->rest);
     }
-    return length;
+    for (; count >= BLOCK; at += BLOCK, count -= BLOCK) take_block(digest->state, at);
+    if (count > 0) memcpy(digest->rest, at, count);
 }
 
 // Behind the last bytes a bit that is 1, zeros, and how many bits there were.
-static void take_end(uint32_t state[WORDS], const unsigned char *bytes, size_t length, uint64_t all) {
+void digest_end(Digest *digest, char text[DIGEST_DIGITS + 1]) {
     unsigned char end[2 * BLOCK] = { 0 };
+    size_t length = digest->length % BLOCK;
     size_t blocks = length + 1 + LENGTH_BYTES > BLOCK ? 2 : 1;
-    memcpy(end, bytes, length);
+    memcpy(end, digest->rest, length);
     end[length] = 0x80;
-    for (size_t k = 0; k < LENGTH_BYTES; k++) end[blocks * BLOCK - 1 - k] = (unsigned char)(8 * all >> 8 * k);
-    for (size_t k = 0; k < blocks; k++) take_block(state, end + k * BLOCK);
+    for (size_t k = 0; k < LENGTH_BYTES; k++)
+        end[blocks * BLOCK - 1 - k] = (unsigned char)(8 * digest->length >> 8 * k);
+    for (size_t k = 0; k < blocks; k++) take_block(digest->state, end + k * BLOCK);
+    for (int k = 0; k < WORDS; k++) snprintf(text + 8 * k, 9, "%08x", digest->state[k]);
 }
 
 void digest_file(int file, const char *path, char text[DIGEST_DIGITS + 1]) {
     static unsigned char bytes[PIECE];
-    uint32_t state[WORDS] = { 0x6a09e667, 0xbb67ae85, 0x3c6ef372, 0xa54ff53a, 0x510e527f, 0x9b05688c, 0x1f83d9ab, 0x5be0cd19 };
-    uint64_t all = 0;
-    size_t length;
-    do {
-        length = read_bytes(file, path, bytes, PIECE);
-        for (size_t at = 0; at + BLOCK <= length; at += BLOCK) take_block(state, bytes + at);
-        all += length;
-    } while (length == PIECE);
-    take_end(state, bytes + length / BLOCK * BLOCK, length % BLOCK, all);
-    for (int k = 0; k < WORDS; k++) snprintf(text + 8 * k, 9, "%08x", state[k]);
+    Digest digest;
+    digest_begin(&digest);
+    for (ssize_t count; (count = read(file, bytes, PIECE)) != 0;) {
+        if (count > 0) digest_add(&digest, bytes, (size_t)count);
+        else if (errno != EINTR) stop("cannot read %s: %s", path, strerror(errno));
+    }
+    digest_end(&digest, text);
 }

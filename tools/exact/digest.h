@@ -1,14 +1,28 @@
-// Unverified: the digest of a file, SHA-256, by which a record knows its formula again.
+// Unverified: digests, SHA-256, by which a record knows its formula again, and others the record.
 #ifndef DIGEST_H
 #define DIGEST_H
+
+#include <stddef.h>
+#include <stdint.h>
 
 #ifdef __cplusplus
 extern "C" {
 #endif
 
-enum { DIGEST_DIGITS = 64 };
+enum { DIGEST_DIGITS = 64, DIGEST_BLOCK = 64, DIGEST_WORDS = 8 };
 
-void digest_file(int file, const char *path, char text[DIGEST_DIGITS + 1]);     // of an open file, to its end; in hexadecimal digits
+// Of bytes that come piece by piece. `rest`: what isn't a block yet, as the length says.
+typedef struct {
+    uint32_t state[DIGEST_WORDS];
+    unsigned char rest[DIGEST_BLOCK];
+    uint64_t length;
+} Digest;
+
+void digest_begin(Digest *digest);
+void digest_add(Digest *digest, const void *bytes, size_t count);
+void digest_end(Digest *digest, char text[DIGEST_DIGITS + 1]);      // in hexadecimal digits
+
+void digest_file(int file, const char *path, char text[DIGEST_DIGITS + 1]);     // of an open file, to its end
 
 #ifdef __cplusplus
 }

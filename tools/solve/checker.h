@@ -6,6 +6,7 @@
 
 #include <poll.h>
 
+#include "../exact/digest.h"
 #include "solve.h"
 
 const int UNKNOWN_STATUS = 3;           // of lrupd
@@ -34,6 +35,8 @@ public:
     Child child;
     Opener opener;
     std::string report, said;           // lines of its standard output, and of standard error
+    bool keeps_digests = false;
+    std::vector<std::string> digests;   // of each stream that it got whole, as sha256sum has them
 
     void expect(const std::string &path);   // it is at work, or will be; what it writes stands there
     void start(Row row, const std::vector<int> &files);     // asks for one; the streams of round 1 are fed from these files
@@ -47,7 +50,8 @@ public:
     void look();                        // at what lrupd has opened
     std::vector<pollfd> full_pipes() const;     // for when there is room
     bool feed(size_t stream, uint64_t bytes, bool drop);    // from the file, which has so many by now; true where all are fed
-    void end_stream(size_t stream) { close_file(streams[stream].pipe); }
+    void go_on_in(size_t stream, int file) { streams[stream].file = file; }     // which has the bytes that come next
+    void end_stream(size_t stream);
     uint64_t fed(size_t stream) const { return streams[stream].fed; }
     uint64_t read_of(size_t stream) const;                  // bytes that it has read
     void read_on();                                         // what it says
@@ -61,6 +65,8 @@ private:
         std::string path;               // of a pipe that lrupd hasn't opened yet
         bool is_full = false;           // the pipe
         uint64_t fed = 0, dropped = 0;
+        std::string name = "";          // without the folder
+        Digest digest = {};
     };
 
     std::vector<Stream> streams;

@@ -39,6 +39,10 @@ std::string grouped(uint64_t number) {
 
 std::string counted(uint64_t number, const char *what) { return grouped(number) + " " + what + (number == 1 ? "" : "s"); }
 
+static std::string sizes_of_record() {
+    return format("%.1f MB kept, %s MB free", double(bytes_of_record()) / 1e6, grouped(free_bytes() / 1000000).c_str());
+}
+
 std::string title(const std::string &path) { return path == "-" ? "standard input" : quoted(path); }
 
 // While it runs.
@@ -97,8 +101,9 @@ std::string Display::progress() const {
     uint64_t checked = rounds.lines_before + uint64_t(share * double(lines));
     uint64_t conflicts = uint64_t(double(teams.all(&EngineStatus::conflicts)) / time);
     std::string work = inputs.options.check ? proofs_read() : grouped(conflicts) + " conflicts/s";
+    std::string room = inputs.options.proofs ? ", " + sizes_of_record() : "";
     return format("%.1f s, %s, %s checked, %s kB behind, round %llu at %.0f %%", time, work.c_str(), grouped(checked).c_str(),
-                  grouped(teams.all(&EngineStatus::behind) / 1000).c_str(), (unsigned long long)rounds.number, 100 * fullness());
+                  grouped(teams.all(&EngineStatus::behind) / 1000).c_str(), (unsigned long long)rounds.number, 100 * fullness()) + room;
 }
 
 // The size of a pipe isn't known.
@@ -118,9 +123,9 @@ void Display::details() const {
     for (size_t k = 0; k < teams.size() && !inputs.options.check; k++) {
         const EngineStatus &engine_status = teams.engine_status(k);
         uint64_t lines = LOAD(engine_status.lines);
-        tell(format("engine %zu: %.2f s, its filter %.2f s; %s conflicts; clauses: %s taken over, %s refused, %s given away; "
+        tell(format("%s: %.2f s, its filter %.2f s; %s conflicts; clauses: %s taken over, %s refused, %s given away; "
                     "%s, %.0f %% of them cite another stream",
-                    k + 1, teams[k].engine.seconds, teams[k].filter.seconds, grouped(LOAD(engine_status.conflicts)).c_str(),
+                    teams.title(k).c_str(), teams[k].engine.seconds, teams[k].filter.seconds, grouped(LOAD(engine_status.conflicts)).c_str(),
                     grouped(LOAD(engine_status.taken)).c_str(), grouped(LOAD(engine_status.refused)).c_str(),
                     grouped(LOAD(engine_status.given)).c_str(), counted(lines, "line").c_str(),
                     lines ? 100.0 * double(LOAD(engine_status.citing_others)) / double(lines) : 0));
@@ -134,7 +139,7 @@ void Display::details() const {
 // With -v that was told as they were lost.
 void Display::lost() const {
     for (size_t k = 0; k < teams.size() && !inputs.options.verbose && inputs.contradiction().empty(); k++)
-        if (teams[k].told) tell(teams.why_lost(k) + (teams.is_solver(k) && !inputs.options.check ? "; -v shows its standard error" : ""));
+        if (teams[k].told) tell(teams.why_lost(k));
 }
 
 void Display::causes(const std::string &cause) const {
@@ -144,6 +149,13 @@ void Display::causes(const std::string &cause) const {
     for (size_t end; (end = report.find('\n', begin)) != std::string::npos; begin = end + 1)
         if (report.compare(begin, 2, "c ") == 0) tell("lrupd: " + report.substr(begin + 2, end - begin - 2));
     tell(cause);
+}
+
+// Without --proofs it is in the run's folder, for a core and LRAT text.
+void Display::record() const {
+    const Options &options = inputs.options;
+    const char *what = options.record ? "" : ", until a core or LRAT text is written";
+    if (options.proofs) tell(quoted(options.proofs) + ": " + sizes_of_record() + what);
 }
 
 void Display::summary() const {

@@ -26,6 +26,7 @@ public:
     void details() const;
     void lost() const;                  // of each engine that was lost, why
     void causes(const std::string &cause) const;        // why there is no answer
+    void record() const;                // how large it is
     void summary() const;
     void hide() const;                  // progress
 

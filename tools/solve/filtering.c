@@ -28,12 +28,14 @@ static uint64_t round_number;       // from 1
 static uint64_t staged;             // the end of the outbox; others read up to `outbox_used`
 static Identities kept;             // what it gave away in this round
 static bool refuted;
+static bool in_memory;              // the stream, though there is a record
 
 // The ends: the first process says why, once this one has ended.
 
 static _Noreturn void leave(const char *cause) {
     bool over = LOAD(own->shared->over);        // then the engine was ended within a step
     if (cause && !over) snprintf(engine_status->cause, sizeof engine_status->cause, "%s", cause);
+    engine_status->proof_ended = input.ended;
     _exit(cause && !over);
 }
 
@@ -70,11 +72,23 @@ static _Noreturn void leave_unwritten(const char *cause) {
     leave(cause);
 }
 
+// There is no room left where the record is, say. lrupd gets these lines all the same.
+static void spill(const char *bytes, size_t length) {
+    const char *cause = strerror(errno);
+    off_t at = (off_t)engine_status->bytes;
+    if (own->record < 0 || in_memory || lseek(own->spare, at, SEEK_SET) != at) leave_unwritten(cause);
+    if (dup2(own->spare, own->stream) < 0 || !write_whole(own->stream, bytes, length)) leave_unwritten(cause);
+    in_memory = true;
+    snprintf(engine_status->unkept, sizeof engine_status->unkept, "%s", cause);
+    STORE(engine_status->kept, engine_status->bytes);
+    STORE(engine_status->spilled, 1);
+}
+
 // Whole lines go to the stream's file, which outlives this process, and only then the others hear of the clauses that they
 // derive: a filter that dies with lines in its buffer would leave clauses that others cite and lrupd never gets. They were
 // missing, after a minute of waiting. A slow lrupd slows filters, and they the engines: of a stream there is never much in memory.
 static void out(const char *bytes, size_t length) {
-    if (!write_whole(own->stream, bytes, length)) leave_unwritten(strerror(errno));
+    if (!write_whole(own->stream, bytes, length)) spill(bytes, length);
     STORE(engine_status->bytes, engine_status->bytes + length);
     STORE(engine_status->outbox_used, staged);
     STORE(engine_status->behind, waiting(own->proof) + (input.length - input.at));
@@ -111,7 +125,12 @@ static bool is_as_made(int stream) {
 
 static void open_stream(void) {
     char name[64];
-    if (own->record < 0) {
+    uint64_t from = LOAD(own->shared->memory_round);
+    if (own->record >= 0 && from != 0 && round_number >= from) {
+        in_memory = true;
+        if (dup2(own->spare, own->stream) < 0) leave_unwritten(strerror(errno));
+    }
+    if (own->record < 0 || in_memory) {
         lseek(own->stream, 0, SEEK_SET);        // the first process has cut it
         return;
     }

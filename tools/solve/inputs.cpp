@@ -46,12 +46,14 @@ void Inputs::find() {
     if (options.assume) inputs.push_back(options.assume);
     if (options.check) inputs.insert(inputs.end(), options.solvers.begin(), options.solvers.end());
     for (const std::string &path : inputs) check_input(path);
-    if (options.proofs) open_record(options.proofs, inputs);
+    if (options.proofs) open_record(options.proofs, inputs, options.replace);
     formula_path = again(inputs[0], front.formula, "formula.cnf");
     if (options.assume) assume_path = again(inputs[1], front.assumptions, "assumptions");
     if (!options.proofs) return;
     clear_record(options.proofs, { formula_path, assume_path });
-    std::string unwritten = write_file(std::string(options.proofs) + "/formula.sha256", digest_line(formula_path));
+    std::string digests = digest_line(formula_path);
+    if (options.assume) digests += digest_line(assume_path);
+    std::string unwritten = write_file(std::string(options.proofs) + "/formula.sha256", digests);
     if (!unwritten.empty()) refuse(unwritten);
 }
 

@@ -2,8 +2,10 @@
 #include <algorithm>
 #include <cctype>
 #include <csignal>
+#include <ctime>
 
 #include <fcntl.h>
+#include <sys/utsname.h>
 #include <unistd.h>
 
 #include "checker.h"
@@ -102,6 +104,7 @@ void Keeping::prepare(const std::string &program) {
     if (!is_wanted()) return;
     for (const char *path : { options.core, options.lrat })
         if (path && is_there(path)) refuse(std::string(path) + " is there, and isn't written over");
+    check_outputs(false);
     if (find_tool("lrup-trim").empty()) refuse("no lrup-trim, neither beside this program nor on the PATH: `make trim` makes it");
     folder = Folder::name() + "/kept";
     if (!options.proofs) options.proofs = folder.c_str();
@@ -136,6 +139,33 @@ std::string Keeping::verdict_on(const Output &output, const Wait &wait) const {
     return goes_on && is_proved && !said.empty() ? lines_of(said).back() : "";
 }
 
+bool Keeping::is_in_record(const std::string &path) const {
+    const char *record = inputs.options.record;
+    std::string place = record ? absolute(record) + "/" : "";
+    return record && absolute(path).compare(0, place.size(), place) == 0;
+}
+
+// Each is there for a moment. They may be in the record's folder, which may be made first.
+void Keeping::check_outputs(bool has_record) const {
+    const int how = O_WRONLY | O_CREAT | O_EXCL | O_NOFOLLOW | O_CLOEXEC;
+    std::string why;
+    std::vector<const char *> made;
+    for (const char *path : { inputs.options.core, inputs.options.lrat }) {
+        if (!path || !why.empty() || (!has_record && is_in_record(path))) continue;
+        int file = open(path, how, 0666);
+        if (file < 0) why = "cannot write " + std::string(path) + ": " + error_text();
+        else made.push_back(path), close(file);
+    }
+    for (const char *path : made) unlink(path);
+    if (!why.empty()) refuse(why);
+}
+
+bool Keeping::wait_for_version(Child &child, std::string &said, const Wait &wait) const {
+    bool goes_on = run_tool({ checker_program, "--version" }, child, said, wait);
+    said = said.substr(0, said.find('\n'));
+    return goes_on;
+}
+
 // What was written stays where lrupd takes it.
 std::string Keeping::keep_if_right(const char *path, const Output &output, const Wait &wait) const {
     std::string verdict = verdict_on(output, wait);
@@ -145,7 +175,7 @@ std::string Keeping::keep_if_right(const char *path, const Output &output, const
     return "lrupd hasn't taken " + quoted(path) + ", which is removed";
 }
 
-std::string Keeping::keep(bool is_proved, const Wait &wait) const {
+std::string Keeping::keep(bool is_proved, const std::string &lost, const Wait &wait) const {
     const Options &options = inputs.options;
     if (is_wanted() && !is_proved) display.tell("no proof, and so no core and no LRAT text");
     if (!is_wanted() || !is_proved) return "";
@@ -160,6 +190,7 @@ std::string Keeping::keep(bool is_proved, const Wait &wait) const {
     Child child;
     Known said;
     const std::string none = "no core and no LRAT text: ";
+    if (!lost.empty()) return none + lost;
     if (!run_tool(words, child, said.text, wait)) return none + "the run was ended";
     const std::vector<std::string> lines = lines_of(said.text);
     if (!child.ended_with(0) || lines.empty())
@@ -174,6 +205,32 @@ std::string Keeping::keep(bool is_proved, const Wait &wait) const {
     if (!lrat.told.empty()) display.tell(lrat.told);
     if (options.lrat) other = keep_if_right(options.lrat, lrat, wait);
     return other.empty() ? why : other;
+}
+
+// What ran, where and when, and what is in the record. lrupd says its version on standard error.
+std::string Keeping::describe(const Checker &checker, uint64_t rounds, const Wait &wait) const {
+    const Options &options = inputs.options;
+    Child child;
+    std::string said, here = absolute("");
+    if (!options.record || !wait_for_version(child, said, wait)) return "";
+    char date[64];
+    time_t seconds = time(nullptr);
+    strftime(date, sizeof date, "%Y-%m-%d %H:%M:%S UTC", gmtime(&seconds));
+    utsname machine = {};
+    uname(&machine);
+    double memory = double(sysconf(_SC_PHYS_PAGES)) * double(sysconf(_SC_PAGESIZE)) / 1e6;
+    std::string text = format("date: %s\n", date);
+    text += "words: " + one_line(options.words) + "\n";
+    text += "folder: " + one_line(here.substr(0, here.size() - 1)) + "\n";
+    text += "programs: " + one_line(said) + "; " + version() + ", for engines and filters\n";
+    text += "kit: " KIT "\n";
+    text += format("machine: %s %s %s, %ld processors, %.0f MB\n", machine.sysname, machine.release,
+                   machine.machine, sysconf(_SC_NPROCESSORS_ONLN), memory);
+    text += "verdict: " + lines_of(checker.report).back() + "\n";
+    text += format("record: %s, %s\n", counted(rounds, "round").c_str(),
+                   counted(bytes_of_record(), "byte").c_str());
+    text += "\n" + digest_line(checker_program) + digests_of_record(checker.digests);
+    return write_file(std::string(options.proofs) + "/about", text);
 }
 
 // Why lrupd hasn't taken a line.

@@ -21,7 +21,9 @@ const char check_summary[] =
     "\n"
     "  --time SECONDS     by the clock; then the answer is 's UNKNOWN'\n"
     "  --memory BYTES     the most that lrupd may take for the clauses it keeps, as 500000000, 500M or 2G\n"
-    "  --proofs DIR       keep the streams that lrupd has checked there, and the command that checks them again\n"
+    "  --proofs DIR       keep the streams that lrupd has checked there, and the command that checks them again;\n"
+    "                     --replace removes those of an earlier run\n"
+    "  --expect ANSWER    unsat or unsat-under-assumptions: the status is 0 if that is the answer, and else 1\n"
     "  --core FILE        write an unsatisfiable core, and have lrupd check it\n"
     "  --lrat FILE        write the proof as LRAT text, without what isn't needed, and have lrupd check it\n"
     "  --re-hint          find hints anew for both, which are smaller then; it takes longer\n"
@@ -51,10 +53,12 @@ const char summary[] =
     "  --no-share         engines that share nothing\n"
     "  --seed N           other runs of the engines\n"
     "  --proofs DIR       keep the streams of all rounds there, the report, and the command that checks them again:\n"
-    "                     sh DIR/command. Those of an earlier run are removed\n"
+    "                     sh DIR/command. Those of an earlier run without a proof are removed\n"
+    "  --replace          those of one with a proof, too\n"
     "  --core FILE        write an unsatisfiable core, and have lrupd check it\n"
     "  --lrat FILE        write the proof as LRAT text, without what isn't needed, and have lrupd check it\n"
     "  --re-hint          find hints anew for both, which are smaller then; it takes longer\n"
+    "  --expect ANSWER    sat, unsat or unsat-under-assumptions: the status is 0 if the answer is that one, and else 1\n"
     "  --assume FILE      literals that are assumed, in one line that ends with 0, as for lrupd\n"
     "  --lrupd PATH       the checker; if not said it is looked for beside this program, and then on the PATH\n"
     "  --engines PATH     the program that solves, of which nothing is believed; lrup-engines beside this one if not said\n"
@@ -65,8 +69,6 @@ const char summary[] =
     "\n"
     "After -- a word is the formula. Statuses: 10 satisfiable, 20 unsatisfiable (or so under the assumptions),\n"
     "0 unknown, 1 a mistake, or a file that can't be used.\n";
-
-std::string version() { return std::string(program_name) + " " + VERSION + ", with CaDiCaL " + engine_version() + "\n"; }
 
 class Words {
 public:
@@ -139,6 +141,12 @@ const char *name_of_file(const char *name, const char *what, const char *value) 
     exit(0);
 }
 
+const char *answer_of(const char *value) {
+    for (const char *one : { "sat", "unsat", "unsat-under-assumptions" })
+        if (strcmp(value, one) == 0) return value;
+    bad_value("--expect", "sat, unsat or unsat-under-assumptions", value);
+}
+
 const char *solver_of(const Options &options, const char *value) {
     if (options.check) refuse("--solver is lrup-solve's: no solver is started");
     if (!strstr(value, "%formula") || !strstr(value, "%proof")) bad_value("--solver", "a command with both %formula and %proof", value);
@@ -158,6 +166,7 @@ bool read_valued(Options &options, Words &words, const char *word) {
     else if (words.option(word, "--core", value)) options.core = name_of_file("--core", "a file", value);
     else if (words.option(word, "--lrat", value)) options.lrat = name_of_file("--lrat", "a file", value);
     else if (words.option(word, "--assume", value)) options.assume = name_of_file("--assume", "a file", value);
+    else if (words.option(word, "--expect", value)) answer_of(value);
     else if (words.option(word, "--lrupd", value)) name_of_file("--lrupd", "a program", value);
     else if (words.option(word, "--engines", value)) name_of_file("--engines", "a program", value);
     else return false;
@@ -191,8 +200,14 @@ void check_proofs(const Options &options) {
 
 }
 
+std::string version() {
+    return std::string(program_name) + " " + VERSION + ", with CaDiCaL " + engine_version();
+}
+
 Options read_words(int count, char **list) {
     Options options;
+    options.words = program_name;
+    for (int k = 1; k < count; k++) options.words += " " + quoted(list[k]);
     Words words(count, list);
     bool only_words = false;        // after --
     while (words.more()) {
@@ -202,11 +217,12 @@ Options read_words(int count, char **list) {
             continue;
         }
         if (strcmp(word, "--help") == 0 || strcmp(word, "-h") == 0) show(options.check ? check_summary : summary);
-        if (strcmp(word, "--version") == 0) show(version().c_str());
+        if (strcmp(word, "--version") == 0) show((version() + "\n").c_str());
         if (strcmp(word, "--") == 0) only_words = true;
         else if (strcmp(word, "--check") == 0) begin_check(options);
         else if (strcmp(word, "--no-share") == 0) options.share = false;
         else if (strcmp(word, "--re-hint") == 0) options.rehint = true;
+        else if (strcmp(word, "--replace") == 0) options.replace = true;
         else if (strcmp(word, "--verbose") == 0) options.verbose = true;
         else if (strcmp(word, "--quiet") == 0) options.quiet = true;
         else if (is_of_letters(word)) {
@@ -217,9 +233,11 @@ Options read_words(int count, char **list) {
         else if (word[0] == '-' && word[1] != 0) refuse(std::string("no such option: ") + word + " (--help lists them)");
         else take_file(options, word);
     }
+    options.record = options.proofs;
     if (!options.formula) options.formula = "-";
     if (options.check) check_proofs(options);
     if (options.rehint && !options.core && !options.lrat) refuse("--re-hint without --core or --lrat");
+    if (options.replace && !options.proofs) refuse("--replace without --proofs");
     if (options.solvers.size() + size_t(options.engines) > MOST_ENGINES) refuse("more than 64 engines, with those of --solver");
     if (!options.solvers.empty() && options.mpi) refuse("--solver and --mpi: a solver shares nothing with engines elsewhere");
     if (!options.solvers.empty() && options.assume && !options.check) refuse("--assume and --solver: a solver isn't told of assumptions");

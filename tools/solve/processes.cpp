@@ -90,6 +90,11 @@ int create_file(const std::string &path) {
     return kept_open(file);
 }
 
+int create_if_possible(const std::string &path) {
+    int file = new_file(path);
+    return file < 0 ? -1 : kept_open(file);
+}
+
 bool remove_file(const std::string &path) {
     Place place = place_of(path);
     return unlinkat(place.folder, place.name.c_str(), 0) == 0 || errno == ENOENT;

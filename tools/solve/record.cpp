@@ -2,6 +2,7 @@
 #include <algorithm>
 #include <cctype>
 #include <cerrno>
+#include <cstdlib>
 #include <cstring>
 #include <set>
 
@@ -9,6 +10,7 @@
 #include <fcntl.h>
 #include <sys/file.h>
 #include <sys/stat.h>
+#include <sys/statvfs.h>
 #include <unistd.h>
 
 #include "../exact/digest.h"
@@ -34,22 +36,26 @@ bool is_standard_input(const std::string &path) {
 }
 
 // Beside what rounds leave.
-const char *const NAMES[] = { "formula.cnf", "formula.sha256", "assumptions", "report", "command" };
+const char *const NAMES[] = { "about", "assumptions", "command", "formula.cnf", "formula.sha256", "report" };
 
 // The record's list of its files, itself the first one. A name is there before its file is made.
 const char LIST[] = "files";
 int list_file = -1;
 std::set<std::string> listed;
 
-// round-R.stream-K or round-R.sizes.
+// round-R.stream-K, which somebody may have packed, or round-R.sizes.
 bool is_of_a_round(const std::string &name) {
     auto is_number = [](const std::string &word) {
         return !word.empty() && word[0] != '0' && word.find_first_not_of("0123456789") == std::string::npos;
     };
     size_t dot = name.find('.');
     if (name.rfind("round-", 0) != 0 || dot == std::string::npos || !is_number(name.substr(6, dot - 6))) return false;
-    std::string rest = name.substr(dot + 1);
-    return rest == "sizes" || (rest.rfind("stream-", 0) == 0 && is_number(rest.substr(7)));
+    std::string rest = name.substr(dot + 1), number = rest.substr(std::min<size_t>(7, rest.size()));
+    for (const std::string &form : { std::string(".xz"), std::string(".gz"), std::string(".zst") }) {
+        size_t length = number.size() - std::min(number.size(), form.size());
+        if (number.substr(length) == form) number.resize(length);
+    }
+    return rest == "sizes" || (rest.rfind("stream-", 0) == 0 && is_number(number));
 }
 
 // A name that a run gives a file, also while that is written.
@@ -101,6 +107,15 @@ void read_list(const std::string &path) {
         listed.insert(name);
     }
     if (begin == 0 || ftruncate(list_file, off_t(begin)) != 0) refuse_own(path);
+}
+
+// By its report, which is lrupd's.
+bool has_proof() {
+    if (listed.count("report") == 0) return false;
+    int file = openat(record_folder, "report", O_RDONLY | O_NOFOLLOW | O_NONBLOCK | O_CLOEXEC);
+    std::string report = "\n" + (file < 0 ? "" : text_of(file));
+    if (file >= 0) close(file);
+    return report.find("\ns UNSATISFIABLE") != std::string::npos;
 }
 
 void list_anew(const std::string &path, const std::set<std::string> &names) {
@@ -192,6 +207,13 @@ std::string absolute(const std::string &path) {
     return path[0] == '/' || !getcwd(folder, sizeof folder) ? path : std::string(folder) + "/" + path;
 }
 
+std::string real_path(const std::string &folder) {
+    char *found = realpath(folder.c_str(), nullptr);
+    std::string path = found ? found : "";
+    free(found);
+    return path.empty() || path.back() == '/' ? path : path + "/";
+}
+
 // The name that a file has until all of it is written.
 std::string unfinished(const std::string &path) {
     size_t name = path.rfind('/') + 1;
@@ -241,7 +263,7 @@ static void hold_folder(const std::string &folder) {
 }
 
 // A file with a name of a record's that no list names is somebody's own.
-void open_record(const std::string &folder, const std::vector<std::string> &inputs) {
+void open_record(const std::string &folder, const std::vector<std::string> &inputs, bool replaces) {
     struct stat input, found;
     std::string list = folder + "/" + LIST;
     if (mkdir(folder.c_str(), 0775) != 0 && errno != EEXIST) refuse("cannot make " + folder + ": " + error_text());
@@ -252,6 +274,7 @@ void open_record(const std::string &folder, const std::vector<std::string> &inpu
             if (find(path, found) && find(name, input) && is_same(found, input))
                 refuse(path + " would be written over: another --proofs");
     read_list(list);
+    if (!replaces && has_proof()) refuse(folder + " has the proof of an earlier run: --replace, or another --proofs");
     for (const std::string &path : paths)
         if (listed.count(path.substr(folder.size() + 1)) == 0) refuse_own(path);
     if (list_file < 0) {
@@ -280,6 +303,37 @@ void clear_record(const std::string &folder, const std::vector<std::string> &kep
             refuse("cannot remove " + path + ": " + error_text());
     }
     list_anew(folder + "/" + LIST, left);
+}
+
+std::string digests_of_record(const std::vector<std::string> &known) {
+    std::string lines;
+    std::set<std::string> left = listed;
+    for (const std::string &line : known) {
+        lines += line + "\n";
+        left.erase(line.substr(DIGEST_DIGITS + 2));
+    }
+    for (const std::string &name : left) {
+        char digest[DIGEST_DIGITS + 1];
+        int file = openat(record_folder, name.c_str(), O_RDONLY | O_NOFOLLOW | O_NONBLOCK | O_CLOEXEC);
+        if (file < 0 || name == LIST || name == "about") continue;
+        digest_file(file, name.c_str(), digest);
+        close(file);
+        lines += std::string(digest) + "  " + name + "\n";
+    }
+    return lines;
+}
+
+uint64_t bytes_of_record() {
+    uint64_t bytes = 0;
+    struct stat found;
+    for (const std::string &name : listed)
+        if (fstatat(record_folder, name.c_str(), &found, AT_SYMLINK_NOFOLLOW) == 0) bytes += uint64_t(found.st_size);
+    return bytes;
+}
+
+uint64_t free_bytes() {
+    struct statvfs found;
+    return fstatvfs(record_folder, &found) == 0 ? uint64_t(found.f_bavail) * found.f_frsize : 0;
 }
 
 // As sha256sum writes it: it marks a name that has such bytes in it.

@@ -87,67 +87,171 @@ std::string Rounds::command_of(Row sizes, const std::string &folder) const {
     return line + opened;
 }
 
-// Of all rounds, from the record's own folder: it may have moved. Names are values of variables,
-// and stand nowhere else. lrupd reads open files, as sha256sum does. In rounds it writes some, into
-// a new folder with links to the record's files.
+// Of all rounds, wherever the record is by now: of each input the path from there comes first. Names
+// are values of variables, and stand nowhere else. lrupd reads open files, as what checks the
+// digests does. In rounds lrupd writes some, into a new folder with links to the record's files;
+// and of a stream that is packed there is a pipe.
 static const char CHECK_AGAIN[] = R"sh(
 CDPATH=
-refuse() { printf '%s\n' "$1" >&2; exit 1; }
-case $0 in */*) cd -- "${0%/*}/" || exit 1 ;; esac
-for file in formula.sha256 round-1.stream-1 round-[1-9]*.sizes round-[1-9]*.stream-[1-9]* \
-    ${assume:+"$assume"} "$formula"; do
-    case $file in /*) ;; *) file=$PWD/$file ;; esac
-    [ -r "$file" ] || refuse "$file isn't there, or can't be read"
-    [ -f "$file" ] || refuse "$file is no regular file"
-done
-exec 3< "$formula"
-read -r digest name < formula.sha256
-if command -v sha256sum > /dev/null && [ "$(sha256sum < /dev/fd/3)" != "${digest#\\}  -" ]; then
-    refuse "$file isn't the formula of this record, or was changed since"
+clean() { printf '%s' "$1" | LC_ALL=C tr '\001-\037\177' '?'; }
+refuse() { printf '%s\n' "$(clean "$1")" >&2; exit 1; }
+readable() {
+    [ -r "$1" ] || refuse "$1 isn't there, or can't be read"
+    [ -f "$1" ] || refuse "$1 is no regular file"
+}
+named() {
+    file=$2
+    [ ! -f "$1" ] || { cd -P -- "${1%/*}/" && file=$PWD/${1##*/}; cd -- "$record" || exit 1; }
+    case $file in /*) ;; *) file=$record/$file ;; esac
+    readable "$file"
+}
+checked() {
+    for tool in sha256sum 'shasum -a 256' 'openssl dgst -sha256 -r' ''; do
+        command -v "${tool%% *}" > /dev/null && break
+    done
+    [ -n "$tool" ] || refuse "no sha256sum, shasum or openssl on the PATH to find SHA-256s"
+    found=$($tool < "$1") || refuse "$tool can't find the SHA-256 of $file"
+    found=${found%% *}
+    [ "$found" = "${2#\\}" ] || refuse "$file isn't the $3 of this record, or was changed since"
+    checks="c $3 $(clean "$file"), SHA-256 $found"
+}
+stream() {
+    file=$record/round-$1.stream-$2 unpacks=''
+    [ ! -e "$file" ] || return 0
+    for form in xz.xz gzip.gz zstd.zst; do
+        [ -e "$file.${form#*.}" ] || continue
+        file=$file.${form#*.} unpacks=${form%.*}
+        return 0
+    done
+}
+unpack() {
+    child=''
+    trap '[ -z "$child" ] || kill "$child" 2> /dev/null; exit 1' TERM
+    round=1
+    while [ "$round" -le "$rounds" ]; do
+        stream "$round" "$1"
+        if [ -n "$unpacks" ]; then
+            "$unpacks" -dcq < "$file" > "round-$round.stream-$1" &
+            child=$!
+            wait "$child"
+        fi
+        round=$((round + 1))
+    done
+}
+[ "$#" -le 1 ] || refuse "usage: sh command [FORMULA]"
+if [ "$#" -eq 1 ]; then
+    beside=''
+    case $1 in /*) formula=$1 ;; *) formula=$PWD/$1 ;; esac
 fi
-[ -z "$assume" ] || { exec 4< "$assume"; set -- --assume /dev/fd/4 "$@"; }
-trap 'kill "$!" 2> /dev/null; wait; exit 143' HUP INT QUIT TERM
-if [ "$rounds" -gt 1 ]; then
+case $0 in */*) cd -P -- "${0%/*}/" || exit 1 ;; *) cd -P . ;; esac
+record=$PWD
+[ -f "$lrupd" ] && [ -x "$lrupd" ] || lrupd=$(command -v lrupd) ||
+    refuse "no lrupd, neither where this record's was nor on the PATH"
+readable "$record/formula.sha256"
+{ read -r digest name; read -r assumed name; } < formula.sha256
+named "$beside" "$formula"
+exec 3< "$file"
+checked /dev/fd/3 "$digest" formula
+first=$checks
+if [ -n "$assume" ]; then
+    named "$beside_assume" "$assume"
+    exec 4< "$file"
+    checked /dev/fd/4 "$assumed" assumptions
+    first="$first
+$checks"
+    sizes="$sizes --assume /dev/fd/4"
+fi
+set --
+solvers='' round=1
+while [ "$round" -le "$rounds" ]; do
+    readable "$record/round-$round.sizes"
+    read -r count more < "round-$round.sizes"
+    [ "$round" -gt 1 ] || count=$streams
+    k=1
+    while [ "$k" -le "$count" ]; do
+        stream "$round" "$k"
+        readable "$file"
+        if [ -n "$unpacks" ]; then
+            command -v "$unpacks" > /dev/null || refuse "no $unpacks on the PATH for $file"
+            set -- "$@" "round-$round.stream-$k"
+            case " $solvers " in *" $k "*) ;; *) solvers="$solvers $k" ;; esac
+        fi
+        k=$((k + 1))
+    done
+    round=$((round + 1))
+done
+made='' inside='' checker='' writers=''
+trap 'kill $checker $writers 2> /dev/null; wait; exit 143' HUP INT QUIT TERM
+if [ "$rounds" -gt 1 ] || [ "$#" -gt 0 ]; then
     place=$(cd -- "${TMPDIR:-/tmp}" && pwd) || exit 1
     [ -z "$(find "$place/." -prune -perm -2 ! -perm -1000)" ] ||
         refuse "$place: others may write there: another TMPDIR"
-    record=$PWD made='' inside=''
-    trap '[ -z "$inside" ] || find . -name "round-*" -exec rm -f {} +
+    trap '[ -z "$writers" ] || { kill $writers 2> /dev/null; wait; }
+        [ -z "$inside" ] || find . -name "round-*" -exec rm -f {} +
         [ -z "$made" ] || { cd / && rmdir -- "$made"; }' EXIT
     made=$(mktemp -d "$place/lrupd-XXXXXX") && cd -- "$made" || exit 1
     inside=yes
     find "$record/." ! -name . -prune -name 'round-[1-9]*.s*' \
         -exec sh -c 'ln -s "$@" .' sh {} + || exit 1
-    set -- --rounds . "$@"
+    [ "$#" -eq 0 ] || mkfifo "$@" || exit 1
+    sizes="$sizes --rounds ."
+    for k in $solvers; do
+        unpack "$k" &
+        writers="$writers $!"
+    done
 fi
-"$lrupd" "$@" < /dev/null &
-wait "$!"
+set -- /dev/fd/3
+k=1
+while [ "$k" -le "$streams" ]; do
+    set -- "$@" "round-1.stream-$k"
+    k=$((k + 1))
+done
+printf '%s\n' "$first"
+"$lrupd" $sizes "$@" < /dev/null &
+checker=$!
+wait "$checker"
 )sh";
 
+// From the record's folder, by what its folder and the file's really are; none where it is there.
+std::string Rounds::from_record(const std::string &path) const {
+    std::string whole = absolute(path);
+    size_t slash = whole.rfind('/');
+    std::string from = real_path(teams.record), to = real_path(whole.substr(0, slash + 1));
+    if (from.empty() || to.empty() || within(teams.record, whole) != whole) return "";
+    size_t same = 0;
+    for (size_t k = 0; k < from.size() && k < to.size() && from[k] == to[k]; k++)
+        if (from[k] == '/') same = k + 1;
+    std::string up;
+    for (size_t k = same; k < from.size(); k++)
+        if (from[k] == '/') up += "../";
+    return (up.empty() ? "./" : up) + to.substr(same) + whole.substr(slash + 1);
+}
+
 std::string Rounds::command_again() const {
-    auto named = [this](const std::string &path) {
-        return quoted(within(teams.record, absolute(path)));
+    auto named = [this](const char *name, const std::string &path) {
+        bool is_there = !path.empty();
+        std::string here = is_there ? within(teams.record, absolute(path)) : "";
+        std::string beside = is_there ? from_record(path) : "";
+        return name + ("=" + quoted(here)) + "\nbeside" + (*name == 'a' ? "_assume=" : "=") +
+               quoted(beside) + "\n";
     };
-    std::string text = "lrupd=" + quoted(checker_program);
-    text += "\nformula=" + named(inputs.formula_path);
-    text += "\nassume=" + (inputs.options.assume ? named(inputs.assume_path) : "''");
-    text += "\nrounds=" + std::to_string(number);
-    text += "\nset --" + sizes_in_command(first) + " " + OPEN_FILES + "3";
-    for (size_t k = 0; k < teams.size(); k++) text += " round-1.stream-" + std::to_string(k + 1);
-    return text + CHECK_AGAIN;
+    std::string text = "lrupd=" + quoted(checker_program) + "\n" + named("formula", inputs.formula_path);
+    text += named("assume", inputs.options.assume ? inputs.assume_path : "");
+    text += "rounds=" + std::to_string(number) + "\nstreams=" + std::to_string(teams.size());
+    return text + "\nsizes='" + sizes_in_command(first).substr(1) + "'" + CHECK_AGAIN;
 }
 
 // In the record.
 void Rounds::keep_sizes() const {
-    if (!inputs.options.proofs) return;
+    if (!inputs.options.proofs || !teams.lost.empty()) return;
     std::string text = sizes_text(LOAD(teams.shared->streams), rows.row);
-    std::string unwritten = write_file(teams.record + name_of_round(number) + ".sizes", text);
-    if (!unwritten.empty()) refuse(unwritten);
+    teams.lost = write_file(teams.record + name_of_round(number) + ".sizes", text);
 }
 
 // What one needs to have the streams checked again.
 std::string Rounds::keep_report() const {
-    if (!inputs.options.proofs) return "";
+    if (!inputs.options.record) return "";
+    if (!teams.lost.empty()) return "the record is lost: " + teams.lost;
     std::string folder = std::string(inputs.options.proofs) + "/", unkept = write_file(folder + "report", checker.report);
     return unkept.empty() ? write_file(folder + "command", command_again()) : unkept;
 }
@@ -171,7 +275,13 @@ void Rounds::feed(bool is_last) {
         uint64_t stream = LOAD(teams.engine_status(k).stream);
         if (stream == 0) continue;
         bool is_empty = state == MAPPING || teams[k].silent;
-        bool fed = checker.feed(stream - 1, is_empty ? 0 : LOAD(teams.engine_status(k).bytes), !inputs.options.proofs);
+        uint64_t bytes = is_empty ? 0 : LOAD(teams.engine_status(k).bytes), kept = teams.bytes_kept(k);
+        bool drop = !inputs.options.proofs || teams[k].stream == teams[k].spare;
+        bool fed = checker.feed(stream - 1, std::min(bytes, kept), drop);
+        if (fed && bytes > kept) {
+            checker.go_on_in(stream - 1, teams[k].spare);
+            fed = checker.feed(stream - 1, bytes, true);
+        }
         teams.tell_fed(k, checker.fed(stream - 1));
         if (fed && (is_last || state == SAVING)) checker.end_stream(stream - 1);
     }
@@ -185,6 +295,9 @@ void Rounds::end_streams() {
 // From round to round. The first lrupd starts once streams aren't short any more.
 std::string Rounds::look() {
     uint64_t least = test_hooks.first_words ? 1 : SHORT_STREAMS;
+    teams.look_at_record();
+    if (!teams.lost.empty() && !has_told_loss) display.tell("the record is lost: " + teams.lost);
+    has_told_loss = !teams.lost.empty();
     if (!checker.child.pid && teams.all(&EngineStatus::bytes) >= least) start_checker(rows.row);
     for (size_t k = 0; k < teams.size() && state == OPEN; k++)
         if (LOAD(teams.engine_status(k).ended_round) == number) end_round();

@@ -37,6 +37,7 @@ private:
     Row first = {};                             // of round 1
     uint64_t literals_before = 0;
     double pause_begun = 0;
+    bool has_told_loss = false;
 
     bool size(uint64_t clauses, uint64_t literals);
     std::string bytes_of_row() const;
@@ -48,6 +49,7 @@ private:
     void go_on();
     std::string words() const;
     std::string command_of(Row sizes, const std::string &folder) const;
+    std::string from_record(const std::string &path) const;
     std::string command_again() const;
     void keep_sizes() const;
 };

@@ -24,7 +24,9 @@ void Run::prepare() {
     if (options.engines == 0 && options.solvers.empty()) options.engines = half_of_the_cores();
     options.engines += int(options.solvers.size());
     keeping.prepare(program);
+    checker.keeps_digests = options.record != nullptr;
     inputs.find();
+    keeping.check_outputs(true);
     teams.open();
     inputs.read();
     teams.open_models();
@@ -33,7 +35,7 @@ void Run::prepare() {
     if (others) others->begin();
     teams.start(!others);
     for (size_t k = 0; k < teams.size(); k++)
-        if (teams.is_solver(k)) display.tell_more(format(inputs.options.check ? "proof %zu: " : "engine %zu: ", k + 1) + teams[k].command);
+        if (teams.is_solver(k)) display.tell_more(teams.title(k) + ": " + teams[k].command);
     display.begin();
 }
 
@@ -107,15 +109,17 @@ void Run::look_at_solving() {
 }
 
 void Run::look_at_teams() {
-    bool any_left = false;
+    bool any_left = false, any_has_begun = false;
     for (size_t k = 0; k < teams.size() && phase == SOLVING; k++) {
         look_at_team(k);
         any_left |= !teams.is_lost(k);
+        any_has_begun |= !teams[k].idle;
     }
     if (phase != SOLVING || any_left) return;
     std::string contradicting = inputs.contradiction();
-    bool is_check = inputs.options.check;
-    finish(UNKNOWN_ANSWER, !contradicting.empty() ? contradicting : is_check ? "no proof is left" : "no engine is left");
+    const char *none = inputs.options.check ? "no proof is left" : "no engine is left";
+    finish(UNKNOWN_ANSWER, contradicting.empty() ? none : contradicting);
+    if (!any_has_begun) unstarted = "nothing could run: " + teams[0].cause;
 }
 
 // The proof is written once the filter has written its last line; what the engine says counts for nothing.
@@ -129,7 +133,7 @@ void Run::look_at_team(size_t k) {
         look_at_ends();
         ending = now() + ENDING;
         phase = ENDING_STREAMS;
-        if (!inputs.options.check) display.tell_more(format("engine %zu has the proof", k + 1));
+        if (!inputs.options.check) display.tell_more(teams.title(k) + " has the proof");
         return;
     }
     int said = LOAD(facts.answer);
@@ -138,9 +142,28 @@ void Run::look_at_team(size_t k) {
     if (phase != SOLVING || team.told || said == SATISFIABLE) return;
     bool both_ended = team.engine.ended() && team.filter.ended_with(0);
     if (look_at_end(k) || !team.filter.ended() || !(both_ended || !team.filter.ended_with(0))) return;
-    std::string stopped = inputs.options.check ? "" : "its filter stopped: ";
-    tell_lost(k, facts.cause[0] ? stopped + facts.cause : "its filter " + team.filter.end());
+    if (facts.proof_ended && team.engine.running) return;       // it held the proof open, and ends now
+    std::string end = facts.cause[0] ? std::string("stopped: ") + facts.cause : team.filter.end();
+    tell_lost(k, inputs.options.check && facts.cause[0] ? facts.cause : end_before(k) + "its filter " + end);
     team.engine.signal(SIGKILL);
+}
+
+// How an engine has ended, with a solver's last words.
+std::string Run::end_of(size_t k) const {
+    const Team &team = teams[k];
+    const char *words = teams.engine_status(k).last_words;
+    if (!teams.is_solver(k)) return "the engine " + team.engine.end();
+    if (!words[0] && team.engine.ended_with(127)) words = "command not found";
+    return "the solver " + team.engine.end() + (words[0] ? ": " : "") + words;
+}
+
+static bool is_usual(const Child &engine) {
+    return engine.ended_with(0) || engine.ended_with(SATISFIABLE) || engine.ended_with(UNSATISFIABLE);
+}
+
+// Where that explains what its filter found.
+std::string Run::end_before(size_t k) const {
+    return teams.engine_status(k).proof_ended && !is_usual(teams[k].engine) ? end_of(k) + "; " : "";
 }
 
 // Whether an engine has ended without an answer, which isn't its filter's fault.
@@ -150,7 +173,8 @@ bool Run::look_at_end(size_t k) {
     bool has_ended = team.engine.ended() && (team.filter.ended_with(0) || !team.engine.ended_with(0));
     if (LOAD(facts.answer) != 0 || facts.cause[0] || !has_ended) return false;
     bool unfounded = LOAD(facts.unfounded);
-    std::string end = inputs.options.check ? "it can't be read" : "the engine " + team.engine.end();
+    team.idle = !unfounded && LOAD(facts.lines) == 0 && !is_usual(team.engine);
+    std::string end = inputs.options.check ? "it can't be read" : end_of(k);
     tell_lost(k, unfounded ? "it says 'satisfiable', and gives no assignment in lines v" : end);
     if (LOAD(facts.group)) kill(-LOAD(facts.group), SIGKILL);       // where not even its process could do that
     return true;
@@ -174,7 +198,7 @@ void Run::look_at_model(size_t k) {
     const signed char *values = teams[k].model;
     if (inputs.is_model(values)) {
         model.assign(values, values + inputs.formula.variables);
-        display.tell_more(format("engine %zu has an assignment", k + 1));
+        display.tell_more(teams.title(k) + " has an assignment");
         look_at_ends();
         return finish(SATISFIABLE, "");
     }
@@ -203,6 +227,7 @@ void Run::verdict() {
     bool is_proved = checker.child.ended_with(0) || checker.child.ended_with(8);
     bool is_unknown = checker.child.ended_with(UNKNOWN_STATUS);
     if (is_proved || is_unknown) unkept = rounds.keep_report();
+    has_report = (is_proved || is_unknown) && unkept.empty();
     if (is_proved) return finish(UNSATISFIABLE, "");
     finish(UNKNOWN_ANSWER, is_unknown ? "lrupd hasn't taken the proof" : "lrupd " + checker.child.end());
 }
@@ -247,7 +272,8 @@ void Run::end_all() {
     for (Child *child : children()) child->signal(SIGKILL);
     for (Child *child : children()) wait_for(*child);
     Keeping::Wait wait_for_end = [this](Child &child) { return await_end(child); };
-    std::string why = keeping.keep(answer == UNSATISFIABLE, wait_for_end);
+    if (has_report) unkept = keeping.describe(checker, rounds.number, wait_for_end);
+    std::string why = keeping.keep(answer == UNSATISFIABLE, teams.lost, wait_for_end);
     if (unkept.empty()) unkept = why;
     if (checker.child.ended()) keeping.explain(checker.report, wait_for_end);
     for (size_t k = 0; inputs.options.check && k < teams.size() && answer == UNKNOWN_ANSWER; k++)
@@ -262,9 +288,11 @@ void Run::send_answer() {
     if (inputs.options.verbose && others) others->details();
     display.lost();
     if (answer == UNKNOWN_ANSWER) display.causes(cause);
+    display.record();
     display.summary();
     if (answer == SATISFIABLE) tell_model(model);
     if (!unkept.empty()) refuse(unkept);
+    if (answer == UNKNOWN_ANSWER && !unstarted.empty()) refuse(unstarted);
 }
 
 int Run::solve(const Elsewhere *elsewhere) {

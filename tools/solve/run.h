@@ -36,7 +36,8 @@ private:
 
     Phase phase = SOLVING;
     Answer answer = UNKNOWN_ANSWER;
-    std::string cause, unkept;
+    std::string cause, unkept, unstarted;       // why there is no answer, no record, and nothing was done
+    bool has_report = false;                    // in the record
     std::vector<signed char> model;
     Loop loop;
     Keeping keeping{ inputs, display };
@@ -55,6 +56,8 @@ private:
     void look_at_teams();
     void look_at_team(size_t k);
     bool look_at_end(size_t k);
+    std::string end_of(size_t k) const;
+    std::string end_before(size_t k) const;
     void look_at_ends();
     void look_at_model(size_t k);
     void tell_lost(size_t k, const std::string &why);

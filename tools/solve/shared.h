@@ -35,6 +35,7 @@ typedef struct {
     int group;                  // the processes of a solver that the user has
     int unfounded;              // it says 10, and gives no assignment
     uint64_t proof_read;        // bytes, of a proof that is there
+    char last_words[LONGEST_CAUSE];     // the last line of a solver's standard error; to be read once it has ended
     int ready;                  // it keeps the variables by which cubes are made
     uint64_t usable;            // which of these it hadn't eliminated by then, and are open: bits
     uint64_t refuted_cube;      // the number of the last one that it has refuted
@@ -52,7 +53,11 @@ typedef struct {
     uint64_t mapped_round;      // what it holds has the identities of the next one
     int refuted;                // the line is in the stream that shows what is asked
     int unwritten;              // the stream couldn't be written
+    int spilled;                // nor in the record, so it goes on in memory
+    uint64_t kept;              // bytes of it that the record has then
+    char unkept[LONGEST_CAUSE]; // why it has no more
     char cause[LONGEST_CAUSE];  // why it stopped; to be read once it has ended
+    int proof_ended;            // it had read all of the proof by then
     // The first process writes:
     uint64_t stream;            // its number in the round that comes next, or is on; 0: it has none
     uint64_t fed;               // bytes of its stream that lrupd has got
@@ -72,6 +77,7 @@ typedef struct {
     uint64_t ending_round;              // all streams of this one end after a whole line
     uint64_t saved_round;               // lrupd has saved this one's checkpoint: the two names below and the streams are the next one's
     uint64_t streams;
+    uint64_t memory_round;              // from this one on all streams are in memory, though there is a record; 0: none
     uint64_t most_lines, most_literals; // of a stream
     uint64_t variable_count;            // by which cubes are made; 0: it isn't known yet
     int variables[VARIABLES_OF_CUBES];
@@ -107,6 +113,7 @@ typedef struct {
     uint32_t *const *outboxes;      // by engine, from 0
     int engine;                     // counted from 1
     int proof, stream;              // the pipe of the engine's proof, and a file
+    int spare;                      // a file in memory for when there is no room for a record, or -1
     int record;                     // the folder in which each round's stream is a file, or -1
     Form form;                      // of the proof
     bool shares;

@@ -25,14 +25,18 @@ struct Options {
     bool share = true;
     int seed = 0;
     const char *proofs = nullptr, *assume = nullptr, *mpi = nullptr, *formula = nullptr;
+    const char *record = nullptr;       // the folder of --proofs, where the user names one
+    std::string words;          // all of them, for a shell
     const char *core = nullptr, *lrat = nullptr;     // to be written
     bool rehint = false;        // for both
+    bool replace = false;       // a record with a proof
     bool verbose = false, quiet = false;
 
     bool shares() const { return share && size_t(engines) > solvers.size() + 1; }
 };
 
 Options read_words(int count, char **words);
+std::string version();          // in one line
 
 // processes.cpp: children, pipes and files.
 [[noreturn]] void refuse(const std::string &cause);     // one line on standard error, and status 1; all children are ended
@@ -49,6 +53,7 @@ void close_all_but(const std::vector<int> &files);      // of a child
 Pipe make_pipe(int bytes);                              // so many, if the system gives them
 void close_file(int &file);
 int create_file(const std::string &path);               // a new one, whatever had the name
+int create_if_possible(const std::string &path);        // the same, or -1
 bool remove_file(const std::string &path);              // true where it isn't there, too
 bool rename_file(const std::string &path, const std::string &other);
 void create_pipe(const std::string &path);
@@ -105,6 +110,7 @@ std::string quoted(const std::string &word);
 std::string one_line(const std::string &text);          // for a terminal
 std::string own_path();                                 // this program's; empty if it isn't known
 std::string absolute(const std::string &path);
+std::string real_path(const std::string &folder);       // with a slash, and no link; empty if it isn't known
 std::string unfinished(const std::string &path);        // its name while it is written
 void check_input(const std::string &path);              // refuses where it can't be read
 bool is_read_again(const std::string &path);            // others can open it, too, and as often as they like
@@ -114,11 +120,14 @@ struct Place { int folder; std::string name; };         // for openat and the li
 
 extern int record_folder;                               // open; -1: none
 Place place_of(const std::string &path);                // what is in the record is in that folder, whatever has its name by now
-void open_record(const std::string &folder, const std::vector<std::string> &inputs);    // refuses to write over these
+void open_record(const std::string &folder, const std::vector<std::string> &inputs, bool replaces);     // refuses to write over these
 void clear_record(const std::string &folder, const std::vector<std::string> &kept);     // of an earlier run
 bool claim(const Place &place);                         // before a file is made; false: another's
 bool is_there(const std::string &path);
 std::string digest_line(const std::string &path);       // of the file, for a record
+std::string digests_of_record(const std::vector<std::string> &known);   // of all files, of which these are known
+uint64_t bytes_of_record();
+uint64_t free_bytes();                                  // where the record is
 
 // engine.cpp: an engine's process. Doesn't return.
 struct Engine {

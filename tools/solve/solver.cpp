@@ -77,7 +77,33 @@ private:
     }
 };
 
-[[noreturn]] void run_shell(const std::string &command, const std::vector<int> &files, int out) {
+// Of its standard error the last line that isn't empty; of a long one the beginning.
+class LastLine {
+public:
+    void read_from(int &file) {
+        char bytes[4096];
+        ssize_t count;
+        while (file >= 0 && (count = read(file, bytes, sizeof bytes)) > 0)
+            for (ssize_t k = 0; k < count; k++) take(bytes[k]);
+        if (file >= 0 && count == 0) close_file(file);
+    }
+
+    void copy_to(char (&place)[LONGEST_CAUSE]) const {
+        const std::string &found = line.empty() ? last : line;
+        found.copy(place, found.size());
+    }
+
+private:
+    std::string line, last;
+
+    void take(char letter) {
+        if (letter == '\n' && !line.empty()) last = std::move(line);
+        if (letter == '\n') line.clear();
+        else if (line.size() < LONGEST_CAUSE - 1) line += letter;
+    }
+};
+
+[[noreturn]] void run_shell(const std::string &command, const std::vector<int> &files, int out, int error) {
     setpgid(0, 0);
     prctl(PR_SET_PDEATHSIG, SIGKILL);
     sigset_t none;
@@ -86,6 +112,7 @@ private:
     signal(SIGINT, SIG_DFL);
     dup2(open("/dev/null", O_RDONLY), STDIN_FILENO);
     dup2(out, STDOUT_FILENO);
+    if (error >= 0) dup2(error, STDERR_FILENO);
     for (int file : files) fcntl(file, F_SETFD, 0);     // it opens them by their numbers
     execl("/bin/sh", "sh", "-c", command.c_str(), nullptr);
     _exit(127);
@@ -127,13 +154,14 @@ void end_all(pid_t group) {
 }
 
 // As wait gives it. What the command has left in the background is ended with it.
-int wait_for_solver(pid_t group, int signals, int out, Printed &printed) {
+int wait_for_solver(pid_t group, int signals, int out, int error, Printed &printed, LastLine &last) {
     int status = 0;
     for (bool ended = false; !ended;) {
-        pollfd list[] = { { signals, POLLIN, 0 }, { out, POLLIN, 0 } };
-        poll(list, 2, -1);
+        pollfd list[] = { { signals, POLLIN, 0 }, { out, POLLIN, 0 }, { error, POLLIN, 0 } };
+        poll(list, 3, -1);
         ended = hand_on(signals, group) || waitpid(group, &status, WNOHANG) == group;
         if (out >= 0) printed.read_from(out);
+        last.read_from(error);
     }
     end_all(group);
     return status;
@@ -155,19 +183,23 @@ std::string solver_command(const std::string &command, const std::string &formul
     return found;
 }
 
-// The proof is held open until the answer is there.
+// The proof is held open until the answer is there. With -v standard error is the user's.
 void solver_process(const Engine &engine, const std::string &command, const std::vector<int> &files) {
     Printed printed(engine);
+    LastLine last;
     int signals = open_signals();
-    Pipe out = make_pipe(0);
-    fcntl(out.read, F_SETFL, O_NONBLOCK);
+    Pipe out = make_pipe(0), error;
+    if (!engine.options->verbose) error = make_pipe(0);
+    for (int file : { out.read, error.read }) fcntl(file, F_SETFL, O_NONBLOCK);
     pid_t pid = signals < 0 ? -1 : fork();
-    if (pid == 0) run_shell(command, files, out.write);
+    if (pid == 0) run_shell(command, files, out.write, error.write);
     if (pid < 0) _exit(127);
     setpgid(pid, pid);
     STORE(engine.shared->engine_statuses[engine.number - 1].group, pid);
     close_file(out.write);
-    int status = wait_for_solver(pid, signals, out.read, printed);
+    close_file(error.write);
+    int status = wait_for_solver(pid, signals, out.read, error.read, printed, last);
+    last.copy_to(engine.shared->engine_statuses[engine.number - 1].last_words);
     int exited = WIFEXITED(status) ? WEXITSTATUS(status) : 0, answer = printed.answer(exited);
     if (printed.is_unfounded(exited)) STORE(engine.shared->engine_statuses[engine.number - 1].unfounded, 1);
     if (answer != 0) STORE(engine.shared->engine_statuses[engine.number - 1].answer, answer);

@@ -43,9 +43,14 @@ bool Teams::is_lost(size_t k) const {
     return list[k].wrong || (list[k].told && list[k].filter.ended() && LOAD(engine_status(k).answer) != SATISFIABLE);
 }
 
+std::string Teams::title(size_t k) const {
+    const char *what = inputs.options.check ? "proof " : is_solver(k) ? "solver " : "engine ";
+    return what + std::to_string(k + 1);
+}
+
 std::string Teams::why_lost(size_t k) const {
     const std::string &cause = list[k].cause;
-    return inputs.options.check ? list[k].command + ": " + cause : format("engine %zu is lost: ", k + 1) + cause;
+    return inputs.options.check ? list[k].command + ": " + cause : title(k) + " is lost: " + cause;
 }
 
 bool Teams::is_any_at_work() const {
@@ -86,6 +91,7 @@ void Teams::open() {
         engine_status(k).events.file = event_file();
         if (is_solver(k)) std::fill_n(engine_status(k).floors, MOST_ENGINES, UINT64_MAX);
         list[k].stream = options.proofs ? create_file(stream_path(k, 1)) : file_in_memory();
+        if (options.proofs) list[k].spare = file_in_memory();
         outboxes.push_back(shared_memory<uint32_t>(shared->outbox_words));
     }
     STORE(shared->streams, list.size());
@@ -168,9 +174,9 @@ void Teams::start_team(size_t k) {
 void Teams::start_filter(size_t k) {
     Team &team = list[k];
     int number = int(k) + 1;
-    if (!begin(team.filter, "filter " + std::to_string(number), { team.proof.read, team.stream, record_folder })) return;
+    if (!begin(team.filter, "filter " + std::to_string(number), { team.proof.read, team.stream, team.spare, record_folder })) return;
     give_way();
-    Filtering filtering = { shared, outboxes.data(), number, team.proof.read, team.stream, record_folder,
+    Filtering filtering = { shared, outboxes.data(), number, team.proof.read, team.stream, team.spare, record_folder,
                             is_solver(k) ? UNKNOWN_FORM : SHARING_DRAT,
                             inputs.options.shares() && !is_solver(k), cited.empty() ? nullptr : cited.data(),
                             inputs.assumed.data(), inputs.assumed.size() };
@@ -190,10 +196,10 @@ int Teams::open_proof(size_t k) {
     struct stat found;
     const char *path = inputs.options.solvers[k];
     int file = kept_open(open_input(path));
-    if (fstat(file, &found) != 0) refuse(title(path) + ": " + error_text());
-    if (S_ISDIR(found.st_mode)) refuse(title(path) + " is a folder");
+    if (fstat(file, &found) != 0) refuse(::title(path) + ": " + error_text());
+    if (S_ISDIR(found.st_mode)) refuse(::title(path) + " is a folder");
     if (S_ISREG(found.st_mode)) list[k].proof_size = uint64_t(found.st_size);
-    list[k].command = title(path);
+    list[k].command = ::title(path);
     return file;
 }
 
@@ -294,17 +300,57 @@ void Teams::number_streams() {
 }
 
 void Teams::open_streams(uint64_t round) {
+    look_at_record();
     for (size_t k = 0; k < list.size(); k++) {
         STORE(engine_status(k).fed, 0);
         if (!inputs.options.proofs) cut_stream(k, 0);
-        if (inputs.options.proofs) close_file(list[k].stream);
-        if (inputs.options.proofs && LOAD(engine_status(k).stream)) list[k].stream = create_file(stream_path(k, round));
+        if (!inputs.options.proofs || !lost.empty()) continue;
+        close_file(list[k].stream);
+        if (LOAD(engine_status(k).stream) == 0) continue;
+        list[k].stream = create_if_possible(stream_path(k, round));
+        if (list[k].stream < 0) lost = "cannot write " + stream_path(k, round) + ": " + error_text();
     }
+    if (!lost.empty()) open_in_memory(round);
+}
+
+// All of them, from this round on.
+void Teams::open_in_memory(uint64_t round) {
+    if (LOAD(shared->memory_round) == 0) STORE(shared->memory_round, round);
+    for (size_t k = 0; k < list.size(); k++) {
+        if (list[k].stream != list[k].spare) close_file(list[k].stream);
+        list[k].stream = list[k].spare;
+        STORE(engine_status(k).spilled, 0);
+        cut_stream(k, 0);
+    }
+}
+
+void Teams::look_at_record() {
+    for (size_t k = 0; k < list.size() && lost.empty(); k++)
+        if (LOAD(engine_status(k).spilled))
+            lost = "cannot write " + stream_path(k, LOAD(shared->round)) + ": " + engine_status(k).unkept;
+}
+
+uint64_t Teams::bytes_kept(size_t k) const {
+    return LOAD(engine_status(k).spilled) ? LOAD(engine_status(k).kept) : UINT64_MAX;
+}
+
+int Teams::file_to_write(size_t k) const {
+    return LOAD(engine_status(k).spilled) ? list[k].spare : list[k].stream;
+}
+
+bool Teams::spill(size_t k) {
+    EngineStatus &facts = engine_status(k);
+    if (list[k].spare < 0 || file_to_write(k) == list[k].spare) return false;
+    error_text().copy(facts.unkept, sizeof facts.unkept - 1);
+    STORE(facts.kept, facts.bytes);
+    STORE(facts.spilled, 1);
+    return true;
 }
 
 // A filter that died may have left lines in a record that lrupd wasn't fed, and part of one.
 void Teams::cut_streams() {
-    for (size_t k = 0; k < list.size() && inputs.options.proofs; k++) cut_stream(k, list[k].silent ? 0 : LOAD(engine_status(k).bytes));
+    look_at_record();
+    for (size_t k = 0; k < list.size() && inputs.options.proofs && lost.empty(); k++) cut_stream(k, list[k].silent ? 0 : LOAD(engine_status(k).bytes));
 }
 
 void Teams::cut_stream(size_t k, uint64_t bytes) {

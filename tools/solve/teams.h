@@ -11,11 +11,12 @@ struct Team {
     Child engine, filter;
     Pipe proof;
     uint64_t proof_size = 0;    // bytes, of a regular file; 0: it isn't known
-    int stream = -1;
+    int stream = -1, spare = -1;    // a file; one in memory, with which the stream goes on where that can't be written
     signed char *model = nullptr;
     std::string command;    // of a solver, or the proof's name
     bool told = false, wrong = false, paused = false;
     bool silent = false;    // its filter died before it came to this round
+    bool idle = false;      // it ended at its start, with nothing done
     std::string cause;      // why it is lost
 };
 
@@ -37,6 +38,7 @@ public:
     bool is_any_at_work() const;        // of the filters
     bool is_here(size_t k) const { return int(k) >= shared->first_here && int(k) < shared->first_here + shared->engines_here; }
     bool is_lost(size_t k) const;       // it has no assignment, and nobody reads its proof; and it is known why
+    std::string title(size_t k) const;  // engine 1, solver 1 or proof 1
     uint64_t all(uint64_t EngineStatus::*field) const;                      // the sum
     bool have_all(uint64_t EngineStatus::*field, uint64_t wanted) const;    // all filters that are at work have come so far
     std::vector<Child *> children();
@@ -53,6 +55,11 @@ public:
     void tell_filters() const;          // of what is stored by now
     void tell_fed(size_t k, uint64_t bytes) const;
 
+    std::string lost;                   // why the record has no more, where it has no more
+    void look_at_record();              // whether it is lost
+    uint64_t bytes_kept(size_t k) const;    // of the stream: what comes after them is in the other file
+    int file_to_write(size_t k) const;      // of a stream from another host
+    bool spill(size_t k);                   // false where there is no other file
     void number_streams();              // of the next round
     void open_streams(uint64_t round);  // they are empty
     void cut_streams();
@@ -77,6 +84,7 @@ private:
     bool has_refuted(size_t k) const;
     void pause_others();
     void cut_stream(size_t k, uint64_t bytes);
+    void open_in_memory(uint64_t round);
 };
 
 int half_of_the_cores();

@@ -3,6 +3,7 @@
 #define _GNU_SOURCE
 #include <errno.h>
 #include <fcntl.h>
+#include <stdlib.h>
 #include <string.h>
 #include <unistd.h>
 
@@ -98,14 +99,14 @@ void core_write(Proof *proof, Output *core, const char *path) {
 
 // Lines. Some are read, and then written to one output after the other.
 
-enum { PIECE = 1 << 16 };       // hints, and bytes of literals
+enum { PIECE = 1 << 16 };       // literals and hints
 
-// first, count: of `cited`; text, bytes: of `texts`, with 0 and a space.
-typedef struct { Number number; size_t first, count, text, bytes; } Kept;
+// first, count: of `cited`; clause, length: of `literals`.
+typedef struct { Number number; size_t first, count, clause, length; } Kept;
 
 static struct { Kept *items; size_t length, capacity; } lines;
 static struct { Number *items; size_t length, capacity; } cited;
-static struct { char *items; size_t length, capacity; } texts;     // of literals
+static Numbers literals;
 static Identities list;
 
 static inline uint64_t identity_of(const Proof *proof, Number number) {
@@ -131,7 +132,11 @@ static void write_line(const Proof *proof, const Kept *line) {
     list.length = count;
     for (size_t k = 0; k < count; k++) list.items[k] = identity_of(proof, hints[k]);
     write_number(identity, ' ');
-    write_bytes(texts.items + line->text, line->bytes);
+    for (size_t k = line->clause; k < line->clause + line->length; k++) {
+        if (literals.items[k] < 0) write_bytes("-", 1);
+        write_number((uint64_t)llabs(literals.items[k]), ' ');
+    }
+    write_bytes("0 ", 2);
     write_numbers(list.items, list.length);
     if (line->number == proof->target) return;
     list.length = 0;
@@ -147,26 +152,41 @@ static void piece_write(const Proof *proof, Output *const outputs[2]) {
         for (size_t line = 0; line < lines.length; line++) write_line(proof, &lines.items[line]);
         write_flush();
     }
-    lines.length = cited.length = texts.length = 0;
+    lines.length = cited.length = literals.length = 0;
+}
+
+static int by_variable(const void *one, const void *other) {
+    int64_t first = *(const int64_t *)one, second = *(const int64_t *)other;
+    int64_t order = llabs(first) != llabs(second) ? llabs(first) - llabs(second) : first - second;
+    return (order > 0) - (order < 0);
+}
+
+// By variable, each once: other checkers of LRAT want that. How many they are.
+static size_t literals_take(const Reading *reading) {
+    size_t kept = literals.length;
+    RESERVE(&literals, literals.length + reading->length + 1);
+    int64_t *items = literals.items + literals.length;
+    memcpy(items, reading->literals, reading->length * sizeof *items);
+    qsort(items, reading->length, sizeof *items, by_variable);
+    for (size_t k = 0; k < reading->length; k++)
+        if (k == 0 || items[k] != literals.items[kept - 1]) literals.items[kept++] = items[k];
+    kept -= literals.length;
+    literals.length += kept;
+    return kept;
 }
 
 // What a line cites comes before it, and is needed.
 static void line_take(Proof *proof, const Stream *stream, Number number) {
     const Round *round = &proof->rounds.items[stream->round];
     Reading reading = line_again(stream, number);
-    const char *text = strchr(reading.text, ' ') + 1;
-    size_t bytes = (size_t)(reading.hints - text);
-    Kept line = { number, cited.length, reading.count, texts.length, bytes };
-    RESERVE(&texts, texts.length + bytes);
-    memcpy(texts.items + texts.length, text, bytes);
-    texts.length += bytes;
+    Kept line = { number, cited.length, reading.count, literals.length, 0 };
+    proof->room += line.length = literals_take(&reading);
     RESERVE(&cited, cited.length + line.count);
     for (size_t k = 0; k < line.count; k++) {
         Number hint = number_of(proof, round, (uint64_t)reading.cited[k]);
         if (proof->place[hint] == 0) stream_changed(stream);
         cited.items[cited.length++] = hint;
     }
-    proof->room += reading.length;
     PUSH(&lines, line);
 }
 
@@ -201,7 +221,7 @@ void lines_write(Proof *proof, Output *stream, Output *lrat) {
             if (proof->last_use[number] == 0) continue;
             line_take(proof, stream_with(proof, run.from), number);
             proof->place[number] = ++derived;
-            if (cited.length + texts.length >= PIECE) piece_write(proof, outputs);
+            if (cited.length + literals.length >= PIECE) piece_write(proof, outputs);
         }
     }
     piece_write(proof, outputs);

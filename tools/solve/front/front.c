@@ -55,7 +55,7 @@ enum which { SUPERVISOR, PROBE, LRUPD, CHILDREN };
 
 static struct {         // what was given, "" for an option without a value; NULL if it wasn't
     const char *formula, *assume, *engines, *lrupd, *seconds, *mpi, *quiet, *verbose, *help;
-    const char *check, *core_or_lrat, *others;  // others: lrup-engines reads them
+    const char *check, *core_or_lrat, *expect, *others;     // others: lrup-engines reads them
 } options;
 
 static struct child {
@@ -73,8 +73,7 @@ static const char *verdict;                     // a line; NULL: there is none
 static signed char *assignment;                 // from 1 on: 1 true, -1 false
 static long known;                              // variables in it
 static bool is_whole, has_refused;              // the assignment; lrup-engines
-static int ended_by;                            // a signal
-static int null, signals, told[2], heard[2];    // files; pipes to and from lrup-engines
+static int ended_by, null, signals, told[2], heard[2];  // a signal; files; pipes of lrup-engines
 static sigset_t mask_before;
 
 static char *text(const char *format, ...) {
@@ -89,19 +88,20 @@ static char *text(const char *format, ...) {
 // False for words that can't be used: lrup-engines gets the same, and says why.
 static bool read_words(int count, char **words) {
     static const struct option list[] = {       // 1: a value follows
-        { "assume", 1, NULL, 'a' },   { "check", 0, NULL, 'p' },      { "core", 1, NULL, 'c' },
-        { "engines", 1, NULL, 'e' },  { "help", 0, NULL, 'h' },       { "lrat", 1, NULL, 'c' },
-        { "lrupd", 1, NULL, 'l' },    { "memory", 1, NULL, 'o' },     { "mpi", 1, NULL, 'm' },
-        { "no-share", 0, NULL, 'o' }, { "proofs", 1, NULL, 'o' },     { "quiet", 0, NULL, 'q' },
-        { "re-hint", 0, NULL, 'o' },  { "seed", 1, NULL, 'o' },     { "share-size", 1, NULL, 'o' },
-        { "solver", 1, NULL, 'o' },   { "time", 1, NULL, 't' },     { "verbose", 0, NULL, 'v' },
-        { "version", 0, NULL, 'h' },  { NULL, 0, NULL, 0 } };
+        { "assume", 1, NULL, 'a' },   { "check", 0, NULL, 'p' },    { "core", 1, NULL, 'c' },
+        { "engines", 1, NULL, 'e' },  { "expect", 1, NULL, 'x' },   { "help", 0, NULL, 'h' },
+        { "lrat", 1, NULL, 'c' },     { "lrupd", 1, NULL, 'l' },    { "memory", 1, NULL, 'o' },
+        { "mpi", 1, NULL, 'm' },      { "no-share", 0, NULL, 'o' }, { "proofs", 1, NULL, 'o' },
+        { "quiet", 0, NULL, 'q' },    { "re-hint", 0, NULL, 'o' },  { "replace", 0, NULL, 'o' },
+        { "seed", 1, NULL, 'o' },     { "share-size", 1, NULL, 'o' }, { "solver", 1, NULL, 'o' },
+        { "time", 1, NULL, 't' },     { "verbose", 0, NULL, 'v' },  { "version", 0, NULL, 'h' },
+        { NULL, 0, NULL, 0 } };
     static const char **const places[] = {
         [1] = &options.formula, ['a'] = &options.assume, ['c'] = &options.core_or_lrat,
         ['e'] = &options.engines, ['h'] = &options.help, ['j'] = &options.others,
         ['l'] = &options.lrupd, ['m'] = &options.mpi, ['o'] = &options.others,
         ['p'] = &options.check, ['q'] = &options.quiet, ['t'] = &options.seconds,
-        ['v'] = &options.verbose };
+        ['v'] = &options.verbose, ['x'] = &options.expect };
     int letter;
     opterr = 0;
     while ((letter = getopt_long(count, words, "-j:qvh", list, NULL)) != -1) {
@@ -393,6 +393,14 @@ static enum state next(void) {
     }
 }
 
+static int as_expected(const char *line) {      // by --expect: 0 for the line that it names, alone
+    const char *both = text("%s: %s", options.expect, line);
+    if (strcmp(both, "sat: s SATISFIABLE") == 0) return 0;
+    if (strcmp(both, "unsat: s UNSATISFIABLE") == 0) return 0;
+    if (strcmp(both, "unsat-under-assumptions: s UNSATISFIABLE UNDER ASSUMPTIONS") == 0) return 0;
+    errx(1, "--expect %s, and the answer is %s", options.expect, line);
+}
+
 static int answer(void) {
     bool is_read = exited_with(PROBE, UNKNOWN), is_satisfied = is_whole && !verdict;
     bool is_refused = children[PROBE].end.si_code == CLD_EXITED && !is_read;    // by lrupd
@@ -401,12 +409,13 @@ static int answer(void) {
     if (assume && is_satisfied) is_satisfied = satisfies(assume, false);        // trusted (assumed)
     if (is_refused && !has_refused && !verdict && !ended_by) errx(1, "lrupd took no formula");
     sigprocmask(SIG_SETMASK, &mask_before, NULL);           // a signal ends a wait for a reader
+    const char *line = is_satisfied ? "s SATISFIABLE" : verdict ? verdict : "s UNKNOWN";
     if (is_satisfied) print_assignment();
-    else if (verdict) puts(verdict);
-    else if (!has_refused) puts("s UNKNOWN");
+    else if (verdict || !has_refused) puts(line);
     if (fflush(stdout) != 0 || ferror(stdout)) err(1, "cannot write the answer");
     if (ended_by != 0) raise(ended_by);
     if (has_refused) return 1;
+    if (options.expect) return as_expected(line);           // trusted (expected)
     if (verdict) return 20;
     return is_satisfied ? 10 : 0;
 }
@@ -430,7 +439,8 @@ int main(int count, char **words) {
     while ((null = open("/dev/null", O_RDONLY)) >= 0 && null <= 2) {}   // 0 to 2 are open now
     bool is_usable = read_words(count, words);
     words[0] = (char *)find_program(options.engines, "lrup-engines");
-    if (options.help && execv(words[0], words) != 0) err(1, "cannot start %s", words[0]);
+    bool is_help = options.help && !options.expect;     // lrup-engines gives the status
+    if (is_help && execv(words[0], words) != 0) err(1, "cannot start %s", words[0]);
     lrupd = find_program(options.lrupd, "lrupd");
     self = realpath("/proc/self", NULL);    // of this /proc, which may be another namespace's
     if (self == NULL || null < 0) err(1, "cannot open /proc/self or /dev/null");

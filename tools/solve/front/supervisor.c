@@ -61,11 +61,14 @@ static void end_children(void) {
     }
 }
 
-// Says how lrup-engines ended, unless it exited with 0 or still runs.
+// Says how lrup-engines ended, unless it exited with 0 or still runs. With 127 it never began.
 static void report(int says, bool is_mpi) {
     const char *started = is_mpi ? "MPI's command" : "lrup-engines";    // which has become that
     char line[BLOCK] = "";
-    if (WIFSIGNALED(end))
+    if (WIFEXITED(end) && WEXITSTATUS(end) == 127) {
+        warnx("%s ended with status 127, so nothing could run", started);
+        snprintf(line, BLOCK, "refused");
+    } else if (WIFSIGNALED(end))
         snprintf(line, BLOCK, "c %s ended by a signal: %s", started, strsignal(WTERMSIG(end)));
     else if (WIFEXITED(end) && WEXITSTATUS(end) != 0)
         snprintf(line, BLOCK, "c %s ended with status %d", started, WEXITSTATUS(end));
