@@ -515,8 +515,8 @@ def written_into_a_record(work: Path) -> None:
     kept(["-j", 1, "--proofs", "d", formula], formula, work, names=("d/core.cnf", "d/proof.lrat"))
 
 
-def on_a_full_disk(kilobytes: int, words: List[object], tested: Optional[Dict[str, object]], said: str, work: Path) -> None:
-    """The record is lost, which is told, and not the verdict."""
+def on_a_disk(kilobytes: int, words: List[object], tested: Optional[Dict[str, object]], work: Path) -> Answer:
+    """Of that size, for the record, or for temporary files where there is none."""
     (work / "full").mkdir()
     how = ["unshare", "-m" if os.getuid() == 0 else "-rm", "sh", "-c"]
     mounts = f"mount -t tmpfs -o size={kilobytes}k tmpfs full"
@@ -525,12 +525,24 @@ def on_a_full_disk(kilobytes: int, words: List[object], tested: Optional[Dict[st
     formula = generated("random 180 3", work)
     done = run([*how, mounts + ' && exec "$@"', "sh", *command([*words, formula], tested)], cwd=work,
                env=in_environment(tested, {"TMPDIR": f"{work}/full"} if "--proofs" not in words else {}))
-    answer = Answer(done)
+    return Answer(done)
+
+
+def on_a_full_disk(kilobytes: int, words: List[object], tested: Optional[Dict[str, object]], said: str, work: Path) -> None:
+    """The record is lost, which is told, and not the verdict."""
+    answer = on_a_disk(kilobytes, words, tested, work)
     want((answer.answers, answer.status), ([PROVED], 1), f"the answer of\n{answer.out[-3000:]}{answer.said}")
     want(re.fullmatch(f"lrup-solve: {said}: No space left on device\n", answer.said) is not None, True, f"what is said: {answer.said}")
     want(any(line.startswith("the record is lost: cannot write ") for line in answer.comments) or not tested, True,
          f"whether it is told meanwhile in\n{answer.out}")
     want(" rounds with " in answer.out, tested is not None, f"whether there are several rounds in\n{answer.out}")
+
+
+def full_of_rounds(work: Path) -> None:
+    """lrupd can't save what a round came to: it is told where."""
+    answer = on_a_disk(16, ["-j", 2], SMALL, work)
+    want((answer.answers, answer.status), (["s UNKNOWN"], 0), f"the answer of\n{answer.out[-3000:]}{answer.said}")
+    want(f"lrupd ended with status 9: TMPDIR ({work}/full) has 0 MB left" in answer.comments, True, f"whether that is told in\n{answer.out}")
 
 
 # Why a line is bad.
@@ -581,7 +593,7 @@ def rows() -> List[Row]:
     found += [(f"the first line of {name!r}", first_line_of, name, shown) for name, shown in (
         ("a\ns UNSATISFIABLE", "a?s UNSATISFIABLE"), ("a\033[31m\r\177b", "a?[31m??b"), ("gr\u00f6\u00dfe", "gr\u00f6\u00dfe"))]
     found += [(f"a check that gets {number.name}", check_interrupted, number) for number in (signal.SIGTERM, signal.SIGINT, signal.SIGHUP)]
-    found += [("sizes that are told", told_sizes), ("outputs in a record", written_into_a_record)]
+    found += [("a disk that is full of rounds", full_of_rounds), ("sizes that are told", told_sizes), ("outputs in a record", written_into_a_record)]
     found += [(f"unwritable: {' '.join(words)}", unwritable, words, said) for words, said in (
         (["--core", "none/core"], "cannot write none/core: No such file or directory"),
         (["--proofs", "d", "--core", "none/core"], "cannot write none/core: No such file or directory"),

@@ -9,7 +9,7 @@
 #include "../exact/digest.h"
 #include "solve.h"
 
-const int UNKNOWN_STATUS = 3;           // of lrupd
+const int UNKNOWN_STATUS = 3, UNSAVED_STATUS = 9;       // of lrupd
 
 // opener.cpp: waits for lrupd to open its pipes.
 class Opener {

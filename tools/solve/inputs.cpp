@@ -5,6 +5,7 @@
 #include <cstring>
 #include <fstream>
 #include <iomanip>
+#include <iterator>
 
 #include <unistd.h>
 
@@ -85,6 +86,19 @@ void Inputs::read_assumptions() {
     if (word != "0") refuse_formula(name + ": no line of literals that ends with 0");
     if (assumed.empty()) return;
     assumed.resize(literals_sort(assumed.data(), assumed.size()));
+}
+
+// lrupd takes one line, with single spaces and LF.
+std::string Inputs::fault_of_assumptions() const {
+    std::ifstream file(assume_path);
+    std::string text((std::istreambuf_iterator<char>(file)), std::istreambuf_iterator<char>());
+    size_t end = text.find('\n');
+    bool is_spaced = text.find("  ") != std::string::npos || text.find('\t') != std::string::npos ||
+                     text[0] == ' ' || text.find(" \n") != std::string::npos;
+    if (text.find('\r') != std::string::npos) return ": a CR, and a line ends with LF alone";
+    if (end == std::string::npos) return ": no LF at its end";
+    if (end + 1 < text.size()) return ": a second line";
+    return is_spaced ? ": more than the single spaces between its words" : "";
 }
 
 // No clause shows it, so no proof does.

@@ -18,6 +18,7 @@ public:
     void read_formula();
     std::string contradiction() const;          // of the assumptions; none
     bool is_model(const signed char *values) const;
+    std::string fault_of_assumptions() const;   // how they are spelled; empty if that isn't known
     [[noreturn]] void refuse_formula(const std::string &cause) const;   // in lrupd's words, where it refuses it, too
 
 private:

@@ -99,7 +99,8 @@ void Run::look_at_reading() {
     const Checker &probe = front.probe;
     bool is_of_assumptions = inputs.options.assume && probe.last_line().find("assumptions") != std::string::npos;
     if (probe.last_line().empty()) inputs.refuse_formula("lrupd, which reads the formula, " + probe.child.end());
-    inputs.refuse_formula(title(is_of_assumptions ? inputs.options.assume : inputs.options.formula));
+    if (is_of_assumptions) inputs.refuse_formula(title(inputs.options.assume) + inputs.fault_of_assumptions());
+    inputs.refuse_formula(title(inputs.options.formula));
 }
 
 void Run::look_at_solving() {
@@ -204,7 +205,7 @@ void Run::look_at_model(size_t k) {
 
 void Run::look_at_checker() {
     if (checker.child.ended() && rounds.state == Rounds::SAVING) return verdict();
-    if (checker.child.ended()) return finish(UNKNOWN_ANSWER, "lrupd " + checker.child.end());
+    if (checker.child.ended()) return finish(UNKNOWN_ANSWER, end_of_checker());
     std::string why = rounds.look();
     if (!why.empty()) finish(UNKNOWN_ANSWER, why);
 }
@@ -225,7 +226,12 @@ void Run::verdict() {
     if (is_proved || is_unknown) unkept = rounds.keep_report();
     has_report = (is_proved || is_unknown) && unkept.empty();
     if (is_proved) return finish(UNSATISFIABLE, "");
-    finish(UNKNOWN_ANSWER, is_unknown ? "lrupd hasn't taken the proof" : "lrupd " + checker.child.end());
+    finish(UNKNOWN_ANSWER, is_unknown ? "lrupd hasn't taken the proof" : end_of_checker());
+}
+
+std::string Run::end_of_checker() const {
+    bool is_unsaved = checker.child.ended_with(UNSAVED_STATUS);
+    return "lrupd " + checker.child.end() + (is_unsaved ? ": " + Folder::room() : "");
 }
 
 // The end.

@@ -62,6 +62,7 @@ private:
     void look_at_model(size_t k);
     void tell_lost(size_t k, const std::string &why);
     void look_at_checker();
+    std::string end_of_checker() const;
     void end_streams();
     void verdict();
     void finish(Answer found, const std::string &why);

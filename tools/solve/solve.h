@@ -98,6 +98,7 @@ namespace Folder {
     const std::string &name();
     std::string numbers();          // of this process, and of the folder among its open files, as the front wants it
     std::string open_name();        // by which others find it, in UTF-8
+    std::string room();             // what is left there, in words
     void remove();
 }
 
