@@ -5,7 +5,7 @@ RT ?= rt
 PREFIX ?= /usr/local
 VERSION := $(shell cat VERSION)
 # With which the program is proved, as README says.
-KIT := $(shell sed -n 's/^`\(rattle-kit-[^`]*\)`.*/\1/p' README.md)
+KIT := $(shell sed -n 's/^`\(rattle-kit-[^`]*\)`.*/\1/p' README.md 2> /dev/null)
 PROGRAM := crates/lrupd/out/lrupd
 SOLVER := examples/solver/out/solver
 EXACT := tools/exact/out/exact
@@ -124,8 +124,9 @@ beside-it: $(EXACT) $(TRIM) $(EXPLAIN)
 # One source after the other, each once it has changed, or a header that it includes, or how it is compiled. A program that runs is
 # replaced, and not written over.
 in_order = $(patsubst %,$(1)/%.o,$(basename $(2)))
-COMPILE_C = $(CC) -std=c11 $(WARNINGS) $(CPPFLAGS) $(CFLAGS)
-COMPILE_CXX = -std=c++17 $(WARNINGS) -DVERSION='"$(VERSION)"' -DKIT='"$(KIT)"' $(CPPFLAGS) $(CXXFLAGS)
+VERSIONED = -DVERSION='"$(VERSION)"'
+COMPILE_C = $(CC) -std=c11 $(WARNINGS) $(VERSIONED) $(CPPFLAGS) $(CFLAGS)
+COMPILE_CXX = -std=c++17 $(WARNINGS) $(VERSIONED) -DKIT='"$(KIT)"' $(CPPFLAGS) $(CXXFLAGS)
 LINK = mkdir -p $(dir $@) && $(1) $(2) $(LDFLAGS) -o $@.new $(filter %.o,$^) $(3) $(LDLIBS) && mv $@.new $@
 
 $(SOLVER): $(call in_order,$(OBJECTS),$(wildcard examples/solver/*.c) $(SHARED_WITH_SOLVER))

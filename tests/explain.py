@@ -637,6 +637,8 @@ def help_of(work: Path) -> None:
     for word in ("--help", "-h"):
         done = explain([word], work)
         want((done.out[:20], done.err, done.status), ("usage: lrup-explain ", "", 0), word)
+    version = (ROOT / "VERSION").read_text().strip()
+    want(run([EXPLAIN, "--version"]), Ran(f"lrup-explain {version}\n", "", 0), "--version")
 
 
 def skipped(why: str, work: Path) -> None:
