@@ -3,7 +3,7 @@
 #
 #     sh tools/deb.sh ROOT VERSION
 #
-# It adds the documents, the examples, and for bash the completion of the options that each program's --help names.
+# It adds the documents and the examples.
 set -eu
 umask 022
 [ $# -eq 2 ] || { echo "usage: sh $0 ROOT VERSION" >&2; exit 2; }
@@ -26,22 +26,6 @@ for file in "$top"/LICENSE* "$top"/COPYING* "$top"/copyright; do
     [ ! -f "$file" ] || cat "$file" >> "$documents/copyright"
 done
 gzip -9nf "$root"/usr/share/man/man1/*.1
-
-# Where the word isn't an option, bash completes the name of a file.
-mkdir -p "$root/usr/share/bash-completion/completions"
-for program in "$root"/usr/bin/*; do
-    name=${program##*/}
-    options=$({ "$program" --help 2>&1 || :; } | grep -oE -- '(^|[ [,|])--[a-z][a-z-]*' | sed 's/^[^-]//' | LC_ALL=C sort -u | tr '\n' ' ')
-    [ -n "$options" ] || { echo "$name --help names no option" >&2; exit 1; }
-    function=_$(echo "$name" | tr - _)
-    cat > "$root/usr/share/bash-completion/completions/$name" << END
-$function() {
-    COMPREPLY=()
-    case \$2 in -*) COMPREPLY=(\$(compgen -W "${options% }" -- "\$2")) ;; esac
-}
-complete -o default -F $function $name
-END
-done
 
 # dpkg-shlibdeps wants a source package around it, and no script.
 mkdir "$work/debian"
