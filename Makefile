@@ -156,9 +156,9 @@ $(EXPLAIN): $(call in_order,$(OBJECTS),$(wildcard tools/explain/*.c) tools/trim/
 $(SOLVE): $(call in_order,$(SOLVE_OBJECTS),$(wildcard tools/solve/front/*.c))
 	@$(call LINK,$(CC),$(CFLAGS))
 $(ENGINES): $(call in_order,$(SOLVE_OBJECTS),$(ALONE) $(wildcard tools/solve/*.c) $(FILTER))
-	@$(call LINK,$(CXX),$(CXXFLAGS),-lcadical)
+	@$(call LINK,$(CXX),$(CXXFLAGS) -pthread,-lcadical)
 $(ENGINES)-mpi: $(call in_order,$(SOLVE_OBJECTS),$(filter-out tools/solve/alone.cpp,$(wildcard tools/solve/*.cpp tools/solve/*.c)) $(FILTER))
-	@$(call LINK,OMPI_CXX="$(CXX)" mpicxx,$(CXXFLAGS),-lcadical)
+	@$(call LINK,OMPI_CXX="$(CXX)" mpicxx,$(CXXFLAGS) -pthread,-lcadical)
 
 $(OBJECTS)/%.o: %.c $(OBJECTS)/flags
 	@mkdir -p $(dir $@) && $(COMPILE_C) -I tools/exact -MMD -MP -c -o $@ $<

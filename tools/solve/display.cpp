@@ -51,6 +51,19 @@ void Display::begin() { shows_progress = !inputs.options.quiet && isatty(STDERR_
 
 bool Display::shows_lines() const { return inputs.options.verbose && !inputs.options.quiet; }
 
+double Display::next_reading() const { return shows_progress ? std::max(started, shown) + SHOWING : INFINITY; }
+
+void Display::show_reading() {
+    if (now() < next_reading()) return;
+    shown = now();
+    std::string line = format("%.1f s, reading ", shown - started) + one_line(title(inputs.options.formula)) + " ..";
+    fprintf(stderr, "\r%s\33[K", line.substr(0, terminal_columns() - 1).c_str());
+}
+
+void Display::end_reading() const {
+    if (shown > 0) hide();
+}
+
 double Display::next_show() const { return shows_progress || shows_lines() ? shown + SHOWING : INFINITY; }
 
 void Display::show() {

@@ -2,6 +2,8 @@
 #ifndef INPUTS_H
 #define INPUTS_H
 
+#include <functional>
+
 #include "solve.h"
 
 class Inputs {
@@ -14,7 +16,8 @@ public:
 
     explicit Inputs(const Options &given);
     void find();                                // their paths, and the folder of --proofs
-    void read();
+    using Meanwhile = std::function<void(int file)>;    // until that file can be read
+    void read(const Meanwhile &meanwhile);
     void read_formula();
     std::string contradiction() const;          // of the assumptions; none
     bool is_model(const signed char *values) const;
@@ -22,6 +25,9 @@ public:
     [[noreturn]] void refuse_formula(const std::string &cause) const;   // in lrupd's words, where it refuses it, too
 
 private:
+    std::string digests;                        // of both files, for the record
+
+    void read_in_thread(const Meanwhile &meanwhile);
     std::string again(const std::string &path, const std::string &fronts, const char *kept_as) const;
     void read_assumptions();
     std::string named(const std::string &cause) const;

@@ -6,6 +6,7 @@
 #include <cstring>
 
 #include <sys/wait.h>
+#include <unistd.h>
 
 #include "run.h"
 
@@ -28,7 +29,8 @@ void Run::prepare() {
     inputs.find();
     keeping.check_outputs(true);
     teams.open();
-    inputs.read();
+    display.begin();
+    inputs.read([this](int file) { await_formula(file); });
     teams.open_models();
     rounds.begin(program);
     loop.begin();
@@ -36,7 +38,25 @@ void Run::prepare() {
     teams.start(!others);
     for (size_t k = 0; k < teams.size(); k++)
         if (teams.is_solver(k)) display.tell_more(teams.title(k) + ": " + teams[k].command);
-    display.begin();
+}
+
+// Until it is read. A signal, and the time, end the run.
+void Run::await_formula(int file) {
+    double limit = inputs.options.seconds > 0 ? started + inputs.options.seconds : INFINITY;
+    std::string why;
+    for (bool is_read = false; !is_read && why.empty(); display.show_reading()) {
+        pollfd files[] = { front.says(), { file, POLLIN, 0 } };
+        poll(files, 2, milliseconds_to(std::min(limit, display.next_reading())));
+        is_read = files[1].revents != 0;
+        if (files[0].revents != 0) front.read_on(nullptr);
+        if (now() >= limit && !is_read) why = "time is up, and the formula isn't read";
+        if (!front.stopped.empty()) why = front.stopped;
+    }
+    display.end_reading();
+    if (why.empty()) return;
+    display.tell(why);
+    Folder::remove();
+    _exit(0);
 }
 
 // Events.

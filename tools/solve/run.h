@@ -45,6 +45,7 @@ private:
     double started = now(), ending = 0;
 
     void prepare();
+    void await_formula(int file);
     void wait();
     double next_look() const;
     std::vector<Child *> children();
