@@ -13,6 +13,7 @@ public:
     std::vector<Literal> assumed;
     std::string formula_path, assume_path;      // by which they are read again
     double reading = 0;                         // seconds, of the formula
+    std::string digests;                        // of both files, a line each, for the record
 
     explicit Inputs(const Options &given);
     void find();                                // their paths, and the folder of --proofs
@@ -25,8 +26,6 @@ public:
     [[noreturn]] void refuse_formula(const std::string &cause) const;   // in lrupd's words, where it refuses it, too
 
 private:
-    std::string digests;                        // of both files, for the record
-
     void read_in_thread(const Meanwhile &meanwhile);
     std::string again(const std::string &path, const std::string &fronts, const char *kept_as) const;
     void read_assumptions();

@@ -31,6 +31,7 @@ private:
     bool is_in_record(const std::string &path) const;
     bool is_wanted() const { return inputs.options.core || inputs.options.lrat; }
     std::string keep_if_right(const char *path, const Output &output, const Wait &wait) const;
+    std::vector<std::string> known_digests(const Checker &checker) const;
     bool wait_for_version(Child &child, std::string &said, const Wait &wait) const;
     std::string verdict_on(const Output &output, const Wait &wait) const;
 };
