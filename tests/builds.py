@@ -16,7 +16,7 @@ from pathlib import Path
 from typing import Dict, List, Sequence, Set
 
 sys.dont_write_bytecode = True
-from harness import ROOT, Row, run, run_all, want, written
+from harness import FILTER, ROOT, Row, needs, run, run_all, want, written
 
 C = {"CC": "one-cc", "CFLAGS": "-DFLAG_OF_C", "CPPFLAGS": "-DFLAG_OF_BOTH", "LDFLAGS": "-Lflag", "LDLIBS": "-lflag"}
 WORDS = {**C, "CXX": "one-cxx", "CXXFLAGS": "-DFLAG_OF_CXX"}
@@ -122,8 +122,23 @@ def installed(work: Path) -> None:
     want((done.status, f"there is no {work}/none, which make build leaves there" in done.out), (2, True), f"what is said: {done.out}")
 
 
+def packaged(work: Path) -> None:
+    """Each link of the package's pages leads to a file of the package."""
+    for command in ("dpkg-deb", "dpkg-shlibdeps"):
+        needs(command)
+    place = work / "package"
+    done = run(["make", "-s", "-C", ROOT, "install", "RT=none", f"PROGRAM={FILTER}", f"DESTDIR={place}", "PREFIX=/usr"], env=clean({}))
+    want((done.err, done.status), ("", 0), "what make install says")
+    want(run(["sh", ROOT / "tools" / "deb.sh", place, "1"]).status, 0, "the status of deb.sh")
+    pages = [*(place / "usr/share/doc/lrupd").glob("**/*.md")]
+    links = [(page, target) for page in pages for target in re.findall(r"\]\(([^)#]+)", page.read_text())]
+    want(len(links) > 10, True, f"whether {len(links)} links are many")
+    want([(page.name, target) for page, target in links if not target.startswith("http") and not (page.parent / target).exists()], [],
+         "links that lead nowhere")
+
+
 def rows() -> List[Row]:
-    found: List[Row] = [("compiled again", again), ("installed", installed)]
+    found: List[Row] = [("compiled again", again), ("installed", installed), ("packaged", packaged)]
     for target in BUILDS:
         found += [(f"{target}, flags of the {'environment' if by else 'command line'}", with_flags, target, by) for by in (True, False)]
         found += [(f"{target}, no flags", usual, target)]

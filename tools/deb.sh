@@ -22,6 +22,14 @@ cp "$top/README.md" "$top"/docs/USING.md "$top"/docs/FORMAT.md "$top"/docs/EMITT
 cp "$top"/examples/README.md "$top"/examples/*.cnf "$top"/examples/*.cube "$top"/examples/*.lrup "$top"/examples/*.[1-4] \
     "$top"/examples/*.out "$top"/examples/chain.py "$top"/examples/*.awk "$documents/examples"
 gzip -9nc "$top/CHANGELOG.md" > "$documents/changelog.gz"
+# Pages lie in one folder here, and a link to a file that isn't in the package becomes its text.
+sed -i -e 's#](\(\.\./\)*docs/#](#g' -e 's#](\.\./#](#g' "$documents"/*.md
+for target in $(grep -ohE '\]\([^)#]+' "$documents"/*.md "$documents"/examples/*.md | sed 's/^](//' | sort -u); do
+    for page in "$documents"/*.md "$documents"/examples/*.md; do
+        case $target in http*) continue ;; esac
+        [ -e "${page%/*}/$target" ] || sed -i "s#\[\([^][]*\)\]($target[^)]*)#\1#g" "$page"
+    done
+done
 for file in "$top"/LICENSE* "$top"/COPYING* "$top"/copyright; do
     [ ! -f "$file" ] || cat "$file" >> "$documents/copyright"
 done
