@@ -102,7 +102,7 @@ def again(work: Path) -> None:
 
 def installed(work: Path) -> None:
     """Without the toolchain, of a program that is there: with -n nothing, then each program with a page and a completion; and nothing
-    is left once it is uninstalled. What isn't built is told."""
+    is left once it is uninstalled. What isn't built is said."""
     program = written("#!/bin/sh\necho 'usage: lrupd [--lines N] [--help]'\n", work, "lrupd")
     program.chmod(0o755)
     words = ["RT=none", f"DESTDIR={work}/a place", "PREFIX=/usr"]

@@ -142,7 +142,7 @@ static void tell_lines_of(const Replay *replay, const Stream *stream, uint64_t i
     uint64_t greatest = identity;
     Reading reading;
     for (unsigned char *at = stream->start; next_addition(stream, &at, &reading);)
-        if (reading.identity > greatest && number_of_owner(replay, reading.identity) == stream->number)
+        if (number_of_owner(replay, reading.identity) == stream->number && reading.identity > greatest)
             greatest = reading.identity;
     if (greatest == identity) return tell_lines_for(replay, identity);
     printf("       --lines %llu does for this line, and %llu for all lines of the stream\n",

@@ -112,7 +112,8 @@ std::string Folder::open_name() { return name_of_file(folder_file); }
 std::string Folder::room() {
     struct statvfs found;
     uint64_t left = fstatvfs(place, &found) == 0 ? uint64_t(found.f_bavail) * found.f_frsize : 0;
-    return "TMPDIR (" + quoted(path.substr(0, path.rfind('/'))) + ") has " + std::to_string(left / 1000000) + " MB left";
+    std::string within = quoted(path.substr(0, path.rfind('/')));
+    return "TMPDIR (" + within + ") has " + std::to_string(left / 1000000) + " MB left";
 }
 
 // This process does it itself: the cleaner may be stopped.

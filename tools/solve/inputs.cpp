@@ -77,12 +77,12 @@ void Inputs::read(const Meanwhile &meanwhile) {
     read_in_thread(meanwhile);
     reading = now() - begun;
     if (options.assume) read_assumptions();
-    std::string unwritten;
-    if (options.proofs) unwritten = write_file(std::string(options.proofs) + "/formula.sha256", digests);
+    if (!options.proofs) return;
+    std::string unwritten = write_file(std::string(options.proofs) + "/formula.sha256", digests);
     if (!unwritten.empty()) refuse(unwritten);
 }
 
-// A large one takes seconds, in which a signal ends the run at once. No process is started meanwhile.
+// A large one takes seconds, in which a signal ends the run at once. No process is started then.
 void Inputs::read_in_thread(const Meanwhile &meanwhile) {
     auto begin = [](void *inputs) -> void * {
         static_cast<Inputs *>(inputs)->read_formula();

@@ -119,7 +119,8 @@ void Run::look_at_reading() {
     const Checker &probe = front.probe;
     bool is_of_assumptions = inputs.options.assume && probe.last_line().find("assumptions") != std::string::npos;
     if (probe.last_line().empty()) inputs.refuse_formula("lrupd, which reads the formula, " + probe.child.end());
-    if (is_of_assumptions) inputs.refuse_formula(title(inputs.options.assume) + inputs.fault_of_assumptions());
+    if (is_of_assumptions)
+        inputs.refuse_formula(title(inputs.options.assume) + inputs.fault_of_assumptions());
     inputs.refuse_formula(title(inputs.options.formula));
 }
 
@@ -176,7 +177,8 @@ std::string Run::end_of(size_t k) const {
 }
 
 static bool is_usual(const Child &engine) {
-    return engine.ended_with(0) || engine.ended_with(SATISFIABLE) || engine.ended_with(UNSATISFIABLE);
+    bool has_answered = engine.ended_with(SATISFIABLE) || engine.ended_with(UNSATISFIABLE);
+    return has_answered || engine.ended_with(0);
 }
 
 // Where that explains what its filter found.
@@ -192,7 +194,8 @@ bool Run::look_at_end(size_t k) {
     if (LOAD(facts.answer) != 0 || facts.cause[0] || !has_ended) return false;
     bool unfounded = LOAD(facts.unfounded);
     team.idle = !unfounded && LOAD(facts.lines) == 0 && !is_usual(team.engine);
-    tell_lost(k, unfounded ? "it says 'satisfiable', and gives no assignment in lines v" : end_of(k));
+    static const char no_values[] = "it says 'satisfiable', and gives no assignment in lines v";
+    tell_lost(k, unfounded ? no_values : end_of(k));
     if (LOAD(facts.group)) kill(-LOAD(facts.group), SIGKILL);       // where not even its process could do that
     return true;
 }

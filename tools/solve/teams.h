@@ -10,7 +10,7 @@ enum Answer { UNKNOWN_ANSWER = 0, SATISFIABLE = 10, UNSATISFIABLE = 20 };
 struct Team {
     Child engine, filter;
     Pipe proof;
-    int stream = -1, spare = -1;    // a file; one in memory, with which the stream goes on where that can't be written
+    int stream = -1, spare = -1;    // a file; one in memory for where that can't be written any more
     signed char *model = nullptr;
     std::string command;    // of a solver
     bool told = false, wrong = false, paused = false;
