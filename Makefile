@@ -5,7 +5,7 @@ RT ?= rt
 PREFIX ?= /usr/local
 VERSION := $(shell cat VERSION)
 # With which the program is proved, as README says.
-KIT := $(shell sed -n 's/^`\(rattle-kit-[^`]*\)`.*/\1/p' README.md)
+KIT := $(shell sed -n 's/^`\(rattle-kit-[^`]*\)`.*/\1/p' README.md 2> /dev/null)
 PROGRAM := crates/lrupd/out/lrupd
 SOLVER := examples/solver/out/solver
 EXACT := tools/exact/out/exact
@@ -31,7 +31,7 @@ FORMULA ?= examples/bmc.cnf
 STREAMS ?= $(addprefix examples/bmc-four.,1 2 3 4)
 OPTIONS ?= --tries 1000000
 
-.PHONY: run build install examples live checkpoints rounds demo solver exact trim explain solve solver-test filter-test trim-test
+.PHONY: run build install built install-solve no-solve uninstall examples live checkpoints rounds demo solver exact trim explain solve solver-test filter-test trim-test
 .PHONY: explain-test solve-test neighbours sweep leaks instructions audit definitions promises tables pages test toolchain c-and-python
 .PHONY: libcadical beside-it mpicxx help try deb dist quick edits packages warnings builds shown
 
@@ -59,21 +59,36 @@ build: toolchain ## build: prove the program, 7 to 30 minutes the first time, an
 	@python3 gate/build.py $(RT)
 
 # The filter's name is lrup-exact; lrup-solve is installed where CaDiCaL's library is there. The manual pages have the version at their
-# feet.
-install: build exact trim explain ## use: install all programs, with manual pages, below PREFIX=/usr/local
-	install -d "$(DESTDIR)$(PREFIX)/bin" "$(DESTDIR)$(PREFIX)/share/man/man1"
-	install -m 755 $(PROGRAM) "$(DESTDIR)$(PREFIX)/bin/lrupd"
-	install -m 755 tools/lrup-chain "$(DESTDIR)$(PREFIX)/bin"
-	install -m 755 $(EXACT) "$(DESTDIR)$(PREFIX)/bin/lrup-exact"
-	install -m 755 $(TRIM) $(EXPLAIN) "$(DESTDIR)$(PREFIX)/bin"
-	install -m 644 $(addprefix docs/,lrupd.1 lrup-chain.1 lrup-exact.1 lrup-trim.1 lrup-explain.1) "$(DESTDIR)$(PREFIX)/share/man/man1"
-	@if $(MAKE) -s solve; then \
-	install -d "$(DESTDIR)$(PREFIX)/libexec/lrupd" && install -m 755 $(SOLVE) "$(DESTDIR)$(PREFIX)/bin/lrup-solve" && \
-	install -m 755 $(ENGINES) "$(DESTDIR)$(PREFIX)/libexec/lrupd/lrup-engines" && \
-	install -m 755 tools/solve/lrup-check "$(DESTDIR)$(PREFIX)/bin" && \
-	install -m 644 docs/lrup-solve.1 docs/lrup-check.1 "$(DESTDIR)$(PREFIX)/share/man/man1"; \
-	else echo "lrup-solve and lrup-check aren't installed"; fi
-	sed -i 's/^\.Os$$/.Os lrupd $(VERSION)/' "$(DESTDIR)$(PREFIX)"/share/man/man1/lrup*.1
+# feet. Without the toolchain, as under sudo, what was built before is installed. make runs a line with $(MAKE) also with -n.
+PLACE = $(DESTDIR)$(PREFIX)
+COMPLETIONS = $(PLACE)/share/bash-completion/completions
+install: $(if $(shell command -v $(RT)),build,built) exact trim explain install-solve ## use: install all, with manual pages, below PREFIX=/usr/local
+	install -d "$(PLACE)/bin" "$(PLACE)/share/man/man1" "$(COMPLETIONS)"
+	install -m 755 $(PROGRAM) "$(PLACE)/bin/lrupd"
+	install -m 755 tools/lrup-chain "$(PLACE)/bin"
+	install -m 755 $(EXACT) "$(PLACE)/bin/lrup-exact"
+	install -m 755 $(TRIM) $(EXPLAIN) "$(PLACE)/bin"
+	install -m 644 $(addprefix docs/,lrupd.1 lrup-chain.1 lrup-exact.1 lrup-trim.1 lrup-explain.1) "$(PLACE)/share/man/man1"
+	sed -i 's/^\.Os$$/.Os lrupd $(VERSION)/' "$(PLACE)"/share/man/man1/lrup*.1
+	sh tools/completions.sh "$(PLACE)/bin" "$(COMPLETIONS)"
+
+built:
+	@test -x $(PROGRAM) || { echo "there is no $(PROGRAM), which make build leaves there by the command '$(RT)'"; exit 1; }
+
+install-solve: $(if $(shell $(CXX) -E -x c++ -include cadical.hpp /dev/null > /dev/null 2>&1 && echo yes),solve,no-solve)
+	@test ! -x $(SOLVE) || { \
+	install -d "$(PLACE)/bin" "$(PLACE)/libexec/lrupd" "$(PLACE)/share/man/man1" && \
+	install -m 755 $(SOLVE) "$(PLACE)/bin/lrup-solve" && install -m 755 $(ENGINES) "$(PLACE)/libexec/lrupd/lrup-engines" && \
+	install -m 755 tools/solve/lrup-check "$(PLACE)/bin" && \
+	install -m 644 docs/lrup-solve.1 docs/lrup-check.1 "$(PLACE)/share/man/man1"; }
+
+no-solve:
+	@echo "lrup-solve isn't installed: it needs CaDiCaL as a library, in Debian the package libcadical-dev"
+
+uninstall: ## use: remove what make install installs below PREFIX
+	rm -f $(foreach name,lrupd lrup-chain lrup-exact lrup-trim lrup-explain lrup-solve lrup-check,\
+	"$(PLACE)/bin/$(name)" "$(PLACE)/share/man/man1/$(name).1" "$(COMPLETIONS)/$(name)") "$(PLACE)/libexec/lrupd/lrup-engines"
+	@rmdir "$(PLACE)/libexec/lrupd" 2> /dev/null || :
 
 # Standard output, standard error and the status are compared, on the examples and on some hundred small runs; two groups of streams
 # are checked apart.
@@ -126,8 +141,9 @@ beside-it: $(EXACT) $(TRIM) $(EXPLAIN)
 # One source after the other, each once it has changed, or a header that it includes, or how it is compiled. A program that runs is
 # replaced, and not written over.
 in_order = $(patsubst %,$(1)/%.o,$(basename $(2)))
-COMPILE_C = $(CC) -std=c11 $(WARNINGS) $(CPPFLAGS) $(CFLAGS)
-COMPILE_CXX = -std=c++17 $(WARNINGS) -DVERSION='"$(VERSION)"' -DKIT='"$(KIT)"' $(CPPFLAGS) $(CXXFLAGS)
+VERSIONED = -DVERSION='"$(VERSION)"'
+COMPILE_C = $(CC) -std=c11 $(WARNINGS) $(VERSIONED) $(CPPFLAGS) $(CFLAGS)
+COMPILE_CXX = -std=c++17 $(WARNINGS) $(VERSIONED) -DKIT='"$(KIT)"' $(CPPFLAGS) $(CXXFLAGS)
 LINK = mkdir -p $(dir $@) && $(1) $(2) $(LDFLAGS) -o $@.new $(filter %.o,$^) $(3) $(LDLIBS) && mv $@.new $@
 
 $(SOLVER): $(call in_order,$(OBJECTS),$(wildcard examples/solver/*.c) $(SHARED_WITH_SOLVER))
@@ -141,9 +157,9 @@ $(EXPLAIN): $(call in_order,$(OBJECTS),$(wildcard tools/explain/*.c) tools/trim/
 $(SOLVE): $(call in_order,$(SOLVE_OBJECTS),$(wildcard tools/solve/front/*.c))
 	@$(call LINK,$(CC),$(CFLAGS))
 $(ENGINES): $(call in_order,$(SOLVE_OBJECTS),$(ALONE) $(wildcard tools/solve/*.c) $(FILTER))
-	@$(call LINK,$(CXX),$(CXXFLAGS),-lcadical)
+	@$(call LINK,$(CXX),$(CXXFLAGS) -pthread,-lcadical)
 $(ENGINES)-mpi: $(call in_order,$(SOLVE_OBJECTS),$(filter-out tools/solve/alone.cpp,$(wildcard tools/solve/*.cpp tools/solve/*.c)) $(FILTER))
-	@$(call LINK,OMPI_CXX="$(CXX)" mpicxx,$(CXXFLAGS),-lcadical)
+	@$(call LINK,OMPI_CXX="$(CXX)" mpicxx,$(CXXFLAGS) -pthread,-lcadical)
 
 $(OBJECTS)/%.o: %.c $(OBJECTS)/flags
 	@mkdir -p $(dir $@) && $(COMPILE_C) -I tools/exact -MMD -MP -c -o $@ $<

@@ -186,7 +186,7 @@ def wrong_arrows():
 
 # The Makefile's targets.
 
-UNLISTED = {"help", "toolchain", "c-and-python", "libcadical", "mpicxx", "beside-it"}
+UNLISTED = {"help", "toolchain", "c-and-python", "libcadical", "mpicxx", "beside-it", "built", "install-solve", "no-solve"}
 
 
 def unlisted_targets():

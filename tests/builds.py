@@ -4,7 +4,8 @@
     builds.py
 
 Of the filter, lrup-trim, lrup-solve, lrup-solve-mpi and the solver of the demo the commands are printed, with flags of the command line
-and of the environment. The filter is compiled in a copy, and again after a change of a source, of a header, and of flags. It shows what
+and of the environment. The filter is compiled in a copy, and again after a change of a source, of a header, and of flags. All is installed in
+a folder, and uninstalled. It shows what
 is off; the last line is 'N passed, M failed', and the status is 1 where a row failed.
 """
 import os
@@ -15,7 +16,7 @@ from pathlib import Path
 from typing import Dict, List, Sequence, Set
 
 sys.dont_write_bytecode = True
-from harness import ROOT, Row, run, run_all, want
+from harness import FILTER, ROOT, Row, needs, run, run_all, want, written
 
 C = {"CC": "one-cc", "CFLAGS": "-DFLAG_OF_C", "CPPFLAGS": "-DFLAG_OF_BOTH", "LDFLAGS": "-Lflag", "LDLIBS": "-lflag"}
 WORDS = {**C, "CXX": "one-cxx", "CXXFLAGS": "-DFLAG_OF_CXX"}
@@ -99,8 +100,45 @@ def again(work: Path) -> None:
     want(compiled(work, ["CPPFLAGS=-DOTHER", "LDLIBS=-lm"]) >= {"exact"}, True, "whether other libraries are linked")
 
 
+def installed(work: Path) -> None:
+    """Without the toolchain, of a program that is there: with -n nothing, then each program with a page and a completion; and nothing
+    is left once it is uninstalled. What isn't built is said."""
+    program = written("#!/bin/sh\necho 'usage: lrupd [--lines N] [--help]'\n", work, "lrupd")
+    program.chmod(0o755)
+    words = ["RT=none", f"DESTDIR={work}/a place", "PREFIX=/usr"]
+    make = lambda *more: run(["make", "-s", "-C", ROOT, *more, *words], env=clean({}))
+    want((make("-n", "install", f"PROGRAM={program}").status, (work / "a place").exists()), (0, False), "what make -n install leaves")
+    done = make("install", f"PROGRAM={program}")
+    want((done.err, done.status), ("", 0), "what make install says")
+    files = {str(path.relative_to(work / "a place")) for path in (work / "a place").rglob("*") if path.is_file()}
+    names = {"lrupd", "lrup-chain", "lrup-exact", "lrup-trim", "lrup-explain"} | ({"lrup-solve"} if "isn't installed" not in done.out else set())
+    wanted = {f"usr/{place.format(name)}" for name in names for place in
+              ("bin/{}", "share/man/man1/{}.1", "share/bash-completion/completions/{}")}
+    want(files - {"usr/libexec/lrupd/lrup-engines"}, wanted, "the files")
+    text = (work / "a place" / "usr/share/bash-completion/completions/lrupd").read_text()
+    want('-W "--help --lines"' in text, True, f"the options that are completed: {text}")
+    want((make("uninstall").err, [path for path in (work / "a place").rglob("*") if path.is_file()]), ("", []), "what is left")
+    done = make("install", f"PROGRAM={work}/none")
+    want((done.status, f"there is no {work}/none, which make build leaves there" in done.out), (2, True), f"what is said: {done.out}")
+
+
+def packaged(work: Path) -> None:
+    """Each link of the package's pages leads to a file of the package."""
+    for command in ("dpkg-deb", "dpkg-shlibdeps"):
+        needs(command)
+    place = work / "package"
+    done = run(["make", "-s", "-C", ROOT, "install", "RT=none", f"PROGRAM={FILTER}", f"DESTDIR={place}", "PREFIX=/usr"], env=clean({}))
+    want((done.err, done.status), ("", 0), "what make install says")
+    want(run(["sh", ROOT / "tools" / "deb.sh", place, "1"]).status, 0, "the status of deb.sh")
+    pages = [*(place / "usr/share/doc/lrupd").glob("**/*.md")]
+    links = [(page, target) for page in pages for target in re.findall(r"\]\(([^)#]+)", page.read_text())]
+    want(len(links) > 10, True, f"whether {len(links)} links are many")
+    want([(page.name, target) for page, target in links if not target.startswith("http") and not (page.parent / target).exists()], [],
+         "links that lead nowhere")
+
+
 def rows() -> List[Row]:
-    found: List[Row] = [("compiled again", again)]
+    found: List[Row] = [("compiled again", again), ("installed", installed), ("packaged", packaged)]
     for target in BUILDS:
         found += [(f"{target}, flags of the {'environment' if by else 'command line'}", with_flags, target, by) for by in (True, False)]
         found += [(f"{target}, no flags", usual, target)]

@@ -407,6 +407,9 @@ FAULTS = [
      "  why: 7 isn't above 9, which line 1 took: identities go up\n       right here: 11, or after a gap 13, 15 and so on\n"),
     ("identity beyond the last", ["5 2 0 1 2 0\n7 2 0 1 2 0\n", ""], "--lines 1", "stream 1 (f1), line 2: identity\n  derives  2\n"
      "  why: 7 is above 6, the last identity with --lines 1\n       --lines 2 would do for it\n"),
+    ("identity beyond the last, and more", ["5 2 0 1 2 0\n7 2 0 1 2 0\nx\n13 2 0 1 2 0\n14 2 0 1 2 0\n9 2 0 1 2 0\n", ""], "--lines 1",
+     "stream 1 (f1), line 2: identity\n  derives  2\n  why: 7 is above 6, the last identity with --lines 1\n"
+     "       --lines 2 does for this line, and 5 for all lines of the stream\n"),
     ("identity, and none is left", [FIRST + "6 2 0 1 2 0\n", ""], "--lines 1", "stream 1 (f1), line 2: identity\n  derives  2\n"
      "  why: 6 is of stream 2, of 2 that take turns above 4\n       stream 1 has no identity left: its next one would be 7\n"
      "       --lines 2 would do for it\n"),
@@ -634,6 +637,8 @@ def help_of(work: Path) -> None:
     for word in ("--help", "-h"):
         done = explain([word], work)
         want((done.out[:20], done.err, done.status), ("usage: lrup-explain ", "", 0), word)
+    version = (ROOT / "VERSION").read_text().strip()
+    want(run([EXPLAIN, "--version"]), Ran(f"lrup-explain {version}\n", "", 0), "--version")
 
 
 def skipped(why: str, work: Path) -> None:

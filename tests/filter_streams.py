@@ -19,8 +19,8 @@ from pathlib import Path
 from typing import Any, Callable, Dict, Iterable, List, Sequence, Tuple, Union
 
 sys.dont_write_bytecode = True
-from harness import (COMPRESSED, FILTER, FOUR, LIMIT, TESTS, Failure, Ran, Row, Skipped, dimacs, example, read_line, report, run, run_all,
-                     started, want, words_given, written)
+from harness import (COMPRESSED, FILTER, FOUR, LIMIT, ROOT, TESTS, Failure, Ran, Row, Skipped, dimacs, example, read_line, report,
+                     run, run_all, started, want, words_given, written)
 from lrat import lrat_fault
 from proof_forms import FORMS, Step, code, codes, read_formula, read_steps, varint
 
@@ -283,6 +283,8 @@ def another(program: str, work: Path) -> None:
 def summary(work: Path) -> None:
     text, said, status = exact(["--help"])
     want((text[:18], said, status), ("usage: lrup-exact ", "", 0), "the summary")
+    version = (ROOT / "VERSION").read_text().strip()
+    want(run([FILTER, "--version"]), Ran(f"lrup-exact {version}\n", "", 0), "--version")
 
 
 TOLD = "o 9 -1 -2 0\no 20 2 1 0\no 7 2 -1 0\no 1 1 -2 0\n"     # the four clauses, in another order

@@ -389,6 +389,38 @@ def progress(words: List[str], wanted: bool, columns: int, work: Path) -> None:
     want(hidden <= lines + 1, True, f"{hidden} times the line was hidden, for {lines} lines")
 
 
+def large_formula(words: List[str], work: Path) -> None:
+    """While it is read, for seconds, a terminal shows that; and a signal ends the run at once, as the time does."""
+    formula = work / "large"
+    with formula.open("w") as file:
+        file.write("p cnf 2 4\n")
+        for _ in range(300):
+            file.write(("c" + "x" * 98 + "\n") * 10000)
+        file.write(FOUR.split("\n", 1)[1])
+    leader, terminal = pty.openpty()
+    fcntl.fcntl(leader, fcntl.F_SETFL, os.O_NONBLOCK)
+    seen = bytearray()
+
+    def has_shown() -> bool:
+        seen.extend(read_terminal(leader))
+        return f"reading {formula} ..".encode() in seen
+
+    with started(command([*words, formula]), stdout=subprocess.PIPE, stderr=terminal, text=True) as running:
+        os.close(terminal)
+        until("that it is read", lambda: has_shown() or running.poll() is not None)
+        begun = time.monotonic()
+        if not words:
+            running.terminate()
+        out = running.communicate(timeout=LIMIT)[0]
+        lasts = time.monotonic() - begun
+    why = "time is up, and the formula isn't read" if words else "ended by a signal: Terminated"
+    want((out, running.returncode), (f"c {why}\ns UNKNOWN\n", 0 if words else -signal.SIGTERM), "the end")
+    want(lasts < (10 if words else 1.5), True, f"whether {lasts} seconds are soon")
+    seen.extend(read_terminal(leader))
+    os.close(leader)
+    want(bytes(seen).endswith(b"\r\x1b[K"), True, f"whether the line is taken away: {bytes(seen)[-100:]!r}")
+
+
 def terminal_that_stops(work: Path) -> None:
     """As after `stty tostop` it stops who writes to it in the background, and the front alone is in the foreground."""
     leader, terminal = pty.openpty()
@@ -504,7 +536,8 @@ def what_happens() -> List[Row]:
             ("filter 2 killed", killed, ["filter 2"], term, 20, "engine 2 is lost"),
             ("an engine and a filter killed", killed, ["engine 1", "filter 2"], kill, 0, "no engine is left"),
             ("the front killed", left_alone), ("stopped", stopped), ("ended while it stands", ended_while_it_stands),
-            ("a terminal that stops", terminal_that_stops),
+            ("a terminal that stops", terminal_that_stops), ("a large formula", large_formula, []),
+            ("a large formula, and the time", large_formula, ["--time", "1"]),
             ("who gives way", gives_way), ("time", time_is_up), ("a full row", row_is_full),
             ("a full disk for streams", full, ["-j", "1", "--proofs", "{work}"], os.devnull, 4096, "round-1.stream-1: File too large"),
             ("a full disk for the answer", full, [], "/dev/full", 0, "cannot write the answer"),

@@ -450,6 +450,7 @@ def refused_by_lrupd(text: Text, words: List[str], known: str, work: Path) -> No
     formula = written(text, work, "a formula")
     words = [word.format(work=work) for word in words]
     for name, literals in (("bad", "-2 x 0\n"), ("beyond", "-7 0\n"), ("spaces", "1  2 0\n"), ("open", "1 2\n"),
+                           ("crlf", "1 2 0\r\n"), ("noend", "1 2 0"), ("two", "1 0\n2 0\n"), ("blank", "1 2 0 \n"), ("tab", "1\t2 0\n"),
                            ("least", f"-{1 << 63} 0\n"), ("less", f"-{(1 << 64) + 1} 0\n"), ("long", "1" * 100 + " 0\n")):
         written(literals, work, name)
     said = run([PROGRAM, *words, formula, "/dev/null"]).err.rstrip("\n")
@@ -567,7 +568,7 @@ def refused_texts() -> List[Tuple[Text, str, int, str]]:
     header, more = "no header 'p cnf VARIABLES CLAUSES', with which a formula in DIMACS CNF begins", "more clauses than the 1 of the header"
     no_number = [(f"p cnf 2 1\n{text}\n", f"bad number in line {line}", line, f"a word that is no number: {word}") for text, line, word in (
         ("1 x 0", 2, "x"), ("1 -0", 2, "-0"), ("c 0\n1 -0", 3, "-0"), ("-", 2, "-"), ("+1 0", 2, "+1"), ("01 0", 2, "01"),
-        ("-01 0", 2, "-01"), ("1 00", 2, "00"), ("1 0\n%\n0", 3, "%"), ("1 0 c", 2, "c"), (" c x\n1 0", 2, "c"), ("1\v2 0", 2, "1?2"), ("1 2\f0", 2, "2?0"),
+        ("-01 0", 2, "-01"), ("1 00", 2, "00"), ("1 0\n%\n0", 3, "%, as at the end of SATLIB's files: sed '/^%/,$d' leaves it out"), ("1 0 c", 2, "c"), (" c x\n1 0", 2, "c"), ("1\v2 0", 2, "1?2"), ("1 2\f0", 2, "2?0"),
         ("1\0 0", 2, "1?"), ("1 0\0", 2, "0?"), ("1 0\n\x1a", 3, "?"), ("1,2 0", 2, "1,2"), ("1 2.0 0", 2, "2.0"), ("1 0x2 0", 2, "0x2"))]
     no_header = [(text, "no header", line, header) for text, line in (
         ("", 1), ("c x\n", 2), ("1 2 0\n", 1), ("pcnf 1 1\n1 0\n", 1), ("P CNF 1 1\n1 0\n", 1), (" c x\np cnf 1 1\n1 0\n", 1),
@@ -610,6 +611,9 @@ def taken_texts() -> List[Row]:
     return [(f"taken {text!r}", taken_by_all, text, status) for text, status in texts]
 
 
+SPACED = ": more than the single spaces between its words"
+
+
 def refusals() -> List[Row]:
     runs: List[Row] = []
     for words, cause in ((["--nothing", "{formula}"], "--nothing"), (["-vx", "{formula}"], "-vx"),
@@ -639,7 +643,8 @@ def refusals() -> List[Row]:
         runs.append((" ".join(["lrup-solve", *words]), refused, words, cause))
     runs += [(f"refused {text[:20]!r}", refused_by_all, text, *rest) for text, *rest in refused_texts()]
     beyond = "the literal {}, and the formula has the variables 1 to 2"
-    for name, known in (("bad", ": a word that is no number: x"), ("beyond", ": " + beyond.format(-7)), ("spaces", ""),
+    for name, known in (("bad", ": a word that is no number: x"), ("beyond", ": " + beyond.format(-7)), ("spaces", SPACED), ("crlf", ": a CR, and a line ends with LF alone"),
+                        ("noend", ": no LF at its end"), ("two", ": a second line"), ("blank", SPACED), ("tab", SPACED),
                         ("open", ": no line of literals that ends with 0"), ("least", ": " + beyond.format(-(1 << 63))),
                         ("less", ": " + beyond.format(str(-(1 << 64) - 1)[:20])), ("long", ": " + beyond.format("1" * 20)),
                         ("", ": no line of literals that ends with 0")):

@@ -307,7 +307,7 @@ def packed(forms: Sequence[str], tested: Optional[Dict[str, object]], work: Path
     want((found.err, found.status), (said, 1), "what is said where it can't be unpacked")
     first.write_bytes(first.read_bytes()[:first.stat().st_size // 2])
     found = run(["sh", "d/command"], cwd=work, env={**os.environ, "TMPDIR": str(files)})
-    want((found.err != "", os.listdir(files)), (True, []), f"whether it is told that one is cut, in {found.out}")
+    want((found.err != "", os.listdir(files)), (True, []), f"whether it is said that one is cut, in {found.out}")
     none_left(mark)
 
 
@@ -350,11 +350,11 @@ def about(engines: int, given: str, tested: Optional[Dict[str, object]], work: P
     want(solve(words, tested=tested, cwd=work, **how).status, 20, "the status")
     text, _, digests = (work / "d" / "about").read_text().partition("\n\n")
     found = dict(line.split(": ", 1) for line in text.splitlines())
-    want(list(found), ["date", "words", "folder", "programs", "kit", "machine", "verdict", "record"], "what is told")
-    told = time.mktime(time.strptime(found["date"], "%Y-%m-%d %H:%M:%S UTC")) - time.timezone
-    want(abs(time.time() - told) < 60, True, f"whether {found['date']} is now")
+    want(list(found), ["date", "words", "folder", "programs", "kit", "machine", "verdict", "record"], "what it has")
+    then = time.mktime(time.strptime(found["date"], "%Y-%m-%d %H:%M:%S UTC")) - time.timezone
+    want(abs(time.time() - then) < 60, True, f"whether {found['date']} is now")
     want((found["words"].endswith("--proofs d" if given else "--proofs d 'a formula'"), found["folder"], found["verdict"]),
-         (True, str(work), PROVED), f"what is told of the run: {text}")
+         (True, str(work), PROVED), f"what it has of the run: {text}")
     version = (ROOT / "VERSION").read_text().strip()
     want(found["programs"].startswith(f"lrupd {version}; lrup-solve {version}, with CaDiCaL "), True, found["programs"])
     want(f"`{found['kit']}`" in (ROOT / "README.md").read_text(), True, found["kit"])
@@ -485,7 +485,7 @@ def check_interrupted(number: int, work: Path) -> None:
 # Room.
 
 
-def told_sizes(work: Path) -> None:
+def shown_sizes(work: Path) -> None:
     """How much is kept, and what is free, of a record and of what has its place."""
     formula = generated("pigeons 6", work)
     answer = solve(["-j", 1, "--proofs", "d", formula], cwd=work)
@@ -495,11 +495,11 @@ def told_sizes(work: Path) -> None:
     answer = solve(["-j", 1, "--lrat", "lrat", formula], cwd=work, env_more={"TMPDIR": str(work)})
     wanted = rf"{work}/lrup-solve-\d+/kept: [\d.]+ MB kept, [\d,]+ MB free, until a core or LRAT text is written"
     want(sum(re.fullmatch(wanted, line) is not None for line in answer.comments), 1, f"whether it is told in\n{answer.out}")
-    want([line for line in solve(["-j", 1, formula]).comments if " MB " in line], [], "what is told where nothing is kept")
+    want([line for line in solve(["-j", 1, formula]).comments if " MB " in line], [], "what is said where nothing is kept")
 
 
 def unwritable(words: List[str], said: str, work: Path) -> None:
-    """What can't be written is told before the run, and nothing is left."""
+    """What can't be written is refused before the run, and nothing is left."""
     formula = generated("pigeons 6", work)
     (work / "folder").mkdir()
     before = sorted(os.listdir(work))
@@ -515,8 +515,8 @@ def written_into_a_record(work: Path) -> None:
     kept(["-j", 1, "--proofs", "d", formula], formula, work, names=("d/core.cnf", "d/proof.lrat"))
 
 
-def on_a_full_disk(kilobytes: int, words: List[object], tested: Optional[Dict[str, object]], said: str, work: Path) -> None:
-    """The record is lost, which is told, and not the verdict."""
+def on_a_disk(kilobytes: int, words: List[object], tested: Optional[Dict[str, object]], work: Path) -> Answer:
+    """Of that size, for the record, or for temporary files where there is none."""
     (work / "full").mkdir()
     how = ["unshare", "-m" if os.getuid() == 0 else "-rm", "sh", "-c"]
     mounts = f"mount -t tmpfs -o size={kilobytes}k tmpfs full"
@@ -525,12 +525,24 @@ def on_a_full_disk(kilobytes: int, words: List[object], tested: Optional[Dict[st
     formula = generated("random 180 3", work)
     done = run([*how, mounts + ' && exec "$@"', "sh", *command([*words, formula], tested)], cwd=work,
                env=in_environment(tested, {"TMPDIR": f"{work}/full"} if "--proofs" not in words else {}))
-    answer = Answer(done)
+    return Answer(done)
+
+
+def on_a_full_disk(kilobytes: int, words: List[object], tested: Optional[Dict[str, object]], said: str, work: Path) -> None:
+    """The record is lost, which is said, and not the verdict."""
+    answer = on_a_disk(kilobytes, words, tested, work)
     want((answer.answers, answer.status), ([PROVED], 1), f"the answer of\n{answer.out[-3000:]}{answer.said}")
     want(re.fullmatch(f"lrup-solve: {said}: No space left on device\n", answer.said) is not None, True, f"what is said: {answer.said}")
     want(any(line.startswith("the record is lost: cannot write ") for line in answer.comments) or not tested, True,
          f"whether it is told meanwhile in\n{answer.out}")
     want(" rounds with " in answer.out, tested is not None, f"whether there are several rounds in\n{answer.out}")
+
+
+def full_of_rounds(work: Path) -> None:
+    """lrupd can't save what a round came to: it is said where."""
+    answer = on_a_disk(16, ["-j", 2], SMALL, work)
+    want((answer.answers, answer.status), (["s UNKNOWN"], 0), f"the answer of\n{answer.out[-3000:]}{answer.said}")
+    want(f"lrupd ended with status 9: TMPDIR ({work}/full) has 0 MB left" in answer.comments, True, f"whether that is told in\n{answer.out}")
 
 
 # Why a line is bad.
@@ -581,7 +593,7 @@ def rows() -> List[Row]:
     found += [(f"the first line of {name!r}", first_line_of, name, shown) for name, shown in (
         ("a\ns UNSATISFIABLE", "a?s UNSATISFIABLE"), ("a\033[31m\r\177b", "a?[31m??b"), ("gr\u00f6\u00dfe", "gr\u00f6\u00dfe"))]
     found += [(f"a check that gets {number.name}", check_interrupted, number) for number in (signal.SIGTERM, signal.SIGINT, signal.SIGHUP)]
-    found += [("sizes that are told", told_sizes), ("outputs in a record", written_into_a_record)]
+    found += [("a disk that is full of rounds", full_of_rounds), ("sizes that are shown", shown_sizes), ("outputs in a record", written_into_a_record)]
     found += [(f"unwritable: {' '.join(words)}", unwritable, words, said) for words, said in (
         (["--core", "none/core"], "cannot write none/core: No such file or directory"),
         (["--proofs", "d", "--core", "none/core"], "cannot write none/core: No such file or directory"),

@@ -276,7 +276,7 @@ def folder_removed(work: Path) -> None:
         return want((answer.answers, re.search(r"cannot (open|make) \S*/round-\d+\.", answer.said) is not None), ([], True),
                     f"what is said: {answer.said}")
     want_answer(answer, 0)
-    want_cause(answer, r"^lrupd ended with status [459]$|^lrupd hasn't taken|^engine \d is lost: its filter stopped: cannot open ")
+    want_cause(answer, r"^lrupd ended with status [459](: TMPDIR .*)?$|^lrupd hasn't taken|^engine \d is lost: its filter stopped: cannot open ")
 
 
 def is_whole(path: Path) -> bool:
@@ -352,7 +352,7 @@ def full(work: Path) -> None:
     answer = solve(["-j", "2", formula], tested={**SMALL, "FIRST_WORDS": 20000}, preexec_fn=limit)
     want_answer(answer, 0)
     want_cause(answer, "^lrupd: (round [0-9]+: )?checkpoint not written")
-    want_cause(answer, "^lrupd ended with status 9$")
+    want_cause(answer, r"^lrupd ended with status 9: TMPDIR \(.*\) has \d+ MB left$")
 
 
 def read(path: Path) -> List[List[int]]:

@@ -217,7 +217,8 @@ WRONG = [("exit 0 # %formula %proof", "the solver ended with status 0"),
          ("echo 0 > %proof # %formula", "its filter stopped: line 1: no conflict by unit propagation"),
          ("printf a > %proof # %formula", "its filter stopped: "),
          ("echo '1 i 1 2 0' > %proof # %formula", "its filter stopped: line 1: an import"),
-         ("yes s UNSATISFIABLE | head -n 100000; yes v 1 | head -n 100000; exit 3 # %formula %proof", "its filter stopped: ")]
+         ("yes s UNSATISFIABLE | head -n 100000; yes v 1 | head -n 100000; exit 3 # %formula %proof",
+          "the solver ended with status 3; its filter stopped: ")]
 STANDING = ["sleep 1000 # %formula %proof", "sleep 1000 > %proof # %formula", "yes # %formula %proof",
             "cat %formula; sleep 1000 # %proof",
             "trap '' TERM INT HUP; while :; do sleep 1; done # %formula %proof", "setsid sleep 1000 & wait # %formula %proof"]

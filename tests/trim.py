@@ -503,6 +503,8 @@ def help_of(work: Path) -> None:
     for word in ("--help", "-h"):
         done = trim([word], work)
         want((done.out[:17], done.err, done.status), ("usage: lrup-trim ", "", 0), word)
+    version = (ROOT / "VERSION").read_text().strip()
+    want(run([TRIM, "--version"]), Ran(f"lrup-trim {version}\n", "", 0), "--version")
 
 
 # What users do.

@@ -3,7 +3,7 @@
 #
 #     sh tools/deb.sh ROOT VERSION
 #
-# It adds the documents, the examples, and for bash the completion of the options that each program's --help names.
+# It adds the documents and the examples.
 set -eu
 umask 022
 [ $# -eq 2 ] || { echo "usage: sh $0 ROOT VERSION" >&2; exit 2; }
@@ -22,26 +22,18 @@ cp "$top/README.md" "$top"/docs/USING.md "$top"/docs/FORMAT.md "$top"/docs/EMITT
 cp "$top"/examples/README.md "$top"/examples/*.cnf "$top"/examples/*.cube "$top"/examples/*.lrup "$top"/examples/*.[1-4] \
     "$top"/examples/*.out "$top"/examples/chain.py "$top"/examples/*.awk "$documents/examples"
 gzip -9nc "$top/CHANGELOG.md" > "$documents/changelog.gz"
+# Pages lie in one folder here, and a link to a file that isn't in the package becomes its text.
+sed -i -e 's#](\(\.\./\)*docs/#](#g' -e 's#](\.\./#](#g' "$documents"/*.md
+for target in $(grep -ohE '\]\([^)#]+' "$documents"/*.md "$documents"/examples/*.md | sed 's/^](//' | sort -u); do
+    for page in "$documents"/*.md "$documents"/examples/*.md; do
+        case $target in http*) continue ;; esac
+        [ -e "${page%/*}/$target" ] || sed -i "s#\[\([^][]*\)\]($target[^)]*)#\1#g" "$page"
+    done
+done
 for file in "$top"/LICENSE* "$top"/COPYING* "$top"/copyright; do
     [ ! -f "$file" ] || cat "$file" >> "$documents/copyright"
 done
 gzip -9nf "$root"/usr/share/man/man1/*.1
-
-# Where the word isn't an option, bash completes the name of a file.
-mkdir -p "$root/usr/share/bash-completion/completions"
-for program in "$root"/usr/bin/*; do
-    name=${program##*/}
-    options=$({ "$program" --help 2>&1 || :; } | grep -oE -- '(^|[ [,|])--[a-z][a-z-]*' | sed 's/^[^-]//' | LC_ALL=C sort -u | tr '\n' ' ')
-    [ -n "$options" ] || { echo "$name --help names no option" >&2; exit 1; }
-    function=_$(echo "$name" | tr - _)
-    cat > "$root/usr/share/bash-completion/completions/$name" << END
-$function() {
-    COMPREPLY=()
-    case \$2 in -*) COMPREPLY=(\$(compgen -W "${options% }" -- "\$2")) ;; esac
-}
-complete -o default -F $function $name
-END
-done
 
 # dpkg-shlibdeps wants a source package around it, and no script.
 mkdir "$work/debian"

@@ -42,8 +42,8 @@ static void take_block(uint32_t state[WORDS], const unsigned char *block) {
 }
 
 void digest_begin(Digest *digest) {
-    static const uint32_t first[WORDS] = {
-        0x6a09e667, 0xbb67ae85, 0x3c6ef372, 0xa54ff53a, 0x510e527f, 0x9b05688c, 0x1f83d9ab, 0x5be0cd19 };
+    static const uint32_t first[WORDS] = { 0x6a09e667, 0xbb67ae85, 0x3c6ef372, 0xa54ff53a,
+                                           0x510e527f, 0x9b05688c, 0x1f83d9ab, 0x5be0cd19 };
     memcpy(digest->state, first, sizeof first);
     digest->length = 0;
 }

@@ -22,7 +22,8 @@ void digest_begin(Digest *digest);
 void digest_add(Digest *digest, const void *bytes, size_t count);
 void digest_end(Digest *digest, char text[DIGEST_DIGITS + 1]);      // in hexadecimal digits
 
-void digest_file(int file, const char *path, char text[DIGEST_DIGITS + 1]);     // of an open file, to its end
+// Of an open file, to its end.
+void digest_file(int file, const char *path, char text[DIGEST_DIGITS + 1]);
 
 #ifdef __cplusplus
 }

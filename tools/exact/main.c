@@ -37,6 +37,7 @@ static void end(const char *cause) {
 static const char usage[] =
     "usage: lrup-exact [--stream S --streams N] [--other T=STREAM]... [OPTIONS] FORMULA [PROOF]\n"
     "       lrup-exact --rounds DIR [--memory SIZE] [OPTIONS] FORMULA [PROOF]\n"
+    "       lrup-exact --help | --version\n"
     "OPTIONS are --format FORM, and --ignore-deletions, which keeps all clauses that the proof deletes.\n"
     "FORM is lrat, drat, frat, binary-lrat or binary-drat; without it the first bytes of the proof tell the form.\n"
     "lrupd --rounds DIR FORMULA DIR/round-1.stream-1 reads what --rounds writes; SIZE is the most that lrupd may take for a round,\n"
@@ -109,10 +110,8 @@ static char *value_of(char ***words, const char *name) {
 
 static void read_word(CommandLine *given, char ***words) {
     char *value;
-    if (strcmp(**words, "--help") == 0 || strcmp(**words, "-h") == 0) {
-        fputs(usage, stdout);
-        exit(fflush(stdout) == 0 ? 0 : 1);
-    }
+    if (strcmp(**words, "--help") == 0 || strcmp(**words, "-h") == 0) show_text(usage);
+    if (strcmp(**words, "--version") == 0) show_text("lrup-exact " VERSION "\n");
     if ((value = value_of(words, "--stream")) != NULL) given->stream = number_of(value);
     else if ((value = value_of(words, "--streams")) != NULL) given->streams = number_of(value);
     else if ((value = value_of(words, "--other")) != NULL) given->others[given->others_length++] = other_of(value);

@@ -23,6 +23,7 @@ static void end(const char *cause) {
 
 static const char usage[] =
     "usage: lrup-explain [--lines N] [--room N] [--tries N] [--serial] [--all] FORMULA DIR|STREAM...\n"
+    "       lrup-explain --help | --version\n"
     "Of the streams of a run of lrupd, or of a record of lrup-solve (--proofs DIR), says why a line is bad, and what would be right:\n"
     "of the first one that is, and of others that come of it in a line each.\n"
     "  --lines N, --room N  as lrupd had them; 65536 and 1048576 if not said. A record has its own\n"
@@ -64,10 +65,8 @@ static const char **place_for(CommandLine *given, const char *word, size_t lengt
 
 static void read_option(CommandLine *given, char ***words) {
     char *word = **words, *value = strchr(word, '=');
-    if (strcmp(word, "--help") == 0 || strcmp(word, "-h") == 0) {
-        fputs(usage, stdout);
-        exit(fflush(stdout) == 0 ? 0 : 1);
-    }
+    if (strcmp(word, "--help") == 0 || strcmp(word, "-h") == 0) show_text(usage);
+    if (strcmp(word, "--version") == 0) show_text("lrup-explain " VERSION "\n");
     bool *flag = strcmp(word, "--serial") == 0 ? &given->serial : strcmp(word, "--all") == 0 ? &given->all : NULL;
     if (flag) {
         *flag = true;

@@ -81,8 +81,12 @@ static void why_form(const Stream *stream) {
 // Identities, literals and room.
 
 // How many lines reach it.
+static uint64_t lines_for(const Replay *replay, uint64_t identity) {
+    return (identity - replay->clauses + replay->count - 1) / replay->count;
+}
+
 static void tell_lines_for(const Replay *replay, uint64_t identity) {
-    printf("       --lines %llu would do for it\n", (Printed)((identity - replay->clauses + replay->count - 1) / replay->count));
+    printf("       --lines %llu would do for it\n", (Printed)lines_for(replay, identity));
 }
 
 static uint32_t number_of_owner(const Replay *replay, uint64_t identity) {
@@ -133,6 +137,18 @@ static void tell_right_identity(const Replay *replay, const Stream *stream) {
     }
 }
 
+// For the line's identity, and for the greatest one of the stream, of those that are its own.
+static void tell_lines_of(const Replay *replay, const Stream *stream, uint64_t identity) {
+    uint64_t greatest = identity;
+    Reading reading;
+    for (unsigned char *at = stream->start; next_addition(stream, &at, &reading);)
+        if (number_of_owner(replay, reading.identity) == stream->number && reading.identity > greatest)
+            greatest = reading.identity;
+    if (greatest == identity) return tell_lines_for(replay, identity);
+    printf("       --lines %llu does for this line, and %llu for all lines of the stream\n",
+           (Printed)lines_for(replay, identity), (Printed)lines_for(replay, greatest));
+}
+
 static void why_identity(const Replay *replay, const Stream *stream) {
     uint64_t identity = replay->line.identity;
     if (replay->line.kind == 'i') {
@@ -150,7 +166,7 @@ static void why_identity(const Replay *replay, const Stream *stream) {
     } else if (identity > replay->last) {
         printf("  why: %llu is above %llu, the last identity with --lines %llu\n", (Printed)identity, (Printed)replay->last,
                (Printed)replay->row.lines);
-        tell_lines_for(replay, identity);
+        tell_lines_of(replay, stream, identity);
         return;
     } else {
         uint64_t line = known_of(replay, stream->last)->line;

@@ -9,7 +9,7 @@
 #include "../exact/digest.h"
 #include "solve.h"
 
-const int UNKNOWN_STATUS = 3;           // of lrupd
+const int UNKNOWN_STATUS = 3, UNSAVED_STATUS = 9;       // of lrupd
 
 // opener.cpp: waits for lrupd to open its pipes.
 class Opener {
@@ -50,7 +50,7 @@ public:
     void look();                        // at what lrupd has opened
     std::vector<pollfd> full_pipes() const;     // for when there is room
     bool feed(size_t stream, uint64_t bytes, bool drop);    // from the file, which has so many by now; true where all are fed
-    void go_on_in(size_t stream, int file) { streams[stream].file = file; }     // which has the bytes that come next
+    void go_on_in(size_t stream, int file) { streams[stream].file = file; }     // the next bytes
     void end_stream(size_t stream);
     uint64_t fed(size_t stream) const { return streams[stream].fed; }
     uint64_t read_of(size_t stream) const;                  // bytes that it has read

@@ -40,7 +40,8 @@ std::string grouped(uint64_t number) {
 std::string counted(uint64_t number, const char *what) { return grouped(number) + " " + what + (number == 1 ? "" : "s"); }
 
 static std::string sizes_of_record() {
-    return format("%.1f MB kept, %s MB free", double(bytes_of_record()) / 1e6, grouped(free_bytes() / 1000000).c_str());
+    return format("%.1f MB kept, %s MB free", double(bytes_of_record()) / 1e6,
+                  grouped(free_bytes() / 1000000).c_str());
 }
 
 std::string title(const std::string &path) { return path == "-" ? "standard input" : quoted(path); }
@@ -50,6 +51,22 @@ std::string title(const std::string &path) { return path == "-" ? "standard inpu
 void Display::begin() { shows_progress = !inputs.options.quiet && isatty(STDERR_FILENO); }
 
 bool Display::shows_lines() const { return inputs.options.verbose && !inputs.options.quiet; }
+
+double Display::next_reading() const {
+    return shows_progress ? std::max(started, shown) + SHOWING : INFINITY;
+}
+
+void Display::show_reading() {
+    if (now() < next_reading()) return;
+    shown = now();
+    std::string name = one_line(title(inputs.options.formula));
+    std::string line = format("%.1f s, reading ", shown - started) + name + " ..";
+    fprintf(stderr, "\r%s\33[K", line.substr(0, terminal_columns() - 1).c_str());
+}
+
+void Display::end_reading() const {
+    if (shown > 0) hide();
+}
 
 double Display::next_show() const { return shows_progress || shows_lines() ? shown + SHOWING : INFINITY; }
 

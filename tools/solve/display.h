@@ -18,6 +18,9 @@ public:
     Display(const Inputs &its_inputs, const Teams &its_teams, const Rounds &its_rounds, Checker &its_checker)
         : inputs(its_inputs), teams(its_teams), rounds(its_rounds), checker(its_checker) {}
     void begin();                       // on a terminal it shows progress from now on
+    double next_reading() const;        // when it shows that the formula is read; INFINITY: never
+    void show_reading();                // where it is time
+    void end_reading() const;
     double next_show() const;           // when it shows something anew; INFINITY: never
     void show();                        // where it is time
     void show_lines();                  // of lrupd

@@ -76,8 +76,9 @@ static _Noreturn void leave_unwritten(const char *cause) {
 static void spill(const char *bytes, size_t length) {
     const char *cause = strerror(errno);
     off_t at = (off_t)engine_status->bytes;
-    if (own->record < 0 || in_memory || lseek(own->spare, at, SEEK_SET) != at) leave_unwritten(cause);
-    if (dup2(own->spare, own->stream) < 0 || !write_whole(own->stream, bytes, length)) leave_unwritten(cause);
+    bool is_ready = own->record >= 0 && !in_memory && lseek(own->spare, at, SEEK_SET) == at;
+    if (!is_ready || dup2(own->spare, own->stream) < 0) leave_unwritten(cause);
+    if (!write_whole(own->stream, bytes, length)) leave_unwritten(cause);
     in_memory = true;
     snprintf(engine_status->unkept, sizeof engine_status->unkept, "%s", cause);
     STORE(engine_status->kept, engine_status->bytes);

@@ -9,6 +9,7 @@
 #include <sys/prctl.h>
 #include <sys/random.h>
 #include <sys/stat.h>
+#include <sys/statvfs.h>
 #include <sys/wait.h>
 #include <unistd.h>
 
@@ -107,6 +108,13 @@ const std::string &Folder::name() { return path; }
 std::string Folder::numbers() { return std::to_string(getpid()) + " " + std::to_string(folder_file); }
 
 std::string Folder::open_name() { return name_of_file(folder_file); }
+
+std::string Folder::room() {
+    struct statvfs found;
+    uint64_t left = fstatvfs(place, &found) == 0 ? uint64_t(found.f_bavail) * found.f_frsize : 0;
+    std::string within = quoted(path.substr(0, path.rfind('/')));
+    return "TMPDIR (" + within + ") has " + std::to_string(left / 1000000) + " MB left";
+}
 
 // This process does it itself: the cleaner may be stopped.
 void Folder::remove() {

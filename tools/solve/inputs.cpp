@@ -1,11 +1,14 @@
 // Unverified, as all of this solver. The formula and the assumptions are read.
 #include <algorithm>
+#include <cerrno>
 #include <cstdio>
 #include <cstdlib>
 #include <cstring>
 #include <fstream>
 #include <iomanip>
+#include <iterator>
 
+#include <pthread.h>
 #include <unistd.h>
 
 #include "checker.h"
@@ -18,7 +21,23 @@ const int LONGEST_NUMBER = 20;
 
 const Inputs *the_inputs;
 
-void refused(const char *cause) { the_inputs->refuse_formula(cause); }
+// Of a thread that reads the formula. It says how that ended by the file; a fault ends the run.
+pthread_t reader;
+bool is_reading = false;
+int read_file = -1;
+std::string fault;
+
+void end_reading() {
+    uint64_t one = 1;
+    while (write(read_file, &one, sizeof one) < 0 && errno == EINTR) {}
+}
+
+void refused(const char *cause) {
+    if (!is_reading || !pthread_equal(pthread_self(), reader)) the_inputs->refuse_formula(cause);
+    fault = cause;
+    end_reading();
+    for (;;) pause();
+}
 
 }
 
@@ -51,18 +70,33 @@ void Inputs::find() {
     if (options.assume) assume_path = again(inputs[1], front.assumptions, "assumptions");
     if (!options.proofs) return;
     clear_record(options.proofs, { formula_path, assume_path });
-    std::string digests = digest_line(formula_path);
-    if (options.assume) digests += digest_line(assume_path);
+}
+
+void Inputs::read(const Meanwhile &meanwhile) {
+    check_plain(formula_path, title(options.formula));
+    double begun = now();
+    read_in_thread(meanwhile);
+    reading = now() - begun;
+    if (options.assume) read_assumptions();
+    if (!options.proofs) return;
     std::string unwritten = write_file(std::string(options.proofs) + "/formula.sha256", digests);
     if (!unwritten.empty()) refuse(unwritten);
 }
 
-void Inputs::read() {
-    check_plain(formula_path, title(options.formula));
-    double begun = now();
-    read_formula();
-    reading = now() - begun;
-    if (options.assume) read_assumptions();
+// A large one takes seconds, in which a signal ends the run at once. No process is started then.
+void Inputs::read_in_thread(const Meanwhile &meanwhile) {
+    auto begin = [](void *inputs) -> void * {
+        static_cast<Inputs *>(inputs)->read_formula();
+        end_reading();
+        return nullptr;
+    };
+    read_file = event_file();
+    is_reading = pthread_create(&reader, nullptr, begin, this) == 0;
+    if (!is_reading) return read_formula();
+    meanwhile(read_file);
+    if (!fault.empty()) refuse_formula(fault);
+    pthread_join(reader, nullptr);
+    is_reading = false;
 }
 
 // By a name that is short: what is said of it isn't cut.
@@ -70,6 +104,9 @@ void Inputs::read_formula() {
     int file = open_input(formula_path);
     formula_read(&formula, (OPEN_FILES + std::to_string(file)).c_str());
     close(file);
+    if (!options.proofs) return;
+    digests = digest_line(formula_path);
+    if (options.assume) digests += digest_line(assume_path);
 }
 
 // How they are separated is lrupd's to judge.
@@ -86,6 +123,19 @@ void Inputs::read_assumptions() {
     if (word != "0") refuse_formula(name + ": no line of literals that ends with 0");
     if (assumed.empty()) return;
     assumed.resize(literals_sort(assumed.data(), assumed.size()));
+}
+
+// lrupd takes one line, with single spaces and LF.
+std::string Inputs::fault_of_assumptions() const {
+    std::ifstream file(assume_path);
+    std::string text((std::istreambuf_iterator<char>(file)), std::istreambuf_iterator<char>());
+    size_t end = text.find('\n');
+    bool is_spaced = text.find("  ") != std::string::npos || text.find('\t') != std::string::npos ||
+                     text[0] == ' ' || text.find(" \n") != std::string::npos;
+    if (text.find('\r') != std::string::npos) return ": a CR, and a line ends with LF alone";
+    if (end == std::string::npos) return ": no LF at its end";
+    if (end + 1 < text.size()) return ": a second line";
+    return is_spaced ? ": more than the single spaces between its words" : "";
 }
 
 // No clause shows it, so no proof does.

@@ -2,6 +2,8 @@
 #ifndef INPUTS_H
 #define INPUTS_H
 
+#include <functional>
+
 #include "solve.h"
 
 class Inputs {
@@ -11,16 +13,20 @@ public:
     std::vector<Literal> assumed;
     std::string formula_path, assume_path;      // by which they are read again
     double reading = 0;                         // seconds, of the formula
+    std::string digests;                        // of both files, a line each, for the record
 
     explicit Inputs(const Options &given);
     void find();                                // their paths, and the folder of --proofs
-    void read();
+    using Meanwhile = std::function<void(int file)>;    // until that file can be read
+    void read(const Meanwhile &meanwhile);
     void read_formula();
     std::string contradiction() const;          // of the assumptions; none
     bool is_model(const signed char *values) const;
+    std::string fault_of_assumptions() const;   // how they are spelled; empty if that isn't known
     [[noreturn]] void refuse_formula(const std::string &cause) const;   // in lrupd's words, where it refuses it, too
 
 private:
+    void read_in_thread(const Meanwhile &meanwhile);
     std::string again(const std::string &path, const std::string &fronts, const char *kept_as) const;
     void read_assumptions();
     std::string named(const std::string &cause) const;

@@ -207,6 +207,18 @@ std::string Keeping::keep(bool is_proved, const std::string &lost, const Wait &w
     return other.empty() ? why : other;
 }
 
+// The front doesn't wait long once lrupd has ended, so large files aren't read again.
+std::vector<std::string> Keeping::known_digests(const Checker &checker) const {
+    std::vector<std::string> known = checker.digests, lines = lines_of(inputs.digests);
+    const std::string *const paths[] = { &inputs.formula_path, &inputs.assume_path };
+    for (size_t k = 0; k < lines.size(); k++) {
+        Place place = place_of(*paths[k]);
+        std::string digest = lines[k].substr(lines[k][0] == '\\', DIGEST_DIGITS);
+        if (place.folder == record_folder) known.push_back(digest + "  " + place.name);
+    }
+    return known;
+}
+
 // What ran, where and when, and what is in the record. lrupd says its version on standard error.
 std::string Keeping::describe(const Checker &checker, uint64_t rounds, const Wait &wait) const {
     const Options &options = inputs.options;
@@ -229,7 +241,7 @@ std::string Keeping::describe(const Checker &checker, uint64_t rounds, const Wai
     text += "verdict: " + lines_of(checker.report).back() + "\n";
     text += format("record: %s, %s\n", counted(rounds, "round").c_str(),
                    counted(bytes_of_record(), "byte").c_str());
-    text += "\n" + digest_line(checker_program) + digests_of_record(checker.digests);
+    text += "\n" + digest_line(checker_program) + digests_of_record(known_digests(checker));
     return write_file(std::string(options.proofs) + "/about", text);
 }
 

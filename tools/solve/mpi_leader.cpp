@@ -100,8 +100,10 @@ private:
         EngineStatus &engine_status = run.teams.engine_status(size_t(k));
         const char *bytes = message.rest();
         for (size_t left = message.left(); left > 0;) {
-            ssize_t count = pwrite(run.teams.file_to_write(size_t(k)), bytes, left, off_t(engine_status.bytes));
-            if (count < 0 && errno != EINTR && !run.teams.spill(size_t(k))) refuse("cannot write " + run.teams.stream_path(size_t(k), run.rounds.number) + ": " + error_text());
+            int file = run.teams.file_to_write(size_t(k));
+            ssize_t count = pwrite(file, bytes, left, off_t(engine_status.bytes));
+            bool is_lost = count < 0 && errno != EINTR && !run.teams.spill(size_t(k));
+            if (is_lost) refuse("cannot write " + run.teams.stream_path(size_t(k), run.rounds.number) + ": " + error_text());
             if (count <= 0) continue;
             bytes += count;
             left -= size_t(count);

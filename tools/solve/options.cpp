@@ -58,7 +58,7 @@ const char summary[] =
     "  --core FILE        write an unsatisfiable core, and have lrupd check it\n"
     "  --lrat FILE        write the proof as LRAT text, without what isn't needed, and have lrupd check it\n"
     "  --re-hint          find hints anew for both, which are smaller then; it takes longer\n"
-    "  --expect ANSWER    sat, unsat or unsat-under-assumptions: the status is 0 if the answer is that one, and else 1\n"
+    "  --expect ANSWER    sat, unsat or unsat-under-assumptions: the status is 0 for that answer, and else 1\n"
     "  --assume FILE      literals that are assumed, in one line that ends with 0, as for lrupd\n"
     "  --lrupd PATH       the checker; if not said it is looked for beside this program, and then on the PATH\n"
     "  --engines PATH     the program that solves, of which nothing is believed; lrup-engines beside this one if not said\n"

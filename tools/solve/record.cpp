@@ -36,7 +36,8 @@ bool is_standard_input(const std::string &path) {
 }
 
 // Beside what rounds leave.
-const char *const NAMES[] = { "about", "assumptions", "command", "formula.cnf", "formula.sha256", "report" };
+const char *const NAMES[] = { "about",       "assumptions",    "command",
+                              "formula.cnf", "formula.sha256", "report" };
 
 // The record's list of its files, itself the first one. A name is there before its file is made.
 const char LIST[] = "files";
@@ -51,7 +52,8 @@ bool is_of_a_round(const std::string &name) {
     size_t dot = name.find('.');
     if (name.rfind("round-", 0) != 0 || dot == std::string::npos || !is_number(name.substr(6, dot - 6))) return false;
     std::string rest = name.substr(dot + 1), number = rest.substr(std::min<size_t>(7, rest.size()));
-    for (const std::string &form : { std::string(".xz"), std::string(".gz"), std::string(".zst") }) {
+    const std::string forms[] = { ".xz", ".gz", ".zst" };
+    for (const std::string &form : forms) {
         size_t length = number.size() - std::min(number.size(), form.size());
         if (number.substr(length) == form) number.resize(length);
     }
@@ -274,7 +276,8 @@ void open_record(const std::string &folder, const std::vector<std::string> &inpu
             if (find(path, found) && find(name, input) && is_same(found, input))
                 refuse(path + " would be written over: another --proofs");
     read_list(list);
-    if (!replaces && has_proof()) refuse(folder + " has the proof of an earlier run: --replace, or another --proofs");
+    if (!replaces && has_proof())
+        refuse(folder + " has the proof of an earlier run: --replace, or another --proofs");
     for (const std::string &path : paths)
         if (listed.count(path.substr(folder.size() + 1)) == 0) refuse_own(path);
     if (list_file < 0) {
@@ -314,7 +317,8 @@ std::string digests_of_record(const std::vector<std::string> &known) {
     }
     for (const std::string &name : left) {
         char digest[DIGEST_DIGITS + 1];
-        int file = openat(record_folder, name.c_str(), O_RDONLY | O_NOFOLLOW | O_NONBLOCK | O_CLOEXEC);
+        const int how = O_RDONLY | O_NOFOLLOW | O_NONBLOCK | O_CLOEXEC;
+        int file = openat(record_folder, name.c_str(), how);
         if (file < 0 || name == LIST || name == "about") continue;
         digest_file(file, name.c_str(), digest);
         close(file);
@@ -327,7 +331,8 @@ uint64_t bytes_of_record() {
     uint64_t bytes = 0;
     struct stat found;
     for (const std::string &name : listed)
-        if (fstatat(record_folder, name.c_str(), &found, AT_SYMLINK_NOFOLLOW) == 0) bytes += uint64_t(found.st_size);
+        if (fstatat(record_folder, name.c_str(), &found, AT_SYMLINK_NOFOLLOW) == 0)
+            bytes += uint64_t(found.st_size);
     return bytes;
 }
 

@@ -235,7 +235,8 @@ std::string Rounds::command_again() const {
         return name + ("=" + quoted(here)) + "\nbeside" + (*name == 'a' ? "_assume=" : "=") +
                quoted(beside) + "\n";
     };
-    std::string text = "lrupd=" + quoted(checker_program) + "\n" + named("formula", inputs.formula_path);
+    std::string text = "lrupd=" + quoted(checker_program) + "\n";
+    text += named("formula", inputs.formula_path);
     text += named("assume", inputs.options.assume ? inputs.assume_path : "");
     text += "rounds=" + std::to_string(number) + "\nstreams=" + std::to_string(teams.size());
     return text + "\nsizes='" + sizes_in_command(first).substr(1) + "'" + CHECK_AGAIN;
@@ -275,7 +276,8 @@ void Rounds::feed(bool is_last) {
         uint64_t stream = LOAD(teams.engine_status(k).stream);
         if (stream == 0) continue;
         bool is_empty = state == MAPPING || teams[k].silent;
-        uint64_t bytes = is_empty ? 0 : LOAD(teams.engine_status(k).bytes), kept = teams.bytes_kept(k);
+        uint64_t bytes = is_empty ? 0 : LOAD(teams.engine_status(k).bytes);
+        uint64_t kept = teams.bytes_kept(k);
         bool drop = !inputs.options.proofs || teams[k].stream == teams[k].spare;
         bool fed = checker.feed(stream - 1, std::min(bytes, kept), drop);
         if (fed && bytes > kept) {

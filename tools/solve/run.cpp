@@ -6,6 +6,7 @@
 #include <cstring>
 
 #include <sys/wait.h>
+#include <unistd.h>
 
 #include "run.h"
 
@@ -28,7 +29,8 @@ void Run::prepare() {
     inputs.find();
     keeping.check_outputs(true);
     teams.open();
-    inputs.read();
+    display.begin();
+    inputs.read([this](int file) { await_formula(file); });
     teams.open_models();
     rounds.begin(program);
     loop.begin();
@@ -36,7 +38,25 @@ void Run::prepare() {
     teams.start(!others);
     for (size_t k = 0; k < teams.size(); k++)
         if (teams.is_solver(k)) display.tell_more(teams.title(k) + ": " + teams[k].command);
-    display.begin();
+}
+
+// Until it is read. A signal, and the time, end the run.
+void Run::await_formula(int file) {
+    double limit = inputs.options.seconds > 0 ? started + inputs.options.seconds : INFINITY;
+    std::string why;
+    for (bool is_read = false; !is_read && why.empty(); display.show_reading()) {
+        pollfd files[] = { front.says(), { file, POLLIN, 0 } };
+        poll(files, 2, milliseconds_to(std::min(limit, display.next_reading())));
+        is_read = files[1].revents != 0;
+        if (files[0].revents != 0) front.read_on(nullptr);
+        if (now() >= limit && !is_read) why = "time is up, and the formula isn't read";
+        if (!front.stopped.empty()) why = front.stopped;
+    }
+    display.end_reading();
+    if (why.empty()) return;
+    display.tell(why);
+    Folder::remove();
+    _exit(0);
 }
 
 // Events.
@@ -99,7 +119,9 @@ void Run::look_at_reading() {
     const Checker &probe = front.probe;
     bool is_of_assumptions = inputs.options.assume && probe.last_line().find("assumptions") != std::string::npos;
     if (probe.last_line().empty()) inputs.refuse_formula("lrupd, which reads the formula, " + probe.child.end());
-    inputs.refuse_formula(title(is_of_assumptions ? inputs.options.assume : inputs.options.formula));
+    if (is_of_assumptions)
+        inputs.refuse_formula(title(inputs.options.assume) + inputs.fault_of_assumptions());
+    inputs.refuse_formula(title(inputs.options.formula));
 }
 
 void Run::look_at_solving() {
@@ -158,7 +180,8 @@ std::string Run::end_of(size_t k) const {
 }
 
 static bool is_usual(const Child &engine) {
-    return engine.ended_with(0) || engine.ended_with(SATISFIABLE) || engine.ended_with(UNSATISFIABLE);
+    bool has_answered = engine.ended_with(SATISFIABLE) || engine.ended_with(UNSATISFIABLE);
+    return has_answered || engine.ended_with(0);
 }
 
 // Where that explains what its filter found.
@@ -174,8 +197,9 @@ bool Run::look_at_end(size_t k) {
     if (LOAD(facts.answer) != 0 || facts.cause[0] || !has_ended) return false;
     bool unfounded = LOAD(facts.unfounded);
     team.idle = !unfounded && LOAD(facts.lines) == 0 && !is_usual(team.engine);
+    static const char no_values[] = "it says 'satisfiable', and gives no assignment in lines v";
     std::string end = inputs.options.check ? "it can't be read" : end_of(k);
-    tell_lost(k, unfounded ? "it says 'satisfiable', and gives no assignment in lines v" : end);
+    tell_lost(k, unfounded ? no_values : end);
     if (LOAD(facts.group)) kill(-LOAD(facts.group), SIGKILL);       // where not even its process could do that
     return true;
 }
@@ -208,7 +232,7 @@ void Run::look_at_model(size_t k) {
 
 void Run::look_at_checker() {
     if (checker.child.ended() && rounds.state == Rounds::SAVING) return verdict();
-    if (checker.child.ended()) return finish(UNKNOWN_ANSWER, "lrupd " + checker.child.end());
+    if (checker.child.ended()) return finish(UNKNOWN_ANSWER, end_of_checker());
     std::string why = rounds.look();
     if (!why.empty()) finish(UNKNOWN_ANSWER, why);
 }
@@ -229,7 +253,12 @@ void Run::verdict() {
     if (is_proved || is_unknown) unkept = rounds.keep_report();
     has_report = (is_proved || is_unknown) && unkept.empty();
     if (is_proved) return finish(UNSATISFIABLE, "");
-    finish(UNKNOWN_ANSWER, is_unknown ? "lrupd hasn't taken the proof" : "lrupd " + checker.child.end());
+    finish(UNKNOWN_ANSWER, is_unknown ? "lrupd hasn't taken the proof" : end_of_checker());
+}
+
+std::string Run::end_of_checker() const {
+    bool is_unsaved = checker.child.ended_with(UNSAVED_STATUS);
+    return "lrupd " + checker.child.end() + (is_unsaved ? ": " + Folder::room() : "");
 }
 
 // The end.

@@ -45,6 +45,7 @@ private:
     double started = now(), ending = 0;
 
     void prepare();
+    void await_formula(int file);
     void wait();
     double next_look() const;
     std::vector<Child *> children();
@@ -62,6 +63,7 @@ private:
     void look_at_model(size_t k);
     void tell_lost(size_t k, const std::string &why);
     void look_at_checker();
+    std::string end_of_checker() const;
     void end_streams();
     void verdict();
     void finish(Answer found, const std::string &why);

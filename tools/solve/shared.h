@@ -35,7 +35,7 @@ typedef struct {
     int group;                  // the processes of a solver that the user has
     int unfounded;              // it says 10, and gives no assignment
     uint64_t proof_read;        // bytes, of a proof that is there
-    char last_words[LONGEST_CAUSE];     // the last line of a solver's standard error; to be read once it has ended
+    char last_words[LONGEST_CAUSE];     // of a solver's standard error; to be read once it has ended
     int ready;                  // it keeps the variables by which cubes are made
     uint64_t usable;            // which of these it hadn't eliminated by then, and are open: bits
     uint64_t refuted_cube;      // the number of the last one that it has refuted
@@ -77,7 +77,7 @@ typedef struct {
     uint64_t ending_round;              // all streams of this one end after a whole line
     uint64_t saved_round;               // lrupd has saved this one's checkpoint: the two names below and the streams are the next one's
     uint64_t streams;
-    uint64_t memory_round;              // from this one on all streams are in memory, though there is a record; 0: none
+    uint64_t memory_round;              // from this one on the record has no stream; 0: there is none
     uint64_t most_lines, most_literals; // of a stream
     uint64_t variable_count;            // by which cubes are made; 0: it isn't known yet
     int variables[VARIABLES_OF_CUBES];

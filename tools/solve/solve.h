@@ -100,6 +100,7 @@ namespace Folder {
     const std::string &name();
     std::string numbers();          // of this process, and of the folder among its open files, as the front wants it
     std::string open_name();        // by which others find it, in UTF-8
+    std::string room();             // what is left there, in words
     void remove();
 }
 
@@ -120,12 +121,13 @@ struct Place { int folder; std::string name; };         // for openat and the li
 
 extern int record_folder;                               // open; -1: none
 Place place_of(const std::string &path);                // what is in the record is in that folder, whatever has its name by now
-void open_record(const std::string &folder, const std::vector<std::string> &inputs, bool replaces);     // refuses to write over these
+// Refuses to write over these inputs.
+void open_record(const std::string &folder, const std::vector<std::string> &inputs, bool replaces);
 void clear_record(const std::string &folder, const std::vector<std::string> &kept);     // of an earlier run
 bool claim(const Place &place);                         // before a file is made; false: another's
 bool is_there(const std::string &path);
 std::string digest_line(const std::string &path);       // of the file, for a record
-std::string digests_of_record(const std::vector<std::string> &known);   // of all files, of which these are known
+std::string digests_of_record(const std::vector<std::string> &known);   // of all its files
 uint64_t bytes_of_record();
 uint64_t free_bytes();                                  // where the record is
 

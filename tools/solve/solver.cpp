@@ -103,7 +103,8 @@ private:
     }
 };
 
-[[noreturn]] void run_shell(const std::string &command, const std::vector<int> &files, int out, int error) {
+[[noreturn]] void run_shell(const std::string &command, const std::vector<int> &files, int out,
+                            int error) {
     setpgid(0, 0);
     prctl(PR_SET_PDEATHSIG, SIGKILL);
     sigset_t none;
@@ -154,7 +155,8 @@ void end_all(pid_t group) {
 }
 
 // As wait gives it. What the command has left in the background is ended with it.
-int wait_for_solver(pid_t group, int signals, int out, int error, Printed &printed, LastLine &last) {
+int wait_for_solver(pid_t group, int signals, int out, int error, Printed &printed,
+                    LastLine &last) {
     int status = 0;
     for (bool ended = false; !ended;) {
         pollfd list[] = { { signals, POLLIN, 0 }, { out, POLLIN, 0 }, { error, POLLIN, 0 } };

@@ -174,9 +174,11 @@ void Teams::start_team(size_t k) {
 void Teams::start_filter(size_t k) {
     Team &team = list[k];
     int number = int(k) + 1;
-    if (!begin(team.filter, "filter " + std::to_string(number), { team.proof.read, team.stream, team.spare, record_folder })) return;
+    const std::vector<int> files = { team.proof.read, team.stream, team.spare, record_folder };
+    if (!begin(team.filter, "filter " + std::to_string(number), files)) return;
     give_way();
-    Filtering filtering = { shared, outboxes.data(), number, team.proof.read, team.stream, team.spare, record_folder,
+    Filtering filtering = { shared, outboxes.data(), number, team.proof.read, team.stream,
+                            team.spare, record_folder,
                             is_solver(k) ? UNKNOWN_FORM : SHARING_DRAT,
                             inputs.options.shares() && !is_solver(k), cited.empty() ? nullptr : cited.data(),
                             inputs.assumed.data(), inputs.assumed.size() };
@@ -308,7 +310,8 @@ void Teams::open_streams(uint64_t round) {
         close_file(list[k].stream);
         if (LOAD(engine_status(k).stream) == 0) continue;
         list[k].stream = create_if_possible(stream_path(k, round));
-        if (list[k].stream < 0) lost = "cannot write " + stream_path(k, round) + ": " + error_text();
+        if (list[k].stream < 0)
+            lost = "cannot write " + stream_path(k, round) + ": " + error_text();
     }
     if (!lost.empty()) open_in_memory(round);
 }
@@ -327,7 +330,8 @@ void Teams::open_in_memory(uint64_t round) {
 void Teams::look_at_record() {
     for (size_t k = 0; k < list.size() && lost.empty(); k++)
         if (LOAD(engine_status(k).spilled))
-            lost = "cannot write " + stream_path(k, LOAD(shared->round)) + ": " + engine_status(k).unkept;
+            lost = "cannot write " + stream_path(k, LOAD(shared->round)) + ": " +
+                   engine_status(k).unkept;
 }
 
 uint64_t Teams::bytes_kept(size_t k) const {
@@ -350,7 +354,8 @@ bool Teams::spill(size_t k) {
 // A filter that died may have left lines in a record that lrupd wasn't fed, and part of one.
 void Teams::cut_streams() {
     look_at_record();
-    for (size_t k = 0; k < list.size() && inputs.options.proofs && lost.empty(); k++) cut_stream(k, list[k].silent ? 0 : LOAD(engine_status(k).bytes));
+    for (size_t k = 0; k < list.size() && inputs.options.proofs && lost.empty(); k++)
+        cut_stream(k, list[k].silent ? 0 : LOAD(engine_status(k).bytes));
 }
 
 void Teams::cut_stream(size_t k, uint64_t bytes) {

@@ -11,7 +11,7 @@ struct Team {
     Child engine, filter;
     Pipe proof;
     uint64_t proof_size = 0;    // bytes, of a regular file; 0: it isn't known
-    int stream = -1, spare = -1;    // a file; one in memory, with which the stream goes on where that can't be written
+    int stream = -1, spare = -1;    // a file; one in memory for where that can't be written any more
     signed char *model = nullptr;
     std::string command;    // of a solver, or the proof's name
     bool told = false, wrong = false, paused = false;

@@ -41,6 +41,7 @@ static void take_signals(void) {
 
 static const char usage[] =
     "usage: lrup-trim [--core FILE] [--stream FILE] [--lrat FILE] [--assume FILE] [--re-hint] FORMULA DIR|STREAM...\n"
+    "       lrup-trim --help | --version\n"
     "Of the streams of a run of lrupd, or of a record of lrup-solve (--proofs DIR), writes what the empty clause needs:\n"
     "  --core FILE    the clauses of FORMULA that are needed\n"
     "  --stream FILE  one stream over the core\n"
@@ -73,10 +74,8 @@ static const char **place_for(CommandLine *given, const char *word, size_t lengt
 
 static void read_option(CommandLine *given, char ***words) {
     char *word = **words, *value = strchr(word, '=');
-    if (strcmp(word, "--help") == 0 || strcmp(word, "-h") == 0) {
-        fputs(usage, stdout);
-        exit(fflush(stdout) == 0 ? 0 : 1);
-    }
+    if (strcmp(word, "--help") == 0 || strcmp(word, "-h") == 0) show_text(usage);
+    if (strcmp(word, "--version") == 0) show_text("lrup-trim " VERSION "\n");
     if (strcmp(word, "--re-hint") == 0) {
         given->rehints = true;
         return;
