@@ -111,7 +111,8 @@ def installed(work: Path) -> None:
     done = make("install", f"PROGRAM={program}")
     want((done.err, done.status), ("", 0), "what make install says")
     files = {str(path.relative_to(work / "a place")) for path in (work / "a place").rglob("*") if path.is_file()}
-    names = {"lrupd", "lrup-chain", "lrup-exact", "lrup-trim", "lrup-explain"} | ({"lrup-solve"} if "isn't installed" not in done.out else set())
+    solving = {"lrup-solve", "lrup-check"} if "isn't installed" not in done.out else set()
+    names = {"lrupd", "lrup-chain", "lrup-exact", "lrup-trim", "lrup-explain"} | solving
     wanted = {f"usr/{place.format(name)}" for name in names for place in
               ("bin/{}", "share/man/man1/{}.1", "share/bash-completion/completions/{}")}
     want(files - {"usr/libexec/lrupd/lrup-engines"}, wanted, "the files")
