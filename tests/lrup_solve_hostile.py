@@ -60,7 +60,7 @@ WRAPPED = set(re.findall(r"CALL\((\w+), ", WRAPPERS.read_text()))
 CANNOT_FAIL = set("""__assert_fail __errno_location __isoc23_sscanf __isoc23_strtol __isoc99_sscanf
     __stack_chk_fail _exit clock_gettime dirname err errx feof ferror getenv getopt_long getpid
     getppid labs optarg opterr optind sigaddset sigemptyset sigfillset sscanf stdout strchr strcmp
-    strlen strncmp strsep strsignal strtod strtol supervise""".split())
+    strlen strncmp strsep strsignal strtod strtol supervise warnx""".split())
 ERRORS = {"read": ("EIO", "EINTR", "short"), "write": ("ENOSPC", "EINTR", "short"),
           "pread": ("EIO", "EINTR", "short"),
           **{name: ("ENOMEM", "EINTR") for name in ("close", "dup2", "fcntl", "fopen", "open",
