@@ -221,8 +221,7 @@ fn outcome_of<R: Source + Drop, G: Gate + Drop>(
     requires dropped { vec_len workers ≤ vec_capacity dropped }
     ensures reports { HaveReports workers.items result.reports.items }
     ensures readers { result.readers.items ≡ map (λ w. w.reader) workers.items }
-    ensures dropped { map (λ d. d.ids) result.dropped.items
-        ≡ map (λ w. w.checker.dropped) workers.items }
+    ensures dropped { result.dropped.items ≡ map (λ w. w.checker.dropped) workers.items }
     ensures verdict { result.verdict ≡ verdict_of result.reports.items }
     ensures kept { result.map ≡ plain }
 {
