@@ -1,4 +1,4 @@
-use Rattle.std.proofs.Common.{List, ℕ, ◌∙◌, sym, ap, subst}
+use Rattle.std.proofs.Common.{◌∙◌, sym, subst}
 use Rattle.lrup_model.specs.Pass.{pass_caller_view}
 use Rattle.runs.specs.Readings.{IsStreamOf, readers_view}
 use Rattle.stream_check.specs.DroppedIdsValue.{DroppedIdsValue}
