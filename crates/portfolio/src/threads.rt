@@ -62,24 +62,14 @@ pub fn run<T: Threads + Wait + Sync, R: Source + Send + Drop, G: Gate + Send + D
     ensures history { IfOk result (λ outcome. let passes = views outcome.passes.items in
         HaveOneHistory formula.now (layout_of options formula.now (length readers.items))
         (seen_by passes) passes) }
-    // It is a run by that history, of what the readers told and their reads gave.
+    // It is a run by that history, of what the readers told and their reads gave. Its groups of
+    // streams are isolated, and its lines are serializable.
     ensures reports { let run_params = run_params_of options cube.now formula.now
         (length readers.items) in
         IfOk result (λ outcome. IsOfRun InThreads (readers_view R.Source) formula.now run_params
         readers.items outcome.readers.items outcome.reports.items outcome.dropped.items
-        (λ run. run.history ≡ seen_by (views outcome.passes.items))) }
-    // Its groups of streams are isolated.
-    ensures isolated { let run_params = run_params_of options cube.now formula.now
-        (length readers.items) in
-        IfOk result (λ outcome. IsOfRun InThreads (readers_view R.Source) formula.now run_params
-        readers.items outcome.readers.items outcome.reports.items outcome.dropped.items
-        (λ run. (run.history ≡ seen_by (views outcome.passes.items)) × AreIsolated run)) }
-    // Its lines are serializable.
-    ensures serializable { let run_params = run_params_of options cube.now formula.now
-        (length readers.items) in
-        IfOk result (λ outcome. IsOfRun InThreads (readers_view R.Source) formula.now run_params
-        readers.items outcome.readers.items outcome.reports.items outcome.dropped.items
-        (λ run. (run.history ≡ seen_by (views outcome.passes.items)) × IsSerializable run)) }
+        (λ run. (run.history ≡ seen_by (views outcome.passes.items)) × AreIsolated run
+        × IsSerializable run)) }
     ensures verdict { IfOk result (λ outcome.
         outcome.verdict ≡ verdict_of outcome.reports.items) }
     // The clauses stay, for whoever saves them.
@@ -97,7 +87,7 @@ pub fn run<T: Threads + Wait + Sync, R: Source + Send + Drop, G: Gate + Send + D
     let jobs = jobs_of(alloc, &run_params, readers, gates, passes)?;
     let signal = StartSignal::new();
     let lists = ThreadLists::new(alloc, &signal, jobs.len())?;
-    // Laws: empty calls, whose contracts the proof of `isolated` and `serializable` uses.
+    // Laws: empty calls, whose contracts the proof of `reports` uses.
     run_isolated();
     run_serializable();
     match check_all(threads, &store, jobs, lists) {

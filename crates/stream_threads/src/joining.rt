@@ -86,7 +86,7 @@ fn result_of<R: Source + Drop>(mut sent: Sent<R>, checked: CheckedPass) -> Optio
         → SendsAll _ (readers_view R.Source) jobs.reader
         sent.reader (Rattle.rtrb.specs.Ring.sent sent.producer)
         → IfSome checked.checked.report (JudgesAtPass jobs.checker jobs.pass checked.pass
-        (received checked.checked.consumer) checked.checked.dropped.ids)
+        (received checked.checked.consumer) checked.checked.dropped)
         → IfNone checked.checked.report (EndsBeforeMark (received checked.checked.consumer))
         → IsEndOf (readers_view R.Source) jobs result }
 {
