@@ -20,6 +20,7 @@ mod assumptions;
 mod changing;
 mod checkpoints;
 mod devices;
+mod exact;
 mod faults;
 mod readings;
 mod rounds;
