@@ -31,8 +31,8 @@ use stream_check::{DroppedIds, Gate, Report};
 
 /// Checks all streams of a formula on this thread, in turn, stream 1 first: in its turn a stream is read until one line was taken, or the
 /// stream is over. The outcome has a report for each stream, and the verdict of these: whether a stream added the empty clause, or one
-/// that the cube, of assumed literals, makes false. There is one gate for each reader. All memory is taken before the first read, except
-/// for the identities that streams drop. It blocks while a reader does. There are the faults `Layout` and `Memory` alone.
+/// that the cube, of assumed literals, makes false. There is one gate for each reader. By the code all memory is taken before the first
+/// read, except for the identities that streams drop. It blocks while a reader does. There are the faults `Layout` and `Memory` alone.
 pub fn run_serial<W: Wait, R: Source + Drop, G: Gate + Drop>(
     wait: &W,
     alloc: Global,

@@ -35,8 +35,9 @@ use stream_threads::{StartSignal, StreamResults, ThreadFault, ThreadLists, check
 ///
 /// All lists and buffers are made before the first thread starts. After that only starts take memory, which without it fail
 /// (`RunFault::Spawn`), and checkers for the identities that their streams drop, whose reports say so (`Ending::Memory`). No reader is
-/// read before all threads have started. `run` returns when all threads have ended, so it blocks while a reader does. The faults, and
-/// when they come, are those of `RunFault`; after a fault there are no reports.
+/// read before all threads have started. These three sentences are true by the code, and no clause says them. `run` returns when all
+/// threads have ended, so it blocks while a reader does. The faults, and when they come, are those of `RunFault`; after a fault there are
+/// no reports.
 pub fn run<T: Threads + Wait + Sync, R: Source + Send + Drop, G: Gate + Send + Drop>(
     threads: &T,
     alloc: Global,
