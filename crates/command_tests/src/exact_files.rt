@@ -187,7 +187,7 @@ pub fn run_exactly<T: Threads + Wait + Sync + Clock>(
     ensures emptied { IsEmptied (texts words.now) files.new result }
     // From `ends`.
     ensures unsure { IsUnsure (texts words.now) files.old files.new result }
-    // From `saved_rounds` and `ends`.
+    // From `saved_rounds`.
     ensures rounds { IsKeptInRounds (texts words.now) files.old files.new result }
 {
     let mut out = Paper::new(alloc, 7, 0);
