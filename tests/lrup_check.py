@@ -12,6 +12,7 @@ import os
 import random
 import shutil
 import sys
+import time
 from pathlib import Path
 from typing import List, Mapping, Optional, Sequence
 
@@ -166,6 +167,32 @@ def misused(words: Sequence[str], said: str, work: Path) -> None:
     want(answer.said, f"lrup-check: {said}\n", "standard error")
 
 
+def no_writer(work: Path) -> None:
+    """A pipe that nobody writes to takes no longer than --time says."""
+    formula, pipe = written(FOUR, work), work / "pipe"
+    os.mkfifo(pipe)
+    begun = time.monotonic()
+    want_none(check(["--time", "1", formula, pipe]), "time is up")
+    want(time.monotonic() - begun < 6, True, "whether it ended in time")
+
+
+def late_writer(work: Path) -> None:
+    formula, pipe = written(FOUR, work), work / "pipe"
+    os.mkfifo(pipe)
+    if os.fork() == 0:
+        time.sleep(1)
+        pipe.write_text("2 0\n0\n")
+        os._exit(0)
+    want_proved(check([formula, pipe]))
+    os.wait()
+
+
+def by_substitution(work: Path) -> None:
+    formula, proof = written(FOUR, work), written("2 0\n0\n", work, "proof")
+    program = SOLVE.with_name("lrup-check")
+    want_proved(Answer(run(["bash", "-c", '"$0" --lrupd "$1" <(cat "$2") <(cat "$3")', program, PROGRAM, formula, proof])))
+
+
 def help_of(work: Path) -> None:
     answer = check(["--help"])
     want((answer.out.startswith("usage: lrup-check [OPTIONS] FORMULA PROOF"), answer.said, answer.status), (True, "", 0), "--help")
@@ -209,7 +236,8 @@ ROWS: List[Row] = [
     ("standard input twice", misused, ["-", "-"], "standard input is read once"),
     ("engines", misused, ["-j", "2", "%formula", "%proof"], "-j and --mpi are lrup-solve's: no engine is started"),
     ("a solver", misused, ["--solver", "x %formula %proof", "%formula", "%proof"], "--solver is lrup-solve's: no solver is started"),
-    ("--help", help_of), ("anywhere", anywhere),
+    ("--help", help_of), ("anywhere", anywhere), ("no writer", no_writer), ("a late writer", late_writer),
+    ("by substitution", by_substitution),
 ]
 
 if __name__ == "__main__":

@@ -103,7 +103,8 @@ def shown(name: str, files: Sequence[str], packages: Sequence[str], work: Path) 
             raise Failure(f"line {command.line}, $ {command.text}: wanted\n{wanted}\nand not\n{said[:2000]}")
 
 
-PROGRAMS = {"lrupd": Path(PROGRAM), "lrup-solve": SOLVE, "lrup-exact": FILTER, "lrup-trim": TRIM,
+PROGRAMS = {"lrupd": Path(PROGRAM), "lrup-solve": SOLVE, "lrup-check": SOLVE.with_name("lrup-check"),
+            "lrup-exact": FILTER, "lrup-trim": TRIM,
             "lrup-explain": EXPLAIN, "lrup-chain": LRUP_CHAIN}
 
 

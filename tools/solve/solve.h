@@ -146,6 +146,6 @@ const char *engine_version();
 // solver.cpp: the same of a solver that the user has, which opens these files.
 std::string solver_command(const std::string &command, const std::string &formula, const std::string &proof);
 [[noreturn]] void solver_process(const Engine &engine, const std::string &command, const std::vector<int> &files);
-[[noreturn]] void proof_process(const Engine &engine, int file, const std::string &name);   // of --check
+[[noreturn]] void proof_process(const Engine &engine, const std::string &path);     // of --check
 
 #endif

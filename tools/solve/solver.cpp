@@ -213,11 +213,12 @@ void solver_process(const Engine &engine, const std::string &command, const std:
 }
 
 // A proof that is there: of a solver that has ended with 20.
-void proof_process(const Engine &engine, int file, const std::string &name) {
+void proof_process(const Engine &engine, const std::string &path) {
     std::vector<char> bytes(1 << 16);
+    int file = open_input(path);
     EngineStatus &status = engine.shared->engine_statuses[engine.number - 1];
     for (ssize_t count; (count = read(file, bytes.data(), bytes.size())) != 0;) {
-        if (count < 0 && errno != EINTR) refuse("cannot read " + name + ": " + error_text());
+        if (count < 0 && errno != EINTR) refuse("cannot read " + path + ": " + error_text());
         if (count > 0 && !write_all(engine.proof, bytes.data(), size_t(count))) _exit(1);
         if (count > 0) STORE(status.proof_read, status.proof_read + uint64_t(count));
     }

@@ -192,15 +192,15 @@ std::string Teams::solver_line(size_t k, int &renamed) const {
                           OPEN_FILES + std::to_string(list[k].proof.write));
 }
 
-int Teams::open_proof(size_t k) {
+// It is opened later, by its own process, which may have to wait for a pipe's writer.
+void Teams::look_at_proof(size_t k) {
     struct stat found;
     const char *path = inputs.options.solvers[k];
-    int file = kept_open(open_input(path));
-    if (fstat(file, &found) != 0) refuse(::title(path) + ": " + error_text());
+    bool is_standard = strcmp(path, "-") == 0;
+    if ((is_standard ? fstat(STDIN_FILENO, &found) : stat(path, &found)) != 0) refuse(::title(path) + ": " + error_text());
     if (S_ISDIR(found.st_mode)) refuse(::title(path) + " is a folder");
     if (S_ISREG(found.st_mode)) list[k].proof_size = uint64_t(found.st_size);
     list[k].command = ::title(path);
-    return file;
 }
 
 void Teams::start_engine(size_t k) {
@@ -209,13 +209,13 @@ void Teams::start_engine(size_t k) {
     Engine engine = { &inputs.options, &inputs.formula, &inputs.assumed, shared, outboxes.data(), team.model, number, team.proof.write };
     std::vector<int> files = { team.proof.write };
     bool is_proof = inputs.options.check;
-    if (is_proof) renamed = open_proof(k);
+    if (is_proof) look_at_proof(k);
     else if (is_solver(k)) team.command = solver_line(k, renamed);
     if (renamed >= 0) files.push_back(renamed);
     team.engine.hands_on = is_solver(k) && !is_proof;
     if (!begin(team.engine, "engine " + std::to_string(number), files)) return close_file(renamed);
     give_way();
-    if (is_proof) proof_process(engine, renamed, team.command);
+    if (is_proof) proof_process(engine, inputs.options.solvers[k]);
     if (!inputs.options.verbose) dup2(::open("/dev/null", O_WRONLY), STDERR_FILENO);    // its last words
     if (is_solver(k)) solver_process(engine, team.command, files);
     engine_process(engine);

@@ -78,7 +78,7 @@ private:
     void start_filter(size_t k);
     void start_engine(size_t k);
     std::string solver_line(size_t k, int &renamed) const;
-    int open_proof(size_t k);
+    void look_at_proof(size_t k);
     bool is_a_stream(size_t k) const;
     void find_streams();
     bool has_refuted(size_t k) const;
