@@ -92,7 +92,7 @@ impl<'a> Machine for FormulaAlone<'a> {
 
     ghost lacks = { λ before _ after. after ≡ before };
 
-    ghost fails = { λ _ _ _ _. ⊥ };
+    ghost fails = { λ _ _ _ _. Unit {0} };
 
     ghost creates = { λ _ _ _ _. ⊥ };
 
