@@ -251,7 +251,7 @@ tables: ## check: write the tables of USING and lrupd.1 anew
 
 # Fails unless the two pages and the tables are what the sources give, and TRUST has their count; docs/interface.txt has the
 # faults and causes of the definitions; names in backticks and links in the documents lead somewhere; clauses and definitions are
-# within 100 columns, proofs within 140, each lemma stands once, and each name of specs/ in its room.
+# within 100 columns, proofs within 140, each lemma stands once, and each name of specs/ in its room; contracts have what PROMISES names.
 pages: c-and-python ## check: the documents, against the sources and each other; needs no prover
 	@python3 gate/audit.py --check
 	@python3 gate/tables.py --check
@@ -259,6 +259,7 @@ pages: c-and-python ## check: the documents, against the sources and each other;
 	@python3 gate/style.py
 	@python3 gate/prose.py
 	@python3 gate/promises.py > /dev/null
+	@python3 gate/promises.py --check
 
 # With dpkg-deb and dpkg-dev.
 deb: ## use: a Debian package of what make install installs, with the pages for users and the examples, in out/

@@ -250,11 +250,13 @@ class Runs:
     def definitions(self, placed: Dict[Key, Thing]) -> List[Block]:
         """The definitions, under a title for each part of them."""
         run, phrases = self.run, "\n".join(self.theorems)
+        reports = {thing.name: thing for thing in run.named_by(["reports"])}
+        isolated, serializable = reports.pop("AreIsolated"), reports.pop("IsSerializable")
         sections = {
             "the history": run.named_by(["history"]), "the calls of the store": of_all(self.store + self.store_laws),
-            "the reports": run.named_by(["reports"]),
-            "isolated groups": run.named_by(["isolated"]) + of_all(self.group_laws),
-            "serializable lines": run.named_by(["serializable"]) + of_all(self.order_laws),
+            "the reports": list(reports.values()),
+            "isolated groups": [isolated, *of_all(self.group_laws)],
+            "serializable lines": [serializable, *of_all(self.order_laws)],
             "valid proofs": of_all(self.right_laws),
             "rounds": [thing for thing in closure(of_all([self.ends])) if is_of_rounds(thing)],
             "the program": [thing for thing in of_all(self.program_laws) if thing.crate == "outcome_laws"],

@@ -300,8 +300,8 @@ their calls through the passes that the run gives back is a clause below `run`: 
 PassMoves jobs.pass.view found.pass.view (joined blocks)]]. There is no other way to make or copy a pass: its fields are
 private."""
 
-ISOLATION_TOP = """[[fn run.isolated]], of a run by the history that the passes have seen; [[fn run_serial.isolated]], of one
-whose history leaves the clauses in the map. [[law run_isolated]] says it of every run:"""
+ISOLATION_TOP = """[[fn run.reports: AreIsolated run]], of the run by the history that the passes have seen; [[fn run_serial.ordered: AreIsolated
+run]], of the one whose history leaves the clauses in the map. [[law run_isolated]] says it of every run:"""
 
 ISOLATION_ROWS: Rows = [
     ("Streams are a closed set if they hint and import only clauses of each other and the formula.", """[[IsClosed]]:
@@ -321,7 +321,7 @@ ISOLATION_ROWS: Rows = [
      and [[law same_bytes_agree]] say it of two runs. The assumptions have to be the same list."""),
 ]
 
-SERIALIZABLE_TOP = """[[fn run.serializable]], of a run by the history that the passes have seen; [[law run_serializable]] says it of every
+SERIALIZABLE_TOP = """[[fn run.reports: IsSerializable run]], of that run, too; [[law run_serializable]] says it of every
 run. Of all streams [[fn run_serial.ordered]] has it without the premise."""
 
 SERIALIZABLE_ROWS: Rows = [

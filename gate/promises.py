@@ -2,20 +2,26 @@
 """Lists what the functions of crates promise, and the edits that make them wrong.
 
     python3 gate/promises.py [CRATE..]
+    python3 gate/promises.py --check     fails if docs/PROMISES.md gives a name that no contract has
 
 For each crate it prints the functions that have clauses, in the order of the sources: the names of the clauses, and how many have no
 name; the edits of the gate that change the function; and those of gate/edits, in brackets. 'no edit' stands at a public function that
 none changes, except at laws, which have no body. An edit belongs to the function around its first old text.
+
+What is proved, a contract says. So each name in backticks under a crate on docs/PROMISES.md has to be a function of this crate, a
+clause or a law. A lemma is none of these.
 """
 import re
 import sys
 from pathlib import Path
-from typing import Iterator, List, NamedTuple
+from typing import Dict, Iterator, List, NamedTuple, Set, Tuple
 
 ROOT = Path(__file__).resolve().parent.parent
 CRATES = ROOT / "crates"
 CLAUSE = re.compile(r" +ensures\*?(?: (\w+))? \{")
 WIDTH = 120
+PAGE = ROOT / "docs" / "PROMISES.md"
+UNPROVED = "## Only tested"     # from here on the page speaks of tests
 
 
 class Function(NamedTuple):
@@ -89,7 +95,53 @@ def promises(crate: str) -> Iterator[str]:
         yield from wrapped("edits: " + ", ".join(edit.name for edit in left))
 
 
+def contract_names(crate: str) -> Set[str]:
+    """Its functions, with their type, trait or module and without; their clauses; and its modules."""
+    names: Set[str] = set()
+    for path in (CRATES / crate / "src").rglob("*.rt"):
+        names.add(path.stem)
+        for function in functions(path.read_text().splitlines()):
+            names |= {function.name, function.name.split("::")[-1], f"{path.stem}::{function.name}", *function.clauses}
+    return names
+
+
+def page_items() -> Iterator[Tuple[int, List[str], str]]:
+    """The lines of what is proved, each with its number and the crates that it is about."""
+    crates: List[str] = []
+    for number, line in enumerate(PAGE.read_text().split(UNPROVED)[0].splitlines(), 1):
+        heading = re.match(r"\*\*(`.*?`)\*\*", line)
+        if heading:
+            crates = re.findall(r"`(\w+)`", heading[1])
+        elif crates:
+            yield number, crates, line
+
+
+def unknown_names() -> Iterator[str]:
+    """What the page gives as proved, and no contract has. Words with a capital are types, and those with a hyphen options."""
+    uses: Dict[str, List[str]] = {}
+    for line in (ROOT / "crates.txt").read_text().splitlines():
+        crate, _, below = line.partition(":")
+        uses[crate] = below.split()
+    libraries = {*uses, *(name for below in uses.values() for name in below)}
+    for number, crates, line in page_items():
+        known = libraries.union(*map(contract_names, crates))
+        # A call of a crate below, by its type or trait.
+        below = {name for crate in crates for name in uses[crate] if name in uses}
+        known |= {name for crate in below for name in contract_names(crate) if "::" in name and name[0].isupper()}
+        for name in re.findall(r"`([^`]+)`", line):
+            if re.fullmatch(r"(?:\w+::)?[a-z]\w*", name) and name not in known:
+                yield f"{PAGE.relative_to(ROOT)}:{number}: '{name}' is no function, clause or law of {' or '.join(crates)}"
+
+
+def check() -> None:
+    found = list(unknown_names())
+    print("\n".join([*found, f"promises: {len(found)} names that no contract has"]))
+    sys.exit(bool(found))
+
+
 def main(words: List[str]) -> None:
+    if words == ["--check"]:
+        check()
     listed = [line.split(":")[0] for line in (ROOT / "crates.txt").read_text().splitlines() if ":" in line]
     for crate in words:
         if crate not in listed:

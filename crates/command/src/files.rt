@@ -32,7 +32,7 @@ impl From<io::Error> for OpenFault {
     }
 }
 
-/// The files that paths name.
+/// The files that paths name. Each device says itself what its openings do, also if they are refused: a default would allow everything.
 pub trait Files {
     ghost use Rattle.command.specs.declared.files.OpenFault.{OpenFault};
 
@@ -43,10 +43,10 @@ pub trait Files {
     ghost tells: { Self → List ℕ → Option (List ℕ) };
 
     /// What an opening does: the files before it, the path, the file that is open then, and the files after it.
-    ghost opens: { Self → List ℕ → Self.Input → Self → Type 0 } = { λ _ _ _ _. Unit {0} };
+    ghost opens: { Self → List ℕ → Self.Input → Self → Type 0 };
 
     /// What an opening does that is refused: the files before it, the path, why, and the files after it.
-    ghost refuses: { Self → List ℕ → OpenFault → Self → Type 0 } = { λ _ _ _ _. Unit {0} };
+    ghost refuses: { Self → List ℕ → OpenFault → Self → Type 0 };
 
     /// Opens the file at a path, which is read from its beginning.
     fn open(&mut self, path: &str) -> Result<Self::Input, OpenFault>
@@ -69,25 +69,25 @@ pub trait Machine: Files {
     type Watcher: Sink + Send + Drop;
 
     /// What is seen if a path has no file: the files before, the path, and the files after.
-    ghost lacks: { Self → List ℕ → Self → Type 0 } = { λ _ _ _. Unit {0} };
+    ghost lacks: { Self → List ℕ → Self → Type 0 };
 
     /// What an opening does that fails, although the path may have a file: the files before it, the path, why, and the files after it.
-    ghost fails: { Self → List ℕ → OpenFault → Self → Type 0 } = { λ _ _ _ _. Unit {0} };
+    ghost fails: { Self → List ℕ → OpenFault → Self → Type 0 };
 
     /// What the creation of a file does: the files before it, the path, the new file, and the files after it.
-    ghost creates: { Self → List ℕ → Self.Output → Self → Type 0 } = { λ _ _ _ _. Unit {0} };
+    ghost creates: { Self → List ℕ → Self.Output → Self → Type 0 };
 
     /// What a creation does that is refused: the files before it, the path, why, and the files after it.
-    ghost refuses_new: { Self → List ℕ → OpenFault → Self → Type 0 } = { λ _ _ _ _. Unit {0} };
+    ghost refuses_new: { Self → List ℕ → OpenFault → Self → Type 0 };
 
     /// What the keeping of a file does: the files before it, the file with what was written, and the files after it.
-    ghost keeps: { Self → Self.Output → Self → Type 0 } = { λ _ _ _. Unit {0} };
+    ghost keeps: { Self → Self.Output → Self → Type 0 };
 
     /// What a keeping does that fails: the files before it, the file with what was written, and the files after it.
-    ghost loses: { Self → Self.Output → Self → Type 0 } = { λ _ _ _. Unit {0} };
+    ghost loses: { Self → Self.Output → Self → Type 0 };
 
     /// What the discarding of a file does: the files before it, the file with what was written, and the files after it.
-    ghost discards: { Self → Self.Output → Self → Type 0 } = { λ _ _ _. Unit {0} };
+    ghost discards: { Self → Self.Output → Self → Type 0 };
 
     /// Opens the file at a path, as `open` does, if there is one. An answer of none is no fault.
     fn open_if_there(&mut self, path: &str) -> Result<Option<Self::Input>, OpenFault>

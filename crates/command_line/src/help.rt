@@ -67,8 +67,10 @@ over. Round 3 has a 3 in these names, and so on. Not together with
 
 /// Of `--serial`.
 pub const SERIAL: &str = "\
-Check all streams on one thread, a line of each by turns, so that runs
-over the same files are alike. Without it each stream has its threads.";
+Check all streams on one thread, a line of each by turns. Two runs over the
+same bytes, with the same options and assumptions, then have the same report,
+unless memory runs out or a read fails. Without it each stream has its
+threads.";
 
 /// Of `--watch`.
 pub const WATCH: &str = "\

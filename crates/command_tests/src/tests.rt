@@ -1,5 +1,7 @@
 //! Runs of the whole program over files and sinks of the tests' own.
-ghost use Rattle.std.specs.Prelude.{None, true, false};
+ghost use Rattle.std.specs.Prelude.{◌≡◌, None, Some, true, false};
+ghost use Rattle.command.specs.declared.files.OpenFault.TheVariants.{NotOpened};
+ghost use Rattle.lrup_text.specs.Reads.{GivesLeft};
 
 use command::{Files, Machine, OpenFault, command};
 use lrup_text::{ReadFault, Sink, Source, WriteFault};
@@ -18,6 +20,7 @@ mod assumptions;
 mod changing;
 mod checkpoints;
 mod devices;
+mod exact;
 mod faults;
 mod readings;
 mod rounds;
@@ -41,6 +44,9 @@ impl Source for OpenFile<'_> {
     ghost left = { λ _. None };
 
     ghost has_failed = { λ f. f.0.failed };
+
+    ghost reads = { λ before room given after.
+        GivesLeft (Some before.0.left.now) room given (Some after.0.left.now) };
 
     fn read(&mut self, buffer: &mut [u8]) -> Result<usize, ReadFault> {
         self.0.read(buffer)
@@ -127,6 +133,10 @@ impl<'a> Files for Shelf<'a> {
 
     ghost tells = { λ _ _. None };
 
+    ghost opens = { λ _ _ _ _. Unit {0} };
+
+    ghost refuses = { λ _ _ _ _. Unit {0} };
+
     fn open(&mut self, path: &str) -> Result<OpenFile<'a>, OpenFault> {
         if self.is_full {
             return Err(OpenFault::Memory);
@@ -148,6 +158,20 @@ impl<'a> Machine for Shelf<'a> {
     type Output = Nowhere;
 
     type Watcher = Ear<'a>;
+
+    ghost lacks = { λ _ _ _. Unit {0} };
+
+    ghost fails = { λ _ _ _ _. Unit {0} };
+
+    ghost creates = { λ _ _ _ _. ⊥ };
+
+    ghost refuses_new = { λ before _ fault after. (fault ≡ NotOpened) × (after ≡ before) };
+
+    ghost keeps = { λ _ _ _. ⊥ };
+
+    ghost loses = { λ before _ after. after ≡ before };
+
+    ghost discards = { λ before _ after. after ≡ before };
 
     fn open_if_there(&mut self, path: &str) -> Result<Option<OpenFile<'a>>, OpenFault> {
         if self.text_at(path).is_none() {

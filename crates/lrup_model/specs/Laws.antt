@@ -1,15 +1,44 @@
 -- Laws of the definitions: what holds of every formula, layout, history and pass. Each is the contract of a function of laws.
-use Rattle.std.specs.Prelude.{◌≡◌, ℕ, Bool, IsTrue}
-use Rattle.lrup_model.specs.Formula.{Cnf}
+use Rattle.std.specs.Prelude.{◌≡◌, ℕ, Bool, IsTrue, List}
+use Rattle.std.specs.List.{AllByRecursion}
+use Rattle.lrup_model.specs.Clause.{Clause}
+use Rattle.lrup_model.specs.Formula.{Cnf, IsCnf}
+use Rattle.lrup_model.specs.Entailment.{Follows, IsDerived}
+use Rattle.lrup_model.specs.Cube.{CubeValue, Within, IsUnsatisfiableUnder}
+use Rattle.lrup_model.specs.Propagation.{Accepts}
 use Rattle.lrup_model.specs.Layout.{LayoutValue, Owns}
 use Rattle.lrup_model.specs.Event as events
-use Rattle.lrup_model.specs.Event.{Event, Reply, History}
-use Rattle.lrup_model.specs.State.{State, Slot, absent, live, retired, run}
+use Rattle.lrup_model.specs.Event.{Event, Reply, History, own}
+use Rattle.lrup_model.specs.State.{State, Slot, absent, live, retired, HasClause, opening, run, state}
 use Rattle.lrup_model.specs.History.{LegalFrom}
 use Rattle.lrup_model.specs.CallerView.{CallerView, ClipValue, clip_clause, IsKnown, CallerStep}
 use Rattle.lrup_model.specs.Pass.{View, PassMoves, pass_caller_view}
 
+-- Entailment
+
+-- if hints show a clause, and all hinted clauses follow from a formula, then the clause follows
+abbrev pub PropagationSound : Type 0
+PropagationSound = (formula : Cnf) (clause : Clause) (hinted : List Clause)
+    → AllByRecursion (IsDerived formula) hinted → Accepts clause hinted → Follows formula clause
+
+-- if a clause follows, and assumptions make it false, no assignment under them satisfies the formula
+abbrev pub WithinRefutes : Type 0
+WithinRefutes = (formula : Cnf) (clause : Clause) (cube : CubeValue) → IsDerived formula clause
+    → Within clause cube → IsUnsatisfiableUnder formula cube
+
 -- What a history leaves at an identity
+
+-- every clause that a legal history leaves, live or retired, follows from the formula
+abbrev pub ClausesFollow : Type 0
+ClausesFollow = (formula : Cnf) (layout : LayoutValue) (history : History) (id : ℕ)
+    (clause : Clause) → IsCnf formula → LegalFrom formula layout (opening formula) history
+    → HasClause (state formula history id) clause → IsDerived formula clause
+
+-- what a legal history leaves at a stream's own identity, this stream's calls alone leave there
+abbrev pub OwnCallsDecide : Type 0
+OwnCallsDecide = (formula : Cnf) (layout : LayoutValue) (history : History) (s id : ℕ)
+    → LegalFrom formula layout (opening formula) history → Owns layout s id
+    → state formula history id ≡ state formula (own history s) id
 
 -- from absent to live to retired, with one clause
 abbrev pub Advances : Slot → Slot → Type 0

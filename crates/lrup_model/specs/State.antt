@@ -30,6 +30,12 @@ IsRetired absent = ⊥
 IsRetired (live clause) = ⊥
 IsRetired (retired clause) = Unit {0}
 
+-- the slot has the clause, live or retired
+abbrev pub HasClause : Slot → Clause → Type 0
+HasClause absent clause = ⊥
+HasClause (live stored) clause = stored ≡ clause
+HasClause (retired stored) clause = stored ≡ clause
+
 -- a live clause is retired, and nothing else changes
 abbrev pub retire_slot : Slot → Slot
 retire_slot absent = absent

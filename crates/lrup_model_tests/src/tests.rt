@@ -1,15 +1,17 @@
 //! Worked values, texts, and each public call once.
 ghost use Rattle.std.specs.Prelude.{◌≡◌, ◌∷◌, ◌++◌, [], pos, negsuc, Some, None, IsTrue};
-ghost use Rattle.lrup_model.specs.Cube.{Within};
-ghost use Rattle.lrup_model.specs.Entailment.{IsUnsatisfiable};
-ghost use Rattle.lrup_model.specs.Event.{History, vacant, fetch, publish, spent};
+ghost use Rattle.lrup_model.specs.Cube.{IsUnsatisfiableUnder, Within};
+ghost use Rattle.lrup_model.specs.Entailment.{Follows, IsUnsatisfiable};
+ghost use Rattle.lrup_model.specs.Event.{History, vacant, fetch, own, publish, spent};
+ghost use Rattle.lrup_model.specs.Formula.{IsCnf};
 ghost use Rattle.lrup_model.specs.History.{IsLegal};
 ghost use Rattle.lrup_model.specs.Layout.{IsStream, row_words};
 ghost use Rattle.lrup_model.specs.Plain.{formula_of};
 ghost use Rattle.lrup_model.specs.Propagation.{Accepts};
-ghost use Rattle.lrup_model.specs.State.{state, retired};
+ghost use Rattle.lrup_model.specs.State.{absent, state, retired};
 ghost use Rattle.test_support.specs.Worked.{four, first, second, third, fourth, unit, one_line, calls};
 
+use lrup_model::laws::{clauses_follow, own_calls_decide, propagation_sound, within_refutes};
 use lrup_model::{
     ClauseMap, Clip, Cube, Fetched, Formula, Id, Layout, LayoutFault, Lit, Owner, PlainMap,
     Published, Retired,
@@ -528,3 +530,25 @@ fn clauses_are_within_cubes()
     ensures part { ¬ Within (pos 1 ∷ pos 2 ∷ []) (negsuc 1 ∷ []) }
     ensures nothing { Within [] (pos 2 ∷ []) }
 {}
+
+fn four_is_a_formula()
+    ensures { IsCnf four }
+{}
+
+/// By laws alone: clauses of a legal history follow, so do clauses that these show by hints, and a clause that follows leaves no assignment
+/// under its complement. What a stream never published isn't there.
+fn what_laws_say()
+    ensures unit { Follows four unit }
+    ensures empty { Follows four [] }
+    ensures under { IsUnsatisfiableUnder four (negsuc 1 ∷ []) }
+    ensures own { (h : History) → IsLegal four one_line h → own h 1 ≡ []
+        → state four h 5 ≡ absent }
+{
+    four_is_a_formula();
+    calls_are_legal();
+    hints_are_judged();
+    clauses_follow();
+    propagation_sound();
+    within_refutes();
+    own_calls_decide();
+}

@@ -1,10 +1,18 @@
 -- Reads of a source, one after another, and what they gave.
-use Rattle.std.specs.Prelude.{◌≡◌, ◌<◌, ℕ, List, [], length, Option, Some}
+use Rattle.std.specs.Prelude.{◌≡◌, ◌<◌, ◌≤◌, ℕ, List, [], length, Option, None, Some}
+use Rattle.std.specs.Io.KnownBytes.{Consumes, IsAtEnd, Keeps}
 use Rattle.std.specs.List.{FoldsTo, concat}
 
 -- what reads do: the source before, how long the buffer is, what is given, and the source after
 abbrev pub ReadsOf : Type 0 → Type 1
 ReadsOf S = S → ℕ → Option (List ℕ) → S → Type 0
+
+-- What a read does to the bytes left, if they are known: it gives the next ones, at most as many as it asks for, and these
+-- aren't left any more. It gives none only at the end, or if it asks for none. A read that fails leaves all.
+abbrev pub GivesLeft : Option (List ℕ) → ℕ → Option (List ℕ) → Option (List ℕ) → Type 0
+GivesLeft before room None after = Keeps before after
+GivesLeft before room (Some piece) after = Consumes before after piece × (length piece ≤ room)
+    × (piece ≡ [] → 0 < room → IsAtEnd after)
 
 -- Reads, one after another, each of which gave some bytes into a buffer of some length, took a
 -- source from first to last, and gave these bytes together.

@@ -37,8 +37,8 @@ pub trait Source {
     ghost has_failed: { Self → Bool };
 
     /// What a read does: it relates the source before, the buffer's length, the bytes given, or none after a fault, and the source
-    /// after. A source that doesn't say allows anything.
-    ghost reads: { Self → ℕ → Option (List ℕ) → Self → Type 0 } = { λ _ _ _ _. Unit {0} };
+    /// after. `GivesLeft` is what is true of a source that tells its bytes.
+    ghost reads: { Self → ℕ → Option (List ℕ) → Self → Type 0 };
 
     /// Reads bytes into the front of a buffer, and returns how many. 0 bytes, if the buffer isn't empty, are the end.
     ///
@@ -108,9 +108,14 @@ impl<R: io::Read> Reading<R> {
 }
 
 impl<R: io::Read> Source for Reading<R> {
+    ghost use Rattle.lrup_text.specs.Reads.{GivesLeft};
+
     ghost left = { λ s. R.remaining s.inner };
 
     ghost has_failed = { λ s. s.failed };
+
+    ghost reads = { λ before room given after.
+        GivesLeft (R.remaining before.inner) room given (R.remaining after.inner) };
 
     fn read(&mut self, buffer: &mut [u8]) -> Result<usize, ReadFault> {
         match self.inner.read(buffer) {

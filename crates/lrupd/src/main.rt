@@ -9,7 +9,8 @@ use std::fs::{File, OpenOptions};
 use std::io::{self, Stderr};
 use std::process::ExitCode;
 
-/// The machine's files, and its standard error for those who watch. No file tells its bytes.
+/// The machine's files, and its standard error for those who watch. No file tells its bytes, and no contract says what the system does to
+/// files: each relation below allows everything.
 #[derive(Drop)]
 struct MachineFiles<'a> {
     rt: &'a HostRuntime,
@@ -22,6 +23,10 @@ impl Files for MachineFiles<'_> {
 
     ghost tells = { λ _ _. None };
 
+    ghost opens = { λ _ _ _ _. Unit {0} };
+
+    ghost refuses = { λ _ _ _ _. Unit {0} };
+
     fn open(&mut self, path: &str) -> Result<Reading<File>, OpenFault> {
         Ok(Reading::new(File::open(self.rt, path)?))
     }
@@ -32,6 +37,20 @@ impl Machine for MachineFiles<'_> {
 
     /// Each line is one write, so that those of several streams don't mix.
     type Watcher = Writing<Stderr>;
+
+    ghost lacks = { λ _ _ _. Unit {0} };
+
+    ghost fails = { λ _ _ _ _. Unit {0} };
+
+    ghost creates = { λ _ _ _ _. Unit {0} };
+
+    ghost refuses_new = { λ _ _ _ _. Unit {0} };
+
+    ghost keeps = { λ _ _ _. Unit {0} };
+
+    ghost loses = { λ _ _ _. Unit {0} };
+
+    ghost discards = { λ _ _ _. Unit {0} };
 
     fn open_if_there(&mut self, path: &str) -> Result<Option<Reading<File>>, OpenFault> {
         match File::open(self.rt, path) {

@@ -6,7 +6,6 @@ use Rattle.std.specs.Result.{IfErr, IsErrAnd}
 use Rattle.std.specs.Prelude.{IsSome, IsSomeAnd, Option, None, Result, Ok, Err, slice_get, if◌then◌else◌}
 use Rattle.std.specs.List.{AllByRecursion, list_any, AllZip}
 use Rattle.std.proofs.lemmas.List.{length-take-le}
-use Rattle.std.proofs.lemmas.Simd.{map-map}
 use Rattle.std.proofs.lemmas.Option.{slice_get_within}
 use Rattle.std.proofs.lemmas.Bool.{or_cases}
 use Rattle.lrup_model.specs.Cube.{CubeValue}
@@ -372,7 +371,7 @@ module _ {S : Type 0} (view : SourceView S) where
     pub told : AllZip MatchesInput (observations view firsts (map (λ x. x.reader) fs)) streams
     pub judged : AreJudgedBy run_params s streams vs (map (λ x. x.report) fs)
     pub read : AreRead S view.reads firsts (map (λ x. x.reader) fs) streams
-    pub dropped : HaveDropped run_params s streams (map (λ x. x.report) fs) (map (λ x. x.dropped.ids) fs)
+    pub dropped : HaveDropped run_params s streams (map (λ x. x.report) fs) (map (λ x. x.dropped) fs)
 
   pub judged_by : (f : Cnf) (run_params : RunParamsValue) (store : StoreValue) → store.layout ≡ run_params.layout
       → (s : ℕ) (firsts : List S) (js : List (StreamJobsValue S)) (fs : List (StreamResultValue S)) (vs : List View)
@@ -400,8 +399,8 @@ module _ {S : Type 0} (view : SourceView S) where
       let of = subst (λ (r : S). IsStreamOf view r x.reader one.0) here.reader_is one.2 in
       let calls = (ends f run_params.layout store s j x v same here.opened all.0 synced.0 synced.1).mine in
       let judged = subst (λ (c : StreamParams). JudgesStream c one.0 all.0.blocks x.report) here.checker.params one.3 in
-      let dropped = subst (λ (c : StreamParams). HasDropped c one.0.bytes x.report x.dropped.ids) here.checker.params
-      (job_drops j.checker (pass_caller_view j.pass.view).room one.0.bytes all.0.blocks x.report x.dropped.ids fresh one.4) in
+      let dropped = subst (λ (c : StreamParams). HasDropped c one.0.bytes x.report x.dropped) here.checker.params
+      (job_drops j.checker (pass_caller_view j.pass.view).room one.0.bytes all.0.blocks x.report x.dropped fresh one.4) in
       let more = judged_by f run_params store same (s + 1) es js fs vs ready.1 all.1 synced.2 in
       record {
         streams = one.0 ∷ more.streams;
@@ -432,7 +431,7 @@ module _ {S : Type 0} (view : SourceView S) where
           };
           way = j.out;
           read = j.read;
-          have_dropped = rw (map-map (λ (d : DroppedIdsValue). d.ids) (λ (x : StreamResultValue S). x.dropped) so.found) j.dropped;
+          have_dropped = j.dropped;
         },
         refl,
       )

@@ -10,9 +10,10 @@ use Rattle.stream_check.specs.Checker.{checker_state, going_of, state_by}
 use Rattle.stream_check.specs.CheckerValue.{Tally, report_of_tally, CheckerValue}
 use Rattle.stream_check.specs.Judging.{ending_at}
 use Rattle.stream_check.specs.Reaching.{GoingState, ReachesState, ReachesGoing}
+use Rattle.stream_check.specs.DroppedIdsValue.{DroppedIdsValue}
 use Rattle.stream_check.specs.StreamParams.{StreamParams}
 use Rattle.stream_check.specs.StreamContext.{is_among, context_of}
-use Rattle.stream_check.specs.Stopping.{DropsUntilStop}
+use Rattle.stream_check.specs.Stopping.{DropsUntilStop, IsFullAtMemory}
 use Rattle.stream_check.specs.lemmas.StoppingLemmas.{drops_none}
 use Rattle.stream_jobs.specs.Judged.{DropsBy, ending_with}
 use Rattle.portfolio.specs.Dropping.{AreDroppedBy, HasDropped}
@@ -24,11 +25,12 @@ good_drops c bytes blocks now ids left same =
     record { lines = left.lines; rest = now.pending; cut = left.cut; are = λ id. same id ∙ left.context.is_dropped id }
 
 -- so they were where the stream ended in the middle of a line, which dropped nothing
-ended_by : (end : StreamEnd) (rest : List ℕ) (c : StreamParams) (bytes : List ℕ) (blocks : List History) (now : GoingState) (ids : List ℕ)
-    → ReachesGoing c bytes blocks now → ((id : ℕ) → is_among ids id ≡ now.context.is_dropped id)
-    → HasDropped c bytes (report_of_tally now.tally (ending_at end rest now.line)) ids
-ended_by stream_ends.Ended [] c bytes blocks now ids left same = good_drops c bytes blocks now ids left same
-ended_by stream_ends.Ended (byte ∷ rest) c bytes blocks now ids left same = record {
+ended_by : (end : StreamEnd) (rest : List ℕ) (c : StreamParams) (bytes : List ℕ) (blocks : List History) (now : GoingState)
+    (dropped : DroppedIdsValue)
+    → ReachesGoing c bytes blocks now → ((id : ℕ) → is_among dropped.ids id ≡ now.context.is_dropped id)
+    → HasDropped c bytes (report_of_tally now.tally (ending_at end rest now.line)) dropped
+ended_by stream_ends.Ended [] c bytes blocks now dropped left same = good_drops c bytes blocks now dropped.ids left same
+ended_by stream_ends.Ended (byte ∷ rest) c bytes blocks now dropped left same = record {
   lines = left.lines;
   rest = now.pending;
   text = left.cut.bytes;
@@ -39,7 +41,7 @@ ended_by stream_ends.Ended (byte ∷ rest) c bytes blocks now ids left same = re
   count = ap (λ (r : Report). r.deleted) (left.tally (ending_at stream_ends.Ended (byte ∷ rest) now.line));
   drops = λ id. same id ∙ left.context.is_dropped id ∙ drops_none c (context_of c left.lines).is_dropped id;
 }
-ended_by stream_ends.Failed rest c bytes blocks now ids left same = good_drops c bytes blocks now ids left same
+ended_by stream_ends.Failed rest c bytes blocks now dropped left same = good_drops c bytes blocks now dropped.ids left same
 
 -- what a checker dropped that isn't over, and takes this end
 pub going_drops : (c : StreamParams) (v : CheckerValue) (room : ℕ) (bytes : List ℕ) (blocks : List History) (end : StreamEnd)
@@ -49,25 +51,31 @@ going_drops c v room bytes blocks end going reaches = ended_by end v.pending c b
     (subst (λ (e : Option Ending). ReachesState c bytes blocks (state_by v room e)) going reaches) (λ id. refl)
 
 -- what a checker dropped that a line stopped
-pub stopped_drops : (ending : Ending) (c : StreamParams) (bytes : List ℕ) (tally : Tally) (ids : List ℕ)
-    → DropsUntilStop c bytes (report_of_tally tally ending) (is_among ids) → HasDropped c bytes (report_of_tally tally ending) ids
-stopped_drops endings.Ended c bytes tally ids drops = absurd drops.number
-stopped_drops (endings.Bad line fault) c bytes tally ids drops = drops
-stopped_drops (endings.ReadFailed line) c bytes tally ids drops = absurd drops.number
-stopped_drops (endings.Memory line) c bytes tally ids drops = drops
+pub stopped_drops : (ending : Ending) (c : StreamParams) (bytes : List ℕ) (tally : Tally) (dropped : DroppedIdsValue)
+    → DropsUntilStop c bytes (report_of_tally tally ending) (is_among dropped.ids) → IsFullAtMemory ending dropped
+    → HasDropped c bytes (report_of_tally tally ending) dropped
+stopped_drops endings.Ended c bytes tally dropped drops full = absurd drops.number
+stopped_drops (endings.Bad line fault) c bytes tally dropped drops full = drops
+stopped_drops (endings.ReadFailed line) c bytes tally dropped drops full = absurd drops.number
+stopped_drops (endings.Memory line) c bytes tally dropped drops full = (drops, full line refl)
 
 checker_drops : (c : StreamParams) (v : CheckerValue) (room : ℕ) (bytes : List ℕ) (blocks : List History) (end : StreamEnd)
     (ending : Option Ending) → v.ending ≡ ending → ReachesState c bytes blocks (checker_state v room)
+    → IsFullAtMemory (ending_with ending end v) v.dropped
     → HasDropped c bytes (report_of_tally v.tally (ending_with ending end v)) v.dropped
-checker_drops c v room bytes blocks end None is reaches = going_drops c v room bytes blocks end is reaches
-checker_drops c v room bytes blocks end (Some ending) is reaches =
+checker_drops c v room bytes blocks end None is reaches full = going_drops c v room bytes blocks end is reaches
+checker_drops c v room bytes blocks end (Some ending) is reaches full =
     stopped_drops ending c bytes v.tally v.dropped
-    (subst (λ (e : Option Ending). ReachesState c bytes blocks (state_by v room e)) is reaches).1
+    (subst (λ (e : Option Ending). ReachesState c bytes blocks (state_by v room e)) is reaches).1 full
 
 -- what a stream's threads found that it dropped
-pub job_drops : (v : CheckerValue) (room : ℕ) (bytes : List ℕ) (blocks : List History) (report : Report) (ids : List ℕ)
-    → ReachesState v.params [] [] (checker_state v room) → DropsBy v room bytes blocks ids report → HasDropped v.params bytes report ids
-job_drops v room bytes blocks report ids fresh d =
-    subst (λ (r : Report). HasDropped v.params bytes r ids) (sym d.reports)
-    (subst (HasDropped v.params bytes (report_of_tally d.last.tally (ending_with d.last.ending d.end d.last))) (sym d.are)
-    (checker_drops v.params d.last d.free bytes blocks d.end d.last.ending refl (d.left [] [] fresh)))
+pub job_drops : (v : CheckerValue) (room : ℕ) (bytes : List ℕ) (blocks : List History) (report : Report) (dropped : DroppedIdsValue)
+    → ReachesState v.params [] [] (checker_state v room) → DropsBy v room bytes blocks dropped report
+    → HasDropped v.params bytes report dropped
+job_drops v room bytes blocks report dropped fresh d =
+    let ending = ending_with d.last.ending d.end d.last in
+    let full : IsFullAtMemory ending d.last.dropped = subst (IsFullAtMemory ending) d.are
+    (subst (λ (r : Report). IsFullAtMemory r.ending dropped) d.reports d.full) in
+    subst (λ (r : Report). HasDropped v.params bytes r dropped) (sym d.reports)
+    (subst (HasDropped v.params bytes (report_of_tally d.last.tally ending)) (sym d.are)
+    (checker_drops v.params d.last d.free bytes blocks d.end d.last.ending refl (d.left [] [] fresh) full))

@@ -7,12 +7,6 @@ pub pushed_more : {A B : Type 0} (f : B → A) (xs zs : List A) (ys : List B) (x
 pushed_more {A} {B} f xs zs ys x y pushed before here = pushed ∙ ap₂ (λ (l : List A) (a : A). l ++ a ∷ []) before here
     ∙ sym (map-append f ys (y ∷ []))
 
--- the same, where both lists are seen by a part of each element
-pub pushed_both : {A B C : Type 0} (e : A → C) (f : B → C) (xs zs : List A) (ys : List B) (x : A) (y : B)
-    → zs ≡ xs ++ x ∷ [] → map e xs ≡ map f ys → e x ≡ f y → map e zs ≡ map f (ys ++ y ∷ [])
-pushed_both {A} {B} {C} e f xs zs ys x y pushed before here =
-    pushed_more f (map e xs) (map e zs) ys (e x) y (ap (map e) pushed ∙ map-append e xs (x ∷ [])) before here
-
 -- one more was taken of a list
 pub whole_more : {A : Type 0} (yielded before rest all : List A) (x : A) → before ≡ x ∷ rest → yielded ++ before ≡ all
     → (yielded ++ x ∷ []) ++ rest ≡ all

@@ -1,7 +1,7 @@
 -- What a worker's steps leave: a read, what the checker takes of a piece, and the end.
 use Rattle.std.proofs.Common.{◌≡◌, ℕ, ◌+◌, ◌-◌, ◌<◌, ◌≤◌, Bool, true, false, List, [], ◌++◌, length, take, drop, arith, length-take, Option}
 use Rattle.std.proofs.Common.{None, Some, refl, sym, ap, subst, ◌∙◌, append_assoc, append-nil}
-use Rattle.std.specs.Prelude.{◌↔◌, IsSome, IsTrue}
+use Rattle.std.specs.Prelude.{◌↔◌, IfSome, IsSome, IsTrue}
 use Rattle.std.specs.Io.KnownBytes.{Consumes}
 use Rattle.std.proofs.KnownBytes.{Consumes-trans}
 use Rattle.std.proofs.Math.Seq.{take-add}
@@ -16,6 +16,7 @@ use Rattle.stream_check.specs.Judging.{ending_at, JudgesBlocks}
 use Rattle.stream_check.specs.declared.progress.CheckStatus.{CheckStatus}
 use Rattle.stream_check.specs.declared.progress.CheckStatus.TheVariants as statuses
 use Rattle.stream_check.specs.Reaching.{ReachesState}
+use Rattle.stream_check.specs.Stopping.{IsFullAtMemory}
 use Rattle.stream_check.specs.CheckerValue.{Tally, report_of_tally, CheckerValue}
 use Rattle.stream_check.specs.Checker.{AreBlocksOf, state_by, checker_state, Extends, EndsBy, Ends, ReportsEnd}
 use Rattle.lrup_text.specs.lemmas.ReadLemmas.{gave_more}
@@ -148,22 +149,24 @@ module _ {S : Type 0} (view : SourceView S) where
   worker_at : (ending : Option Ending) (first reader : S) (bytes rest : List ℕ) (v : CheckerValue) (room : ℕ) (blocks : List History)
       → v.ending ≡ ending → view.has_failed reader ≡ false → Consumes (view.left first) (view.left reader) (bytes ++ rest)
       → Gave S view.reads first (bytes ++ rest) reader → ReachesState v.params bytes blocks (state_by v room ending)
+      → IfSome ending (λ e. IsFullAtMemory e v.dropped)
       → WorkerInvariantBy view ending first (worker_of reader rest v) room blocks
-  worker_at None first reader bytes rest v room blocks is running given gave reaches =
+  worker_at None first reader bytes rest v room blocks is running given gave reaches full =
       (bytes, given, gave, subst (λ e. ReachesState v.params bytes blocks (state_by v room e)) (sym is) reaches)
-  worker_at (Some ending) first reader bytes rest v room blocks is running given gave reaches = (
+  worker_at (Some ending) first reader bytes rest v room blocks is running given gave reaches full = (
     record { bytes = bytes; unneeded = rest; end = None },
     (record { consumes = given; ends = running; needed = λ out. absurd (let no : false ≡ true = out in cc) }, gave),
     λ end may. either_end v.params bytes blocks (report_of_tally v.tally ending) end reaches.0.0 reaches.0.1,
-    stopped_drops ending v.params bytes v.tally v.dropped reaches.1,
+    stopped_drops ending v.params bytes v.tally v.dropped reaches.1 full,
   )
 
   -- what the checker took of the bytes that were read
   pub worker_fed : (reader : S) (unread front rest : List ℕ) (v u : CheckerValue) (room after : ℕ) (blocks : List History)
       → view.has_failed reader ≡ false → unread ≡ front ++ rest → v.ending ≡ None → u.params ≡ v.params
       → Extends v.params (checker_state v room) front blocks (checker_state u after)
+      → IfSome u.ending (λ e. IsFullAtMemory e u.dropped)
       → WorkerStep view (worker_of reader unread v) room blocks (worker_of reader rest u) after
-  worker_fed reader unread front rest v u room after blocks running split going same reaches first before holds =
+  worker_fed reader unread front rest v u room after blocks running split going same reaches full first before holds =
       let here = subst (λ e. WorkerInvariantBy view e first (worker_of reader unread v) room before) going holds in
       let all : here.0 ++ unread ≡ (here.0 ++ front) ++ rest = ap (λ (t : List ℕ). here.0 ++ t) split
       ∙ sym (append_assoc here.0 front rest) in
@@ -174,7 +177,7 @@ module _ {S : Type 0} (view : SourceView S) where
       let there : ReachesState u.params (here.0 ++ front) (before ++ blocks) (checker_state u after) =
       subst (λ (c : StreamParams). ReachesState c (here.0 ++ front) (before ++ blocks) (checker_state u after)) (sym same)
       (reaches here.0 before here.3) in
-      worker_at u.ending first reader (here.0 ++ front) rest u after (before ++ blocks) refl running given gave there
+      worker_at u.ending first reader (here.0 ++ front) rest u after (before ++ blocks) refl running given gave there full
 
 -- ---- the buffer
 

@@ -4,6 +4,7 @@ use Rattle.lrup_text.specs.Lines.{StreamLine, Cut}
 use Rattle.stream_check.specs.declared.report.Ending.{Ending}
 use Rattle.stream_check.specs.declared.report.Ending.TheVariants as endings
 use Rattle.stream_check.specs.declared.report.Report.{Report}
+use Rattle.stream_check.specs.DroppedIdsValue.{DroppedIdsValue}
 use Rattle.stream_check.specs.StreamParams.{StreamParams}
 use Rattle.stream_check.specs.StreamContext.{is_among, context_of}
 use Rattle.stream_check.specs.Stopping.{DropsUntilStop}
@@ -19,21 +20,24 @@ pub record AreDroppedBy (params : StreamParams) (bytes ids : List ℕ) : Type 0 
   pub are : (id : ℕ) → is_among ids id ≡ (context_of params lines).is_dropped id
 
 -- what a stream dropped that ended so
-abbrev pub HasDroppedBy : Ending → StreamParams → List ℕ → Report → List ℕ → Type 0
-HasDroppedBy endings.Ended params bytes report ids = AreDroppedBy params bytes ids
-HasDroppedBy (endings.Bad line fault) params bytes report ids =
-    DropsUntilStop params bytes report (is_among ids)
-HasDroppedBy (endings.ReadFailed line) params bytes report ids = AreDroppedBy params bytes ids
-HasDroppedBy (endings.Memory line) params bytes report ids =
-    DropsUntilStop params bytes report (is_among ids)
+abbrev pub HasDroppedBy : Ending → StreamParams → List ℕ → Report → DroppedIdsValue → Type 0
+HasDroppedBy endings.Ended params bytes report dropped = AreDroppedBy params bytes dropped.ids
+HasDroppedBy (endings.Bad line fault) params bytes report dropped =
+    DropsUntilStop params bytes report (is_among dropped.ids)
+HasDroppedBy (endings.ReadFailed line) params bytes report dropped =
+    AreDroppedBy params bytes dropped.ids
+HasDroppedBy (endings.Memory line) params bytes report dropped =
+    DropsUntilStop params bytes report (is_among dropped.ids) × (dropped.spare ≡ 0)
 
 -- Where the report says that the stream ended, or that a read failed, so that all its lines were good, these are the identities that
 -- they drop. Where it says that a line is bad, or that memory ran out in it, these are the identities that the lines before it drop,
--- and that the line itself does, up to where it stopped.
-abbrev pub HasDropped : StreamParams → List ℕ → Report → List ℕ → Type 0
-HasDropped params bytes report ids = HasDroppedBy report.ending params bytes report ids
+-- and that the line itself does, up to where it stopped. Where memory ran out, there is no room for one more.
+abbrev pub HasDropped : StreamParams → List ℕ → Report → DroppedIdsValue → Type 0
+HasDropped params bytes report dropped =
+    HasDroppedBy report.ending params bytes report dropped
 
 -- so it is with each stream, counted on from s
-abbrev pub HaveDropped : RunParamsValue → ℕ → List Stream → List Report → List (List ℕ) → Type 0
-HaveDropped run_params s streams reports all = EachOfThree (λ t stream report ids.
-    HasDropped (stream_params run_params t) stream.bytes report ids) s streams reports all
+abbrev pub HaveDropped : RunParamsValue → ℕ → List Stream → List Report → List DroppedIdsValue
+    → Type 0
+HaveDropped run_params s streams reports all = EachOfThree (λ t stream report dropped.
+    HasDropped (stream_params run_params t) stream.bytes report dropped) s streams reports all

@@ -1,5 +1,5 @@
 -- What a run promises of its streams, on one thread or with two threads for each (this project's own).
-use Rattle.std.specs.Prelude.{◌≡◌, ℕ, Bool, true, false, List, map, IsSome}
+use Rattle.std.specs.Prelude.{◌≡◌, ℕ, Bool, true, false, List, IsSome}
 use Rattle.std.specs.List.{AllByRecursion}
 use Rattle.lrup_model.specs.Event.{History}
 use Rattle.lrup_model.specs.Formula.{Cnf}
@@ -41,7 +41,7 @@ pub record IsRunOfSome {S : Type 0} (many : ℕ) (Checked : Way) (view : SourceV
   pub run : IsRunOfFirst many formula run_params (observations view firsts lasts) reports
   pub way : Checked formula run_params run.history run.streams reports
   pub read : AreRead S view.reads firsts lasts run.streams
-  pub have_dropped : HaveDropped run_params 1 run.streams reports (map (λ d. d.ids) dropped)
+  pub have_dropped : HaveDropped run_params 1 run.streams reports dropped
 
 -- so it is with all streams of the layout
 abbrev pub IsRunOf : {S : Type 0} → Way → SourceView S → Cnf → RunParamsValue

@@ -41,10 +41,11 @@ pub enum RunFault {
     /// The formula, the options and the number of streams have no layout. It is answered before any other fault.
     #[error("{0}")]
     Layout(LayoutFault),
-    /// Out of memory before the first read.
+    /// Out of memory. By the code, and by no clause, this comes before the first read.
     #[error("out of memory")]
     Memory,
-    /// A thread of this stream, from 1 on, couldn't be started. No stream was read.
+    /// A thread of this stream, from 1 on, couldn't be started. By the code no stream was read: threads that have started leave without a
+    /// read, as a test of one stream's two threads shows.
     #[error("worker {0} not started")]
     Spawn(u64),
     /// The checking thread of this stream, from 1 on, found its ring abandoned before the mark for the end, though the stream was read out.

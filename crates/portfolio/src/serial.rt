@@ -31,8 +31,8 @@ use stream_check::{DroppedIds, Gate, Report};
 
 /// Checks all streams of a formula on this thread, in turn, stream 1 first: in its turn a stream is read until one line was taken, or the
 /// stream is over. The outcome has a report for each stream, and the verdict of these: whether a stream added the empty clause, or one
-/// that the cube, of assumed literals, makes false. There is one gate for each reader. All memory is taken before the first read, except
-/// for the identities that streams drop. It blocks while a reader does. There are the faults `Layout` and `Memory` alone.
+/// that the cube, of assumed literals, makes false. There is one gate for each reader. By the code all memory is taken before the first
+/// read, except for the identities that streams drop. It blocks while a reader does. There are the faults `Layout` and `Memory` alone.
 pub fn run_serial<W: Wait, R: Source + Drop, G: Gate + Drop>(
     wait: &W,
     alloc: Global,
@@ -50,14 +50,8 @@ pub fn run_serial<W: Wait, R: Source + Drop, G: Gate + Drop>(
     ensures no_threads { (stream : ℕ) → (result ≢ Err (RunFault.Spawn stream))
         × (result ≢ Err (RunFault.Ring stream)) }
     // It is a run of what the readers told and their reads gave, and its history is that of an order of
-    // lines, which is by turns. The map has what this leaves.
+    // lines, which is by turns. The map has what this leaves. Its groups of streams are isolated.
     ensures ordered { let run_params = run_params_of options cube.now formula.now
-        (length readers.items) in
-        IfOk result (λ outcome. IsOfRun OnOneThread (readers_view R.Source) formula.now run_params
-        readers.items outcome.readers.items outcome.reports.items outcome.dropped.items
-        (λ run. plain_state outcome.map ≡ state formula.now run.history)) }
-    // Its groups of streams are isolated.
-    ensures isolated { let run_params = run_params_of options cube.now formula.now
         (length readers.items) in
         IfOk result (λ outcome. IsOfRun OnOneThread (readers_view R.Source) formula.now run_params
         readers.items outcome.readers.items outcome.reports.items outcome.dropped.items
@@ -77,7 +71,7 @@ pub fn run_serial<W: Wait, R: Source + Drop, G: Gate + Drop>(
     let run_params = RunParams::new(&layout, cube, options.tries());
     let map = PlainMap::open(alloc, formula, &layout)?;
     let workers = workers_of(alloc, &run_params, readers, gates)?;
-    // A law, which does nothing: the proof of `isolated` uses its contract.
+    // A law, which does nothing: the proof of `ordered` uses its contract.
     run_isolated();
     check(wait, alloc, map, workers)
 }
@@ -221,8 +215,7 @@ fn outcome_of<R: Source + Drop, G: Gate + Drop>(
     requires dropped { vec_len workers ≤ vec_capacity dropped }
     ensures reports { HaveReports workers.items result.reports.items }
     ensures readers { result.readers.items ≡ map (λ w. w.reader) workers.items }
-    ensures dropped { map (λ d. d.ids) result.dropped.items
-        ≡ map (λ w. w.checker.dropped) workers.items }
+    ensures dropped { result.dropped.items ≡ map (λ w. w.checker.dropped) workers.items }
     ensures verdict { result.verdict ≡ verdict_of result.reports.items }
     ensures kept { result.map ≡ plain }
 {

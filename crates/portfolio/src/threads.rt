@@ -35,8 +35,9 @@ use stream_threads::{StartSignal, StreamResults, ThreadFault, ThreadLists, check
 ///
 /// All lists and buffers are made before the first thread starts. After that only starts take memory, which without it fail
 /// (`RunFault::Spawn`), and checkers for the identities that their streams drop, whose reports say so (`Ending::Memory`). No reader is
-/// read before all threads have started. `run` returns when all threads have ended, so it blocks while a reader does. The faults, and
-/// when they come, are those of `RunFault`; after a fault there are no reports.
+/// read before all threads have started. These three sentences are true by the code, and no clause says them. `run` returns when all
+/// threads have ended, so it blocks while a reader does. The faults, and when they come, are those of `RunFault`; after a fault there are
+/// no reports.
 pub fn run<T: Threads + Wait + Sync, R: Source + Send + Drop, G: Gate + Send + Drop>(
     threads: &T,
     alloc: Global,
@@ -62,24 +63,14 @@ pub fn run<T: Threads + Wait + Sync, R: Source + Send + Drop, G: Gate + Send + D
     ensures history { IfOk result (λ outcome. let passes = views outcome.passes.items in
         HaveOneHistory formula.now (layout_of options formula.now (length readers.items))
         (seen_by passes) passes) }
-    // It is a run by that history, of what the readers told and their reads gave.
+    // It is a run by that history, of what the readers told and their reads gave. Its groups of
+    // streams are isolated, and its lines are serializable.
     ensures reports { let run_params = run_params_of options cube.now formula.now
         (length readers.items) in
         IfOk result (λ outcome. IsOfRun InThreads (readers_view R.Source) formula.now run_params
         readers.items outcome.readers.items outcome.reports.items outcome.dropped.items
-        (λ run. run.history ≡ seen_by (views outcome.passes.items))) }
-    // Its groups of streams are isolated.
-    ensures isolated { let run_params = run_params_of options cube.now formula.now
-        (length readers.items) in
-        IfOk result (λ outcome. IsOfRun InThreads (readers_view R.Source) formula.now run_params
-        readers.items outcome.readers.items outcome.reports.items outcome.dropped.items
-        (λ run. (run.history ≡ seen_by (views outcome.passes.items)) × AreIsolated run)) }
-    // Its lines are serializable.
-    ensures serializable { let run_params = run_params_of options cube.now formula.now
-        (length readers.items) in
-        IfOk result (λ outcome. IsOfRun InThreads (readers_view R.Source) formula.now run_params
-        readers.items outcome.readers.items outcome.reports.items outcome.dropped.items
-        (λ run. (run.history ≡ seen_by (views outcome.passes.items)) × IsSerializable run)) }
+        (λ run. (run.history ≡ seen_by (views outcome.passes.items)) × AreIsolated run
+        × IsSerializable run)) }
     ensures verdict { IfOk result (λ outcome.
         outcome.verdict ≡ verdict_of outcome.reports.items) }
     // The clauses stay, for whoever saves them.
@@ -97,7 +88,7 @@ pub fn run<T: Threads + Wait + Sync, R: Source + Send + Drop, G: Gate + Send + D
     let jobs = jobs_of(alloc, &run_params, readers, gates, passes)?;
     let signal = StartSignal::new();
     let lists = ThreadLists::new(alloc, &signal, jobs.len())?;
-    // Laws: empty calls, whose contracts the proof of `isolated` and `serializable` uses.
+    // Laws: empty calls, whose contracts the proof of `reports` uses.
     run_isolated();
     run_serializable();
     match check_all(threads, &store, jobs, lists) {

@@ -160,7 +160,7 @@ impl<R: Source + Drop, G: Gate + Drop> Worker<R, G> {
         ensures report { IfSome self.checker.ending (λ ending.
             result.0 ≡ report_of_tally self.checker.tally ending) }
         ensures reader { result.1 ≡ self.reader }
-        ensures dropped { result.2.ids ≡ self.checker.dropped }
+        ensures dropped { result.2 ≡ self.checker.dropped }
     {
         let Worker {
             reader,

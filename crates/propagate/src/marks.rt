@@ -71,8 +71,8 @@ impl Marks {
         })
     }
 
-    /// Takes up a clause of at most 65,535 literals over the variables: its literals, which may repeat, are false, and no others. It fails
-    /// exactly if a literal stands beside its complement, and then takes no clause up.
+    /// Takes up a clause over the variables: its literals, which may repeat, are false, and no others. It fails exactly if a literal stands
+    /// beside its complement, and then takes no clause up.
     pub fn begin(&mut self, clause: &[Lit]) -> Result<(), Tautology>
         requires { AllByRecursion (IsLiteral self.old.vars) clause.now }
         ensures tautology { IsErr result ↔ IsTautology clause.now }

@@ -11,10 +11,10 @@ use Rattle.lrup_model.specs.Event as events
 use Rattle.lrup_model.specs.Event.{Event, History, own, published, stream_of}
 use Rattle.lrup_model.specs.Formula.{Cnf}
 use Rattle.lrup_model.specs.History.{IsLegal}
-use Rattle.lrup_model.specs.lemmas.HistoryLemmas.{opening-owned, run-own, HasClause}
+use Rattle.lrup_model.specs.lemmas.HistoryLemmas.{opening-owned, run-own}
 use Rattle.lrup_model.specs.Laws.{FindsWithin}
 use Rattle.lrup_model.specs.Layout.{LayoutValue, Fits, Owns, owner}
-use Rattle.lrup_model.specs.State.{Slot, opening, run, state}
+use Rattle.lrup_model.specs.State.{Slot, opening, run, state, HasClause}
 use Rattle.lrup_model.specs.declared.layout.Owner.{Owner}
 use Rattle.lrup_model.specs.declared.layout.Owner.TheVariants as owners
 use Rattle.lrup_text.specs.Laws.{EmptyPending, OneFault, OneFirstLine, RefusedStays}

@@ -8,10 +8,10 @@ use Rattle.lrup_model.specs.Clause.{Clause, Has}
 use Rattle.lrup_model.specs.Distinct.{distinct}
 use Rattle.lrup_model.specs.Event as events
 use Rattle.lrup_model.specs.Event.{Event, History, Reply, published}
-use Rattle.lrup_model.specs.lemmas.HistoryLemmas.{published-append, HasClause}
+use Rattle.lrup_model.specs.lemmas.HistoryLemmas.{published-append}
 use Rattle.lrup_model.specs.Propagation.{Refutes}
 use Rattle.lrup_model.specs.lemmas.RunningLemmas.{run-append}
-use Rattle.lrup_model.specs.State.{State, Slot, absent, live, retired, IsRetired, after, run, Answers}
+use Rattle.lrup_model.specs.State.{State, Slot, absent, live, retired, IsRetired, after, run, Answers, HasClause}
 use Rattle.lrup_model.specs.declared.clause_map.Retired.TheVariants as retiring
 use Rattle.lrup_text.specs.Lines.{StreamLine, Addition, Deletion, Import}
 use Rattle.stream_check.specs.declared.fault.Fault.{Fault}

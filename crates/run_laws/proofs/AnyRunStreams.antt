@@ -15,9 +15,9 @@ use Rattle.lrup_model.specs.Event.{Event, History, own, published, stream_of}
 use Rattle.lrup_model.specs.Formula.{Cnf}
 use Rattle.lrup_model.specs.History.{LegalFrom}
 use Rattle.lrup_model.specs.lemmas.HistoryLemmas.{after-agrees, after-foreign, own-mine, own-other, published-append, put, put-same}
-use Rattle.lrup_model.specs.lemmas.HistoryLemmas.{put-other, HasClause}
+use Rattle.lrup_model.specs.lemmas.HistoryLemmas.{put-other}
 use Rattle.lrup_model.specs.Layout.{LayoutValue, Owns}
-use Rattle.lrup_model.specs.State.{State, Slot, absent, live, retired, retire_slot, after, run}
+use Rattle.lrup_model.specs.State.{State, Slot, absent, live, retired, retire_slot, after, run, HasClause}
 use Rattle.lrup_model.specs.declared.clause_map.Published.TheVariants as publishing
 use Rattle.lrup_model.specs.declared.clause_map.Retired.TheVariants as retiring
 use Rattle.lrup_text.specs.Grammar.{Begins}

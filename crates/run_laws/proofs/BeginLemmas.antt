@@ -7,9 +7,9 @@ use Rattle.lrup_model.specs.Event as events
 use Rattle.lrup_model.specs.Event.{Event, History, own, stream_of}
 use Rattle.lrup_model.specs.Formula.{Cnf}
 use Rattle.lrup_model.specs.History.{IsLegal}
-use Rattle.lrup_model.specs.lemmas.HistoryLemmas.{opening-owned, own-all, own-none, run-own, HasClause}
+use Rattle.lrup_model.specs.lemmas.HistoryLemmas.{opening-owned, own-all, own-none, run-own}
 use Rattle.lrup_model.specs.Layout.{Fits, Owns, owner}
-use Rattle.lrup_model.specs.State.{Slot, opening, run, state}
+use Rattle.lrup_model.specs.State.{Slot, opening, run, state, HasClause}
 use Rattle.lrup_text.specs.Laws.{EmptyCut, OneCut, OneFirstLine, RefusedStays}
 use Rattle.lrup_text.specs.Lines.{StreamLine, line_text}
 use Rattle.stream_check.specs.declared.params.Ownership.TheVariants as ownerships

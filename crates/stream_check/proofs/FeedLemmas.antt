@@ -1,6 +1,6 @@
 -- What a piece leaves of a checker.
 use Rattle.std.specs.Fmt.{decimal, signed_decimal}
-use Rattle.std.proofs.Common.{◌≡◌, ◌<◌, ◌^◌, ℕ, Bool, true, false, List, [], ◌∷◌, ◌++◌, length, take, Option, None, Some, Ok, refl, sym, ap}
+use Rattle.std.proofs.Common.{◌≡◌, ℕ, Bool, true, false, List, [], ◌∷◌, ◌++◌, length, take, Option, None, Some, Ok, refl, sym, ap}
 use Rattle.std.proofs.Common.{subst, ◌∙◌, append_assoc, arith}
 use Rattle.std.specs.Prelude.{◌&&◌, is_some, map}
 use Rattle.std.specs.List.{flat_map}
@@ -29,7 +29,7 @@ use Rattle.stream_check.specs.StreamContext.{is_among}
 use Rattle.stream_check.specs.Judging.{ending_at, JudgesBlocks}
 use Rattle.stream_check.specs.Reaching.{Going, Over, JudgesBothEnds, ReachesState, IsFresh}
 use Rattle.stream_check.specs.CheckerValue.{Tally, report_of_tally, CheckerValue}
-use Rattle.stream_check.specs.internal.CheckerInside.{StreamStateValue, fresh_state, read_of, value_of, IsSound}
+use Rattle.stream_check.specs.internal.CheckerInside.{StreamStateValue, fresh_state, read_of, value_of}
 use Rattle.stream_check.specs.Checker.{checker_state, state_by, going_of, IsReadyAt, Extends, IsNew, EndsBy, Ends, ReportsEnd}
 use Rattle.stream_check.specs.internal.Taking.{IsReady, hold}
 use Rattle.stream_check.proofs.ReachingLemmas.{end_judged, line_grows, all_snoc}
@@ -109,14 +109,6 @@ pub ready_inside : (h : StreamStateValue) (read : List ℕ) (ending : Option End
 ready_inside h read ending v p is ready =
     let same = subst (λ (w : CheckerValue). IsReadyAt w p) (sym is) ready in
     record { at = same.at; vacant = same.vacant }
-
-pub sound_on : (c d : StreamParams) (v w : ℕ) (old new : ReaderState) (o p : Option Ending) → IsSound c v old o → d ≡ c → w ≡ v
-    → (p ≡ None → new ≡ Ok (read_of new)) → IsSound d w new p
-sound_on c d v w old new o p sound params variables reads = record {
-  reads = reads;
-  variables = ap (λ (s : StreamParams). s.layout.vars) params ∙ sound.variables ∙ sym variables;
-  tries = subst (λ (s : StreamParams). s.tries < 2 ^ 63) (sym params) sound.tries;
-}
 
 pub reads_on : (r : ReaderState) (read : List ℕ) → r ≡ Ok read → r ≡ Ok (read_of r)
 reads_on r read e = e ∙ ap (λ (b : List ℕ). Ok b) (sym (ap read_of e))

@@ -22,7 +22,7 @@ use Rattle.stream_check.specs.CheckerValue.{report_of_tally, CheckerValue}
 abbrev pub going_of : CheckerValue → ℕ → GoingState
 going_of checker free = record {
   tally = checker.tally;
-  context = record { last = checker.last; free = free; is_dropped = is_among checker.dropped };
+  context = record { last = checker.last; free = free; is_dropped = is_among checker.dropped.ids };
   pending = checker.pending;
   line = checker.line;
 }
@@ -30,7 +30,7 @@ going_of checker free = record {
 abbrev pub state_by : CheckerValue → ℕ → Option Ending → CheckerState
 state_by checker free None = Going (going_of checker free)
 state_by checker free (Some ending) =
-    Over (report_of_tally checker.tally ending) (is_among checker.dropped)
+    Over (report_of_tally checker.tally ending) (is_among checker.dropped.ids)
 
 -- the state of a checker whose stream has so much room left
 abbrev pub checker_state : CheckerValue → ℕ → CheckerState

@@ -1,6 +1,7 @@
 -- What contracts see of a checker (this project's own).
 use Rattle.std.specs.Prelude.{ℕ, Bool, List, Option}
 use Rattle.stream_check.specs.declared.report.Ending.{Ending}
+use Rattle.stream_check.specs.DroppedIdsValue.{DroppedIdsValue}
 use Rattle.stream_check.specs.StreamParams.{StreamParams}
 use Rattle.stream_check.specs.declared.report.Report.{Report}
 
@@ -28,7 +29,7 @@ pub record CheckerValue : Type 0 where
   pub params : StreamParams
   pub tally : Tally
   pub last : ℕ
-  pub dropped : List ℕ
+  pub dropped : DroppedIdsValue
   pub retired : ℕ
   pub pending : List ℕ
   pub line : ℕ

@@ -5,6 +5,7 @@ use Rattle.lrup_text.specs.Lines.{StreamLine, IsWithinLimits, line_text}
 use Rattle.stream_check.specs.declared.report.Ending.{Ending}
 use Rattle.stream_check.specs.declared.report.Ending.TheVariants as endings
 use Rattle.stream_check.specs.declared.report.Report.{Report}
+use Rattle.stream_check.specs.DroppedIdsValue.{DroppedIdsValue}
 use Rattle.stream_check.specs.StreamParams.{StreamParams, ownership_of, is_shared}
 use Rattle.stream_check.specs.StreamContext.{context_of, is_among, deleted_by, capped}
 
@@ -14,6 +15,10 @@ StopsAtLine endings.Ended number = ⊥
 StopsAtLine (endings.Bad line fault) number = line ≡ number
 StopsAtLine (endings.ReadFailed line) number = ⊥
 StopsAtLine (endings.Memory line) number = line ≡ number
+
+-- Where memory ran out, there is no room for one identity more among the dropped ones.
+abbrev pub IsFullAtMemory : Ending → DroppedIdsValue → Type 0
+IsFullAtMemory ending dropped = (line : ℕ) → ending ≡ endings.Memory line → dropped.spare ≡ 0
 
 -- of these identities those of the formula and of other streams were dropped, too
 abbrev pub DropsMore : StreamParams → (ℕ → Bool) → List ℕ → (ℕ → Bool) → Type 0

@@ -6,6 +6,7 @@ ghost use Rattle.stream_check.specs.StreamParams.{max_tries};
 ghost use Rattle.lrup_text.specs.declared.device.StreamEnd.TheVariants as stream_ends;
 ghost use Rattle.stream_check.specs.Judging.{joined};
 ghost use Rattle.stream_check.specs.CheckerValue.{report_of_tally};
+ghost use Rattle.stream_check.specs.Stopping.{IsFullAtMemory};
 ghost use Rattle.stream_check.specs.Checker.{checker_state, IsReadyAt, Extends, AreBlocksOf, FeedsChecker, StaysOver, IsNew, Ends, ReportsEnd};
 
 use crate::addition::LineScratch;
@@ -44,7 +45,8 @@ impl Model for Checker {
 
     ghost view = { λ c. value_of c.state (read_of c.reader) c.ending };
 
-    ghost invariant = { λ c. IsSound c.state.params c.scratch.vars c.reader c.ending };
+    ghost invariant = { λ c. IsSound c.state.params c.state.dropped c.scratch.vars
+        c.reader c.ending };
 }
 
 impl Checker {
@@ -98,6 +100,9 @@ impl Checker {
             (take result.used piece.now) }
         ensures used { result.used ≤ length piece.now }
         ensures moves_on { result.status ≡ CheckStatus.Line → 0 < result.used }
+        // Memory runs out only where the dropped identities have no room left.
+        ensures memory { IfSome self.new.ending (λ ending.
+            IsFullAtMemory ending self.new.dropped) }
         ensures over { StaysOver self.old self.new (take result.used piece.now) }
         ensures ready { IsReadyAt self.new (M.caller_view map.new) }
         ensures params { self.new.params ≡ self.old.params }
@@ -211,15 +216,16 @@ impl Checker {
     /// The stream's report. The checker has to be over.
     pub fn report(&self) -> Report
         requires { IsSome self.now.ending }
-        ensures { IfSome self.now.ending (λ ending.
+        ensures says { IfSome self.now.ending (λ ending.
             result ≡ report_of_tally self.now.tally ending) }
+        ensures memory { IsFullAtMemory result.ending self.now.dropped }
     {
         self.state.report(self.ending.unwrap())
     }
 
     /// The identities of the formula and of other streams that the stream dropped.
     pub fn into_dropped(self) -> DroppedIds
-        ensures { result.ids ≡ self.dropped }
+        ensures { result ≡ self.dropped }
     {
         let Checker { state, .. } = self;
         state.into_dropped()

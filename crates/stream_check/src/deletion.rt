@@ -38,7 +38,7 @@ fn delete_one<M: ClauseMap>(state: &mut StreamState, map: &mut M, id: Id) -> Res
     requires at { IsViewOf state.old.params (M.caller_view map.old) }
     ensures deletes { (es : History) × M.moves map.old map.new es × AllByRecursion IsRetire es
         × DeletesOne state.old.params id state.old.dropped.ids state.new.dropped.ids es result }
-    ensures spare { IsErrOf result LineStop.Memory → state.old.dropped.spare ≡ 0 }
+    ensures full { IsErrOf result LineStop.Memory → state.new.dropped.spare ≡ 0 }
     ensures count { deleted_at state.new ≡ capped (deleted_at state.old + counted result) }
     ensures kept { KeepsLines state.old state.new }
 {
@@ -60,6 +60,7 @@ pub fn delete<M: ClauseMap>(
         × ((count : ℕ) × (deleted_at state.new ≡ capped (deleted_at state.old + count))
         × Deletes state.old.params state.old.dropped.ids state.new.dropped.ids
         ids.now es count result) }
+    ensures full { IsErrOf result LineStop.Memory → state.new.dropped.spare ≡ 0 }
     ensures kept { KeepsLines state.old state.new }
 {
     for id in ids {

@@ -1,5 +1,5 @@
 //! The set of identities that a stream dropped.
-ghost use Rattle.std.specs.Prelude.{◌≡◌, ◌||◌, ◌==◌, ◌+◌, ◌<◌, ◌^◌, ℕ, [], false, length, OnOk, OnErr, IsOk};
+ghost use Rattle.std.specs.Prelude.{◌≡◌, ◌↔◌, ◌||◌, ◌==◌, ◌+◌, ◌<◌, ◌^◌, ℕ, [], false, length, OnOk, OnErr, IsTrue};
 ghost use Rattle.stream_check.specs.StreamContext.{is_among};
 
 use lrup_model::Id;
@@ -39,17 +39,41 @@ impl DroppedIds {
         self.ids.contains(&id)
     }
 
-    /// Adds an identity. If memory is refused, nothing changes; if there is room, it takes none.
+    /// Adds an identity. If memory is refused, nothing changes, and there was no room.
     pub(crate) fn add(&mut self, id: Id) -> Result<(), AllocError>
         requires { is_among self.old.ids id ≡ false }
         ensures members { OnOk result
             ((j : ℕ) → is_among self.new.ids j ≡ (is_among self.old.ids j || id == j)) }
         ensures count { OnOk result (length self.new.ids ≡ length self.old.ids + 1) }
+        ensures err { OnErr result (self.new ≡ self.old) }
+        ensures full { OnErr result (self.new.spare ≡ 0) }
+    {
+        let added = self.insert(id);
+        // A refused growth may have left room: `HashSet` only promises that it leaves no less.
+        if added.is_err() && self.has_room() {
+            return self.insert(id);
+        }
+        added
+    }
+
+    /// Adds an identity. If memory is refused, no identity is added, and there was no room.
+    fn insert(&mut self, id: Id) -> Result<(), AllocError>
+        requires { is_among self.old.ids id ≡ false }
+        ensures members { OnOk result
+            ((j : ℕ) → is_among self.new.ids j ≡ (is_among self.old.ids j || id == j)) }
+        ensures count { OnOk result (length self.new.ids ≡ length self.old.ids + 1) }
         ensures err { OnErr result (self.new.ids ≡ self.old.ids) }
-        ensures spare { 0 < self.old.spare → IsOk result }
+        ensures full { OnErr result (self.old.spare ≡ 0) }
     {
         self.ids.insert(id)?;
         Ok(())
+    }
+
+    /// Whether there is room for an identity more.
+    fn has_room(&self) -> bool
+        ensures { IsTrue result ↔ (0 < self.now.spare) }
+    {
+        self.ids.len() < self.ids.capacity()
     }
 
     /// How many identities there are.

@@ -11,7 +11,8 @@ pub trait Gate {
     /// Called after each publish that answered `Done`.
     fn after_publish(&mut self, stream: u64, id: Id);
 
-    /// Called once, when the checker is over: by `Checker::feed` after the first bad line, or if memory ran out in a line; by
-    /// `Checker::finish` at the end of the stream, or at a failed read. No fetch and no publish comes after it, and the report is final.
+    /// Called when the checker is over: by `Checker::feed` after the first bad line, or if memory ran out in a line; by `Checker::finish`
+    /// at the end of the stream, or at a failed read. No fetch and no publish comes after it, and the report is final. That it is called
+    /// once, no clause says: the code does so, and tests of both calls show it.
     fn when_over(&mut self, _stream: u64, _report: &Report) {}
 }

@@ -1,5 +1,5 @@
 //! How one line is checked against a clause map, and counted if it is good.
-ghost use Rattle.std.specs.Prelude.{◌≡◌, ◌<◌, ◌^◌, ℕ};
+ghost use Rattle.std.specs.Prelude.{◌≡◌, ◌<◌, ◌^◌, ℕ, IsErrOf};
 ghost use Rattle.lrup_model.specs.Event.{History};
 ghost use Rattle.lrup_text.specs.Lines.{IsWithinLimits, Addition, Deletion, Import, line_of};
 ghost use Rattle.stream_check.specs.internal.Taking.{IsReady, TakesBy};
@@ -51,6 +51,7 @@ fn take_deletion<M: ClauseMap>(
         let left = (M.caller_view map.new).room in
         (es : History) × M.moves map.old map.new es
         × ((lead : ℕ) → TakesBy state.old free state.new left (Deletion lead ids.now) es result) }
+    ensures full { IsErrOf result LineStop.Memory → state.new.dropped.spare ≡ 0 }
     ensures ready { IsReady state.new (M.caller_view map.new) }
     ensures params { state.new.params ≡ state.old.params }
 {
@@ -101,6 +102,7 @@ pub fn take_line<M: ClauseMap, G: Gate>(
         let left = (M.caller_view map.new).room in
         (es : History) × M.moves map.old map.new es
         × TakesBy state.old free state.new left (line_of line.entry) es result }
+    ensures full { IsErrOf result LineStop.Memory → state.new.dropped.spare ≡ 0 }
     ensures ready { IsReady state.new (M.caller_view map.new) }
     ensures params { state.new.params ≡ state.old.params }
     ensures variables { scratch.new.vars ≡ scratch.old.vars }

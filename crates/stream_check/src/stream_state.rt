@@ -131,7 +131,7 @@ impl StreamState {
     pub fn drop_shared(&mut self, id: Id) -> Result<(), LineStop>
         ensures drops { DropsShared id self.old.dropped.ids self.new.dropped.ids result }
         ensures count { length self.new.dropped.ids ≡ length self.old.dropped.ids + counted result }
-        ensures spare { IsErrOf result LineStop.Memory → self.old.dropped.spare ≡ 0 }
+        ensures full { IsErrOf result LineStop.Memory → self.new.dropped.spare ≡ 0 }
         ensures kept { self.new ≡ record self.old { dropped = self.new.dropped } }
     {
         if self.dropped.has(id) {

@@ -12,6 +12,7 @@ use Rattle.stream_check.specs.CheckerValue.{Tally, report_of_tally, CheckerValue
 use Rattle.stream_check.specs.Judging.{JudgesBlocks}
 use Rattle.stream_check.specs.Laws.{OverStays}
 use Rattle.stream_check.specs.Reaching.{CheckerState, Over, ReachesState}
+use Rattle.stream_check.specs.Stopping.{IsFullAtMemory}
 use Rattle.stream_check.specs.StreamParams.{StreamParams}
 use Rattle.stream_check.specs.StreamContext.{is_among}
 use Rattle.stream_check.specs.lemmas.StoppingLemmas.{drops_longer}
@@ -32,7 +33,7 @@ over_takes : OverStays
     → Extends c old (used ++ rest) blocks (checker_state v free)
 over_takes stays c old used rest blocks v free ending is reaches bytes before left =
     let report = report_of_tally v.tally ending in
-    let is_dropped : ℕ → Bool = is_among v.dropped in
+    let is_dropped : ℕ → Bool = is_among v.dropped.ids in
     let over : checker_state v free ≡ Over report is_dropped = ap (state_by v free) is in
     let taken = subst (ReachesState c (bytes ++ used) (before ++ blocks)) over (reaches bytes before left) in
     let all = subst (λ (t : List ℕ). ReachesState c t (before ++ blocks) (Over report is_dropped)) (append_assoc bytes used rest) (
@@ -78,8 +79,9 @@ ends_by (Some ending) end v u is ends =
 pub at_mark : (start v u : CheckerValue) (room free : ℕ) (bytes items : List ℕ) (blocks : List History) (end : StreamEnd) (report : Report)
     → EndsAtMark bytes end items → v.params ≡ start.params
     → Extends start.params (checker_state start room) bytes blocks (checker_state v free) → Ends end v u → ReportsEnd end v u
-    → IfSome u.ending (λ ending. report ≡ report_of_tally u.tally ending) → JudgesAtMark start room items blocks u.dropped report
-at_mark start v u room free bytes items blocks end report marked params left ends reports told =
+    → IfSome u.ending (λ ending. report ≡ report_of_tally u.tally ending) → IsFullAtMemory report.ending u.dropped
+    → JudgesAtMark start room items blocks u.dropped report
+at_mark start v u room free bytes items blocks end report marked params left ends reports told full =
     let by = ends_by v.ending end v u refl ends in
     let tells = λ (e : Option Ending). IfSome e (λ ending. report ≡ report_of_tally u.tally ending) in
     record {
@@ -93,6 +95,7 @@ at_mark start v u room free bytes items blocks end report marked params left end
         are = by.2;
         end = end;
         reports = subst tells by.0 told ∙ ap (λ (t : Tally). report_of_tally t (ending_with v.ending end v)) by.1;
+        full = full;
       };
       judged = λ fresh.
           let reached = subst (λ (c : StreamParams). ReachesState c bytes blocks (checker_state v free)) (sym params) (left [] [] fresh) in

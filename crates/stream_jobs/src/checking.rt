@@ -101,7 +101,7 @@ pub fn check_on_signal<'a, W: Wait, G: Gate + Drop, M: ClauseMap>(
     ensures judged { IfOk result (λ checked. IfSome checked.report (λ report.
         (blocks : List History) × M.moves map.old map.new (joined blocks)
         × JudgesAtMark job.checker (M.caller_view map.old).room (received checked.consumer)
-        blocks checked.dropped.ids report)) }
+        blocks checked.dropped report)) }
     ensures no_mark { IfOk result (λ checked.
         IfNone checked.report (EndsBeforeMark (received checked.consumer))) }
 {

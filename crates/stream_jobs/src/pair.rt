@@ -8,6 +8,7 @@ ghost use Rattle.runs.specs.Streams.{Stream, JudgesStream};
 ghost use Rattle.stream_check.specs.declared.report.Report.{Report};
 ghost use Rattle.stream_check.specs.Checker.{IsNew, checker_state};
 ghost use Rattle.stream_check.specs.CheckerValue.{CheckerValue};
+ghost use Rattle.stream_check.specs.DroppedIdsValue.{DroppedIdsValue};
 ghost use Rattle.stream_check.specs.Reaching.{ReachesState};
 ghost use Rattle.stream_jobs.specs.Judged.{DropsBy, JudgesAtMark};
 ghost use Rattle.stream_ring.specs.Items.{SendsAll};
@@ -63,15 +64,15 @@ pub fn jobs_agree<R: Source + Drop>(sent: &mut Sent<R>, checked: &mut Checked)
         → (stream : Stream) × IsSome stream.end
         × IsStreamOf (readers_view R.Source) first sent.old.reader stream }
     ensures judged { (first : R) (v : CheckerValue) (room : ℕ)
-        (blocks : List History) (ids : List ℕ) (report : Report)
+        (blocks : List History) (dropped : DroppedIdsValue) (report : Report)
         → SendsAll _ (readers_view R.Source) first sent.old.reader
         (Rattle.rtrb.specs.Ring.sent sent.old.producer)
-        → JudgesAtMark v room (received checked.old.consumer) blocks ids report
+        → JudgesAtMark v room (received checked.old.consumer) blocks dropped report
         → ReachesState v.params [] [] (checker_state v room)
         → (stream : Stream) × IsSome stream.end
         × IsStreamOf (readers_view R.Source) first sent.old.reader stream
         × JudgesStream v.params stream blocks report
-        × DropsBy v room stream.bytes blocks ids report }
+        × DropsBy v room stream.bytes blocks dropped report }
 {
     halves_agree(&mut sent.producer, &mut checked.consumer);
 }

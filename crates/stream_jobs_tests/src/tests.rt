@@ -1,11 +1,12 @@
 //! The two jobs of a stream, in two threads: that they do come to a report, that no line waits for the next one, and that nobody
 //! is left asleep, which no contract says.
-ghost use Rattle.std.specs.Prelude.{◌≡◌, ◌<◌, ◌≤◌, [], None, false, IfOk, IfSome};
+ghost use Rattle.std.specs.Prelude.{◌≡◌, ◌<◌, ◌≤◌, [], None, Some, false, IfOk, IfSome};
 ghost use Rattle.lrup_model.specs.Layout.{IsStream};
 ghost use Rattle.lrup_model.specs.Plain.{plain_caller_view};
 ghost use Rattle.rtrb.specs.Ring.{IsPair, SameConsumer, SameProducer};
 ghost use Rattle.stream_check.specs.Checker.{IsNew, IsReadyAt};
 ghost use Rattle.stream_check.specs.StreamParams.{max_tries};
+ghost use Rattle.lrup_text.specs.Reads.{GivesLeft};
 
 use checker_support::open_map;
 use lrup_model::{Cube, Id, Layout, PlainMap};
@@ -291,6 +292,9 @@ impl Source for Counted<'_> {
 
     ghost has_failed = { λ s. s.pieces.failed };
 
+    ghost reads = { λ before room given after.
+        GivesLeft (Some before.pieces.left.now) room given (Some after.pieces.left.now) };
+
     fn read(&mut self, buffer: &mut [u8]) -> Result<usize, ReadFault> {
         self.counters.add(&self.counters.reads);
         self.pieces.read(buffer)
@@ -389,6 +393,8 @@ impl<C: Clock> Source for Steps<'_, C> {
 
     ghost has_failed = { λ _. false };
 
+    ghost reads = { λ _ _ _ _. Unit {0} };
+
     fn read(&mut self, buffer: &mut [u8]) -> Result<usize, ReadFault> {
         self.counters.wait(&self.counters.publishes, self.given);
         let Some((line, rest)) = self.lines.split_first() else {
@@ -475,6 +481,8 @@ impl Source for Endless {
     ghost left = { λ _. None };
 
     ghost has_failed = { λ _. false };
+
+    ghost reads = { λ _ _ _ _. Unit {0} };
 
     fn read(&mut self, buffer: &mut [u8]) -> Result<usize, ReadFault> {
         if !self.head.is_empty() {

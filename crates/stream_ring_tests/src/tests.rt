@@ -70,6 +70,8 @@ impl Source for Stream {
 
     ghost has_failed = { λ s. s.failed };
 
+    ghost reads = { λ _ _ _ _. Unit {0} };
+
     fn read(&mut self, buffer: &mut [u8]) -> Result<usize, ReadFault> {
         if self.left == 0 && self.fails {
             self.failed = true;
@@ -346,6 +348,8 @@ impl<C: Clock> Source for Steps<'_, C> {
     ghost left = { λ _. None };
 
     ghost has_failed = { λ _. false };
+
+    ghost reads = { λ _ _ _ _. Unit {0} };
 
     fn read(&mut self, buffer: &mut [u8]) -> Result<usize, ReadFault> {
         if !waits_for(self.heard, self.given) {

@@ -13,6 +13,7 @@ use Rattle.clause_store.specs.Desks.{desk_caller_view, DeskMoves}
 use Rattle.clause_store.specs.declared.desk.Desk.{Desk}
 use Rattle.stream_check.specs.declared.report.Report.{Report}
 use Rattle.stream_check.specs.CheckerValue.{CheckerValue}
+use Rattle.stream_check.specs.DroppedIdsValue.{DroppedIdsValue}
 use Rattle.stream_check.specs.Judging.{joined}
 use Rattle.stream_jobs.specs.Judged.{JudgesAtMark}
 use Rattle.lrup_text.specs.ReadOut.{SourceView}
@@ -26,15 +27,16 @@ use Rattle.runs.specs.lemmas.EachLemmas.{zip_count}
 use Rattle.runs.specs.Streams.{RunParamsValue}
 
 -- what was judged at a desk was judged at its pass
-pub judged_at : (v : CheckerValue) (old new : Desk) (from to : PassValue) (items ids : List ℕ) (report : Option Report)
+pub judged_at : (v : CheckerValue) (old new : Desk) (from to : PassValue) (items : List ℕ) (dropped : DroppedIdsValue)
+    (report : Option Report)
     → old.pass ≡ from → to ≡ new.pass
     → IfSome report (λ r. (blocks : List History) × DeskMoves old new (joined blocks)
-    × JudgesAtMark v (desk_caller_view old).room items blocks ids r)
-    → IfSome report (JudgesAtPass v from to items ids)
-judged_at v old new from to items ids None first last judged = tt
-judged_at v old new from to items ids (Some r) first last judged =
-    subst (λ (p : PassValue). JudgesAtPass v p to items ids r) first
-    (subst (λ (q : PassValue). JudgesAtPass v old.pass q items ids r) (sym last)
+    × JudgesAtMark v (desk_caller_view old).room items blocks dropped r)
+    → IfSome report (JudgesAtPass v from to items dropped)
+judged_at v old new from to items dropped None first last judged = tt
+judged_at v old new from to items dropped (Some r) first last judged =
+    subst (λ (p : PassValue). JudgesAtPass v p to items dropped r) first
+    (subst (λ (q : PassValue). JudgesAtPass v old.pass q items dropped r) (sym last)
     (record { store = judged.1.store; blocks = judged.0; moves = judged.1.moves; judged = judged.2 }))
 
 -- one more of a list was taken and put at the end of another

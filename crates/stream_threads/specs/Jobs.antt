@@ -68,8 +68,7 @@ pub record Finishes {S : Type 0} (view : SourceView S) (jobs : StreamJobsValue S
       → (stream : Stream) × IsSome stream.end × IsStreamOf view jobs.reader found.reader stream
       × JudgesStream jobs.checker.params stream blocks found.report
       × DropsBy jobs.checker (pass_caller_view jobs.pass.view).room stream.bytes blocks
-      found.dropped.ids
-      found.report
+      found.dropped found.report
 
 -- what was found of each stream, in order
 abbrev pub AllFinish : {S : Type 0} → SourceView S → List (StreamJobsValue S)

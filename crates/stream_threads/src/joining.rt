@@ -86,7 +86,7 @@ fn result_of<R: Source + Drop>(mut sent: Sent<R>, checked: CheckedPass) -> Optio
         → SendsAll _ (readers_view R.Source) jobs.reader
         sent.reader (Rattle.rtrb.specs.Ring.sent sent.producer)
         → IfSome checked.checked.report (JudgesAtPass jobs.checker jobs.pass checked.pass
-        (received checked.checked.consumer) checked.checked.dropped.ids)
+        (received checked.checked.consumer) checked.checked.dropped)
         → IfNone checked.checked.report (EndsBeforeMark (received checked.checked.consumer))
         → IsEndOf (readers_view R.Source) jobs result }
 {
@@ -215,8 +215,9 @@ fn signal_start<'a, W: Wait>(
     }
 }
 
-/// Reads and checks all streams, each in two threads of its own, and returns their results, in order, when all threads have ended. No
-/// reader is read before all threads have started. If one can't be started, those that were leave at once. It blocks while a reader does.
+/// Reads and checks all streams, each in two threads of its own, and returns their results, in order, when all threads have ended. By
+/// the code no reader is read before all threads have started, and if one can't be started, those that were leave at once. It blocks while
+/// a reader does.
 /// A ring has failed if a checking thread received no mark: the fault has the results of the streams before the first such stream.
 pub fn check_all<T: Threads + Wait + Sync, R: Source + Send + Drop, G: Gate + Send + Drop>(
     threads: &T,

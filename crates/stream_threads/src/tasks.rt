@@ -51,7 +51,7 @@ impl<'a, G: Gate + Drop> Promise<Result<CheckedPass, OnceToken<'a, bool>>> for C
     ghost kept_by = { λ task end. MatchResult end (λ found.
         SameConsumer task.job.value.receiver.consumer found.checked.consumer
         × IfSome found.checked.report (JudgesAtPass task.job.value.checker task.pass.value found.pass
-        (received found.checked.consumer) found.checked.dropped.ids)
+        (received found.checked.consumer) found.checked.dropped)
         × IfNone found.checked.report (EndsBeforeMark (received found.checked.consumer)))
         (λ token. (token.of ≡ task.signal.value.id) × (token.value ≡ false)) };
 }
@@ -88,7 +88,7 @@ pub(crate) fn check<'a, W: Wait, G: Gate + Drop>(
     ensures ring { IfOk result (λ e. SameConsumer job.receiver.consumer e.checked.consumer) }
     ensures judged { IfOk result (λ e. IfSome e.checked.report
         (JudgesAtPass job.checker pass e.pass (received e.checked.consumer)
-        e.checked.dropped.ids)) }
+        e.checked.dropped)) }
     ensures no_mark { IfOk result (λ e.
         IfNone e.checked.report (EndsBeforeMark (received e.checked.consumer))) }
 {

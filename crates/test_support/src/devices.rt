@@ -1,5 +1,6 @@
 //! A reader and a writer that take few bytes a call, and fail at one.
 ghost use Rattle.std.specs.Prelude.{◌≡◌, [], Some, false};
+ghost use Rattle.lrup_text.specs.Reads.{GivesLeft};
 
 use lrup_text::{ReadFault, Sink, Source, WriteFault};
 use std::alloc::Global;
@@ -42,6 +43,9 @@ impl Source for Pieces<'_> {
     ghost left = { λ s. Some s.left.now };
 
     ghost has_failed = { λ s. s.failed };
+
+    ghost reads = { λ before room given after.
+        GivesLeft (Some before.left.now) room given (Some after.left.now) };
 
     fn read(&mut self, buffer: &mut [u8]) -> Result<usize, ReadFault> {
         self.reads = self.reads.saturating_add(1);

@@ -1,5 +1,6 @@
 //! A file that changes after its first opening, and what status 0 says of it.
 ghost use Rattle.std.specs.Prelude.{◌≡◌, ◌++◌, ◌<◌, ℕ, List, [], IsTrue, None, Some, false, true};
+ghost use Rattle.command.specs.declared.files.OpenFault.TheVariants.{NotOpened};
 ghost use Rattle.dimacs.specs.FormulaText.{IsFormulaText};
 ghost use Rattle.lrup_model.specs.Entailment.{IsUnsatisfiable};
 ghost use Rattle.lrup_model.specs.Formula.{Cnf};
@@ -57,6 +58,20 @@ impl<'a> Machine for Changing<'a> {
     type Output = Nowhere;
 
     type Watcher = Nowhere;
+
+    ghost lacks = { λ _ _ _. ⊥ };
+
+    ghost fails = { λ _ _ _ _. ⊥ };
+
+    ghost creates = { λ _ _ _ _. ⊥ };
+
+    ghost refuses_new = { λ before _ fault after. (fault ≡ NotOpened) × (after ≡ before) };
+
+    ghost keeps = { λ _ _ _. ⊥ };
+
+    ghost loses = { λ before _ after. after ≡ before };
+
+    ghost discards = { λ before _ after. after ≡ before };
 
     fn open_if_there(&mut self, path: &str) -> Result<Option<Account<'a>>, OpenFault> {
         Ok(Some(self.open(path)?))

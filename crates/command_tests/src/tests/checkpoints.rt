@@ -70,6 +70,10 @@ impl<'a> Files for Folder<'a> {
 
     ghost tells = { λ _ _. None };
 
+    ghost opens = { λ _ _ _ _. Unit {0} };
+
+    ghost refuses = { λ _ _ _ _. Unit {0} };
+
     fn open(&mut self, path: &str) -> Result<OpenFile<'a>, OpenFault> {
         self.shelf.open(path)
     }
@@ -79,6 +83,20 @@ impl<'a> Machine for Folder<'a> {
     type Output = Page<'a>;
 
     type Watcher = Nowhere;
+
+    ghost lacks = { λ _ _ _. Unit {0} };
+
+    ghost fails = { λ _ _ _ _. Unit {0} };
+
+    ghost creates = { λ _ _ _ _. Unit {0} };
+
+    ghost refuses_new = { λ _ _ _ _. Unit {0} };
+
+    ghost keeps = { λ _ _ _. Unit {0} };
+
+    ghost loses = { λ _ _ _. Unit {0} };
+
+    ghost discards = { λ _ _ _. Unit {0} };
 
     fn open_if_there(&mut self, path: &str) -> Result<Option<OpenFile<'a>>, OpenFault> {
         self.shelf.open_if_there(path)

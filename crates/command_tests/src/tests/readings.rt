@@ -1,5 +1,7 @@
 //! How the formula's file is read: what each read asks for, and how many reads there are.
-ghost use Rattle.std.specs.Prelude.{None, true};
+ghost use Rattle.std.specs.Prelude.{◌≡◌, None, Some, true};
+ghost use Rattle.command.specs.declared.files.OpenFault.TheVariants.{NotOpened};
+ghost use Rattle.lrup_text.specs.Reads.{GivesLeft};
 
 use super::*;
 use std::sync::atomic::{AtomicU64, Ordering};
@@ -42,6 +44,9 @@ impl Source for NotedFile<'_> {
 
     ghost has_failed = { λ f. f.text.failed };
 
+    ghost reads = { λ before room given after.
+        GivesLeft (Some before.text.left.now) room given (Some after.text.left.now) };
+
     fn read(&mut self, buffer: &mut [u8]) -> Result<usize, ReadFault> {
         self.reads.note(buffer.len());
         self.text.read(buffer)
@@ -65,6 +70,10 @@ impl<'a> Files for FormulaAlone<'a> {
 
     ghost tells = { λ _ _. None };
 
+    ghost opens = { λ before _ _ after. after ≡ before };
+
+    ghost refuses = { λ before _ fault after. (fault ≡ NotOpened) × (after ≡ before) };
+
     fn open(&mut self, path: &str) -> Result<NotedFile<'a>, OpenFault> {
         if path != "f" {
             return Err(OpenFault::NotOpened);
@@ -80,6 +89,20 @@ impl<'a> Machine for FormulaAlone<'a> {
     type Output = Nowhere;
 
     type Watcher = Nowhere;
+
+    ghost lacks = { λ before _ after. after ≡ before };
+
+    ghost fails = { λ _ _ _ _. Unit {0} };
+
+    ghost creates = { λ _ _ _ _. ⊥ };
+
+    ghost refuses_new = { λ before _ fault after. (fault ≡ NotOpened) × (after ≡ before) };
+
+    ghost keeps = { λ _ _ _. ⊥ };
+
+    ghost loses = { λ before _ after. after ≡ before };
+
+    ghost discards = { λ before _ after. after ≡ before };
 
     fn open_if_there(&mut self, path: &str) -> Result<Option<NotedFile<'a>>, OpenFault> {
         if path != "f" {

@@ -76,6 +76,10 @@ impl<'a> Files for Binder<'a> {
 
     ghost tells = { λ _ _. None };
 
+    ghost opens = { λ _ _ _ _. Unit {0} };
+
+    ghost refuses = { λ _ _ _ _. Unit {0} };
+
     fn open(&mut self, path: &str) -> Result<OpenFile<'a>, OpenFault> {
         let Some(thing) = self.thing_at(path) else {
             return self.shelf.open(path);
@@ -94,6 +98,20 @@ impl<'a> Machine for Binder<'a> {
     type Output = Sheet;
 
     type Watcher = Ear<'a>;
+
+    ghost lacks = { λ _ _ _. Unit {0} };
+
+    ghost fails = { λ _ _ _ _. Unit {0} };
+
+    ghost creates = { λ _ _ _ _. Unit {0} };
+
+    ghost refuses_new = { λ _ _ _ _. Unit {0} };
+
+    ghost keeps = { λ _ _ _. Unit {0} };
+
+    ghost loses = { λ _ _ _. Unit {0} };
+
+    ghost discards = { λ _ _ _. Unit {0} };
 
     fn open_if_there(&mut self, path: &str) -> Result<Option<OpenFile<'a>>, OpenFault> {
         if let Some(clock) = self.clock {

@@ -1,5 +1,6 @@
 //! Files that tell their bytes, and what status 0 says of them.
 ghost use Rattle.std.specs.Prelude.{◌≡◌, [], ◌∷◌, IsTrue, Some, codes, cond, false, length, nat_eq, true};
+ghost use Rattle.command.specs.declared.files.OpenFault.TheVariants.{NotOpened};
 ghost use Rattle.command_line.specs.CommandLine.{IsCommandLineOf};
 ghost use Rattle.command_line.specs.declared.words.CommandLine.{CommandLine};
 ghost use Rattle.dimacs.specs.FormulaText.{IsFormulaText};
@@ -23,6 +24,8 @@ impl<'a> Files for Told<'a> {
     ghost tells = { λ files path.
         Some (cond (nat_eq (length path) 1) files.formula.now files.stream.now) };
 
+    ghost opens = { λ before _ _ after. after ≡ before };
+
     ghost refuses = { λ _ _ _ _. ⊥ };
 
     fn open(&mut self, path: &str) -> Result<Pieces<'a>, OpenFault> {
@@ -39,6 +42,20 @@ impl<'a> Machine for Told<'a> {
     type Output = Nowhere;
 
     type Watcher = Nowhere;
+
+    ghost lacks = { λ _ _ _. ⊥ };
+
+    ghost fails = { λ _ _ _ _. ⊥ };
+
+    ghost creates = { λ _ _ _ _. ⊥ };
+
+    ghost refuses_new = { λ before _ fault after. (fault ≡ NotOpened) × (after ≡ before) };
+
+    ghost keeps = { λ _ _ _. ⊥ };
+
+    ghost loses = { λ before _ after. after ≡ before };
+
+    ghost discards = { λ before _ after. after ≡ before };
 
     fn open_if_there(&mut self, path: &str) -> Result<Option<Pieces<'a>>, OpenFault> {
         Ok(Some(self.open(path)?))

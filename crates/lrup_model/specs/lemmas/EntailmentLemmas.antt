@@ -11,10 +11,10 @@ use Rattle.lrup_model.specs.Entailment.{Assignment, MakesTrue, Satisfies, Satisf
 use Rattle.lrup_model.specs.Layout.{LayoutValue}
 use Rattle.lrup_model.specs.Event as events
 use Rattle.lrup_model.specs.Event.{Event, History}
-use Rattle.lrup_model.specs.State.{State, Slot, absent, live, retired, retire_slot, after, opening, run, state}
+use Rattle.lrup_model.specs.State.{State, Slot, absent, live, retired, retire_slot, after, opening, run, state, HasClause}
 use Rattle.lrup_model.specs.History.{IsAllowed, LegalFrom}
 use Rattle.lrup_model.specs.Propagation.{IsUnit, Refutes, Accepts}
-use Rattle.lrup_model.specs.lemmas.HistoryLemmas.{HasClause, put, put-same, put-other, opening-formula, opening-above, opening-none}
+use Rattle.lrup_model.specs.lemmas.HistoryLemmas.{put, put-same, put-other, opening-formula, opening-above, opening-none}
 use Rattle.lrup_model.specs.declared.clause_map.Published.TheVariants as publishing
 use Rattle.lrup_model.specs.declared.clause_map.Retired.TheVariants as retiring
 

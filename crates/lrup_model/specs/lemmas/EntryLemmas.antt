@@ -1,4 +1,4 @@
--- Lemmas on what a legal history does to an entry: who changes it, and how.
+-- Lemmas on what a legal history does to an entry.
 use Rattle.std.proofs.Common.{ℕ, refl, sym, subst, ◌∙◌, inl, inr, [], ◌∷◌}
 use Rattle.std.specs.List.{AllByRecursion}
 use Rattle.std.proofs.lemmas.Bool.{cases_eq}
@@ -7,33 +7,12 @@ use Rattle.lrup_model.specs.Formula.{Cnf}
 use Rattle.lrup_model.specs.Layout.{LayoutValue}
 use Rattle.lrup_model.specs.Event as events
 use Rattle.lrup_model.specs.Event.{Event, History, published}
-use Rattle.lrup_model.specs.State.{State, Slot, absent, live, retired, IsLive, IsRetired, retire_slot, after, run, Answers}
-use Rattle.lrup_model.specs.History.{IsAllowed, LegalFrom}
+use Rattle.lrup_model.specs.State.{State, Slot, absent, live, retired, IsLive, IsRetired, retire_slot, after, run, Answers, HasClause}
+use Rattle.lrup_model.specs.History.{LegalFrom}
 use Rattle.lrup_model.specs.Laws.{Advances}
-use Rattle.lrup_model.specs.lemmas.HistoryLemmas.{HasClause, put, put-same, put-other}
+use Rattle.lrup_model.specs.lemmas.HistoryLemmas.{put, put-same, put-other}
 use Rattle.lrup_model.specs.declared.clause_map.Published.TheVariants as publishing
 use Rattle.lrup_model.specs.declared.clause_map.Retired.TheVariants as retiring
-use Rattle.lrup_model.specs.Layout.{Owns}
-
--- the event changes an identity of its own stream, if any
-abbrev pub IsByOwner : LayoutValue → Event → Type 0
-IsByOwner p (events.fetch s id r) = Unit {0}
-IsByOwner p (events.publish s id c r) = Owns p s id
-IsByOwner p (events.retire s id r) = Owns p s id
-
--- By its owner alone
-
-pub IsByOwner-from_allowed : (f : Cnf) (p : LayoutValue) (e : Event) → IsAllowed f p e
-    → IsByOwner p e
-IsByOwner-from_allowed f p (events.fetch s id r) allowed = tt
-IsByOwner-from_allowed f p (events.publish s id c r) allowed = allowed.0
-IsByOwner-from_allowed f p (events.retire s id r) allowed = allowed
-
--- in a legal history each publish and each retire is by the stream that owns the identity
-pub owners_act : (f : Cnf) (p : LayoutValue) (m : State) (h : History) → LegalFrom f p m h
-    → AllByRecursion (IsByOwner p) h
-owners_act f p m [] legal = tt
-owners_act f p m (e ∷ h) legal = (IsByOwner-from_allowed f p e legal.1, owners_act f p (after m e) h legal.2)
 
 -- From absent to live to retired
 

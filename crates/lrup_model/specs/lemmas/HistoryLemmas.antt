@@ -10,13 +10,12 @@ use Rattle.lrup_model.specs.Layout.{LayoutValue, Fits, Owns, owner, last_identit
 use Rattle.lrup_model.specs.Event as events
 use Rattle.lrup_model.specs.Event.{Event, History, stream_of, own, spent, published, size_of}
 use Rattle.lrup_model.specs.State.{State, Slot, absent, live, retire_slot, after, opening, run, state, AreVacantAbove}
-use Rattle.lrup_model.specs.History.{IsAllowed, LegalFrom, IsLegal, IsPublishable}
+use Rattle.lrup_model.specs.History.{IsAllowed, LegalFrom, IsLegal}
 use Rattle.lrup_model.specs.lemmas.RunningLemmas.{spent-sizes, spent-append}
 use Rattle.lrup_model.specs.declared.clause_map.Published.TheVariants as publishing
 use Rattle.lrup_model.specs.declared.clause_map.Retired.TheVariants as retiring
 use Rattle.lrup_model.specs.declared.layout.Owner.{Owner}
 use Rattle.lrup_model.specs.declared.layout.Owner.TheVariants as owners
-use Rattle.lrup_model.specs.State.{retired}
 
 -- Both parts of a legal history
 
@@ -211,23 +210,7 @@ published-append (events.publish s id c publishing.Done ∷ g) h = ap (λ (ps : 
 published-append (events.publish s id c publishing.Taken ∷ g) h = published-append g h
 published-append (events.retire s id r ∷ g) h = published-append g h
 
--- each clause that a legal history published follows from the formula
-pub published_follow : (f : Cnf) (p : LayoutValue) (m : State) (h : History) → LegalFrom f p m h
-    → AllByRecursion (λ x. IsPublishable f x.1) (published h)
-published_follow f p m [] legal = tt
-published_follow f p m (events.fetch s id r ∷ h) legal = published_follow f p m h legal.2
-published_follow f p m (events.publish s id c publishing.Done ∷ h) legal = (legal.1.1, published_follow f p (put m id (live c)) h legal.2)
-published_follow f p m (events.publish s id c publishing.Taken ∷ h) legal = published_follow f p m h legal.2
-published_follow f p m (events.retire s id retiring.Done ∷ h) legal = published_follow f p (put m id (retire_slot (m id))) h legal.2
-published_follow f p m (events.retire s id retiring.NotLive ∷ h) legal = published_follow f p m h legal.2
-
 -- what a legal history has at a stream's own identity depends on that stream's calls alone
 pub own_calls_decide : (f : Cnf) (p : LayoutValue) (h : History) (s id : ℕ)
     → LegalFrom f p (opening f) h → Owns p s id → state f h id ≡ state f (own h s) id
 own_calls_decide f p h s id legal owns = run-own f p (opening f) (opening f) h s id legal owns refl
-
--- the slot has the clause, live or retired
-abbrev pub HasClause : Slot → Clause → Type 0
-HasClause absent c = ⊥
-HasClause (live d) c = d ≡ c
-HasClause (retired d) c = d ≡ c

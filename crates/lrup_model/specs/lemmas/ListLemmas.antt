@@ -36,13 +36,6 @@ taken_next {X} {C} f xs x ys zs y all first same before =
     ap (λ (l : List C). l ++ zs) (map-append f xs (x ∷ [])) ∙ append_assoc (map f xs) (f x ∷ []) zs
     ∙ ap (λ (c : C). map f xs ++ (c ∷ zs)) same ∙ ap (λ (l : List C). map f xs ++ l) (sym first) ∙ before
 
--- so it is where the rest are values of others
-pub taken_first : {X Y C : Type 0} (f : X → C) (h : Y → C) (xs : List X) (x : X) (ys zs : List Y)
-    (y : Y) (all : List C) → ys ≡ y ∷ zs → f x ≡ h y
-    → map f xs ++ map h ys ≡ all → map f (xs ++ x ∷ []) ++ map h zs ≡ all
-taken_first {X} {Y} {C} f h xs x ys zs y all first =
-    taken_next f xs x (map h ys) (map h zs) (h y) all (ap (λ (l : List Y). map h l) first)
-
 -- an iterator over a list's values that gives no more has none left
 pub iter_end : {A Z : Type 0} (s t : IntoIter A Z) → into_iter_steps s None t
     → into_iter_items s ≡ []

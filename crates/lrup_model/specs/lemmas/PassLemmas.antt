@@ -1,5 +1,5 @@
 -- Lemmas on passes: the laws of a caller's view at a clause map, what stays spelt, one call, and meeting.
-use Rattle.std.proofs.Common.{◌≡◌, ◌≢◌, ℕ, ◌+◌, ◌≤◌, List, [], ◌∷◌, ◌++◌, length, Option, None, Some, refl, sym, ap, ap₂, subst, ◌∙◌, arith, append_assoc, append-nil}
+use Rattle.std.proofs.Common.{◌≡◌, ◌≢◌, ℕ, ◌+◌, ◌≤◌, List, [], ◌∷◌, ◌++◌, length, Option, Some, refl, sym, ap, ap₂, subst, ◌∙◌, arith, append_assoc, append-nil}
 use Rattle.std.specs.List.{AllByRecursion}
 use Rattle.std.proofs.lemmas.List.{append_cancel_right}
 use Rattle.lrup_model.specs.Clause.{Clause}
@@ -8,16 +8,13 @@ use Rattle.lrup_model.specs.Entailment.{IsDerived}
 use Rattle.lrup_model.specs.Layout.{LayoutValue, Owns}
 use Rattle.lrup_model.specs.Event as events
 use Rattle.lrup_model.specs.Event.{Event, Reply, History, stream_of, own, spent}
-use Rattle.lrup_model.specs.State.{State, Slot, absent, live, retired, IsRetired, Answers, opening, run, state}
+use Rattle.lrup_model.specs.State.{State, Slot, absent, live, retired, IsRetired, Answers, opening, state, HasClause}
 use Rattle.lrup_model.specs.History.{IsLegal}
 use Rattle.lrup_model.specs.lemmas.RunningLemmas.{run-append, own-append, spent-append, callers-append}
 use Rattle.lrup_model.specs.CallerView.{Caller, IsCaller, StoredClause, CallerView, ClipValue, literals_in, clip_clause, IsKnown, CallerStep, AllFollow, KeepsSpelt}
 use Rattle.lrup_model.specs.Replies.{AnswersOwn, AnswersFormula}
 use Rattle.lrup_model.specs.Pass.{View, Spelling, stored_in, Spells, IsSpelt, IsFair, PassMoves, pass_caller_view, SyncViews, SyncInTurn, AreSynced, AllSaw}
-use Rattle.lrup_model.specs.Laws.{Advances}
-use Rattle.lrup_model.specs.lemmas.HistoryLemmas.{HasClause}
 use Rattle.lrup_model.specs.lemmas.EntailmentLemmas.{clauses_follow}
-use Rattle.lrup_model.specs.lemmas.EntryLemmas.{run-advances, has_stays}
 use Rattle.lrup_model.specs.lemmas.HistoryLemmas.{legal-front, legal-back, formula_stays, own-mine, own-none, spent-own, run-own}
 
 -- The laws of a caller's view
@@ -113,27 +110,6 @@ fair_follows v fair = record {
       clauses_follow v.caller.formula v.caller.layout v.seen id stored.literals fair.caller.formula fair.legal.events
       (stored_has v.caller.formula v.seen v.spelt id stored fair.spelt there);
 }
-
--- what is stored for a slot that has a clause
-stored_for : (slot : Slot) (c : Clause) (o : Option StoredClause) → HasClause slot c → Spells slot o
-    → (stored : StoredClause) × (o ≡ Some stored) × (stored.literals ≡ c)
-stored_for absent c o has spells = absurd has
-stored_for (live d) c None has spells = absurd spells
-stored_for (live d) c (Some stored) has spells = (stored, refl, spells ∙ has)
-stored_for (retired d) c None has spells = absurd spells
-stored_for (retired d) c (Some stored) has spells = (stored, refl, spells ∙ has)
-
-pub spelt_stays : (f : Cnf) (p : LayoutValue) (seen more : History) (xs ys : List Spelling) (id : ℕ)
-    (stored : StoredClause)
-    → IsLegal f p (seen ++ more) → IsSpelt f seen xs → IsSpelt f (seen ++ more) ys
-    → stored_in xs id ≡ Some stored
-    → (later : StoredClause) × (stored_in ys id ≡ Some later) × (later.literals ≡ stored.literals)
-spelt_stays f p seen more xs ys id stored legal before after there =
-    let advances : Advances (state f seen id) (run (state f seen) more id) = run-advances f p (state f seen) more id (legal-back f p (opening f) seen more legal.events) in
-    let joined : run (state f seen) more id ≡ state f (seen ++ more) id = sym (ap (λ (m : State). m id) (run-append (opening f) seen more)) in
-    let has : HasClause (state f (seen ++ more) id) stored.literals =
-    has_stays (state f seen id) (state f (seen ++ more) id) stored.literals (subst (λ (x : Slot). Advances (state f seen id) x) joined advances) (stored_has f seen xs id stored before there) in
-    stored_for (state f (seen ++ more) id) stored.literals (stored_in ys id) has (after.slots id)
 
 -- One pass after another
 

@@ -114,4 +114,4 @@ pub record SerialEnd {S : Type 0} (view : SourceView S) (opened : Plain)
   pub goes : SerialStep view 0 opened workers 0 later ended
   pub reports_are : HaveReports ended reports
   pub readers_are : readers ≡ map (λ worker. worker.reader) ended
-  pub dropped_are : map (λ one. one.ids) dropped ≡ map (λ worker. worker.checker.dropped) ended
+  pub dropped_are : dropped ≡ map (λ worker. worker.checker.dropped) ended

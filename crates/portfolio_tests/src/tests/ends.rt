@@ -27,6 +27,8 @@ impl Source for Growing<'_> {
 
     ghost has_failed = { λ _. false };
 
+    ghost reads = { λ _ _ _ _. Unit {0} };
+
     fn read(&mut self, buffer: &mut [u8]) -> Result<usize, ReadFault> {
         self.reads = self.reads.saturating_add(1);
         if self.left.is_empty() {

@@ -108,6 +108,8 @@ impl Source for Blocks<'_> {
 
     ghost has_failed = { λ _. false };
 
+    ghost reads = { λ _ _ _ _. Unit {0} };
+
     fn read(&mut self, buffer: &mut [u8]) -> Result<usize, ReadFault> {
         self.reads = self.reads.saturating_add(1);
         let line: &[u8] = match self.reads {
@@ -227,6 +229,8 @@ impl Source for Announces<'_> {
 
     ghost has_failed = { λ _. false };
 
+    ghost reads = { λ _ _ _ _. Unit {0} };
+
     fn read(&mut self, buffer: &mut [u8]) -> Result<usize, ReadFault> {
         self.reads = self.reads.saturating_add(1);
         let line: &[u8] = match self.reads {
@@ -300,6 +304,8 @@ impl Source for Floods {
     ghost left = { λ _. None };
 
     ghost has_failed = { λ f. f.failed };
+
+    ghost reads = { λ _ _ _ _. Unit {0} };
 
     fn read(&mut self, buffer: &mut [u8]) -> Result<usize, ReadFault> {
         if self.left == 0 && self.fails {

@@ -1,5 +1,5 @@
 //! The worked rows as runs on one thread, and what the readers are asked for.
-ghost use Rattle.std.specs.Prelude.{◌≡◌, Some, None, false};
+ghost use Rattle.std.specs.Prelude.{◌≡◌, Some, None, [], false};
 ghost use Rattle.std.specs.List.{AllByRecursion};
 
 use super::{
@@ -572,6 +572,8 @@ impl Source for Watched<'_> {
     ghost left = { λ _. None };
 
     ghost has_failed = { λ _. false };
+
+    ghost reads = { λ _ _ given _. given ≡ Some [] };
 
     fn read(&mut self, _buffer: &mut [u8]) -> Result<usize, ReadFault> {
         self.read.set(true);

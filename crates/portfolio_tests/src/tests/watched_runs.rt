@@ -1,6 +1,7 @@
 //! Runs whose streams are watched: what is told of them, and when.
-ghost use Rattle.std.specs.Prelude.{◌≡◌, false, IfOk, None};
+ghost use Rattle.std.specs.Prelude.{◌≡◌, false, IfOk, None, Some};
 ghost use Rattle.std.specs.List.{AllByRecursion};
+ghost use Rattle.lrup_text.specs.Reads.{GivesLeft};
 
 use super::threads::{TURNS, readers_of_lines, second_fails, sixty_four_lines};
 use super::watching::{Hand, Pen, Tape};
@@ -148,6 +149,9 @@ impl Source for Late<'_> {
     ghost left = { λ _. None };
 
     ghost has_failed = { λ _. false };
+
+    ghost reads = { λ before room given after.
+        GivesLeft (Some before.text.now) room given (Some after.text.now) };
 
     fn read(&mut self, buffer: &mut [u8]) -> Result<usize, ReadFault> {
         let count = buffer.len().min(self.text.len());

@@ -1,5 +1,5 @@
 -- How a checker's value comes from its fields, and what these keep (this project's own).
-use Rattle.std.specs.Prelude.{◌≡◌, ◌≤◌, ◌<◌, ◌^◌, ◌+◌, ℕ, ℤ, nat_abs, Bool, true, false, List, [], length, Option, None, Result, Ok, Err}
+use Rattle.std.specs.Prelude.{◌≡◌, ◌≤◌, ◌<◌, ◌^◌, ◌+◌, ℕ, ℤ, nat_abs, Bool, true, false, List, [], length, Option, None, IfSome, Result, Ok, Err}
 use Rattle.std.specs.List.{AllByRecursion}
 use Rattle.lrup_model.specs.Clause.{IsClause, IsTautology}
 use Rattle.lrup_model.specs.Layout.{Owns}
@@ -12,6 +12,7 @@ use Rattle.stream_check.specs.DroppedIdsValue.{DroppedIdsValue}
 use Rattle.stream_check.specs.StreamParams.{StreamParams}
 use Rattle.stream_check.specs.StreamContext.{capped, StreamContext, is_among}
 use Rattle.stream_check.specs.Additions.{BeforeHints}
+use Rattle.stream_check.specs.Stopping.{IsFullAtMemory}
 use Rattle.stream_check.specs.CheckerValue.{Tally, CheckerValue}
 use Rattle.stream_check.specs.declared.params.Ownership.{Ownership}
 use Rattle.stream_check.specs.declared.params.Ownership.TheVariants as ownerships
@@ -98,19 +99,21 @@ value_of state pending ending = record {
   params = state.params;
   tally = tally_at state;
   last = state.last;
-  dropped = state.dropped.ids;
+  dropped = state.dropped;
   retired = state.retired;
   pending = pending;
   line = state.line;
   ending = ending;
 }
 
--- a checker that isn't over reads on, and its parts have one stream's parameters
-pub record IsSound (params : StreamParams) (vars : ℕ) (reader : ReaderState)
-    (ending : Option Ending) : Type 0 where
+-- A checker that isn't over reads on, one that ran out of memory has no room for a dropped identity, and its parts have one stream's
+-- parameters.
+pub record IsSound (params : StreamParams) (dropped : DroppedIdsValue) (vars : ℕ)
+    (reader : ReaderState) (ending : Option Ending) : Type 0 where
   pub reads : ending ≡ None → reader ≡ Ok (read_of reader)
   pub variables : params.layout.vars ≡ vars
   pub tries : params.tries < 2 ^ 63
+  pub full : IfSome ending (λ stopped. IsFullAtMemory stopped dropped)
 
 -- how often a hint of this ownership is fetched again at most, if another stream's is fetched again so often
 abbrev pub tries_on : Ownership → ℕ → ℕ

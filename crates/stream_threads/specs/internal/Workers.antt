@@ -7,6 +7,7 @@ use Rattle.lrup_model.specs.Pass.{PassMoves, pass_caller_view}
 use Rattle.clause_store.specs.Passes.{PassValue, store_of}
 use Rattle.stream_check.specs.declared.report.Report.{Report}
 use Rattle.stream_check.specs.CheckerValue.{CheckerValue}
+use Rattle.stream_check.specs.DroppedIdsValue.{DroppedIdsValue}
 use Rattle.stream_check.specs.Judging.{joined}
 use Rattle.stream_jobs.specs.Judged.{JudgesAtMark}
 
@@ -38,11 +39,11 @@ started_with signal jobs = record { jobs = jobs; signal = signal }
 -- The report judges the bytes received up to a mark by the calls that the pass made since, and these identities are dropped by
 -- them.
 pub record JudgesAtPass (checker : CheckerValue) (old new : PassValue) (items : List ℕ)
-    (ids : List ℕ) (report : Report) : Type 0 where
+    (dropped : DroppedIdsValue) (report : Report) : Type 0 where
   pub store : store_of new ≡ store_of old
   pub blocks : List History
   pub moves : PassMoves old.view new.view (joined blocks)
-  pub judged : JudgesAtMark checker (pass_caller_view old.view).room items blocks ids report
+  pub judged : JudgesAtMark checker (pass_caller_view old.view).room items blocks dropped report
 
 -- what came of a stream: what was found of it, or that its mark was missed
 abbrev pub IsEndOf : {S : Type 0} → SourceView S → StreamJobsValue S → Option (StreamResultValue S)

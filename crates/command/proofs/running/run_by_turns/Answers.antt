@@ -19,7 +19,7 @@ returns-clause-stands g c =
       };
       layout = found.kept.1;
       dropped = refl;
-      has = (found.kept.0, found.ordered.1);
+      has = (found.kept.0, found.ordered.1.0);
     }
 
 pub returns-in_err-outcome-clause-cause : goal.returns-in_err-outcome-clause-cause

@@ -1,13 +1,12 @@
 use Rattle.std.proofs.Common.{◌≡◌, ◌∷◌, ◌∙◌, List, map, ap, subst, arith}
 use Rattle.std.specs.Vec.Iter.{into_iter_items}
 use Rattle.lrup_model.specs.lemmas.ListLemmas.{whole_end}
-use Rattle.stream_check.specs.DroppedIdsValue.{DroppedIdsValue}
 use Rattle.stream_check.specs.declared.report.Report.{Report}
 use Rattle.runs.specs.Readings.{readers_view}
 use Rattle.portfolio.specs.Outcomes.{verdict_of}
 use Rattle.portfolio.specs.internal.Turns.{AreOver, HaveReports}
 use Rattle.portfolio.specs.internal.Working.{WorkerValue}
-use Rattle.portfolio.proofs.JoiningLemmas.{pushed_both, pushed_more, whole_more}
+use Rattle.portfolio.proofs.JoiningLemmas.{pushed_more, whole_more}
 use Rattle.portfolio.proofs.TurnsLemmas.{reports_pushed}
 use Rattle.portfolio.proofs.serial.outcome_of.Goals as goal
 
@@ -29,9 +28,9 @@ loop-worker-preserved g c =
       readers = pushed_more (λ (v : WorkerValue g.row.R.Denot). v.reader) now.readers.items c.push_reserved-in-loop-worker.new.self.items
           now.yielded parts.result.1 w
           reader.items now.invariant.readers parts.ensures.reader;
-      dropped = pushed_both (λ (d : DroppedIdsValue). d.ids)
-          (λ (v : WorkerValue g.row.R.Denot). v.checker.dropped) now.dropped.items c.push_reserved-in-loop-worker-2.new.self.items
-          now.yielded parts.result.2 w pushed.items now.invariant.dropped parts.ensures.dropped;
+      dropped = pushed_more (λ (v : WorkerValue g.row.R.Denot). v.checker.dropped) now.dropped.items
+          c.push_reserved-in-loop-worker-2.new.self.items now.yielded parts.result.2 w pushed.items now.invariant.dropped
+          parts.ensures.dropped;
       report_count = omega (arith, c.push_reserved.ensures.len, steps.1, now.invariant.report_count);
       reader_count = omega (arith, reader.len, steps.1, now.invariant.reader_count);
       dropped_count = omega (arith, pushed.len, steps.1, now.invariant.dropped_count);

@@ -9,7 +9,7 @@ invariant-loop-worker g l = record {
   over : AreOver (into_iter_items l.worker-iterator);
   reports : HaveReports l.yielded l.reports.items;
   readers : l.readers.items ≡ map (λ w. w.reader) l.yielded;
-  dropped : map (λ d. d.ids) l.dropped.items ≡ map (λ w. w.checker.dropped) l.yielded;
+  dropped : l.dropped.items ≡ map (λ w. w.checker.dropped) l.yielded;
   report_count : vec_len l.reports + into_iter_len l.worker-iterator ≡ vec_len l.fn.workers;
   reader_count : vec_len l.readers + into_iter_len l.worker-iterator ≡ vec_len l.fn.workers;
   dropped_count : vec_len l.dropped + into_iter_len l.worker-iterator ≡ vec_len l.fn.workers;

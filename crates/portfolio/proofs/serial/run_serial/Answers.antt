@@ -87,21 +87,17 @@ returns-clause-layout g c = no_layout g (goal.at.returns-clause-layout g c).In_o
 pub returns-clause-no_threads : goal.returns-clause-no_threads
 returns-clause-no_threads g c = no_threads _ c.check.ensures.memory
 
+-- the law's premise is the layout of the formula and the readers
 pub returns-clause-ordered : goal.returns-clause-ordered
 returns-clause-ordered g c =
-    let wanted = run_params_of c.args.options c.args.cube.now c.args.formula.now (length c.args.readers.items) in
-    IfOk-weaker c.check.result _ _
-    (λ outcome ran. run_ordered (readers_view g.R.Source) _ wanted _ _ _ refl
-    (runs g (goal.at.returns-clause-ordered g c).In_ok-workers) _ _ _ _ ran) c.check.ensures.ran
-
--- the law's premise is the layout of the formula and the readers
-pub returns-clause-isolated : goal.returns-clause-isolated
-returns-clause-isolated g c =
     let f = c.args.formula.now in
     let run_params = run_params_of c.args.options c.args.cube.now f (length c.args.readers.items) in
     let fits : Fits run_params.layout f = record { vars = refl; clauses = refl; literals = refl } in
-    IfOk-weaker c.check.result _ _ (λ outcome by. (by.0, (by.1, c.run_isolated.ensures f run_params _ _ fits by.0.run)))
-    (returns-clause-ordered g c)
+    IfOk-weaker c.check.result _ _
+    (λ outcome ran.
+    let by = run_ordered (readers_view g.R.Source) _ run_params _ _ _ refl
+    (runs g (goal.at.returns-clause-ordered g c).In_ok-workers) _ _ _ _ ran in
+    (by.0, (by.1, c.run_isolated.ensures f run_params _ _ fits by.0.run))) c.check.ensures.ran
 
 -- the turns keep the formula and the layout
 pub returns-clause-kept : goal.returns-clause-kept

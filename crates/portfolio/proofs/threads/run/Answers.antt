@@ -135,25 +135,15 @@ returns-in-Ok-clause-history g c =
     let out = c.outcome_of.ensures in
     run_history (readers_view g.R.Source) begun c.in-Ok.found _ c.in-Ok.ensures.found out.synced out.one
 
+-- the premise of the laws is the layout of the formula and the readers
 pub returns-in-Ok-clause-reports : goal.returns-in-Ok-clause-reports
 returns-in-Ok-clause-reports g c =
     let begun = begun g (goal.at.returns-in-Ok-clause-reports g c).In_ok-jobs in
     let out = c.outcome_of.ensures in
-    rw (out.reports, out.readers, out.dropped)
-    (run_reports (readers_view g.R.Source) begun c.in-Ok.found _ c.in-Ok.ensures.found out.synced out.one)
-
--- the premise of the laws is the layout of the formula and the readers
-pub returns-in-Ok-clause-isolated : goal.returns-in-Ok-clause-isolated
-returns-in-Ok-clause-isolated g c =
-    let begun = begun g (goal.at.returns-in-Ok-clause-isolated g c).In_ok-jobs in
-    let by = returns-in-Ok-clause-reports g c in
-    (by.0, (by.1, c.run_isolated.ensures _ _ _ _ begun.fits by.0.run))
-
-pub returns-in-Ok-clause-serializable : goal.returns-in-Ok-clause-serializable
-returns-in-Ok-clause-serializable g c =
-    let begun = begun g (goal.at.returns-in-Ok-clause-serializable g c).In_ok-jobs in
-    let by = returns-in-Ok-clause-reports g c in
-    (by.0, (by.1, c.run_serializable.ensures _ _ _ _ begun.fits by.0.run))
+    let by = run_reports (readers_view g.R.Source) begun c.in-Ok.found _ c.in-Ok.ensures.found out.synced out.one in
+    let isolated = c.run_isolated.ensures _ _ _ _ begun.fits by.0.run in
+    let serializable = c.run_serializable.ensures _ _ _ _ begun.fits by.0.run in
+    rw (out.reports, out.readers, out.dropped) (by.0, (by.1, isolated, serializable))
 
 pub returns-in-Ok-clause-store : goal.returns-in-Ok-clause-store
 returns-in-Ok-clause-store g c =

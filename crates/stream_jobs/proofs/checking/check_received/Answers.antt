@@ -82,7 +82,7 @@ returns-in-Mark-clause-judged g c =
           (g.met.M.ClauseMap.moves_append start mid end _ _ old.1 fed.1),
       at_mark c.args.checker.now checker c.finish.new.self _ _ bytes _ (old.0 ++ fed.0) c.in-Mark.end c.report.result came.1
           (c.take_all-in-Mark.ensures.params ∙ c.loop.invariant.params) reaches c.finish.ensures.ends c.finish.ensures.reports
-          c.report.ensures,
+          c.report.ensures.says c.report.ensures.memory,
     )
 
 pub returns-in-Abandoned-clause-no_mark : goal.returns-in-Abandoned-clause-no_mark

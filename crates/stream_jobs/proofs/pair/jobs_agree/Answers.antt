@@ -22,7 +22,7 @@ returns-clause-read g c first sent = (
 )
 
 pub returns-clause-judged : goal.returns-clause-judged
-returns-clause-judged g c first v room blocks ids report sent marked fresh =
+returns-clause-judged g c first v room blocks dropped report sent marked fresh =
     let same = c.halves_agree.ensures.same sent.bytes marked.bytes sent.end marked.end sent.sent marked.marked in (
       record { bytes = sent.bytes; unneeded = []; end = Some sent.end },
       refl,
@@ -37,5 +37,5 @@ returns-clause-judged g c first v room blocks ids report sent marked fresh =
       judged_out v.params sent.bytes [] sent.end blocks report
           (subst (λ (end : StreamEnd). JudgesBlocks v.params sent.bytes end blocks report) same.1
           (subst (λ (bytes : List ℕ). JudgesBlocks v.params bytes marked.end blocks report) same.0 (marked.judged fresh))),
-      subst (λ (bytes : List ℕ). DropsBy v room bytes blocks ids report) same.0 marked.dropped,
+      subst (λ (bytes : List ℕ). DropsBy v room bytes blocks dropped report) same.0 marked.dropped,
     )

@@ -1,4 +1,4 @@
-use Rattle.std.proofs.Common.{List, ℕ, ◌∙◌, sym, ap, subst}
+use Rattle.std.proofs.Common.{◌∙◌, sym, subst}
 use Rattle.lrup_model.specs.Pass.{pass_caller_view}
 use Rattle.runs.specs.Readings.{IsStreamOf, readers_view}
 use Rattle.stream_check.specs.DroppedIdsValue.{DroppedIdsValue}
@@ -17,12 +17,12 @@ returns-clause-end g c jobs sent judged no_mark =
       judged = λ fresh.
           let met = c.jobs_agree.ensures.judged jobs.reader jobs.checker _ e.blocks _ _ sent e.judged fresh in
           let same = sym c.jobs_agree.ensures.reader in
-          let dropped = ap (λ (d : DroppedIdsValue). d.ids) (sym c.jobs_agree.ensures.dropped) in (
+          let dropped = sym c.jobs_agree.ensures.dropped in (
             met.0,
             met.1,
             subst (λ r. IsStreamOf (readers_view g.R.Source) jobs.reader r met.0) same met.2,
             met.3,
-            subst (λ (ids : List ℕ). DropsBy jobs.checker (pass_caller_view jobs.pass.view).room met.0.bytes e.blocks ids
+            subst (λ (d : DroppedIdsValue). DropsBy jobs.checker (pass_caller_view jobs.pass.view).room met.0.bytes e.blocks d
                 c.in_ok-report.report)
                 dropped met.4,
           );

@@ -6,5 +6,5 @@ pub returns-clause-judged : goal.returns-clause-judged
 returns-clause-judged g c =
     let checked = c.in_ok-checked.checked in
     judged_at c.args.job.checker c.new-desk.result c.check_on_signal.new.map c.args.pass c.into_pass.result
-    (received checked.consumer) checked.dropped.ids checked.report
+    (received checked.consumer) checked.dropped checked.report
     c.new-desk.ensures c.into_pass.ensures c.in_ok-checked.ensures.judged

@@ -16,7 +16,7 @@ returns-clause-holds g c =
     let split = unread_split w.buffer.items c.deref.result.now w.from w.to used c.deref.ensures.value c.feed-progress.ensures.used in
     let view = readers_view g.R.Source in
     let fed = worker_fed view w.reader _ _ rest w.checker c.feed-progress.new.self p.room q.room left.0
-    (c.self.invariant.running going) split going c.feed-progress.ensures.params left.3 in (
+    (c.self.invariant.running going) split going c.feed-progress.ensures.params left.3 c.feed-progress.ensures.memory in (
       left.0,
       left.1,
       left.2,

@@ -17,6 +17,6 @@ returns g c =
     c.in_ok-outcome.outcome.readers.items
     c.args.first.now _ report
     (two_isolated view _ _ _ _ _ _ _ c.usual_options.ensures c.empty.ensures c.in_ok-formula.ensures c.in_ok-readers.ensures.two
-    (ran.isolated.0.run, ran.isolated.1.1, ran.isolated.0.read)) c.requires c.in_ok-readers.ensures.first
+    (ran.ordered.0.run, ran.ordered.1.1, ran.ordered.0.read)) c.requires c.in_ok-readers.ensures.first
     (subst (λ (readers : List Pieces). IsOfStream (map (λ r. r.failed) readers) 1 false) c.deref-2.ensures.value fine)
     (subst (λ (reports : List Report). IsOfStream reports 1 report) c.deref.ensures.value says))

@@ -3,7 +3,7 @@ use Rattle.std.specs.Prelude.{◌||◌, ◌==◌, not, if◌then◌else◌}
 use Rattle.stream_check.specs.StreamContext.{is_among}
 use Rattle.stream_check.specs.DroppedIdsValue.{DroppedIdsValue}
 use Rattle.stream_check.proofs.DroppedLemmas.{among_keys, one_more}
-use Rattle.stream_check.proofs.dropped_ids.DroppedIds.add.Goals as goal
+use Rattle.stream_check.proofs.dropped_ids.DroppedIds.insert.Goals as goal
 
 pub returns-clause-members : goal.returns-clause-members
 returns-clause-members c j =

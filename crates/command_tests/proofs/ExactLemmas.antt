@@ -1,0 +1,314 @@
+-- What the clauses of `command` say of files of which contracts know everything.
+use Rattle.std.proofs.Common.{◌≡◌, ◌∙◌, ◌++◌, ◌+◌, ◌⊎◌, ℕ, ℤ, Bool, true, false, List, [], ◌∷◌, Option, None, Some, Result, Ok, Err}
+use Rattle.std.proofs.Common.{inl, inr, ap, length, refl, sym, subst}
+use Rattle.lrup_model.specs.Formula.{Cnf}
+use Rattle.lrup_model.specs.declared.layout.LayoutFault.TheVariants as layouts
+use Rattle.lrup_text.specs.ReadOut.{SourceView}
+use Rattle.dimacs.specs.FormulaText.{IsFormulaText}
+use Rattle.stream_check.specs.declared.report.Report.{Report}
+use Rattle.portfolio.specs.declared.outcome.Verdict.{Verdict}
+use Rattle.portfolio.specs.declared.outcome.Verdict.TheVariants.{Unsatisfiable, UnsatisfiableUnder, Unknown}
+use Rattle.checkpoint.specs.Checkpoints.{IsCheckpoint}
+use Rattle.checkpoint.specs.declared.saving.SaveFault.{SaveFault}
+use Rattle.command_line.specs.CommandLine.{AskToSave, IsCommandLineOf}
+use Rattle.command_line.specs.declared.sizes.Sizes.{Sizes}
+use Rattle.command_line.specs.declared.words.CommandLine.{CommandLine}
+use Rattle.command.specs.Commands.{AreAssumed, AreOpened, CheckpointEntailed, CheckpointLeftEmpty, ClosesSink, Deeds}
+use Rattle.command.specs.Commands.{FilesView, IsAssumeCause, IsCause, IsOutcome, LeavesBehind, LeavesFile, SavesCheckpoint, SinkChange}
+use Rattle.command.specs.Commands.{Text}
+use Rattle.command.specs.Commands.{WasReadIn, WasSaved, assumed_at, checkpoint_at, layout_at, report_status}
+use Rattle.command.specs.Faults.{status_of}
+use Rattle.command.specs.Paths.{formula_path}
+use Rattle.command.specs.Rounds.{AreRounds, AreSized, Plan, ProgramEnds, Round, RoundsEnd, RoundsEntailed}
+use Rattle.command.specs.declared.fault.CommandFault.{CommandFault}
+use Rattle.command.specs.declared.fault.CommandFault.TheVariants as faults
+use Rattle.command_tests.specs.ExactFiles.{ExactValue, HasNoFile, FindsText, ClosesFile, IsCreated, IsEmptied, IsKept, IsKeptInRounds}
+use Rattle.command_tests.specs.ExactFiles.{RefusesNew, RefusesOpening, IsUnsure, CheckpointLies, text_at, text_or_none}
+use Rattle.command_tests.specs.declared.exact_files.Closing.{Closing}
+use Rattle.command_tests.specs.declared.exact_files.Closing.TheVariants as closings
+
+-- Which status is 9.
+
+nine_is : (fault : CommandFault) → status_of fault ≡ 9 → (why : SaveFault) × (fault ≡ faults.NotSaved why)
+nine_is (faults.Usage text) is = absurd (let no : Path ℕ 2 9 = is in cc)
+nine_is faults.Unread is = absurd (let no : Path ℕ 5 9 = is in cc)
+nine_is (faults.Refused fault) is = absurd (let no : Path ℕ 4 9 = is in cc)
+nine_is faults.CubeUnread is = absurd (let no : Path ℕ 5 9 = is in cc)
+nine_is (faults.CubeRefused fault) is = absurd (let no : Path ℕ 4 9 = is in cc)
+nine_is (faults.NotOpened stream) is = absurd (let no : Path ℕ 5 9 = is in cc)
+nine_is (faults.Layout layouts.TooManyVariables) is = absurd (let no : Path ℕ 4 9 = is in cc)
+nine_is (faults.Layout layouts.TooManyClauses) is = absurd (let no : Path ℕ 4 9 = is in cc)
+nine_is (faults.Layout layouts.BadStreamCount) is = absurd (let no : Path ℕ 2 9 = is in cc)
+nine_is (faults.Layout layouts.RowTooLong) is = absurd (let no : Path ℕ 2 9 = is in cc)
+nine_is (faults.Spawn stream) is = absurd (let no : Path ℕ 6 9 = is in cc)
+nine_is (faults.Ring stream) is = absurd (let no : Path ℕ 6 9 = is in cc)
+nine_is faults.Memory is = absurd (let no : Path ℕ 6 9 = is in cc)
+nine_is faults.Unwritten is = absurd (let no : Path ℕ 7 9 = is in cc)
+nine_is faults.NotCreated is = absurd (let no : Path ℕ 5 9 = is in cc)
+nine_is (faults.NotSaved why) is = (why, refl)
+nine_is faults.TwoCheckpoints is = absurd (let no : Path ℕ 2 9 = is in cc)
+nine_is faults.SizesUnread is = absurd (let no : Path ℕ 5 9 = is in cc)
+nine_is faults.Sizes is = absurd (let no : Path ℕ 2 9 = is in cc)
+
+-- what a report with this status left
+left_unsaved : {A : Type 0} (its : Deeds) (Saves : Result A SaveFault → its.Output → its.Output → Type 0)
+    (failed : Bool) (unsaved : Option SaveFault) (verdict : Verdict) (path : Text) (before after : its.State)
+    → report_status failed unsaved verdict ≡ 9 → LeavesBehind its Saves verdict before (Some path) unsaved after
+    → (why : SaveFault) × LeavesFile its Saves before path (Some why) after
+left_unsaved its Saves true unsaved verdict path before after is leaves = absurd (let no : Path ℕ 7 9 = is in cc)
+left_unsaved its Saves false None Unsatisfiable path before after is leaves = absurd (let no : Path ℕ 0 9 = is in cc)
+left_unsaved its Saves false None UnsatisfiableUnder path before after is leaves = absurd (let no : Path ℕ 8 9 = is in cc)
+left_unsaved its Saves false None Unknown path before after is leaves = absurd (let no : Path ℕ 3 9 = is in cc)
+left_unsaved its Saves false (Some why) Unsatisfiable path before after is leaves = absurd (let no : Some why ≡ None = leaves.0 in cc)
+left_unsaved its Saves false (Some why) UnsatisfiableUnder path before after is leaves = (why, leaves)
+left_unsaved its Saves false (Some why) Unknown path before after is leaves = (why, leaves)
+
+module _ (files : FilesView) where
+  never_assumed : (vars : ℕ) (before : files.its.State) (path : Option Text) (why : SaveFault) (after : files.its.State)
+      → IsAssumeCause files vars before path (faults.NotSaved why) after → ⊥
+  never_assumed vars before None why after cause = cause
+  never_assumed vars before (Some path) why after cause = cause
+
+  -- no cause is one of saving
+  never_unsaved : (words : List Text) (why : SaveFault) (after : files.its.State) → IsCause files words (faults.NotSaved why) after → ⊥
+  never_unsaved words why after cause = elim cause.2 [
+    | inl read ↦ read
+    | inr later ↦ elim later.3 [
+      | inl assume ↦ never_assumed later.0.vars later.1 (assumed_at cause.0) why after assume
+      | inr last ↦ elim last.3 [ inl opens ↦ opens | inr start ↦ start.3 ]
+    ]
+  ]
+
+  -- With status 9, if the words ask for a checkpoint at the path, there is a report, and what was saved to a file there isn't saved.
+  abbrev pub NinthEnd : (words : List Text) (path : Text) (after : files.its.State) → Type 0
+  NinthEnd words path after = (reports : List Report) × (verdict : Verdict) × (outcome : IsOutcome files words reports verdict)
+      × (why : SaveFault)
+      × LeavesFile files.its
+      (SavesCheckpoint files.its outcome.formula (layout_at outcome.given outcome.formula) outcome.checked.ran.run.history
+      outcome.checked.dropped) outcome.last path (Some why) after
+
+  pub ninth_end : (words : List Text) (after : files.its.State) (out err : SinkChange) (status : ℕ) (path : Text)
+      → AskToSave words path → status ≡ 9 → ProgramEnds files words after out err status → NinthEnd words path after
+  ninth_end words after out err status path ask nine (inl (report, alone)) =
+      let outcome = report.outcome in
+      let asked : checkpoint_at outcome.given ≡ Some path = outcome.command_line.said.checkpoint ∙ ask.path_is in
+      let saves = SavesCheckpoint files.its outcome.formula (layout_at outcome.given outcome.formula)
+      outcome.checked.ran.run.history outcome.checked.dropped in
+      let leaves = subst (λ (o : Option Text). LeavesBehind files.its saves report.verdict outcome.last o report.unsaved after)
+      asked report.checkpoint in
+      let left = left_unsaved files.its saves out.failed report.unsaved report.verdict path outcome.last after
+      (sym report.status_is ∙ nine) leaves in
+      (report.reports, report.verdict, outcome, left.0, left.1)
+  ninth_end words after out err status path ask nine (inr (inl fault)) =
+      let is = nine_is fault.fault (sym fault.status_is ∙ nine) in
+      absurd (never_unsaved words is.0 after (subst (λ (f : CommandFault). IsCause files words f after) is.1 fault.cause))
+  ninth_end words after out err status path ask nine (inr (inr rounds)) =
+      let asked : checkpoint_at rounds.given ≡ Some path = rounds.command_line.said.checkpoint ∙ ask.path_is in
+      elim rounds.ending [
+        | inl report ↦ absurd (let no : Some path ≡ None = sym asked ∙ report.were.alone in cc)
+        | inr fails ↦ absurd (let no : Some path ≡ None = sym asked ∙ fails.were.alone in cc)
+      ]
+
+-- Files of which contracts know everything: their readers have these bytes left, and their new files these.
+module _ {R W : Type 0} (left : R → List ℕ) (content : W → List ℕ) (reading : SourceView R) (has_failed : W → Bool) where
+  abbrev exact_deeds : Deeds
+  exact_deeds = record {
+    State = ExactValue;
+    Reader = R;
+    Output = W;
+    tells = λ files path. Some (text_or_none (text_at files path));
+    opens = λ before path reader after. FindsText before path (left reader) after;
+    refuses = λ before path fault after. RefusesOpening before path fault after;
+    lacks = λ before path after. HasNoFile before path after;
+    fails = λ _ _ _ _. ⊥;
+    creates = λ before path output after. IsCreated before path (content output) after;
+    refuses_new = λ before path fault after. RefusesNew before path fault after;
+    keeps = λ before output after. ClosesFile closings.Kept before (content output) after × (before.is_lossy ≡ false);
+    loses = λ before output after. ClosesFile closings.Lost before (content output) after × (before.is_lossy ≡ true);
+    discards = λ before output after. ClosesFile closings.Discarded before (content output) after;
+    reading = reading;
+    written = λ output. Some (content output);
+    has_failed = has_failed;
+  }
+
+  abbrev exact_view : ExactValue → FilesView
+  exact_view first = record { its = exact_deeds; first = first; tells = λ path. Some (text_or_none (text_at first path)) }
+
+  -- what was read of a path is its text
+  was_read : (first : ExactValue) (path bytes : List ℕ) (after : ExactValue)
+      → WasReadIn (exact_view first) first path bytes after → FindsText first path bytes after
+  was_read first path bytes after read =
+      let found = read.opened in
+      let same : left read.reader ≡ bytes = sym (ap text_or_none found.1) ∙ read.told (text_or_none (text_at first path)) refl in
+      (found.0, found.1 ∙ ap (λ (text : List ℕ). Some text) same)
+
+  -- openings change nothing
+
+  assumed_stays : (first : ExactValue) (vars : ℕ) (before : ExactValue) (path : Option Text) (cube : List ℤ) (after : ExactValue)
+      → AreAssumed (WasReadIn (exact_view first)) vars before path cube after → after ≡ before
+  assumed_stays first vars before None cube after assumed = assumed.1
+  assumed_stays first vars before (Some path) cube after assumed = assumed.1.opened.0
+
+  opened_stays : (before : ExactValue) (paths : List Text) (readers : List R) (after : ExactValue)
+      → AreOpened exact_deeds.opens before paths readers after → after ≡ before
+  opened_stays before [] [] after opened = opened
+  opened_stays before (path ∷ paths) (reader ∷ readers) after opened =
+      opened_stays opened.0 paths readers after opened.2 ∙ opened.1.0
+  opened_stays before [] (reader ∷ readers) after opened = absurd opened
+  opened_stays before (path ∷ paths) [] after opened = absurd opened
+
+  -- what closing leaves of a file that was created, and took these bytes
+  closed_at : (closing : Closing) (before next : ExactValue) (path : List ℕ) (first last : W) (bytes : List ℕ) (after : ExactValue)
+      → IsCreated before path (content first) next → content last ≡ content first ++ bytes
+      → ClosesFile closing next (content last) after
+      → after ≡ record before { path = path; bytes = bytes; closing = closing }
+  closed_at closing before next path first last bytes after created wrote closed =
+      closed
+      ∙ ap (λ (files : ExactValue). record files { bytes = content last; closing = closing }) created.2
+      ∙ ap (λ (all : List ℕ). record before { path = path; bytes = all; closing = closing })
+      (wrote ∙ ap (λ (l : List ℕ). l ++ bytes) created.1)
+
+  saved_at : (before : ExactValue) (path bytes : List ℕ) (after : ExactValue)
+      → WasSaved exact_deeds.creates exact_deeds.written exact_deeds.keeps before path bytes after
+      → after ≡ record before { path = path; bytes = bytes; closing = closings.Kept }
+  saved_at before path bytes after saved =
+      closed_at closings.Kept before saved.next path saved.first saved.last bytes after saved.created saved.wrote saved.kept.0
+
+  lies_at : (words : List Text) (first before : ExactValue) (path bytes : List ℕ) (closing : Closing) (after : ExactValue)
+      (given : CommandLine) (formula : Cnf) (text : List ℕ) (next : ExactValue)
+      → IsCommandLineOf words given → WasReadIn (exact_view first) first given.formula.now text next → IsFormulaText text formula
+      → IsCheckpoint formula bytes → before ≡ first
+      → after ≡ record before { path = path; bytes = bytes; closing = closing }
+      → CheckpointLies words first path closing after
+  lies_at words first before path bytes closing after given formula text next line read is checkpoint stays closed = record {
+    given = given;
+    command_line = line;
+    text = text;
+    formula = formula;
+    is_there = (was_read first given.formula.now text next read).1;
+    is_text = is;
+    bytes = bytes;
+    checkpoint = checkpoint;
+    closed = closed ∙ ap (λ (files : ExactValue). record files { path = path; bytes = bytes; closing = closing }) stays;
+  }
+
+  pub exactly_kept : (words : List Text) (first after : ExactValue) (status : ℕ)
+      → CheckpointEntailed exact_deeds.opens (WasReadIn (exact_view first))
+      (WasSaved exact_deeds.creates exact_deeds.written exact_deeds.keeps) first words after status
+      → IsKept words first after status
+  exactly_kept words first after status entailed path ask three =
+      let all = entailed path ask (inl three) in
+      let stays : all.7 ≡ first = opened_stays all.6 all.0.streams all.8 all.7 all.13
+      ∙ assumed_stays first all.1.vars all.5 (assumed_at all.0) all.2 all.6 all.12 ∙ all.10.opened.0 in
+      lies_at words first all.7 path all.4 closings.Kept after all.0 all.1 all.3 all.5 all.9 all.10 all.11 all.15 stays
+      (saved_at all.7 path all.4 after all.14)
+
+  pub exactly_emptied : (words : List Text) (after : ExactValue) (status : ℕ) → CheckpointLeftEmpty exact_deeds words after status
+      → IsEmptied words after status
+  exactly_emptied words after status empty path ask zero =
+      let left_empty = (empty path ask zero).1 in
+      let closed = left_empty.discarded in
+      let created = left_empty.created in (
+        ap (λ (files : ExactValue). files.path) closed ∙ ap (λ (files : ExactValue). files.path) created.2,
+        ap (λ (files : ExactValue). files.bytes) closed ∙ created.1,
+        ap (λ (files : ExactValue). files.closing) closed,
+      )
+
+  -- how a file is closed that isn't saved
+  module _ (words : List Text) (first : ExactValue) (reports : List Report) (verdict : Verdict)
+      (outcome : IsOutcome (exact_view first) words reports verdict) (path : List ℕ) where
+    unsure_by : (why : SaveFault) (from to : W) (next after : ExactValue) (result : Result (Unit {0}) SaveFault)
+        → IsCreated outcome.last path (content from) next
+        → SavesCheckpoint exact_deeds outcome.formula (layout_at outcome.given outcome.formula)
+        outcome.checked.ran.run.history outcome.checked.dropped result from to
+        → ClosesSink exact_deeds result next to (Some why) after
+        → (CheckpointLies words first path closings.Lost after × (first.is_lossy ≡ true))
+        ⊎ ((after.path ≡ path) × (after.closing ≡ closings.Discarded))
+    unsure_by why from to next after (Ok done) created saving closed =
+        let wrote = saving.checkpoint in
+        let read = outcome.is_formula in
+        let stays : outcome.last ≡ first = opened_stays outcome.later outcome.given.streams outcome.readers outcome.last outcome.opened
+        ∙ assumed_stays first outcome.formula.vars outcome.next (assumed_at outcome.given) outcome.cube outcome.later outcome.assumed
+        ∙ read.1.opened.0 in
+        inl (
+          lies_at words first outcome.last path wrote.0 closings.Lost after outcome.given outcome.formula read.0 outcome.next
+              outcome.command_line read.1 read.2 wrote.2 stays
+              (closed_at closings.Lost outcome.last next path from to wrote.0 after created wrote.1 closed.1.0),
+          ap (λ (files : ExactValue). files.is_lossy) (sym stays)
+              ∙ ap (λ (files : ExactValue). files.is_lossy) (sym created.2)
+              ∙ closed.1.1,
+        )
+    unsure_by why from to next after (Err fault) created saving closed = inr (
+      ap (λ (files : ExactValue). files.path) closed.1 ∙ ap (λ (files : ExactValue). files.path) created.2,
+      ap (λ (files : ExactValue). files.closing) closed.1,
+    )
+
+  pub exactly_unsure : (words : List Text) (first after : ExactValue) (out err : SinkChange) (status : ℕ)
+      → ProgramEnds (exact_view first) words after out err status → IsUnsure words first after status
+  exactly_unsure words first after out err status ends path ask nine =
+      let ninth = ninth_end (exact_view first) words after out err status path ask nine ends in
+      let file = ninth.4 in
+      unsure_by words first ninth.0 ninth.1 ninth.2 path ninth.3 file.first file.last file.next after file.result file.created file.saving
+      file.closed
+
+  -- Rounds.
+
+  -- the files with another new one
+  abbrev with_new : List ℕ → List ℕ → ExactValue → ExactValue
+  with_new path bytes files = record files { path = path; bytes = bytes; closing = closings.Kept }
+
+  sized_stays : (path : Text) (old new : Sizes) (before after : ExactValue) → AreSized exact_deeds path old before new after
+      → after ≡ before
+  sized_stays path old new before after (inl (lacks, same)) = lacks.0
+  sized_stays path old new before after (inr (bytes, read, is)) = read.opened.0
+
+  module _ (plan : Plan) where
+    round_saved : (number : ℕ) (round : Round exact_deeds plan) (bytes : List ℕ)
+        → WasSaved exact_deeds.creates exact_deeds.written exact_deeds.keeps round.opened (formula_path plan.folder (number + 1)) bytes
+        round.after
+        → round.after ≡ with_new (formula_path plan.folder (number + 1)) bytes round.opened
+    round_saved number round bytes saved = saved_at round.opened (formula_path plan.folder (number + 1)) bytes round.after saved
+
+    -- what is there from the beginning stays in all rounds
+    rounds_stay : (formula : Cnf) (sizes : Sizes) (first : ExactValue) (paths : List Text) (round : Round exact_deeds plan)
+        (before : List (Round exact_deeds plan)) (path bytes : List ℕ)
+        → AreRounds formula sizes first paths (round ∷ before)
+        → with_new path bytes round.opened ≡ with_new path bytes first
+    rounds_stay formula sizes first paths round [] path bytes rounds =
+        ap (with_new path bytes) (opened_stays first paths round.readers round.opened rounds.opened.opened)
+    rounds_stay formula sizes first paths round (last ∷ before) path bytes rounds =
+        let number = length (last ∷ before) in
+        let next = rounds.0 in
+        let saving = next.goes_on.saving in
+        ap (with_new path bytes)
+        (opened_stays next.sized _ round.readers round.opened next.opened.opened
+        ∙ sized_stays _ last.sizes round.sizes last.after next.sized next.sizes
+        ∙ round_saved number last saving.bytes saving.saved)
+        ∙ rounds_stay formula sizes first paths last before path bytes rounds.1
+
+    over_stays : (number : ℕ) (last : Round exact_deeds plan) (after : ExactValue) → RoundsEnd number last after → after ≡ last.after
+    over_stays number last after (inl (barred, same)) = same
+    over_stays number last after (inr (inl (next, on, alone))) =
+        alone.3.0 ∙ sized_stays _ last.sizes alone.0 last.after alone.1 alone.2
+    over_stays number last after (inr (inr ((next, on), high, same))) = same
+
+  pub exactly_in_rounds : (words : List Text) (first after : ExactValue) (out err : SinkChange) (status : ℕ)
+      → RoundsEntailed (exact_view first) words after out err status → IsKeptInRounds words first after status
+  exactly_in_rounds words first after out err status entailed folder ask three =
+      let report = entailed folder ask (inr (inl three)) in
+      let ending = report.ending in
+      let were = ending.were in
+      let number = length (ending.last ∷ ending.before) in
+      let saved = report.last_saved (inl three) in
+      let read = were.is_formula in
+      let path = formula_path folder (number + 1) in
+      let stays : were.later ≡ first =
+      assumed_stays first were.formula.vars were.next (assumed_at report.given) ending.cube were.later were.assumed ∙ read.1.opened.0 in
+      let closed : after ≡ with_new path saved.0 were.later =
+      over_stays _ number ending.last after ending.over
+      ∙ round_saved _ number ending.last saved.0 saved.1
+      ∙ rounds_stay _ were.formula _ were.later report.given.streams ending.last ending.before path saved.0 were.rounds in (
+        number + 1,
+        lies_at words first were.later path saved.0 closings.Kept after report.given were.formula read.0 were.next report.command_line
+            read.1 read.2 saved.2 stays closed,
+      )

@@ -1,0 +1,96 @@
+-- Files in memory, of which contracts know everything: a formula and a stream from the beginning, and the file that was created last.
+use Rattle.std.specs.Prelude.{◌≡◌, ◌≢◌, ◌⊎◌, ℕ, Bool, true, List, [], Option, None, Some, if◌then◌else◌, length, nat_eq}
+use Rattle.lrup_model.specs.Formula.{Cnf}
+use Rattle.dimacs.specs.FormulaText.{IsFormulaText}
+use Rattle.checkpoint.specs.Checkpoints.{IsCheckpoint}
+use Rattle.command_line.specs.CommandLine.{AskForRounds, AskToSave, IsCommandLineOf}
+use Rattle.command_line.specs.declared.words.CommandLine.{CommandLine}
+use Rattle.command.specs.Paths.{formula_path}
+use Rattle.command.specs.declared.files.OpenFault.{OpenFault}
+use Rattle.command.specs.declared.files.OpenFault.TheVariants as open_faults
+use Rattle.command_tests.specs.declared.exact_files.Closing.{Closing}
+use Rattle.command_tests.specs.declared.exact_files.Closing.TheVariants as closings
+
+-- what is there; of the file that was created last its path, its bytes, and how it was closed
+pub record ExactValue : Type 0 where
+  pub formula : List ℕ
+  pub stream : List ℕ
+  pub is_lossy : Bool
+  pub path : List ℕ
+  pub bytes : List ℕ
+  pub closing : Closing
+
+-- what is there from the beginning: the formula at each path of one byte, the stream at each of two
+abbrev pub text_at : ExactValue → List ℕ → Option (List ℕ)
+text_at files path = if nat_eq (length path) 1 then Some files.formula
+    else (if nat_eq (length path) 2 then Some files.stream else None)
+
+-- the bytes that are told of a path: none of one that has no file
+abbrev pub text_or_none : Option (List ℕ) → List ℕ
+text_or_none None = []
+text_or_none (Some text) = text
+
+-- an opening finds the text, and changes nothing
+abbrev pub FindsText : ExactValue → List ℕ → List ℕ → ExactValue → Type 0
+FindsText before path text after = (after ≡ before) × (text_at before path ≡ Some text)
+
+-- there is no file at the path, and nothing changes
+abbrev pub HasNoFile : ExactValue → List ℕ → ExactValue → Type 0
+HasNoFile before path after = (after ≡ before) × (text_at before path ≡ None)
+
+-- an opening is refused just if there is no file
+abbrev pub RefusesOpening : ExactValue → List ℕ → OpenFault → ExactValue → Type 0
+RefusesOpening before path fault after =
+    (fault ≡ open_faults.NotOpened) × HasNoFile before path after
+
+-- a file is created at the path, which has none
+abbrev pub IsCreated : ExactValue → List ℕ → List ℕ → ExactValue → Type 0
+IsCreated before path bytes after = (text_at before path ≡ None) × (bytes ≡ [])
+    × (after ≡ record before { path = path; bytes = []; closing = closings.Open })
+
+-- none is: there is a file, or no memory for the path, and nothing changes
+abbrev pub RefusesNew : ExactValue → List ℕ → OpenFault → ExactValue → Type 0
+RefusesNew before path fault after = (after ≡ before)
+    × ((fault ≡ open_faults.Memory)
+    ⊎ ((fault ≡ open_faults.NotOpened) × (text_at before path ≢ None)))
+
+-- the file that was created last is closed, in this way, with these bytes
+abbrev pub ClosesFile : Closing → ExactValue → List ℕ → ExactValue → Type 0
+ClosesFile closing before bytes after =
+    after ≡ record before { bytes = bytes; closing = closing }
+
+-- A checkpoint lies at the path, closed in this way: of the formula whose text is at FORMULA. Nothing else has changed.
+pub record CheckpointLies (words : List (List ℕ)) (before : ExactValue) (path : List ℕ)
+    (closing : Closing) (after : ExactValue) : Type 0 where
+  pub given : CommandLine
+  pub command_line : IsCommandLineOf words given
+  pub text : List ℕ
+  pub formula : Cnf
+  pub is_there : text_at before given.formula.now ≡ Some text
+  pub is_text : IsFormulaText text formula
+  pub bytes : List ℕ
+  pub checkpoint : IsCheckpoint formula bytes
+  pub closed : after
+      ≡ record before { path = path; bytes = bytes; closing = closing }
+
+-- With status 3, if the words ask for a checkpoint, it lies at its path, and was kept.
+abbrev pub IsKept : List (List ℕ) → ExactValue → ExactValue → ℕ → Type 0
+IsKept words before after status = (path : List ℕ) → AskToSave words path → status ≡ 3
+    → CheckpointLies words before path closings.Kept after
+
+-- With status 0 an empty file lies there, which was discarded.
+abbrev pub IsEmptied : List (List ℕ) → ExactValue → ℕ → Type 0
+IsEmptied words after status = (path : List ℕ) → AskToSave words path → status ≡ 0
+    → (after.path ≡ path) × (after.bytes ≡ []) × (after.closing ≡ closings.Discarded)
+
+-- With status 9 a file lies there that isn't sure: a whole checkpoint that didn't get to the disk, or what was written until a fault.
+abbrev pub IsUnsure : List (List ℕ) → ExactValue → ExactValue → ℕ → Type 0
+IsUnsure words before after status = (path : List ℕ) → AskToSave words path → status ≡ 9
+    → (CheckpointLies words before path closings.Lost after × (before.is_lossy ≡ true))
+    ⊎ ((after.path ≡ path) × (after.closing ≡ closings.Discarded))
+
+-- With status 3, if the words ask for rounds, the last file is the formula of a round, which follows from FORMULA's, and was kept.
+abbrev pub IsKeptInRounds : List (List ℕ) → ExactValue → ExactValue → ℕ → Type 0
+IsKeptInRounds words before after status = (folder : List ℕ) → AskForRounds words folder
+    → status ≡ 3
+    → (number : ℕ) × CheckpointLies words before (formula_path folder number) closings.Kept after

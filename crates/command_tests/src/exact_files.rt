@@ -1,0 +1,196 @@
+//! Files in memory that say exactly what each call does to them, and what the clauses of `command` say of such files: what lies at the
+//! path of a checkpoint when the program has ended.
+ghost use Rattle.std.specs.Prelude.{◌≡◌, ℕ, Some, option_map, string_bytes, true, false};
+ghost use Rattle.clap.specs.Walk.{texts};
+ghost use Rattle.command_tests.specs.ExactFiles.{ExactValue, text_at, text_or_none, FindsText, HasNoFile, RefusesOpening, IsCreated, RefusesNew, ClosesFile};
+ghost use Rattle.command_tests.specs.ExactFiles.{IsKept, IsEmptied, IsUnsure, IsKeptInRounds};
+ghost use Rattle.command_tests.specs.declared.exact_files.Closing.TheVariants.{Kept, Lost, Discarded};
+
+use command::{Files, Machine, OpenFault, command};
+use lrup_text::WriteFault;
+use std::alloc::Global;
+use std::marker::Model;
+use std::sync::Wait;
+use std::thread::Threads;
+use std::time::Clock;
+use test_support::{Paper, Pieces};
+
+/// How the file that was created last was closed.
+#[derive(Clone, Copy, Debug, PartialEq, Eq)]
+pub enum Closing {
+    /// It wasn't.
+    Open,
+    /// It was kept.
+    Kept,
+    /// It was to be kept, which failed.
+    Lost,
+    /// It was discarded.
+    Discarded,
+}
+
+/// A formula at each path of one byte, a stream at each of two, and the file that was created last.
+#[derive(Drop)]
+pub struct ExactFiles<'a> {
+    alloc: Global,
+    formula: &'a str,
+    stream: &'a str,
+    /// Whether no file gets to the disk.
+    is_lossy: bool,
+    /// The write of a new file that fails, from 1 on; 0 for none.
+    fails_at: usize,
+    path: String,
+    bytes: Vec<u8>,
+    closing: Closing,
+}
+
+impl<'a> Model for ExactFiles<'a> {
+    ghost use Rattle.std.specs.Prelude.{string_bytes};
+    ghost use Rattle.command_tests.specs.ExactFiles.{ExactValue};
+
+    ghost Value = { ExactValue };
+
+    ghost view = { λ s. record { formula = s.formula.now; stream = s.stream.now; is_lossy = s.is_lossy; path = string_bytes s.path; bytes = s.bytes.items; closing = s.closing } };
+}
+
+impl<'a> ExactFiles<'a> {
+    /// The two texts, and no new file. The write of a new one with this number fails, from 1 on; 0 for none.
+    pub fn new(
+        alloc: Global,
+        formula: &'a str,
+        stream: &'a str,
+        is_lossy: bool,
+        fails_at: usize,
+    ) -> ExactFiles<'a> {
+        ExactFiles {
+            alloc,
+            formula,
+            stream,
+            is_lossy,
+            fails_at,
+            path: String::new(alloc),
+            bytes: Vec::new(alloc),
+            closing: Closing::Open,
+        }
+    }
+
+    /// The path of the file that was created last, its bytes, and how it was closed.
+    pub fn last(&self) -> (&str, &[u8], Closing) {
+        (self.path.as_str(), self.bytes.as_slice(), self.closing)
+    }
+
+    fn text_at(&self, path: &str) -> Option<&'a str>
+        ensures { option_map (λ text. text.now) result ≡ text_at self.now path.now }
+    {
+        match path.len() {
+            1 => Some(self.formula),
+            2 => Some(self.stream),
+            _ => None,
+        }
+    }
+
+    fn close(&mut self, output: Paper, closing: Closing)
+        ensures { ClosesFile closing self.old output.bytes.items self.new }
+    {
+        self.bytes = output.bytes;
+        self.closing = closing;
+    }
+}
+
+impl<'a> Files for ExactFiles<'a> {
+    type Input = Pieces<'a>;
+
+    ghost tells = { λ files path. Some (text_or_none (text_at files path)) };
+
+    ghost opens = { λ before path input after. FindsText before path input.left.now after };
+
+    ghost refuses = { λ before path fault after. RefusesOpening before path fault after };
+
+    fn open(&mut self, path: &str) -> Result<Pieces<'a>, OpenFault> {
+        match self.text_at(path) {
+            Some(text) => Ok(Pieces::new(text, 3, 0)),
+            None => Err(OpenFault::NotOpened),
+        }
+    }
+}
+
+impl<'a> Machine for ExactFiles<'a> {
+    type Output = Paper;
+
+    type Watcher = Paper;
+
+    ghost lacks = { λ before path after. HasNoFile before path after };
+
+    ghost fails = { λ _ _ _ _. ⊥ };
+
+    ghost creates = { λ before path output after.
+        IsCreated before path output.bytes.items after };
+
+    ghost refuses_new = { λ before path fault after. RefusesNew before path fault after };
+
+    ghost keeps = { λ before output after.
+        ClosesFile Kept before output.bytes.items after × (before.is_lossy ≡ false) };
+
+    ghost loses = { λ before output after.
+        ClosesFile Lost before output.bytes.items after × (before.is_lossy ≡ true) };
+
+    ghost discards = { λ before output after.
+        ClosesFile Discarded before output.bytes.items after };
+
+    fn open_if_there(&mut self, path: &str) -> Result<Option<Pieces<'a>>, OpenFault> {
+        match self.text_at(path) {
+            Some(text) => Ok(Some(Pieces::new(text, 3, 0))),
+            None => Ok(None),
+        }
+    }
+
+    fn create(&mut self, path: &str) -> Result<Paper, OpenFault> {
+        if self.text_at(path).is_some() {
+            return Err(OpenFault::NotOpened);
+        }
+        let Ok(name) = String::from_str(self.alloc, path) else {
+            return Err(OpenFault::Memory);
+        };
+        self.path = name;
+        self.bytes = Vec::new(self.alloc);
+        self.closing = Closing::Open;
+        Ok(Paper::new(self.alloc, 7, self.fails_at))
+    }
+
+    fn keep(&mut self, output: Paper) -> Result<(), WriteFault> {
+        if self.is_lossy {
+            self.close(output, Closing::Lost);
+            return Err(WriteFault);
+        }
+        self.close(output, Closing::Kept);
+        Ok(())
+    }
+
+    fn discard(&mut self, output: Paper) {
+        self.close(output, Closing::Discarded);
+    }
+
+    fn watcher(&self) -> Paper {
+        Paper::new(self.alloc, 7, 0)
+    }
+}
+
+/// Runs the program over these files. What lies at the path then, follows from the clauses of `command` alone.
+pub fn run_exactly<T: Threads + Wait + Sync + Clock>(
+    threads: &T,
+    alloc: Global,
+    words: &[&str],
+    files: &mut ExactFiles<'_>,
+) -> u8
+    // From `saved`.
+    ensures kept { IsKept (texts words.now) files.old files.new result }
+    // From `none_saved`.
+    ensures emptied { IsEmptied (texts words.now) files.new result }
+    // From `ends`.
+    ensures unsure { IsUnsure (texts words.now) files.old files.new result }
+    // From `saved_rounds`.
+    ensures rounds { IsKeptInRounds (texts words.now) files.old files.new result }
+{
+    let mut out = Paper::new(alloc, 7, 0);
+    let mut err = Paper::new(alloc, 7, 0);
+    command(threads, threads, alloc, words, files, &mut out, &mut err)
+}
