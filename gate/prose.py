@@ -44,6 +44,7 @@ PAGES: Dict[str, int] = {
     "examples/solver/README.md": 250,
     "examples/planning/README.md": 300,
     "examples/lemma/README.md": 300,
+    "examples/smt/README.md": 200,
     "examples/fifo/README.md": 300,
     "docs/AUDIT.md": 5500,
     "docs/THEOREMS.md": 3500,

@@ -18,7 +18,7 @@ from pathlib import Path
 from typing import Iterator, List, NamedTuple, Sequence, Tuple
 
 sys.dont_write_bytecode = True
-from harness import EXAMPLES, EXPLAIN, FILTER, LRUP_CHAIN, ROOT, TRIM, Failure, Row, generated, needs, run, want
+from harness import EXAMPLES, EXPLAIN, FILTER, LRUP_CHAIN, ROOT, TRIM, Failure, Row, generated, missing, needs, run, want
 from solving import PROGRAM, SOLVE, run_built
 
 LIMIT = 120  # seconds, for all of a page
@@ -32,6 +32,7 @@ PAGES: List[Tuple[str, Sequence[str], Sequence[str]]] = [
     ("examples/README.md", [], ["yosys"]),
     ("examples/planning/README.md", [], []),
     ("examples/lemma/README.md", [], []),
+    ("examples/smt/README.md", [], ["python3-z3"]),
     ("examples/fifo/README.md", [], ["yosys"]),
 ]
 
@@ -79,7 +80,10 @@ def is_timed(line: str) -> bool:
 def shown(name: str, files: Sequence[str], packages: Sequence[str], work: Path) -> None:
     """The page's commands write what stands there."""
     for package in packages:
-        needs(package)
+        if package != "python3-z3":
+            needs(package)
+        elif run(["/usr/bin/python3", "-c", "import z3"]).status:
+            missing("there is no module z3", work)
     for file in files:
         words, _, place = file.partition(" > ")
         if words.startswith("examples/"):
