@@ -230,6 +230,7 @@ ROWS: List[Row] = [
     *((f"a proof of another formula, {seed}", of_satisfiable, seed) for seed in range(1, 4)),
     *((f"mutated, {seed}", mutated, seed) for seed in range(1, 41)),
     ("no proof", misused, ["%formula"], "no proof: lrup-check FORMULA PROOF"),
+    ("no word", misused, [], "no proof: lrup-check FORMULA PROOF"),
     ("no formula that is there", misused, ["%none", "%proof"], "%none: No such file or directory"),
     ("no proof that is there", misused, ["%formula", "%none"], "%none: No such file or directory"),
     ("a folder", misused, ["%formula", "%folder"], "%folder is a folder"),

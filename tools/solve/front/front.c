@@ -111,7 +111,7 @@ static bool read_words(int count, char **words) {
         *places[letter] = optarg ? optarg : "";
     }
     if (optind < count && options.formula == NULL) options.formula = words[optind++];   // after --
-    return optind == count || options.check;
+    return options.check ? options.formula != NULL : optind == count;
 }
 
 static bool is_program(const char *path) {
