@@ -12,7 +12,7 @@ pub returns : goal.returns
 returns g c =
     let ran = c.in_ok-outcome.ensures in
     let view = source_view (λ (r : Pieces). Some r.left.now) (λ r. r.failed)
-        (λ before room given after. GivesLeft (Some before.left.now) room given (Some after.left.now)) in
+    (λ before room given after. GivesLeft (Some before.left.now) room given (Some after.left.now)) in
     if_both c.first_report.result c.first_report.ensures.report c.first_report.ensures.failed
     (λ report says fine.
     report_alone c.readers_closed.ensures c.match_is_reading.ensures view c.in_ok-readers.readers.items
