@@ -2,6 +2,7 @@ use Rattle.std.proofs.Common.{List, Some, false, map, subst}
 use Rattle.stream_check.specs.declared.report.Report.{Report}
 use Rattle.test_support.specs.declared.devices.Pieces.{Pieces}
 use Rattle.lrup_text.specs.ReadOut.{source_view}
+use Rattle.lrup_text.specs.Reads.{GivesLeft}
 use Rattle.runs.specs.Closed.{IsOfStream}
 use Rattle.portfolio.specs.lemmas.ResultLemmas.{if_both}
 use Rattle.portfolio_tests.proofs.AloneLemmas.{two_isolated, report_alone}
@@ -10,7 +11,8 @@ use Rattle.portfolio_tests.proofs.tests.alone.said_by_turns.Goals as goal
 pub returns : goal.returns
 returns g c =
     let ran = c.in_ok-outcome.ensures in
-    let view = source_view (λ (r : Pieces). Some r.left.now) (λ r. r.failed) (λ _ _ _ _. Unit {0}) in
+    let view = source_view (λ (r : Pieces). Some r.left.now) (λ r. r.failed)
+    (λ before room given after. GivesLeft (Some before.left.now) room given (Some after.left.now)) in
     if_both c.first_report.result c.first_report.ensures.report c.first_report.ensures.failed
     (λ report says fine.
     report_alone c.readers_closed.ensures c.match_is_reading.ensures view c.in_ok-readers.readers.items
