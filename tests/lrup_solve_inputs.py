@@ -23,7 +23,7 @@ from harness import (COMPRESSED, FILTER, FOUR, LIMIT, ROOT, Failure, Ran, Row, b
 from lrat import lrat_fault
 from proof_forms import read_formula
 from solving import (OUT, PROGRAM, SOLVE, Answer, before_lrupd, check_again, children_of, command, in_environment, in_place_of_lrupd,
-                     listed, run_built, solve, want_answer)
+                     listed, marked, none_left, run_built, solve, want_answer)
 
 words_given(__doc__, most=2)
 CUBE = os.fsdecode(b"cube\xe9")
@@ -151,7 +151,7 @@ def made_where_all_may_write(work: Path) -> None:
 
 def locked(name: str, ends: int, work: Path) -> None:
     """Another run has the folder, until it ends, however it does. The second one is refused at once, and touches nothing."""
-    kept, words = work / "kept", ["--proofs", work / name, "-j", "1", example("bmc.cnf")]
+    kept, words, mark = work / "kept", ["--proofs", work / name, "-j", "1", example("bmc.cnf")], marked(work)
     os.symlink("kept", work / "link")
     with started(command(["-j", "1", "--proofs", kept, generated("pigeons 11", work)]), stdout=subprocess.DEVNULL) as running:
         until("lrupd's sizes are there", lambda: (kept / "round-1.sizes").exists() or running.poll() is not None)
@@ -160,6 +160,7 @@ def locked(name: str, ends: int, work: Path) -> None:
         want((sorted(os.listdir(kept)), running.poll()), (before, None), "what is there, and the run")
         running.send_signal(ends)
         running.wait(LIMIT)
+        none_left(mark)
         want(set(before) <= set(listed(kept)), True, f"whether all of {before} is listed")
         want_answer(solve(words), 20)
     check_again(kept)

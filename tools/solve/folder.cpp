@@ -99,8 +99,11 @@ void Folder::make() {
     if (mkdirat(place, last_name.c_str(), 0700) != 0)
         refuse("cannot make a folder " + path + ": " + error_text());
     folder_file = kept_open(open_folder());
-    if (fstat(folder_file, &made) != 0 || write(life.write, &made, sizeof made) != sizeof made)
-        refuse("cannot open " + path + ": " + error_text());
+    signal(SIGPIPE, SIG_IGN);       // the cleaner may have been killed
+    bool is_kept = fstat(folder_file, &made) == 0 && write(life.write, &made, sizeof made) == sizeof made;
+    std::string cause = error_text();
+    if (!is_kept) unlinkat(place, last_name.c_str(), AT_REMOVEDIR);
+    if (!is_kept) refuse("cannot open " + path + ": " + cause);
 }
 
 const std::string &Folder::name() { return path; }
