@@ -415,7 +415,7 @@ def large_formula(words: List[str], work: Path) -> None:
         lasts = time.monotonic() - begun
     why = "time is up, and the formula isn't read" if words else "ended by a signal: Terminated"
     want((out, running.returncode), (f"c {why}\ns UNKNOWN\n", 0 if words else -signal.SIGTERM), "the end")
-    want(lasts < (10 if words else 1.5), True, f"whether {lasts} seconds are soon")
+    want(lasts < (10 if words else 4), True, f"whether {lasts} seconds are soon")
     seen.extend(read_terminal(leader))
     os.close(leader)
     want(bytes(seen).endswith(b"\r\x1b[K"), True, f"whether the line is taken away: {bytes(seen)[-100:]!r}")
@@ -537,7 +537,7 @@ def what_happens() -> List[Row]:
             ("an engine and a filter killed", killed, ["engine 1", "filter 2"], kill, 0, "no engine is left"),
             ("the front killed", left_alone), ("stopped", stopped), ("ended while it stands", ended_while_it_stands),
             ("a terminal that stops", terminal_that_stops), ("a large formula", large_formula, []),
-            ("a large formula, and the time", large_formula, ["--time", "1"]),
+            ("a large formula, and the time", large_formula, ["--time", "0.3"]),
             ("who gives way", gives_way), ("time", time_is_up), ("a full row", row_is_full),
             ("a full disk for streams", full, ["-j", "1", "--proofs", "{work}"], os.devnull, 4096, "round-1.stream-1: File too large"),
             ("a full disk for the answer", full, [], "/dev/full", 0, "cannot write the answer"),
