@@ -15,13 +15,15 @@ use Rattle.portfolio.specs.declared.outcome.Verdict.{Verdict}
 use Rattle.stream_check.specs.declared.report.Report.{Report}
 use Rattle.checkpoint.specs.Checkpoints.{IsUnsatisfiableText}
 use Rattle.checkpoint.specs.declared.saving.SaveFault.{SaveFault}
-use Rattle.command_line.specs.CommandLine.{AskFor, IsCommandLineOf}
+use Rattle.command_line.specs.CommandLine.{AskFor, IsCommandLineOf, checkpoint_of, rounds_of}
 use Rattle.command_line.specs.declared.words.CommandLine.{CommandLine}
-use Rattle.command.specs.Commands.{AreAssumed, AreChecked, AreOpened, Deeds, FilesView, HasNoFault, IsAssumeCause, IsBegunWith, IsCause}
+use Rattle.command_line.specs.declared.words.Next.{Next}
+use Rattle.command_line.specs.declared.words.Next.TheVariants.{Checkpoint, Nothing, Rounds}
+use Rattle.command.specs.Commands.{AreAssumed, AreChecked, AreOpened, Deeds, FilesView, HasNoFault, IsAssumeCause, IsCause}
 use Rattle.command.specs.Commands.{IsFormulaAt, IsLeftUnused, IsOpenCause, IsOutcome, IsReadCause, IsStartCause, IsUnsatisfiableTextWith}
 use Rattle.command.specs.Commands.{LeavesBehind, LeavesCheckpoint, NameUnsatisfiable, NameUnsatisfiableUnder, SavesCheckpoint, Text}
 use Rattle.command.specs.Commands.{WasRead, WasReadIn}
-use Rattle.command.specs.Commands.{assumed_at, checkpoint_at, created_at, layout_at, options_of, run_params_given}
+use Rattle.command.specs.Commands.{assumed_at, checkpoint_at, created_at, created_path, layout_at, options_of, run_params_given}
 use Rattle.command.specs.internal.Running.{IsLayoutCause, IsRunCause}
 use Rattle.command.specs.internal.Saving.{IsNotCreated}
 use Rattle.command.specs.internal.FaultSources.{of_run}
@@ -156,7 +158,7 @@ module _ (files : FilesView) (words : List Text) (given : CommandLine) (line : I
   read_cause faults.Memory after cause = inr (given, line, inl cause)
   read_cause fault after cause = absurd cause
 
-  module _ (f : Cnf) (next : files.its.State) (at : IsBegunWith files given f next) where
+  module _ (f : Cnf) (next : files.its.State) (at : IsFormulaAt files given.formula.now f next) where
     assume_cause : (path : Text) → assumed_at given ≡ Some path → (fault : CommandFault) (after : files.its.State)
         → IsAssumeCause files f.vars next (Some path) fault after → IsCause files words fault after
     assume_cause path same faults.CubeUnread after cause = (
@@ -209,6 +211,12 @@ module _ (files : FilesView) (words : List Text) (given : CommandLine) (line : I
           inr (given, line, inr (f, next, at, inr (cube, later, assumed, inr (readers, last, opened, cause))))
       start_cause readers last opened fault after cause = absurd cause
 
+-- without rounds the path that is created is the checkpoint's
+pub created_once : (next : Next) → rounds_of next ≡ None → checkpoint_of next ≡ created_path next
+created_once Nothing once = refl
+created_once (Checkpoint path) once = refl
+created_once (Rounds folder) once = absurd (let no : Some folder.now ≡ None = once in cc)
+
 -- why streams that were opened weren't checked: there is no layout
 module _ (its : Deeds) (serial : Bool) (layout : LayoutValue) (before : its.State) (path : Option Text) where
   pub layout_start : (fault : CommandFault) → IsLayoutCause layout fault → IsStartCause its serial layout before path fault before
@@ -245,7 +253,7 @@ start_moved files given f options readers options_are entries_are serial before 
 -- so of the words and the files
 pub begun_cause : (files : FilesView) (words : List Text) (given : CommandLine) (f : Cnf) (cube : CubeValue) (options : OptionsValue)
     (readers : List files.its.Reader) (next later last : files.its.State)
-    → IsCommandLineOf words given → IsBegunWith files given f next
+    → IsCommandLineOf words given → IsFormulaAt files given.formula.now f next
     → AreAssumed (WasReadIn files) f.vars next (assumed_at given) cube later
     → options ≡ options_of given → AreOpened files.its.opens later given.streams readers last
     → map files.its.reading.left readers ≡ map files.tells given.streams

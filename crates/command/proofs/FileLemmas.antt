@@ -9,7 +9,7 @@ use Rattle.dimacs.specs.FormulaFault.{IsFormulaFault}
 use Rattle.dimacs.specs.declared.fault.DimacsFault.{DimacsFault}
 use Rattle.dimacs.specs.declared.fault.DimacsFault.TheVariants as formulas
 use Rattle.command_line.specs.declared.words.CommandLine.{CommandLine}
-use Rattle.command.specs.Commands.{AskForOne, FilesView, IsAssumeCause, IsFileCause, IsReadCause, Text, WasReadIn, from_first}
+use Rattle.command.specs.Commands.{FilesView, IsAssumeCause, IsFileCause, IsReadCause, Text, WasReadIn, from_first}
 use Rattle.command.specs.internal.Running.{IsFailedRead}
 use Rattle.command.specs.internal.FaultSources.{of_cube, of_cube_file, of_formula, of_open}
 use Rattle.command.specs.declared.fault.CommandFault.{CommandFault}
@@ -58,17 +58,17 @@ cube_file_cause files vars before path fault after cause = absurd cause
 
 -- why what was read is no formula, or no text of literals
 pub text_cause : (files : FilesView) (given : CommandLine) (bytes : List ℕ) (after : files.its.State)
-    → WasReadIn files files.first given.formula.now bytes after → AskForOne given
+    → WasReadIn files files.first given.formula.now bytes after
     → (fault : DimacsFault) → (fault ≢ formulas.Memory → IsFormulaFault bytes fault) → IsReadCause files given (of_formula fault) after
-text_cause files given bytes after was one formulas.NoHeader is = (λ e. cc, (bytes, was, is (λ e. cc)), one)
-text_cause files given bytes after was one formulas.BadHeader is = (λ e. cc, (bytes, was, is (λ e. cc)), one)
-text_cause files given bytes after was one (formulas.BadNumber line) is = (λ e. cc, (bytes, was, is (λ e. cc)), one)
-text_cause files given bytes after was one (formulas.VariableRange line) is = (λ e. cc, (bytes, was, is (λ e. cc)), one)
-text_cause files given bytes after was one formulas.OpenClause is = (λ e. cc, (bytes, was, is (λ e. cc)), one)
-text_cause files given bytes after was one formulas.TooFew is = (λ e. cc, (bytes, was, is (λ e. cc)), one)
-text_cause files given bytes after was one (formulas.TooMany line) is = (λ e. cc, (bytes, was, is (λ e. cc)), one)
-text_cause files given bytes after was one formulas.Limit is = (λ e. cc, (bytes, was, is (λ e. cc)), one)
-text_cause files given bytes after was one formulas.Memory is = inr (inr (was.reader, was.opened))
+text_cause files given bytes after was formulas.NoHeader is = (λ e. cc, (bytes, was, is (λ e. cc)))
+text_cause files given bytes after was formulas.BadHeader is = (λ e. cc, (bytes, was, is (λ e. cc)))
+text_cause files given bytes after was (formulas.BadNumber line) is = (λ e. cc, (bytes, was, is (λ e. cc)))
+text_cause files given bytes after was (formulas.VariableRange line) is = (λ e. cc, (bytes, was, is (λ e. cc)))
+text_cause files given bytes after was formulas.OpenClause is = (λ e. cc, (bytes, was, is (λ e. cc)))
+text_cause files given bytes after was formulas.TooFew is = (λ e. cc, (bytes, was, is (λ e. cc)))
+text_cause files given bytes after was (formulas.TooMany line) is = (λ e. cc, (bytes, was, is (λ e. cc)))
+text_cause files given bytes after was formulas.Limit is = (λ e. cc, (bytes, was, is (λ e. cc)))
+text_cause files given bytes after was formulas.Memory is = inr (inr (was.reader, was.opened))
 
 pub cube_text_cause : (files : FilesView) (vars : ℕ) (before : files.its.State) (path : Text) (bytes : List ℕ) (after : files.its.State)
     → WasReadIn files before path bytes after

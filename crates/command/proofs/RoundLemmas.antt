@@ -22,7 +22,10 @@ use Rattle.portfolio.specs.declared.outcome.Verdict.TheVariants.{Unsatisfiable, 
 use Rattle.checkpoint.specs.Entails.{RefutesBack, RefutesBackUnder}
 use Rattle.checkpoint.specs.declared.saving.SaveFault.{SaveFault}
 use Rattle.command_line.specs.declared.sizes.Sizes.{Sizes}
+use Rattle.command_line.specs.CommandLine.{rounds_of}
 use Rattle.command_line.specs.declared.words.CommandLine.{CommandLine}
+use Rattle.command_line.specs.declared.words.Next.{Next}
+use Rattle.command_line.specs.declared.words.Next.TheVariants.{Checkpoint, Nothing, Rounds}
 use Rattle.command.specs.Commands.{AreOpened, Deeds, IsStartCause, Text, WasRead, checkpoint_at, created_at, created_path, layout_at}
 use Rattle.command.specs.Commands.{path_of, rounds_at}
 use Rattle.command.specs.Paths.{formula_path, sizes_path, stream_path, stream_paths}
@@ -291,19 +294,20 @@ sizes_cause its before path reader after opened left faults.Sizes (inr (bytes, l
 sizes_cause its before path reader after opened left faults.Memory cause = inr (inr (reader, opened))
 sizes_cause its before path reader after opened left fault cause = absurd cause
 
+-- in rounds the path that is created is that of round 2's formula
+created_in_rounds : (next : Next) (folder : Text) → rounds_of next ≡ Some folder → Some (formula_path folder 2) ≡ created_path next
+created_in_rounds Nothing folder asked = absurd (let no : None ≡ Some folder = asked in cc)
+created_in_rounds (Checkpoint path) folder asked = absurd (let no : None ≡ Some folder = asked in cc)
+created_in_rounds (Rounds other) folder asked = ap (option_map (λ at. formula_path at 2)) (sym asked)
+
 -- why round 1, whose streams were opened, has no report, by the words
 pub first_start : (its : Deeds) (plan : Plan) (given : CommandLine) (cube : CubeValue) (folder : Text) (f : Cnf)
     (opened : its.State) → rounds_at given ≡ Some folder → (fault : CommandFault) (after : its.State)
     → IsRoundStartCause its (plan_at given cube folder) 1 f (sizes_of given) opened fault after
     → IsStartCause its given.serial (layout_at given f) opened (created_at given) fault after
 first_start its plan given cube folder f opened asked fault after cause =
-    subst (λ (o : Option Text). IsStartCause its given.serial (layout_at given f) opened (created_path o (checkpoint_at given)) fault after)
-    (sym asked) cause
-
--- a path that isn't there
-pub no_path : (path : Option (Bor Text)) → false ≡ is_some path → path_of path ≡ None
-no_path None is = refl
-no_path (Some path) is = absurd (let no : false ≡ true = is in cc)
+    subst (λ (o : Option Text). IsStartCause its given.serial (layout_at given f) opened o fault after)
+    (created_in_rounds given.next folder asked) cause
 
 -- why a round doesn't go on, of which nothing was carried
 pub barred_by : (verdict : Verdict) (unsaved : Option SaveFault) (Ended : Type 0)

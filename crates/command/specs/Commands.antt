@@ -33,8 +33,10 @@ use Rattle.portfolio.specs.declared.outcome.Verdict.TheVariants.{Unsatisfiable, 
 use Rattle.checkpoint.specs.Checkpoints.{IsCheckpoint}
 use Rattle.checkpoint.specs.declared.saving.SaveFault.{SaveFault}
 use Rattle.checkpoint.specs.declared.saving.SaveFault.TheVariants as saves
-use Rattle.command_line.specs.CommandLine.{AskFor, AskForRounds, AskToSave, HaveFault, IsCommandLineOf}
+use Rattle.command_line.specs.CommandLine.{AskFor, AskForBoth, AskToSave, HaveFault, IsCommandLineOf, checkpoint_of, rounds_of}
 use Rattle.command_line.specs.declared.words.CommandLine.{CommandLine}
+use Rattle.command_line.specs.declared.words.Next.{Next}
+use Rattle.command_line.specs.declared.words.Next.TheVariants.{Checkpoint, Nothing, Rounds}
 use Rattle.command.specs.Faults.{status_of, error_text, round_error_text}
 use Rattle.command.specs.Paths as round_paths
 use Rattle.command.specs.declared.files.Files as Files
@@ -265,20 +267,21 @@ IsFormulaAt files path formula after =
 
 -- the folder of the rounds that they ask for, if any
 abbrev pub rounds_at : CommandLine → Option Text
-rounds_at given = path_of given.rounds
+rounds_at given = rounds_of given.next
 
 -- the path of the checkpoint that they ask for, if any
 abbrev pub checkpoint_at : CommandLine → Option Text
-checkpoint_at given = path_of given.checkpoint
+checkpoint_at given = checkpoint_of given.next
 
 -- the path of the checkpoint that is created before the streams are checked, if any: the one that the words ask for, or the formula
 -- of round 2
-abbrev pub created_path : Option Text → Option Text → Option Text
-created_path None checkpoint = checkpoint
-created_path (Some folder) checkpoint = Some (round_paths.formula_path folder 2)
+abbrev pub created_path : Next → Option Text
+created_path Nothing = None
+created_path (Checkpoint path) = Some path.now
+created_path (Rounds folder) = Some (round_paths.formula_path folder.now 2)
 
 abbrev pub created_at : CommandLine → Option Text
-created_at given = created_path (rounds_at given) (checkpoint_at given)
+created_at given = created_path given.next
 
 -- The reports and the verdict that the words and the files come to. The first opening is the formula's, the next is that of the
 -- assumed literals, if any, and then come those of the streams, in order. `readers` are their files as they were opened.
@@ -394,24 +397,13 @@ IsFileCause files before path faults.Unread after =
 IsFileCause files before path faults.Memory after = IsOutOfMemory files.its before path after
 IsFileCause files before path fault after = ⊥
 
--- the words ask for no rounds, or for no checkpoint
-abbrev pub AskForOne : CommandLine → Type 0
-AskForOne given = (rounds_at given ≡ None) ⊎ (checkpoint_at given ≡ None)
-
--- why the formula wasn't read: its file, the first to be opened, was refused, or its reading failed, or it holds no formula, which is told
--- if the words don't ask for both
+-- why the formula wasn't read: its file, the first to be opened, was refused, or its reading failed, or it holds no formula
 abbrev pub IsReadCause : (files : FilesView) → CommandLine → CommandFault → files.its.State → Type 0
 IsReadCause files given (faults.Refused fault) after =
     (fault ≢ formulas.Memory)
     × ((bytes : List ℕ) × WasReadIn files files.first given.formula.now bytes after
     × IsFormulaFault bytes fault)
-    × AskForOne given
 IsReadCause files given fault after = IsFileCause files files.first given.formula.now fault after
-
--- the formula was read, and the words don't ask for both
-abbrev pub IsBegunWith : (files : FilesView) → CommandLine → Cnf → files.its.State → Type 0
-IsBegunWith files given formula after =
-    AskForOne given × IsFormulaAt files given.formula.now formula after
 
 -- why the assumed literals at a path, over the variables 1 to vars, weren't read: their file, the next to be opened, was refused, or
 -- its reading failed, or it holds no text of them; without a path there is no cause
@@ -491,7 +483,7 @@ abbrev pub IsCauseAt : (files : FilesView) → CommandLine → CommandFault → 
 IsCauseAt files given fault after =
     IsReadCause files given fault after
     ⊎ ((formula : Cnf) × (next : files.its.State)
-    × IsBegunWith files given formula next
+    × IsFormulaAt files given.formula.now formula next
     × (IsAssumeCause files formula.vars next (assumed_at given) fault after
     ⊎ ((cube : CubeValue) × (later : files.its.State)
     × AreAssumed (WasReadIn files) formula.vars next (assumed_at given) cube later
@@ -501,14 +493,11 @@ IsCauseAt files given fault after =
     × IsStartCause files.its given.serial (layout_at given formula) last (created_at given) fault
     after)))))
 
--- Why there is no outcome, by the words and the files, and the files then. Words with a fault, or the want of memory for them, leave the
--- files as they were; that there are two checkpoints is told once the file of the formula was read.
+-- Why there is no outcome, by the words and the files, and the files then. Words with a fault, words that ask for a checkpoint and for
+-- rounds, or the want of memory for them, leave the files as they were.
 abbrev pub IsCause : (files : FilesView) → List Text → CommandFault → files.its.State → Type 0
 IsCause files words (faults.Usage text) after = HaveFault words × (after ≡ files.first)
-IsCause files words faults.TwoCheckpoints after =
-    (folder path : Text) × AskForRounds words folder × AskToSave words path
-    × ((given : CommandLine) × (bytes : List ℕ) × IsCommandLineOf words given
-    × WasReadIn files files.first given.formula.now bytes after)
+IsCause files words faults.TwoCheckpoints after = AskForBoth words × (after ≡ files.first)
 IsCause files words faults.Memory after =
     (after ≡ files.first)
     ⊎ ((given : CommandLine) × IsCommandLineOf words given

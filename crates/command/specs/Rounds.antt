@@ -28,7 +28,7 @@ use Rattle.command_line.specs.declared.sizes.Sizes.{Sizes}
 use Rattle.command_line.specs.declared.words.CommandLine.{CommandLine}
 use Rattle.command.specs.Commands.{AreAssumed, AreChecked, AreOpened, Deeds, EndsWithFault, EndsWithReport, FilesView, HasBrokenOff}
 use Rattle.command.specs.Commands.{IsFormulaAt, IsOpenCause, IsStartCause, IsUntouched, LeavesBehind, SaysOfRound, SinkChange}
-use Rattle.command.specs.Commands.{SinkTook, Text, WasRead, WasReadIn, WasSavedBy, assumed_at, checkpoint_at, report_status, rounds_at}
+use Rattle.command.specs.Commands.{SinkTook, Text, WasRead, WasReadIn, WasSavedBy, assumed_at, report_status, rounds_at}
 use Rattle.command.specs.Faults.{round_error_text, status_of}
 use Rattle.command.specs.Paths.{formula_path, sizes_path, stream_path, stream_paths}
 use Rattle.command.specs.declared.fault.CommandFault.{CommandFault}
@@ -282,7 +282,6 @@ last_text number reports verdict =
 pub record WereRounds (files : FilesView) (given : CommandLine) (folder : Text)
     (cube : CubeValue) (last : Round files.its (plan_at given cube folder))
     (before : List (Round files.its (plan_at given cube folder))) : Type 0 where
-  pub alone : checkpoint_at given ≡ None
   pub formula : Cnf
   pub next : files.its.State
   pub is_formula : IsFormulaAt files given.formula.now formula next

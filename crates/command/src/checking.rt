@@ -8,7 +8,7 @@ ghost use Rattle.dimacs.specs.FormulaFault.{IsFormulaFault};
 ghost use Rattle.dimacs.specs.FormulaText.{IsFormulaText};
 ghost use Rattle.checkpoint.specs.Checkpoints.{IsUnsatisfiableText};
 ghost use Rattle.lrup_text.specs.Reads.{GaveAll};
-ghost use Rattle.command.specs.Commands.{AreAssumed, AreOpened, AskForOne, IsAssumeCause, IsCause, IsFileCause, IsOpenCause, HasNoFault, IsUnsatisfiableTextWith};
+ghost use Rattle.command.specs.Commands.{AreAssumed, AreOpened, IsAssumeCause, IsCause, IsFileCause, IsOpenCause, HasNoFault, IsUnsatisfiableTextWith};
 ghost use Rattle.command.specs.internal.Running.{IsFailedRead, run_params_on, IsLayoutCause};
 ghost use Rattle.command.specs.Commands.{IsOutcome, LeavesCheckpoint, Text, WasRead, WasReadIn, assumed_at};
 ghost use Rattle.command.specs.Commands.{from_first, path_of, rounds_at};
@@ -120,7 +120,7 @@ pub fn check_asked<T: Threads + Wait + Sync, C: Clock + Sync, F: Machine>(
         serial: line.serial,
     };
     find_layout(&setup, readers.len())?;
-    let output = create_checkpoint(files, line.checkpoint)?;
+    let output = create_checkpoint(files, line.next.checkpoint())?;
     let watched = line.watch.then_some(&*files);
     let run = match run_streams(threads, clock, alloc, &setup, watched, readers) {
         Ok(run) => run,
@@ -159,7 +159,6 @@ pub(crate) fn begin<W: Wait, F: Machine>(
     bytes: Vec<u8>,
     files: &mut F,
 ) -> Result<Beginning<F::Input>, CommandFault>
-    requires one { AskForOne line.now }
     ensures formula { IfOk result (λ begun. IsFormulaText bytes.items begun.formula) }
     ensures begun { IfOk result (λ begun. HasBegun (⟦<F as Viewed>⟧.view files.old) line.now
         begun.formula begun.cube files.old begun.readers.items files.new) }

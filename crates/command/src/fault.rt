@@ -71,6 +71,7 @@ impl From<WordsFault> for CommandFault {
     fn from(fault: WordsFault) -> CommandFault {
         match fault {
             WordsFault::Usage(text) => CommandFault::Usage(text),
+            WordsFault::TwoCheckpoints => CommandFault::TwoCheckpoints,
             WordsFault::Memory => CommandFault::Memory,
         }
     }

@@ -17,6 +17,7 @@ use crate::files::{Machine, Viewed};
 use crate::rounds::check_rounds;
 use checkpoint::SaveFault;
 use checkpoint::laws::{entails_itself, entails_onward};
+use command_line::Next;
 use lrup_text::{Sink, WriteBuffer, WriteFault};
 use portfolio::{Verdict, write_report};
 use std::alloc::Global;
@@ -129,9 +130,13 @@ pub fn check_formula<T: Threads + Wait + Sync, C: Clock + Sync, F: Machine, O: S
         → ProgramEnds view words files.new (change O.Sink out.old out.new)
         (change E.Sink err.old err.new) result }
 {
-    match asked.line.rounds {
-        None => check_once(threads, clock, alloc, asked, files, out, err),
-        Some(folder) => check_in_rounds(threads, clock, alloc, asked, folder, files, out, err),
+    match asked.line.next {
+        Next::Nothing | Next::Checkpoint(_) => {
+            check_once(threads, clock, alloc, asked, files, out, err)
+        }
+        Next::Rounds(folder) => {
+            check_in_rounds(threads, clock, alloc, asked, folder, files, out, err)
+        }
     }
 }
 

@@ -365,9 +365,6 @@ pub(crate) fn check_rounds<T: Threads + Wait + Sync, C: Clock + Sync, F: Machine
         line,
         formula: bytes,
     } = asked;
-    if line.checkpoint.is_some() {
-        return Err(of_first(CommandFault::TwoCheckpoints));
-    }
     // Laws, which do nothing: the proof uses that a checkpoint with no satisfying assignment refutes the formula before it.
     refutes_back();
     refutes_back_under();

@@ -21,9 +21,11 @@ use Rattle.clap.proofs.WalkLemmas.{both}
 use Rattle.clap.specs.declared.builder.value_parser.Reading.TheVariants.{AsWritten}
 use Rattle.clap.specs.declared.parser.matches.ValueSource.TheVariants as source
 use Rattle.clap.proofs.OnLiterals.{clap_on_literals}
-use Rattle.command_line.specs.CommandLine.{IsSaidBy, is_set, lrupd, option_number, stream_rule}
+use Rattle.command_line.specs.CommandLine.{IsSaidBy, checkpoint_of, is_set, lrupd, option_number, rounds_of, stream_rule}
 use Rattle.command_line.specs.Laws.{HasDefaults, PlainWords, is_plain}
 use Rattle.command_line.specs.declared.words.CommandLine.{CommandLine}
+use Rattle.command_line.specs.declared.words.Next.{Next}
+use Rattle.command_line.specs.declared.words.Next.TheVariants.{Checkpoint, Nothing, Rounds}
 
 abbrev rules : List Rule
 rules = (built lrupd).top.rules
@@ -272,6 +274,11 @@ no_path : {A B : Type 0} (f : A → B) (o : Option A) → option_map f o ≡ Non
 no_path f None none = refl
 no_path f (Some x) none = absurd (let no : Some (f x) ≡ None = none in cc)
 
+nothing : (next : Next) → checkpoint_of next ≡ None → rounds_of next ≡ None → next ≡ Nothing
+nothing Nothing checkpoint rounds = refl
+nothing (Checkpoint path) checkpoint rounds = absurd (let no : Some path.now ≡ None = checkpoint in cc)
+nothing (Rounds folder) checkpoint rounds = absurd (let no : Some folder.now ≡ None = rounds in cc)
+
 defaults : (formula first : Text) (rest : List Text) (rows : List Row)
     → rows ≡ formula_row formula ∷ stream_row (first ∷ rest) ∷ flag_row (codes "serial") ∷ flag_row (codes "watch") ∷ []
     → (given : CommandLine) → IsSaidBy rows given → HasDefaults formula (first ∷ rest) given
@@ -282,8 +289,7 @@ defaults formula first rest rows are given said = record {
   lines = said.lines ∙ ap (option_number (codes "lines") 65536) are;
   room = said.room ∙ ap (option_number (codes "room") 1048576) are;
   assume = no_path (λ path. path.now) given.assume (said.assume ∙ ap (first_of (codes "assume")) are);
-  checkpoint = no_path (λ path. path.now) given.checkpoint (said.checkpoint ∙ ap (first_of (codes "checkpoint")) are);
-  rounds = no_path (λ path. path.now) given.rounds (said.rounds ∙ ap (first_of (codes "rounds")) are);
+  next = nothing given.next (said.checkpoint ∙ ap (first_of (codes "checkpoint")) are) (said.rounds ∙ ap (first_of (codes "rounds")) are);
   serial = said.serial ∙ ap (is_set (codes "serial")) are;
   watch = said.watch ∙ ap (is_set (codes "watch")) are;
 }

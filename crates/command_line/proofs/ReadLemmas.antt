@@ -2,12 +2,14 @@
 use Rattle.std.proofs.Common.{◌≡◌, ◌∙◌, ◌⊎◌, ◌≤◌, ◌<◌, refl, sym, ap, subst, inl, inr, codes, ℕ, Bool, true, false, List, [], length}
 use Rattle.std.proofs.Common.{Option, Some, None, Result, Ok, Err}
 use Rattle.std.specs.Str.{bytes_eq}
-use Rattle.std.specs.Prelude.{unwrap_or}
+use Rattle.std.specs.Prelude.{IfErr, unwrap_or}
 use Rattle.std.specs.Option.{ForSome, option_map_or}
 use Rattle.std.specs.Str.Parse.{ParsesUnsigned, digits_value, without_leading_plus}
-use Rattle.clap.specs.Words.{IsUnsignedIn, ReadsOne, Row, Text, one_of}
-use Rattle.command_line.specs.CommandLine.{option_number}
-use Rattle.command_line.specs.internal.Matches.{HasNumber, HasUpTo, IsNumber}
+use Rattle.clap.specs.Words.{IsUnsignedIn, ReadsOne, Row, Text, first_of, one_of}
+use Rattle.command_line.specs.CommandLine.{IsWordsFault, option_number}
+use Rattle.command_line.specs.declared.words.WordsFault.{WordsFault}
+use Rattle.command_line.specs.declared.words.WordsFault.TheVariants.{Memory, TwoCheckpoints, Usage}
+use Rattle.command_line.specs.internal.Matches.{AreRowsOf, HasNumber, HasUpTo, IsFaultOf, IsNumber}
 
 -- a text that is a number of 64 bits reads as this number, and none as the default
 pub number_read : (E : Type 0) (G : Text → Result ℕ E → Type 0) → ((t : Text) (r : Result ℕ E) → G t r → ParsesUnsigned 64 10 t r)
@@ -47,3 +49,14 @@ flag_read (Some t) read none on off truth = elim (truth t refl) [
 -- what is read twice of one place has one length
 pub same_length : {A : Type 0} {o : Option (List A)} {a b : List A} → o ≡ Some a → o ≡ Some b → 0 < length a → 0 < length b
 same_length {A} {o} {a} {b} one two some = subst (λ (r : Option (List A)). 0 < length (unwrap_or r [])) (sym one ∙ two) some
+
+-- why the rows of words give no command line is why the words give none
+pub fault_of_rows : {A : Type 0} (words : List Text) (rows : List Row) → AreRowsOf words rows → (result : Result A WordsFault)
+    → IfErr result (IsFaultOf rows) → IfErr result (IsWordsFault words)
+fault_of_rows words rows are (Ok line) is = is
+fault_of_rows words rows are (Err (Usage text)) is = absurd is
+fault_of_rows words rows are (Err TwoCheckpoints) is =
+    let checkpoint = sym (ap (first_of (codes "checkpoint")) are.found) ∙ is.2 in
+    let folder = sym (ap (first_of (codes "rounds")) are.found) ∙ is.3 in
+    (is.0, is.1, record { good = are.good; path_is = checkpoint }, record { good = are.good; folder_is = folder })
+fault_of_rows words rows are (Err Memory) is = is

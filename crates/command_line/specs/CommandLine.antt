@@ -1,5 +1,5 @@
 -- The command line of `lrupd`: what `clap` is told of it, and what it finds in the words.
-use Rattle.std.specs.Prelude.{◌≡◌, ◌≢◌, ◌<◌, ◌≤◌, ⊤, ℕ, Bool, true, false, List, [], ◌∷◌, Option, Some, codes, length, option_map}
+use Rattle.std.specs.Prelude.{◌≡◌, ◌≢◌, ◌<◌, ◌≤◌, ⊤, ℕ, Bool, true, false, List, [], ◌∷◌, None, Option, Some, codes, length, option_map}
 use Rattle.std.specs.Option.{option_map_or}
 use Rattle.std.specs.Str.{bytes_eq}
 use Rattle.std.specs.Str.Parse.{digits_value, without_leading_plus}
@@ -10,8 +10,10 @@ use Rattle.clap.specs.Simple.{new_shape}
 use Rattle.clap.specs.declared.builder.action.ArgAction.TheVariants.{Append, SetTrue}
 use Rattle.clap.specs.declared.builder.value_parser.ValueParser.TheVariants as parser
 use Rattle.command_line.specs.declared.words.CommandLine.{CommandLine}
+use Rattle.command_line.specs.declared.words.Next.{Next}
+use Rattle.command_line.specs.declared.words.Next.TheVariants.{Checkpoint, Nothing, Rounds}
 use Rattle.command_line.specs.declared.words.WordsFault.{WordsFault}
-use Rattle.command_line.specs.declared.words.WordsFault.TheVariants.{Usage, Memory}
+use Rattle.command_line.specs.declared.words.WordsFault.TheVariants.{Memory, TwoCheckpoints, Usage}
 
 -- an option `--name N`, of a number from 0 to `most`
 abbrev pub number_rule : Text → ℕ → Rule
@@ -79,6 +81,10 @@ pub record AskForRounds (words : List Text) (folder : Text) : Type 0 where
   pub good : fault_of lrupd words ≡ []
   pub folder_is : first_of (codes "rounds") (matches_of lrupd words) ≡ Some folder
 
+-- The words have no fault, and ask for a checkpoint and for rounds.
+abbrev pub AskForBoth : List Text → Type 0
+AskForBoth words = (path folder : Text) × AskToSave words path × AskForRounds words folder
+
 -- ---- what the words say, by the rows that are found in them
 
 -- the number that an option has, or `default` if the words don't have the option
@@ -89,6 +95,18 @@ option_number name default rows =
 -- the words have the flag
 abbrev pub is_set : Text → List Row → Bool
 is_set name rows = option_map_or (λ text. bytes_eq text (codes "true")) (one_of name rows) false
+
+-- the path of the checkpoint that is to be saved, if one is
+abbrev pub checkpoint_of : Next → Option Text
+checkpoint_of Nothing = None
+checkpoint_of (Checkpoint path) = Some path.now
+checkpoint_of (Rounds folder) = None
+
+-- the folder of the rounds, if the run goes on in rounds
+abbrev pub rounds_of : Next → Option Text
+rounds_of Nothing = None
+rounds_of (Checkpoint path) = None
+rounds_of (Rounds folder) = Some folder.now
 
 -- the words have a fault: a mistake, or a request for help
 abbrev pub HaveFault : List Text → Type 0
@@ -103,9 +121,8 @@ pub record IsSaidBy (rows : List Row) (given : CommandLine) : Type 0 where
   pub room : given.room ≡ option_number (codes "room") 1048576 rows
   pub small_room : given.room ≤ 268435456
   pub assume : option_map (λ path. path.now) given.assume ≡ first_of (codes "assume") rows
-  pub checkpoint :
-      option_map (λ path. path.now) given.checkpoint ≡ first_of (codes "checkpoint") rows
-  pub rounds : option_map (λ path. path.now) given.rounds ≡ first_of (codes "rounds") rows
+  pub checkpoint : checkpoint_of given.next ≡ first_of (codes "checkpoint") rows
+  pub rounds : rounds_of given.next ≡ first_of (codes "rounds") rows
   pub serial : given.serial ≡ is_set (codes "serial") rows
   pub watch : given.watch ≡ is_set (codes "watch") rows
   pub formula : first_of (codes "FORMULA") rows ≡ Some given.formula.now
@@ -117,7 +134,8 @@ pub record IsCommandLineOf (words : List Text) (given : CommandLine) : Type 0 wh
   pub good : fault_of lrupd words ≡ []
   pub said : IsSaidBy (matches_of lrupd words) given
 
--- Why there is none: the words have a fault, or memory ran out.
+-- Why there is none: the words have a fault, or ask for a checkpoint and for rounds; or memory ran out.
 abbrev pub IsWordsFault : List Text → WordsFault → Type 0
 IsWordsFault words (Usage text) = HaveFault words
+IsWordsFault words TwoCheckpoints = AskForBoth words
 IsWordsFault words Memory = ⊤

@@ -4,6 +4,7 @@ use Rattle.std.specs.List.{list_all}
 use Rattle.clap.specs.Words.{Text, fault_of}
 use Rattle.command_line.specs.CommandLine.{AskFor, AskForRounds, AskToSave, IsCommandLineOf, lrupd}
 use Rattle.command_line.specs.declared.words.CommandLine.{CommandLine}
+use Rattle.command_line.specs.declared.words.Next.TheVariants.{Nothing}
 
 -- the word doesn't begin with a hyphen (45)
 abbrev pub is_plain : Text → Bool
@@ -18,8 +19,7 @@ pub record HasDefaults (first : Text) (rest : List Text) (given : CommandLine) :
   pub lines : given.lines ≡ 65536
   pub room : given.room ≡ 1048576
   pub assume : given.assume ≡ None
-  pub checkpoint : given.checkpoint ≡ None
-  pub rounds : given.rounds ≡ None
+  pub next : given.next ≡ Nothing
   pub serial : given.serial ≡ false
   pub watch : given.watch ≡ false
 

@@ -8,4 +8,4 @@ mod sizes;
 mod words;
 
 pub use sizes::{Sizes, read_sizes};
-pub use words::{CommandLine, Paths, UsageText, WordsFault, read_words};
+pub use words::{CommandLine, Next, Paths, UsageText, WordsFault, read_words};

@@ -1,9 +1,9 @@
 //! The words of the command line.
-ghost use Rattle.std.specs.Prelude.{◌≡◌, IfErr, IfOk, IsSome, Some, codes, option_map};
+ghost use Rattle.std.specs.Prelude.{◌≡◌, IfErr, IfNone, IfOk, IfSome, IsSome, Some, codes, option_map};
 ghost use Rattle.clap.specs.Walk.{rows_of, texts};
 ghost use Rattle.clap.specs.Words.{FailsBy, all_of, fault_of, first_of, found_of};
-ghost use Rattle.command_line.specs.CommandLine.{IsCommandLineOf, IsWordsFault, IsSaidBy, is_set, lrupd, option_number};
-ghost use Rattle.command_line.specs.internal.Matches.{AreRowsOf, AreWhole, HasNumber, HasTruth, IsFaultFrom};
+ghost use Rattle.command_line.specs.CommandLine.{IsCommandLineOf, IsWordsFault, IsSaidBy, checkpoint_of, is_set, lrupd, option_number, rounds_of};
+ghost use Rattle.command_line.specs.internal.Matches.{AreBothIn, AreRowsOf, AreWhole, HasNumber, HasTruth, IsFaultFrom, IsFaultOf};
 
 use crate::arguments::program;
 use clap::error::ErrorKind;
@@ -24,10 +24,8 @@ pub struct CommandLine<'a> {
     pub room: u64,
     /// The path of the assumed literals, if any.
     pub assume: Option<&'a str>,
-    /// The path of the checkpoint to be written, if any.
-    pub checkpoint: Option<&'a str>,
-    /// The folder of the rounds after the first, if the run is to go on in rounds.
-    pub rounds: Option<&'a str>,
+    /// What the clauses that are live at the end are saved for.
+    pub next: Next<'a>,
     /// Whether one thread checks all streams, a line of each in turn.
     pub serial: bool,
     /// Whether to report progress while streams are checked.
@@ -36,6 +34,29 @@ pub struct CommandLine<'a> {
     pub formula: &'a str,
     /// The paths of the streams.
     pub streams: Paths<'a>,
+}
+
+/// What the clauses that are live at the end are saved for.
+#[derive(Clone, Copy, Debug, PartialEq, Eq)]
+pub enum Next<'a> {
+    /// Nothing: they aren't saved.
+    Nothing,
+    /// A later run: the path of its formula.
+    Checkpoint(&'a str),
+    /// The next round: the folder of the rounds after the first.
+    Rounds(&'a str),
+}
+
+impl<'a> Next<'a> {
+    /// The path of a later run's formula, if one is to be saved.
+    pub fn checkpoint(self) -> Option<&'a str>
+        ensures { option_map (λ path. path.now) result ≡ checkpoint_of self.entry }
+    {
+        match self {
+            Next::Checkpoint(path) => Some(path),
+            Next::Nothing | Next::Rounds(_) => None,
+        }
+    }
 }
 
 /// Paths in their order.
@@ -99,6 +120,9 @@ pub enum WordsFault {
     /// They have a mistake, or ask for help: what `clap` says to that.
     #[error("{0}")]
     Usage(UsageText),
+    /// They ask for a checkpoint and for rounds, whose checkpoints have names of their own.
+    #[error("--checkpoint and --rounds exclude each other")]
+    TwoCheckpoints,
     /// Out of memory.
     #[error("out of memory")]
     Memory,
@@ -120,7 +144,7 @@ pub fn read_words<'a>(alloc: Global, words: &'a [&str]) -> Result<CommandLine<'a
     ensures fault { IfErr result (IsWordsFault (texts words.now)) }
 {
     match matches_in(alloc, words) {
-        Ok(matches) => Ok(command_line(alloc, &matches)?),
+        Ok(matches) => command_line(alloc, &matches),
         Err(error) => Err(words_fault(alloc, &error)),
     }
 }
@@ -143,17 +167,20 @@ fn option_number(matches: &ArgMatches<'_>, name: &str, default: u64) -> u64
 }
 
 /// The command line that the words give, by what `clap` found in them.
-fn command_line<'a>(alloc: Global, matches: &ArgMatches<'a>) -> Result<CommandLine<'a>, AllocError>
+fn command_line<'a>(alloc: Global, matches: &ArgMatches<'a>) -> Result<CommandLine<'a>, WordsFault>
     requires { AreWhole (rows_of (found_of matches.now)) }
-    ensures { IfOk result (IsSaidBy (rows_of (found_of matches.now))) }
+    ensures ok { IfOk result (IsSaidBy (rows_of (found_of matches.now))) }
+    ensures fault { IfErr result (IsFaultOf (rows_of (found_of matches.now))) }
 {
+    let Some(next) = next_of(matches) else {
+        return Err(WordsFault::TwoCheckpoints);
+    };
     Ok(CommandLine {
         tries: option_number(matches, "tries", 1_000),
         lines: option_number(matches, "lines", 65_536),
         room: option_number(matches, "room", 1_048_576),
         assume: file_of(matches, "assume"),
-        checkpoint: file_of(matches, "checkpoint"),
-        rounds: file_of(matches, "rounds"),
+        next,
         serial: is_set(matches, "serial"),
         watch: is_set(matches, "watch"),
         formula: formula_of(matches),
@@ -167,6 +194,22 @@ fn is_set(matches: &ArgMatches<'_>, name: &str) -> bool
     ensures { result ≡ is_set name.now (rows_of (found_of matches.now)) }
 {
     matches.get_flag(name)
+}
+
+/// What the clauses are saved for; none if the words have both options.
+fn next_of<'a>(matches: &ArgMatches<'a>) -> Option<Next<'a>>
+    ensures checkpoint { IfSome result (λ next. checkpoint_of next
+        ≡ first_of (codes "checkpoint") (rows_of (found_of matches.now))) }
+    ensures rounds { IfSome result (λ next. rounds_of next
+        ≡ first_of (codes "rounds") (rows_of (found_of matches.now))) }
+    ensures both { IfNone result (AreBothIn (rows_of (found_of matches.now))) }
+{
+    match (file_of(matches, "checkpoint"), file_of(matches, "rounds")) {
+        (None, None) => Some(Next::Nothing),
+        (Some(path), None) => Some(Next::Checkpoint(path)),
+        (None, Some(folder)) => Some(Next::Rounds(folder)),
+        (Some(_), Some(_)) => None,
+    }
 }
 
 /// The path that an option has, if it is there.

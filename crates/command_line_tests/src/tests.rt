@@ -1,5 +1,5 @@
 //! Command lines, and the numbers, words and faults that they have by the table of options.
-use command_line::{UsageText, WordsFault, read_words};
+use command_line::{Next, UsageText, WordsFault, read_words};
 use std::alloc::Global;
 use std::fmt;
 use std::process::Abort;
@@ -22,8 +22,7 @@ struct Given<'a> {
     serial: bool,
     watch: bool,
     assume: Option<&'a str>,
-    checkpoint: Option<&'a str>,
-    rounds: Option<&'a str>,
+    next: Next<'a>,
     formula: &'a str,
     streams: &'a [&'a str],
 }
@@ -36,8 +35,7 @@ const DEFAULTS: Given<'static> = Given {
     serial: false,
     watch: false,
     assume: None,
-    checkpoint: None,
-    rounds: None,
+    next: Next::Nothing,
     formula: "f",
     streams: &["s"],
 };
@@ -52,8 +50,7 @@ fn gives(rt: &impl Abort, alloc: Global, words: &[&str], want: Given<'_>) -> Res
         serial: line.serial,
         watch: line.watch,
         assume: line.assume,
-        checkpoint: line.checkpoint,
-        rounds: line.rounds,
+        next: line.next,
         formula: line.formula,
         streams: line.streams.as_slice(),
     };
@@ -335,28 +332,28 @@ static CHECKPOINTS: [(&[&str], Given<'static>); 7] = [
     (
         &["--checkpoint", "c", "f", "s"],
         Given {
-            checkpoint: Some("c"),
+            next: Next::Checkpoint("c"),
             ..DEFAULTS
         },
     ),
     (
         &["--checkpoint=c", "f", "s"],
         Given {
-            checkpoint: Some("c"),
+            next: Next::Checkpoint("c"),
             ..DEFAULTS
         },
     ),
     (
         &["f", "--checkpoint", "f", "s"],
         Given {
-            checkpoint: Some("f"),
+            next: Next::Checkpoint("f"),
             ..DEFAULTS
         },
     ),
     (
         &["f", "s", "--checkpoint", "s"],
         Given {
-            checkpoint: Some("s"),
+            next: Next::Checkpoint("s"),
             ..DEFAULTS
         },
     ),
@@ -364,7 +361,7 @@ static CHECKPOINTS: [(&[&str], Given<'static>); 7] = [
         &["--checkpoint", "c", "--assume", "a", "f", "s"],
         Given {
             assume: Some("a"),
-            checkpoint: Some("c"),
+            next: Next::Checkpoint("c"),
             ..DEFAULTS
         },
     ),
@@ -372,7 +369,7 @@ static CHECKPOINTS: [(&[&str], Given<'static>); 7] = [
         &["--assume=a", "f", "s", "--checkpoint=a"],
         Given {
             assume: Some("a"),
-            checkpoint: Some("a"),
+            next: Next::Checkpoint("a"),
             ..DEFAULTS
         },
     ),
@@ -404,25 +401,25 @@ fn a_checkpoint_has_one_file(rt: HostRuntime) -> Result<(), Fail> {
     have_faults(&rt, rt.alloc(), &CHECKPOINT_FAULTS)
 }
 
-static ROUNDS: [(&[&str], Given<'static>); 5] = [
+static ROUNDS: [(&[&str], Given<'static>); 4] = [
     (
         &["--rounds", "d", "f", "s"],
         Given {
-            rounds: Some("d"),
+            next: Next::Rounds("d"),
             ..DEFAULTS
         },
     ),
     (
         &["--rounds=d", "f", "s"],
         Given {
-            rounds: Some("d"),
+            next: Next::Rounds("d"),
             ..DEFAULTS
         },
     ),
     (
         &["f", "s", "--rounds", "s"],
         Given {
-            rounds: Some("s"),
+            next: Next::Rounds("s"),
             ..DEFAULTS
         },
     ),
@@ -433,17 +430,8 @@ static ROUNDS: [(&[&str], Given<'static>); 5] = [
             ..DEFAULTS
         },
     ),
-    (
-        &["--rounds", "d", "f", "s", "--checkpoint", "c"],
-        Given {
-            checkpoint: Some("c"),
-            rounds: Some("d"),
-            ..DEFAULTS
-        },
-    ),
 ];
 
-/// Beside a checkpoint a folder is taken, too: that they exclude each other is said later.
 #[test]
 fn a_folder_of_rounds_may_be_named(rt: HostRuntime) -> Result<(), Fail> {
     give(&rt, rt.alloc(), &ROUNDS)
@@ -468,6 +456,30 @@ static ROUNDS_FAULTS: [(&[&str], &str); 4] = [
 #[test]
 fn rounds_have_one_folder(rt: HostRuntime) -> Result<(), Fail> {
     have_faults(&rt, rt.alloc(), &ROUNDS_FAULTS)
+}
+
+/// Words that ask for a checkpoint and for rounds.
+static BOTH: [&[&str]; 2] = [
+    &["--rounds", "d", "f", "s", "--checkpoint", "c"],
+    &["--checkpoint=c", "--rounds=c", "f", "s"],
+];
+
+/// It is a fault, which has a text of its own.
+#[test]
+fn a_checkpoint_excludes_rounds(rt: HostRuntime) -> Result<(), Fail> {
+    for &words in &BOTH {
+        match read_words(rt.alloc(), words) {
+            Err(WordsFault::TwoCheckpoints) => {}
+            other => return Err(Fail::from(format_args!("{words:?}: {other:?}"))),
+        }
+    }
+    let text = format!(in rt.alloc(); "{}", WordsFault::TwoCheckpoints)?;
+    same(
+        &rt,
+        text.as_str(),
+        "--checkpoint and --rounds exclude each other",
+    );
+    Ok(())
 }
 
 static SERIAL: [(&[&str], Given<'static>); 5] = [

@@ -17,6 +17,7 @@ use Rattle.command.specs.declared.fault.CommandFault.TheVariants as faults
 -- the fault of the words, of the formula, of the assumed literals and of an opening; out of memory is one fault, wherever it comes
 abbrev pub of_words : WordsFault → CommandFault
 of_words (words.Usage text) = faults.Usage text
+of_words words.TwoCheckpoints = faults.TwoCheckpoints
 of_words words.Memory = faults.Memory
 
 abbrev pub of_formula : DimacsFault → CommandFault

@@ -9,7 +9,7 @@ use Rattle.clap.specs.declared.error.Error.{Error}
 use Rattle.clap.specs.declared.error.kind.ErrorKind.TheVariants.{OutOfMemory}
 use Rattle.command_line.specs.CommandLine.{lrupd, number_rule}
 use Rattle.command_line.specs.declared.words.WordsFault.{WordsFault}
-use Rattle.command_line.specs.declared.words.WordsFault.TheVariants.{Usage, Memory}
+use Rattle.command_line.specs.declared.words.WordsFault.TheVariants.{Memory, TwoCheckpoints, Usage}
 
 -- the command, with no argument
 abbrev pub without_arguments : App
@@ -60,7 +60,20 @@ pub record AreRowsOf (words : List Text) (rows : List Row) : Type 0 where
   pub found : rows ≡ matches_of lrupd words
   pub whole : AreWhole rows
 
+-- the rows have a checkpoint, and rounds
+abbrev pub AreBothIn : List Row → Type 0
+AreBothIn rows =
+    (path folder : Text) × (first_of (codes "checkpoint") rows ≡ Some path)
+    × (first_of (codes "rounds") rows ≡ Some folder)
+
+-- why rows of words without a fault give no command line: they have both, or memory ran out
+abbrev pub IsFaultOf : List Row → WordsFault → Type 0
+IsFaultOf rows (Usage text) = ⊥
+IsFaultOf rows TwoCheckpoints = AreBothIn rows
+IsFaultOf rows Memory = ⊤
+
 -- what is made of an error of `clap`
 abbrev pub IsFaultFrom : Error → WordsFault → Type 0
 IsFaultFrom error (Usage text) = kind_of error ≢ OutOfMemory
+IsFaultFrom error TwoCheckpoints = ⊥
 IsFaultFrom error Memory = ⊤

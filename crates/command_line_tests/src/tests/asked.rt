@@ -1,6 +1,6 @@
 //! What the definition of what words ask for says of a few words. Each follows from the definition alone, so a wrong one isn't proved.
 ghost use Rattle.std.specs.Prelude.{[], ◌∷◌, ℕ, List, Option, Some, codes};
-ghost use Rattle.command_line.specs.CommandLine.{AskFor, AskForRounds, AskToSave};
+ghost use Rattle.command_line.specs.CommandLine.{AskFor, AskForBoth, AskForRounds, AskToSave};
 
 /// `--assume` has the word after it, and FORMULA is the first word that no option has. Words with a fault ask for nothing. A checkpoint
 /// is asked for by its own option alone, and so are rounds.
@@ -15,4 +15,6 @@ pub fn words_ask_for_files()
     ensures rounds { AskForRounds (codes "f" ∷ codes "--rounds=d" ∷ codes "s" ∷ []) (codes "d") }
     ensures one_round { (folder : List ℕ) →
         ¬ AskForRounds (codes "--checkpoint" ∷ codes "d" ∷ codes "f" ∷ codes "s" ∷ []) folder }
+    ensures both { AskForBoth
+        (codes "--checkpoint=c" ∷ codes "--rounds=d" ∷ codes "f" ∷ codes "s" ∷ []) }
 {}

@@ -1,6 +1,6 @@
 use Rattle.std.proofs.Common.{◌∙◌, List, map, refl, sym, ap, subst}
 use Rattle.clap.specs.Walk.{texts}
-use Rattle.command.specs.Commands.{AreOpened, IsBegunWith, IsCause, IsOpenCause, Text, assumed_at, files_view, from_first}
+use Rattle.command.specs.Commands.{AreOpened, IsCause, IsFormulaAt, IsOpenCause, Text, assumed_at, files_view, from_first}
 use Rattle.command.proofs.CheckingLemmas.{assumed_cause, err_given, open_cause, read_cause}
 use Rattle.command.proofs.FileLemmas.{moved_cause, text_cause}
 use Rattle.command.proofs.checking.begin.Goals as goal
@@ -11,7 +11,7 @@ returns-in_err-formula-clause-cause g c words first good at =
     let line = c.args.line.now in
     let after = c.args.files.now in
     let cause = read_cause files words line good _ after
-    (text_cause files line c.args.bytes.items after at c.requires.one c.in_err-formula.field-0.0 c.in_err-formula.ensures.fault) in
+    (text_cause files line c.args.bytes.items after at c.in_err-formula.field-0.0 c.in_err-formula.ensures.fault) in
     err_given c.from_residual.result _ (λ fault. IsCause files words fault after)
     (λ other is. subst (λ fault. IsCause files words fault after) (sym is) cause) c.from_residual.ensures.1
 
@@ -24,8 +24,8 @@ returns-in_err-cube-clause-cause g c words first good at =
     let formula = c.in_ok-formula.formula in
     let fault = c.in_err-cube.field-0.0 in
     let moved = moved_cause files next formula.vars next (assumed_at line) fault after c.in_err-cube.ensures.cause in
-    let is_formula : IsBegunWith files line formula c.args.files.now =
-    (c.requires.one, (c.args.bytes.items, at, c.in_ok-formula.ensures.formula)) in
+    let is_formula : IsFormulaAt files line.formula.now formula c.args.files.now =
+    (c.args.bytes.items, at, c.in_ok-formula.ensures.formula) in
     let cause = assumed_cause files words line good formula next is_formula (assumed_at line) refl fault after moved in
     err_given c.from_residual-in_err-cube.result _ (λ fault. IsCause files words fault after)
     (λ other is. subst (λ fault. IsCause files words fault after) (sym is) cause) c.from_residual-in_err-cube.ensures.1
@@ -35,8 +35,8 @@ returns-in_err-readers-clause-cause g c words first good at =
     let files = from_first (files_view g.F.Files g.F.Machine g.F.Input.Source g.F.Output.Sink c.args.files.now) first in
     let line = c.args.line.now in
     let formula = c.in_ok-formula.formula in
-    let is_formula : IsBegunWith files line formula c.args.files.now =
-    (c.requires.one, (c.args.bytes.items, at, c.in_ok-formula.ensures.formula)) in
+    let is_formula : IsFormulaAt files line.formula.now formula c.args.files.now =
+    (c.args.bytes.items, at, c.in_ok-formula.ensures.formula) in
     let later = c.read_assumed.new.files in
     let after = c.open_streams.new.files in
     let fault = c.in_err-readers.field-0.0 in

@@ -1,20 +1,17 @@
-use Rattle.std.proofs.Common.{◌≡◌, ◌∙◌, ℕ, List, Option, inl, length, sym, subst}
+use Rattle.std.proofs.Common.{◌≡◌, ◌∙◌, ℕ, List, Option, length, sym, subst}
 use Rattle.lrup_model.specs.Layout.{LayoutValue}
 use Rattle.portfolio.specs.Outcomes.{layout_of}
 use Rattle.command_line.specs.CommandLine.{IsCommandLineOf}
-use Rattle.command.specs.Commands.{FilesView, HasNoFault, IsCause, IsFormulaAt, IsLeftUnused, IsStartCause, Text, WasReadIn, checkpoint_at}
-use Rattle.command.specs.Commands.{SavesCheckpoint, created_at, created_path, files_view, from_first}
+use Rattle.command.specs.Commands.{FilesView, HasNoFault, IsCause, IsFormulaAt, IsLeftUnused, IsStartCause, LeavesBehind, Text, WasReadIn}
+use Rattle.command.specs.Commands.{SavesCheckpoint, created_at, files_view, from_first, path_of}
 use Rattle.command.specs.internal.Running.{IsLayoutCause}
 use Rattle.command.specs.internal.Saving.{ClosesCheckpoint, IsNotCreated}
 use Rattle.command.specs.declared.fault.CommandFault.{CommandFault}
-use Rattle.command.proofs.CheckingLemmas.{begun_cause, create_start, err_given, is_outcome, layout_start, run_start, some_given}
+use Rattle.command.proofs.CheckingLemmas.{begun_cause, create_start, created_once, err_given, is_outcome, layout_start, run_start, some_given}
 use Rattle.command.proofs.SavingLemmas.{leaves_behind, left_moved, left_unused}
 use Rattle.command.proofs.checking.check_asked.Given as given
 use Rattle.command.proofs.checking.check_asked.Goals as goal
 use Rattle.command.proofs.checking.check_asked.Goals.{After-unwrap-options}
-
-pub begin-requires-clause-one : goal.begin-requires-clause-one
-begin-requires-clause-one g c κs within = inl c.requires.once
 
 pub returns-in_err-begun-clause-cause : goal.returns-in_err-begun-clause-cause
 returns-in_err-begun-clause-cause g c words first good at =
@@ -41,7 +38,7 @@ started g c words first good at fault after cause =
     let begun = c.in_ok-begun.begun in
     let of = c.in_ok-begun.ensures.begun in
     begun_cause files words c.args.asked.line begun.formula begun.cube c.unwrap-options.result begun.readers.items c.args.files.now of.later
-    c.begin.new.files good (inl c.requires.once, (c.args.asked.formula.items, at, c.in_ok-begun.ensures.formula)) of.assumed
+    c.begin.new.files good (c.args.asked.formula.items, at, c.in_ok-begun.ensures.formula) of.assumed
     (some_given _ c.unwrap-options.ensures c.new.ensures.some) of.opened of.left fault after cause
 
 pub returns-in_err-find_layout-clause-cause : goal.returns-in_err-find_layout-clause-cause
@@ -70,8 +67,8 @@ returns-in_err-output-clause-cause g c words first good at =
     let last = c.begin.new.files in
     let after = c.create_checkpoint.new.files in
     let none = subst (λ (n : ℕ). HasNoFault (layout n)) (c.len.ensures ∙ readers.ok.0) c.in_ok-find_layout.ensures.found in
-    let refused = subst (λ (o : Option Text). IsNotCreated its last (created_path o (checkpoint_at line)) fault after)
-    (sym c.requires.once) c.in_err-output.ensures.cause in
+    let refused = subst (λ (o : Option Text). IsNotCreated its last o fault after)
+    (c.checkpoint.ensures ∙ created_once line.next c.requires.once) c.in_err-output.ensures.cause in
     let Cause : CommandFault → Type 0 = λ fault. IsCause (from_first (viewed g found) first) words fault after in
     let cause : Cause fault = started g found words first good at fault after
     (create_start its line.serial (layout (length readers.items)) last (created_at line) fault after none refused) in
@@ -89,10 +86,10 @@ returns-in-Err-clause-cause g c words first good at =
     let last = c.begin.new.files in
     let after = c.discard_it.new.files in
     let none = subst (λ (n : ℕ). HasNoFault (layout n)) (c.len.ensures ∙ readers.ok.0) c.in_ok-find_layout.ensures.found in
-    let unused = left_unused its last c.create_checkpoint.new.files after (checkpoint_at line) c.in_ok-output.output
+    let unused = left_unused its last c.create_checkpoint.new.files after (path_of c.checkpoint.result) c.in_ok-output.output
     c.in_ok-output.ensures.created c.discard_it.ensures in
-    let at_path = subst (λ (o : Option Text). IsLeftUnused its last (created_path o (checkpoint_at line)) after)
-    (sym c.requires.once) unused in
+    let at_path = subst (λ (o : Option Text). IsLeftUnused its last o after)
+    (c.checkpoint.ensures ∙ created_once line.next c.requires.once) unused in
     started g found words first good at fault after
     (run_start its line.serial (layout (length readers.items)) last (created_at line) fault after none c.in-Err.ensures.cause at_path)
 
@@ -119,8 +116,9 @@ returns-clause-outcome g c words first good at =
     is_outcome files words line begun.formula begun.cube c.unwrap-options.result readers c.args.files.now of.later last good is_formula
     of.assumed options of.opened of.left run.reports.items run.verdict unsaved after (
       stands.checked,
-      leaves_behind files.its _ run.verdict last c.create_checkpoint.new.files after (checkpoint_at line) c.in_ok-output.output unsaved
-          c.in_ok-output.ensures.created closes,
+      subst (λ (o : Option Text). LeavesBehind files.its _ run.verdict last o unsaved after) c.checkpoint.ensures
+          (leaves_behind files.its _ run.verdict last c.create_checkpoint.new.files after (path_of c.checkpoint.result)
+          c.in_ok-output.output unsaved c.in_ok-output.ensures.created closes),
     )
 
 pub returns-clause-sound : goal.returns-clause-sound

@@ -1,16 +1,13 @@
-use Rattle.std.proofs.Common.{◌≡◌, ◌∙◌, ℕ, IfErr, IfOk, None, ap, inl, inr, map, subst, sym}
+use Rattle.std.proofs.Common.{◌≡◌, ◌∙◌, ℕ, IfErr, IfOk, ap, inl, inr, map, subst, sym}
 use Rattle.command_line.specs.declared.sizes.Sizes.{Sizes}
-use Rattle.command.specs.Commands.{IsCause, IsFormulaAt, checkpoint_at, deeds_of, files_view, from_first}
+use Rattle.command.specs.Commands.{IsCause, IsFormulaAt, deeds_of, files_view, from_first}
 use Rattle.command.specs.Rounds.{StreamsOpened, plan_at, sizes_of}
 use Rattle.command.specs.internal.RoundProgress.{EndsAt, FailsAt, IsReported, IsRoundsFault}
 use Rattle.command.specs.declared.fault.CommandFault.{CommandFault}
 use Rattle.command.proofs.CheckingLemmas.{if_err, if_ok, start_cause}
-use Rattle.command.proofs.RoundLemmas.{ends_sound, ends_sound_under, first_start, no_path, opened_count}
+use Rattle.command.proofs.RoundLemmas.{ends_sound, ends_sound_under, first_start, opened_count}
 use Rattle.command.proofs.rounds.check_rounds.Given as given
 use Rattle.command.proofs.rounds.check_rounds.Goals as goal
-
-pub begin-requires-clause-one : goal.begin-requires-clause-one
-begin-requires-clause-one g c κs within = inr (no_path c.args.asked.line.checkpoint c.if-is_some.ensures)
 
 -- a fault of what the rounds begin with is one of round 1
 pub returns-in-Err-clause-cause : goal.returns-in-Err-clause-cause
@@ -63,14 +60,12 @@ returns-clause-reported g c words first good at =
     let of = c.in-Ok.ensures.begun in
     let is_formula : IsFormulaAt files line.formula.now begun.formula c.args.files.now =
     (c.args.asked.formula.items, at, c.in-Ok.ensures.formula) in
-    let alone : checkpoint_at line ≡ None = no_path line.checkpoint c.if-is_some.ensures in
     if_ok c.go_on.result _ (λ last. IsReported files line folder last c.go_on.new.files)
     (λ last ends. record {
       cube = begun.cube;
       round = ends.round;
       before = ends.before;
       were = record {
-        alone = alone;
         formula = begun.formula;
         next = c.args.files.now;
         is_formula = is_formula;
@@ -130,7 +125,6 @@ returns-clause-cause g c words first good at =
     let plan = plan_at line begun.cube folder in
     let is_formula : IsFormulaAt files line.formula.now begun.formula c.args.files.now =
     (c.args.asked.formula.items, at, c.in-Ok.ensures.formula) in
-    let alone : checkpoint_at line ≡ None = no_path line.checkpoint c.if-is_some.ensures in
     let fails = subst
     (λ (s : Sizes). IfErr c.go_on.result (λ failed. FailsAt its plan begun.formula s of.later line.streams c.begin.new.files failed
     c.go_on.new.files))
@@ -139,7 +133,7 @@ returns-clause-cause g c words first good at =
     (λ failed fails. elim fails [
       | inl one ↦ inl (
         one.0,
-        start_cause files words line good begun.formula c.args.files.now (inr alone, is_formula) begun.cube of.later of.assumed
+        start_cause files words line good begun.formula c.args.files.now is_formula begun.cube of.later of.assumed
             begun.readers.items c.begin.new.files of.opened failed.fault c.go_on.new.files
             (first_start its plan line begun.cube folder begun.formula c.begin.new.files c.requires.folder failed.fault c.go_on.new.files
             one.1),
@@ -149,8 +143,7 @@ returns-clause-cause g c words first good at =
         last = after.last;
         before = after.before;
         were = record {
-          alone = alone;
-          formula = begun.formula;
+            formula = begun.formula;
           next = c.args.files.now;
           is_formula = is_formula;
           later = of.later;

@@ -12,8 +12,8 @@ option_number-requires-2 c = up_to_is_number 268435456 (codes "lines") (rows_of 
 pub option_number-requires-3 : goal.option_number-requires-3
 option_number-requires-3 c = up_to_is_number 268435456 (codes "room") (rows_of (found_of c.args.matches.now)) c.requires.room
 
-pub returns : goal.returns
-returns c =
+pub returns-clause-ok : goal.returns-clause-ok
+returns-clause-ok c =
     let rows = rows_of (found_of c.args.matches.now) in
     let tries = number_within 1000000 (codes "tries") 1000 rows c.requires.tries (omega arith) in
     let lines = number_within 268435456 (codes "lines") 65536 rows c.requires.lines (omega arith) in
@@ -27,8 +27,8 @@ returns c =
       room = c.option_number-3.ensures;
       small_room = subst (λ (n : ℕ). n ≤ 268435456) (sym c.option_number-3.ensures) room;
       assume = c.file_of.ensures;
-      checkpoint = c.file_of-2.ensures;
-      rounds = c.file_of-3.ensures;
+      checkpoint = c.in-Some.ensures.checkpoint;
+      rounds = c.in-Some.ensures.rounds;
       serial = c.is_set.ensures;
       watch = c.is_set-2.ensures;
       formula = c.formula_of.ensures;

@@ -1,6 +1,6 @@
 use Rattle.std.proofs.Common.{ℕ, List, [], ◌∷◌, Option, Some, codes, refl}
 use Rattle.clap.proofs.OnLiterals.{clap_on_literals}
-use Rattle.command_line.specs.CommandLine.{AskFor, AskForRounds, AskToSave}
+use Rattle.command_line.specs.CommandLine.{AskFor, AskForBoth, AskForRounds, AskToSave}
 use Rattle.command_line_tests.proofs.tests.asked.words_ask_for_files.Goals as goal
 
 assumed : AskFor (codes "--assume" ∷ codes "a" ∷ codes "f" ∷ codes "s" ∷ []) (codes "f") (Some (codes "a"))
@@ -27,5 +27,10 @@ one_round : (folder : List ℕ) → ¬ AskForRounds (codes "--checkpoint" ∷ co
 unfolding clap_on_literals
 one_round folder h = let e = h.folder_is in cc
 
+both : AskForBoth (codes "--checkpoint=c" ∷ codes "--rounds=d" ∷ codes "f" ∷ codes "s" ∷ [])
+unfolding clap_on_literals
+both = (codes "c", codes "d", record { good = refl; path_is = refl }, record { good = refl; folder_is = refl })
+
 pub returns : goal.returns
-returns c = record { assumed = assumed; fault = fault; saved = saved; unsaved = unsaved; rounds = rounds; one_round = one_round }
+returns c =
+    record { assumed = assumed; fault = fault; saved = saved; unsaved = unsaved; rounds = rounds; one_round = one_round; both = both }
