@@ -306,6 +306,9 @@ def two_ways_to_save() -> Iterator[Named]:
         for options in ["--checkpoint", "saved", "--rounds", "d"], ["--rounds=d", "--checkpoint=saved"]:
             yield f"{options} {way}", Wanted([*way.split(), *options, *names], 2, err=fault(1, cause), files=given,
                                              left={**given, "saved": None, saved_name(2): None})
+            # It is a fault of the words, so no file is opened.
+            yield f"{options} {way}, and no formula", Wanted([*way.split(), *options, "absent", stream_name(1)], 2, err=fault(1, cause),
+                                                             files=given, left={**given, "saved": None, saved_name(2): None})
 
 
 # Sizes.

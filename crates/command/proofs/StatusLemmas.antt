@@ -11,9 +11,8 @@ use Rattle.portfolio.specs.declared.outcome.Verdict.{Verdict}
 use Rattle.portfolio.specs.declared.outcome.Verdict.TheVariants.{Unsatisfiable, UnsatisfiableUnder, Unknown}
 use Rattle.checkpoint.specs.Checkpoints.{IsCheckpoint}
 use Rattle.checkpoint.specs.declared.saving.SaveFault.{SaveFault}
-use Rattle.command_line.specs.CommandLine.{AskToSave, checkpoint_of, rounds_of}
-use Rattle.command_line.specs.declared.words.Next.{Next}
-use Rattle.command_line.specs.declared.words.Next.TheVariants.{Checkpoint, Nothing, Rounds}
+use Rattle.command_line.specs.CommandLine.{AskToSave}
+use Rattle.command_line.specs.lemmas.NextLemmas.{asks_for_one}
 use Rattle.command.specs.Commands.{CheckpointEntailed, CheckpointLeftEmpty, ClosesSink, Deeds, EndsWithFault, EndsWithReport, FilesView}
 use Rattle.command.specs.Commands.{IsAssumeCause, IsCause, IsOutcome, LeavesBehind, LeavesFile, SavesCheckpoint, SinkChange, Text}
 use Rattle.command.specs.Commands.{WasReadIn, WasSavedBy, assumed_at, checkpoint_at, layout_at, report_status}
@@ -281,17 +280,13 @@ module _ (files : FilesView) (words : List Text) where
   all_unwritten after out err status (inr (inl fault)) = ends_unwritten files words after out err status (inr fault)
   all_unwritten after out err status (inr (inr rounds)) = in_rounds_unwritten after out err status rounds
 
-  no_both : (next : Next) (folder path : Text) → rounds_of next ≡ Some folder → checkpoint_of next ≡ Some path → ⊥
-  no_both Nothing folder path rounds checkpoint = absurd (let no : None ≡ Some path = checkpoint in cc)
-  no_both (Checkpoint at) folder path rounds checkpoint = absurd (let no : None ≡ Some folder = rounds in cc)
-  no_both (Rounds at) folder path rounds checkpoint = absurd (let no : None ≡ Some path = checkpoint in cc)
-
   -- there are no rounds beside a checkpoint that is asked for
   not_both : (after : files.its.State) (out err : SinkChange) (status : ℕ) (path : Text) → AskToSave words path
       → EndsInRounds files words after out err status → ⊥
   not_both after out err status path ask ends =
-      let asked : checkpoint_at ends.given ≡ Some path = ends.command_line.said.checkpoint ∙ ask.path_is in
-      no_both ends.given.next ends.folder path ends.asked asked
+      let line = ends.command_line in
+      asks_for_one words ends.given line
+      (path, ends.folder, ask, record { good = line.good; folder_is = sym line.said.rounds ∙ ends.asked })
 
   pub all_saved : (after : files.its.State) (out err : SinkChange) (status : ℕ) → ProgramEnds files words after out err status
       → CheckpointEntailed files.its.opens (WasReadIn files) (WasSavedBy files.its) files.first words after status

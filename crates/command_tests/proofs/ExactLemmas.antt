@@ -11,6 +11,7 @@ use Rattle.portfolio.specs.declared.outcome.Verdict.TheVariants.{Unsatisfiable, 
 use Rattle.checkpoint.specs.Checkpoints.{IsCheckpoint}
 use Rattle.checkpoint.specs.declared.saving.SaveFault.{SaveFault}
 use Rattle.command_line.specs.CommandLine.{AskToSave, IsCommandLineOf}
+use Rattle.command_line.specs.lemmas.NextLemmas.{asks_for_one}
 use Rattle.command_line.specs.declared.sizes.Sizes.{Sizes}
 use Rattle.command_line.specs.declared.words.CommandLine.{CommandLine}
 use Rattle.command.specs.Commands.{AreAssumed, AreOpened, CheckpointEntailed, CheckpointLeftEmpty, ClosesSink, Deeds}
@@ -103,11 +104,9 @@ module _ (files : FilesView) where
       let is = nine_is fault.fault (sym fault.status_is ∙ nine) in
       absurd (never_unsaved words is.0 after (subst (λ (f : CommandFault). IsCause files words f after) is.1 fault.cause))
   ninth_end words after out err status path ask nine (inr (inr rounds)) =
-      let asked : checkpoint_at rounds.given ≡ Some path = rounds.command_line.said.checkpoint ∙ ask.path_is in
-      elim rounds.ending [
-        | inl report ↦ absurd (let no : Some path ≡ None = sym asked ∙ report.were.alone in cc)
-        | inr fails ↦ absurd (let no : Some path ≡ None = sym asked ∙ fails.were.alone in cc)
-      ]
+      let line = rounds.command_line in
+      absurd (asks_for_one words rounds.given line
+      (path, rounds.folder, ask, record { good = line.good; folder_is = sym line.said.rounds ∙ rounds.asked }))
 
 -- Files of which contracts know everything: their readers have these bytes left, and their new files these.
 module _ {R W : Type 0} (left : R → List ℕ) (content : W → List ℕ) (reading : SourceView R) (has_failed : W → Bool) where

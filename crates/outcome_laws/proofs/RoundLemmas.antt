@@ -138,7 +138,6 @@ abbrev before_them : (files : FilesView) (given : CommandLine) (folder : Text) (
     (round b : Round files.its (plan_at given cube folder)) (more : List (Round files.its (plan_at given cube folder)))
     → WereRounds files given folder cube round (b ∷ more) → WereRounds files given folder cube b more
 before_them files given folder cube round b more were = record {
-  alone = were.alone;
   formula = were.formula;
   next = were.next;
   is_formula = were.is_formula;
@@ -157,11 +156,6 @@ module _ (Mode : Bool → Type 0) (Before Last : RoundAsk) (Early Late : Loss) (
     (folder : Text)
     (last : ℕ) (ask : AskForValidRounds Before Last files words folder last)
     (mode : (given : CommandLine) → IsCommandLineOf words given → Mode given.serial) where
-  -- the words ask for no checkpoint
-  two_files : (after : files.its.State) → ¬ IsCause files words faults.TwoCheckpoints after
-  two_files after cause =
-      let no : Some cause.1 ≡ None = sym cause.3.path_is ∙ sym ask.asks.command_line.said.checkpoint ∙ ask.alone in cc
-
   -- a round that was reached was asked for
   is_asked : (given : CommandLine) → IsCommandLineOf words given
       → (cube : CubeValue) (round : Round files.its (plan_at given cube folder))
@@ -380,8 +374,7 @@ module _ (Mode : Bool → Type 0) (Before Last : RoundAsk) (Early Late : Loss) (
           folder_is = sym asks.command_line.said.rounds ∙ asks.rounds;
         }))
     rounds_say (inr (inl ends)) =
-        let machine = of_machine one_formula no_fault alike files (Some folder) words ask.asks after (two_files after) ends.fault ends.cause
-        in
+        let machine = of_machine one_formula no_fault alike files (Some folder) words ask.asks after ends.fault ends.cause in
         inr (not_begun ends machine
         (subst (λ (n : ℕ). (n ≡ 5) ⊎ (n ≡ 6)) (sym ends.status_is) (machine_status ends.fault machine)))
     rounds_say (inr (inr ends)) =

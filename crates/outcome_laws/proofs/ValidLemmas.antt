@@ -26,6 +26,7 @@ use Rattle.portfolio.specs.declared.outcome.Verdict.{Verdict}
 use Rattle.portfolio.specs.declared.outcome.Verdict.TheVariants.{Unsatisfiable, UnsatisfiableUnder, Unknown}
 use Rattle.checkpoint.specs.declared.saving.SaveFault.{SaveFault}
 use Rattle.command_line.specs.CommandLine.{AskToSave, IsCommandLineOf}
+use Rattle.command_line.specs.lemmas.NextLemmas.{asks_for_one}
 use Rattle.command_line.specs.declared.words.CommandLine.{CommandLine}
 use Rattle.command.specs.Commands.{Deeds, LeavesBehind, EndsWithFault, EndsWithReport, FilesView}
 use Rattle.command.specs.Commands.{IsAssumeCause, IsCause, IsFormulaAt, IsOutcome, IsReadCause}
@@ -269,16 +270,15 @@ module _ (one_formula : OneFormula) (no_fault : NoFormulaFault) (alike : SameWor
       one_formula ask.text f ask.formula (is_text files given.formula.now f next ask.text (ap files.tells same.2 ∙ ask.told) at) ask.is_text
 
   pub of_machine : (words : List Text) (ask : AskWell files words folder) → (after : files.its.State)
-      → ¬ IsCause files words faults.TwoCheckpoints after
       → (fault : CommandFault) → IsCause files words fault after → IsOfMachine fault
-  of_machine words ask after one (faults.Usage text) cause = cause.0 ask.command_line.good
-  of_machine words ask after one faults.Unread cause = tt
-  of_machine words ask after one faults.CubeUnread cause = tt
-  of_machine words ask after one (faults.NotOpened stream) cause = tt
-  of_machine words ask after one (faults.Spawn stream) cause = tt
-  of_machine words ask after one (faults.Ring stream) cause = tt
-  of_machine words ask after one faults.Memory cause = tt
-  of_machine words ask after one (faults.Refused fault) cause =
+  of_machine words ask after (faults.Usage text) cause = cause.0 ask.command_line.good
+  of_machine words ask after faults.Unread cause = tt
+  of_machine words ask after faults.CubeUnread cause = tt
+  of_machine words ask after (faults.NotOpened stream) cause = tt
+  of_machine words ask after (faults.Spawn stream) cause = tt
+  of_machine words ask after (faults.Ring stream) cause = tt
+  of_machine words ask after faults.Memory cause = tt
+  of_machine words ask after (faults.Refused fault) cause =
       let same = alike words ask.given cause.0 ask.command_line cause.1 in
       elim cause.2 [
         | inl read ↦ not_refused cause.0 ask.text ask.formula fault after (ap files.tells same.2 ∙ ask.told) ask.is_text read
@@ -287,13 +287,13 @@ module _ (one_formula : OneFormula) (no_fault : NoFormulaFault) (alike : SameWor
           | inr last ↦ elim last.3 [ inl opens ↦ opens | inr start ↦ start.3 ]
         ]
       ]
-  of_machine words ask after one (faults.CubeRefused fault) cause =
+  of_machine words ask after (faults.CubeRefused fault) cause =
       elim cause.2 [
         | inl read ↦ read
         | inr later ↦ elim later.3 [
           | inl assume ↦
               let assumed : assumed_at cause.0 ≡ assumed_at ask.given = cause.1.said.assume ∙ sym ask.command_line.said.assume in
-              let formulas = formula_at words ask cause.0 later.0 later.1 cause.1 later.2.1 in
+              let formulas = formula_at words ask cause.0 later.0 later.1 cause.1 later.2 in
               not_assumed ask.formula.vars later.1 (assumed_at ask.given) fault after ask.assumptions
               (subst (λ (p : Option Text). IsAssumeCause files ask.formula.vars later.1 p (faults.CubeRefused fault) after) assumed
               (subst (λ (f : Cnf). IsAssumeCause files f.vars later.1 (assumed_at cause.0) (faults.CubeRefused fault) after) formulas
@@ -301,7 +301,7 @@ module _ (one_formula : OneFormula) (no_fault : NoFormulaFault) (alike : SameWor
           | inr last ↦ elim last.3 [ inl opens ↦ opens | inr start ↦ start.3 ]
         ]
       ]
-  of_machine words ask after one (faults.Layout fault) cause =
+  of_machine words ask after (faults.Layout fault) cause =
       elim cause.2 [
         | inl read ↦ read
         | inr later ↦ elim later.3 [
@@ -310,7 +310,7 @@ module _ (one_formula : OneFormula) (no_fault : NoFormulaFault) (alike : SameWor
             | inl opens ↦ opens
             | inr start ↦
                 let same = alike words ask.given cause.0 ask.command_line cause.1 in
-                let formulas = formula_at words ask cause.0 later.0 later.1 cause.1 later.2.1 in
+                let formulas = formula_at words ask cause.0 later.0 later.1 cause.1 later.2 in
                 let layouts : layout_at cause.0 later.0 ≡ layout_at ask.given ask.formula =
                 ap (λ (x : OptionsValue). layout_of x later.0 (length cause.0.streams)) same.0
                 ∙ ap (λ (x : Cnf). layout_of (options_of ask.given) x (length cause.0.streams)) formulas
@@ -319,7 +319,7 @@ module _ (one_formula : OneFormula) (no_fault : NoFormulaFault) (alike : SameWor
           ]
         ]
       ]
-  of_machine words ask after one faults.Unwritten cause =
+  of_machine words ask after faults.Unwritten cause =
       elim cause.2 [
         | inl read ↦ read
         | inr later ↦ elim later.3 [
@@ -327,9 +327,9 @@ module _ (one_formula : OneFormula) (no_fault : NoFormulaFault) (alike : SameWor
           | inr last ↦ elim last.3 [ inl opens ↦ opens | inr start ↦ start.3 ]
         ]
       ]
-  of_machine words ask after one faults.NotCreated cause = tt
-  of_machine words ask after one faults.TwoCheckpoints cause = absurd (one cause)
-  of_machine words ask after one faults.Sizes cause =
+  of_machine words ask after faults.NotCreated cause = tt
+  of_machine words ask after faults.TwoCheckpoints cause = absurd (asks_for_one words ask.given ask.command_line cause.0)
+  of_machine words ask after faults.Sizes cause =
       elim cause.2 [
         | inl read ↦ read
         | inr later ↦ elim later.3 [
@@ -337,7 +337,7 @@ module _ (one_formula : OneFormula) (no_fault : NoFormulaFault) (alike : SameWor
           | inr last ↦ elim last.3 [ inl opens ↦ opens | inr start ↦ start.3 ]
         ]
       ]
-  of_machine words ask after one faults.SizesUnread cause =
+  of_machine words ask after faults.SizesUnread cause =
       elim cause.2 [
         | inl read ↦ read
         | inr later ↦ elim later.3 [
@@ -345,7 +345,7 @@ module _ (one_formula : OneFormula) (no_fault : NoFormulaFault) (alike : SameWor
           | inr last ↦ elim last.3 [ inl opens ↦ opens | inr start ↦ start.3 ]
         ]
       ]
-  of_machine words ask after one (faults.NotSaved fault) cause =
+  of_machine words ask after (faults.NotSaved fault) cause =
       elim cause.2 [
         | inl read ↦ read
         | inr later ↦ elim later.3 [
@@ -354,18 +354,11 @@ module _ (one_formula : OneFormula) (no_fault : NoFormulaFault) (alike : SameWor
         ]
       ]
 
--- without rounds there aren't two checkpoints
-no_rounds : (files : FilesView) (words : List Text) (after : files.its.State) → AskWell files words None
-    → ¬ IsCause files words faults.TwoCheckpoints after
-no_rounds files words after ask cause =
-    let no : Some cause.0 ≡ None = sym cause.2.folder_is ∙ sym ask.command_line.said.rounds ∙ ask.rounds in cc
-
 pub without_report : OneFormula → NoFormulaFault → SameWordsAskAlike → (files : FilesView) (Lost : Report → Type 0) (words : List Text)
     (after : files.its.State) (s : ℕ) (out err : SinkChange) (status : ℕ) → AskWell files words None
     → EndsWithFault files words after out err status → InconclusiveBecause files words s Lost after out err status
 without_report one_formula no_fault alike files Lost words after s out err status ask ends =
-    let machine = of_machine one_formula no_fault alike files None words ask after (no_rounds files words after ask) ends.fault ends.cause
-    in
+    let machine = of_machine one_formula no_fault alike files None words ask after ends.fault ends.cause in
     no_report ends machine (subst (λ (n : ℕ). (n ≡ 5) ⊎ (n ≡ 6)) (sym ends.status_is) (machine_status ends.fault machine))
 
 pub valid_refutation_says : OneFormula → NoFormulaFault → SameWordsAskAlike → ValidBegins → ValidEmpty

@@ -20,7 +20,7 @@ use Rattle.checkpoint.specs.declared.saving.SaveFault.{SaveFault}
 use Rattle.command_line.specs.CommandLine.{IsCommandLineOf}
 use Rattle.command_line.specs.declared.sizes.Sizes.{Sizes}
 use Rattle.command_line.specs.declared.words.CommandLine.{CommandLine}
-use Rattle.command.specs.Commands.{Deeds, EndsWithFault, FilesView, SinkChange, Text, assumed_at, checkpoint_at}
+use Rattle.command.specs.Commands.{Deeds, EndsWithFault, FilesView, SinkChange, Text, assumed_at}
 use Rattle.command.specs.Paths.{sizes_path, stream_path, stream_paths}
 use Rattle.command.specs.Rounds.{AreSized, CarriesOn, FailsInRound, HaveEnded, HoldsNoSizes, ProgramEnds, ReportsRounds, Round, WereRounds}
 use Rattle.command.specs.Rounds.{Plan, options_by, plan_at, sizes_of}
@@ -102,13 +102,12 @@ pub record IsProvided (Before Last : RoundAsk) (last : ℕ) (its : Deeds) (folde
       → AreSized its (sizes_path folder number) old before sizes sized
       → IsRoundReady Before Last last its folder number formula sizes sized
 
--- The words ask well for rounds of a folder, and for no checkpoint besides. The last round has one of the numbers 1 to 2 ^ 64 - 2. The
+-- The words ask well for rounds of a folder. The last round has one of the numbers 1 to 2 ^ 64 - 2. The
 -- streams of round 1 are as is asked. And for each round after it, up to the last, that some run of these words comes to, all is
 -- provided: with threads its formula depends on how they ran.
 pub record AskForValidRounds (Before Last : RoundAsk) (files : FilesView) (words : List Text)
     (folder : Text) (last : ℕ) : Type 0 where
   pub asks : AskWell files words (Some folder)
-  pub alone : checkpoint_at asks.given ≡ None
   pub some : 0 < last
   pub few : last + 2 ≤ 2 ^ 64
   pub first : IsAskedOf Before Last last 1 asks.formula (sizes_of asks.given) files.tells

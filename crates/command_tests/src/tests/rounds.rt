@@ -559,7 +559,7 @@ fn rounds_of_other_sizes(rt: HostRuntime) -> Result<(), Fail> {
     assert_rows(&rt, rt.alloc(), &NOT_SIZED)
 }
 
-/// The words of the first are refused once the formula's file was read.
+/// The words of the first are refused before a file is opened.
 static REFUSED: [Row; 6] = [
     Row {
         words: &["--rounds=d", "--checkpoint=ck", "f", "1"],
@@ -568,7 +568,7 @@ static REFUSED: [Row; 6] = [
             "",
             "lrupd: --checkpoint and --rounds exclude each other\n",
         ),
-        done: &["f "],
+        done: &[],
         kept: &[],
         ..CLOSED
     },
