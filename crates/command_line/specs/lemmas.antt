@@ -1,0 +1,2 @@
+-- Lemmas, which other crates' proofs may cite.
+pub mod NextLemmas
