@@ -5,4 +5,4 @@ pub mod ReadBack
 pub mod SaveLemmas
 pub mod FileLemmas
 pub mod Beginnings
-pub mod CarryLemmas
+pub mod NextLemmas

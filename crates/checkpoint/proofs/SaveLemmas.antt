@@ -1,16 +1,18 @@
 -- Why what is written of the live clauses is a checkpoint.
-use Rattle.std.proofs.Common.{◌≡◌, ◌≤◌, ◌↔◌, ℕ, List, [], ◌∷◌, length, sym, ◌∙◌, subst, arith}
+use Rattle.std.proofs.Common.{◌≡◌, ◌≤◌, ◌↔◌, ℕ, List, [], ◌∷◌, Option, length, ◌∙◌, arith}
+use Rattle.std.specs.Io.KnownBytes.{Appends}
 use Rattle.std.specs.List.{AllByRecursion}
+use Rattle.std.specs.Option.{ForSome}
 use Rattle.std.proofs.lemmas.List.{length-map}
-use Rattle.lrup_model.specs.Clause.{Clause, IsClause}
 use Rattle.lrup_model.specs.Entailment.{Follows, IsDerived}
-use Rattle.lrup_model.specs.Formula.{Cnf, IsFormulaClause, max_clause_literals, max_clauses}
+use Rattle.lrup_model.specs.Formula.{Cnf, max_clause_literals, max_clauses}
 use Rattle.lrup_model.specs.lemmas.ListLemmas.{All-map}
 use Rattle.lrup_model.specs.Literal.{max_variable}
 use Rattle.lrup_model.specs.CallerView.{CallerView, ClipValue, IsKnown}
-use Rattle.checkpoint.specs.Checkpoints.{AreWithinLimits, IsCheckpoint}
+use Rattle.checkpoint.specs.Checkpoints.{AreWithinLimits, WritesCheckpoint}
 use Rattle.checkpoint.specs.Live.{Entry, clauses_of, entries_of, entry_of}
 use Rattle.checkpoint.specs.Printing.{formula_text, printed}
+use Rattle.checkpoint.proofs.NextLemmas.{derived_clauses}
 use Rattle.checkpoint.proofs.ReadBack.{printed_is_read}
 
 -- the clips are within the limits
@@ -37,20 +39,22 @@ few_clauses p clips known =
       λ few. (omega (arith, count, few.0), lengths.1 few.1),
     )
 
-pub checkpoint_of : (f : Cnf) (vars : ℕ) (entries : List Entry) → vars ≡ f.vars → vars ≤ max_variable → AreWithinLimits (clauses_of entries)
-    → AllByRecursion (IsDerived f) (clauses_of entries) → IsCheckpoint f (formula_text vars entries)
-checkpoint_of f vars entries same few within derived = record {
-  formula = printed vars entries;
-  text = printed_is_read vars entries (record {
-    vars = few;
-    count = within.0;
-    clauses = formula_clauses (clauses_of entries) derived within.1;
-  });
-  entails = record { vars = same; each = All-map (IsDerived f) (Follows f) (λ c is. is.1) (clauses_of entries) derived };
+-- what was written of clauses that follow is a checkpoint
+pub writes_checkpoint : (f : Cnf) (vars : ℕ) (entries : List Entry) (before after : Option (List ℕ)) (next : Option Cnf)
+    → vars ≡ f.vars → vars ≤ max_variable → AreWithinLimits (clauses_of entries)
+    → AllByRecursion (IsDerived f) (clauses_of entries) → Appends before after (formula_text vars entries)
+    → ForSome next (λ formula. formula ≡ printed vars entries) → WritesCheckpoint f before after next
+writes_checkpoint f vars entries before after next same few within derived text given = record {
+  bytes = formula_text vars entries;
+  written = text;
+  checkpoint = record {
+    formula = printed vars entries;
+    text = printed_is_read vars entries (record {
+      vars = few;
+      count = within.0;
+      clauses = derived_clauses f vars (clauses_of entries) same derived within.1;
+    });
+    entails = record { vars = same; each = All-map (IsDerived f) (Follows f) (λ c is. is.1) (clauses_of entries) derived };
+  };
+  next_is = given;
 }
-  where
-    formula_clauses : (ds : List Clause) → AllByRecursion (IsDerived f) ds → AllByRecursion (λ c. length c ≤ max_clause_literals) ds
-        → AllByRecursion (IsFormulaClause vars) ds
-    formula_clauses [] derived short = tt
-    formula_clauses (c ∷ ds) derived short =
-        ((subst (λ n. IsClause n c) (sym same) derived.0.0, short.0), formula_clauses ds derived.1 short.1)

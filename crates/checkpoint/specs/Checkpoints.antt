@@ -2,6 +2,7 @@
 use Rattle.std.specs.Prelude.{◌≡◌, ◌≤◌, ◌++◌, ℕ, List, [], ◌∷◌, length, Option, Result, Ok, Err}
 use Rattle.std.specs.Io.KnownBytes.{Appends}
 use Rattle.std.specs.List.{AllByRecursion}
+use Rattle.std.specs.Option.{ForSome}
 use Rattle.lrup_model.specs.Clause.{Clause}
 use Rattle.lrup_model.specs.Cube.{CubeValue, IsUnsatisfiableUnder}
 use Rattle.lrup_model.specs.Entailment.{IsUnsatisfiable}
@@ -19,10 +20,13 @@ pub record IsCheckpoint (original : Cnf) (bytes : List ℕ) : Type 0 where
   pub text : IsFormulaText bytes formula
   pub entails : Entails original formula
 
--- the bytes are a text of just this next formula, over the same variables, each clause of which follows from the original
-pub record IsCheckpointOf (original : Cnf) (bytes : List ℕ) (next : Cnf) : Type 0 where
-  pub text : IsFormulaText bytes next
-  pub entails : Entails original next
+-- What was written is a checkpoint of the original, and the next formula, if one is given, is the one whose text it is.
+pub record WritesCheckpoint (original : Cnf) (before after : Option (List ℕ))
+    (next : Option Cnf) : Type 0 where
+  pub bytes : List ℕ
+  pub written : Appends before after bytes
+  pub checkpoint : IsCheckpoint original bytes
+  pub next_is : ForSome next (λ formula. formula ≡ checkpoint.formula)
 
 -- a formula may have so many clauses, and of these lengths
 abbrev pub AreWithinLimits : List Clause → Type 0
@@ -30,24 +34,18 @@ AreWithinLimits clauses =
     (length clauses ≤ max_clauses)
     × AllByRecursion (λ clause. length clause ≤ max_clause_literals) clauses
 
--- What became of the saving of clauses: their text was written; or nothing, if they are too many
--- or too long; or, if a write failed, a beginning of the text.
-abbrev pub Saves : Result (Unit {0}) SaveFault → ℕ → List Entry → Option (List ℕ)
+-- What became of the saving of clauses: their text was written, and the next formula, if one is given, is the one that is printed there; or
+-- nothing was written, if they are too many or too long; or, if a write failed, a beginning of the text.
+abbrev pub Saves : Result (Option Cnf) SaveFault → ℕ → List Entry → Option (List ℕ)
     → Option (List ℕ) → Type 0
-Saves (Ok _) vars entries before after = Appends before after (formula_text vars entries)
+Saves (Ok next) vars entries before after =
+    Appends before after (formula_text vars entries)
+    × ForSome next (λ formula. formula ≡ printed vars entries)
 Saves (Err faults.Memory) vars entries before after = ⊥
 Saves (Err faults.TooLarge) vars entries before after =
     (¬ AreWithinLimits (clauses_of entries)) × Appends before after []
 Saves (Err faults.Unwritten) vars entries before after =
     (went rest : List ℕ) × (formula_text vars entries ≡ went ++ rest) × Appends before after went
-
--- What became of clauses that a later round goes on with: their text was written, and the formula is that of the text; or it is as
--- with a saving that failed.
-abbrev pub Carries : Result Cnf SaveFault → ℕ → List Entry → Option (List ℕ) → Option (List ℕ)
-    → Type 0
-Carries (Ok next) vars entries before after =
-    (next ≡ printed vars entries) × Appends before after (formula_text vars entries)
-Carries (Err fault) vars entries before after = Saves (Err fault) vars entries before after
 
 -- Chains of files
 

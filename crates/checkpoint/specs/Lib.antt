@@ -2,4 +2,3 @@ pub mod Live
 pub mod Printing
 pub mod Entails
 pub mod Checkpoints
-pub mod internal

@@ -2,13 +2,12 @@
 //! of the run, so that a later run may take the checkpoint for its formula.
 #![tactic(auto)]
 
-mod carrying;
 pub mod laws;
 mod live;
+mod next;
 mod saving;
 mod text;
 
-pub use carrying::carry;
 pub use live::{Wanted, live_clauses};
 pub use saving::{SaveFault, save, save_clips};
 pub use text::write_formula;

@@ -1,5 +1,5 @@
 //! Saves the live clauses of a clause map as a formula's text.
-ghost use Rattle.std.specs.Prelude.{◌≡◌, ◌↔◌, ◌⊎◌, ◌≤◌, ◌++◌, [], Err, IfOk, IsTrue, List, ℕ, false, length};
+ghost use Rattle.std.specs.Prelude.{◌≡◌, ◌↔◌, ◌⊎◌, ◌≤◌, ◌++◌, [], Err, IfOk, IsTrue, List, is_some, false, length, true};
 ghost use Rattle.std.specs.Io.KnownBytes.{Appends};
 ghost use Rattle.std.specs.List.{AllByRecursion};
 ghost use Rattle.lrup_model.specs.Entailment.{IsDerived};
@@ -8,11 +8,12 @@ ghost use Rattle.lrup_model.specs.Formula.{max_clause_literals, max_clauses};
 ghost use Rattle.lrup_model.specs.Layout.{Fits, last_identity};
 ghost use Rattle.lrup_model.specs.Literal.{max_variable};
 ghost use Rattle.lrup_model.specs.CallerView.{IsKnown};
-ghost use Rattle.checkpoint.specs.Checkpoints.{IsCheckpoint, Saves};
+ghost use Rattle.checkpoint.specs.Checkpoints.{Saves, WritesCheckpoint};
 ghost use Rattle.checkpoint.specs.Live.{Entry, clauses_of, entries_of, fetches, wanted_of, wanted_clauses};
 ghost use Rattle.checkpoint.specs.Printing.{formula_text};
 
 use crate::live::{Wanted, live_clauses};
+use crate::next::next_formula;
 use crate::text::write_formula;
 use lrup_model::{ClauseMap, Clip, Formula, Layout};
 use lrup_text::{Sink, WriteFault};
@@ -43,27 +44,30 @@ impl From<AllocError> for SaveFault {
     }
 }
 
-/// Writes the formula of the clauses that are live at the map and wanted, which each follow from the run's formula. All
-/// identities are fetched, each once, before the first write. It takes memory for the clips, 16 bytes a clause.
+/// Writes the formula of the clauses that are live at the map and wanted, which each follow from the run's formula, and gives it if the
+/// run goes on with it. All identities are fetched, each once, before the first write. Before it, memory is taken for the clips, 16 bytes
+/// a clause, and for the formula that is given.
 pub fn save<M: ClauseMap, K: Wanted, W: Sink>(
     alloc: Global,
     map: &mut M,
     layout: &Layout,
     wanted: &K,
+    goes_on: bool,
     sink: &mut W,
-) -> Result<(), SaveFault>
+) -> Result<Option<Formula>, SaveFault>
     requires layout { layout.now ≡ (M.caller_view map.old).caller.layout }
     requires fits { Fits layout.now (M.caller_view map.old).caller.formula }
     requires running { W.has_failed sink.old ≡ false }
     // What a user relies on.
-    ensures checkpoint { IfOk result (λ _. (bytes : List ℕ)
-        × Appends (W.written sink.old) (W.written sink.new) bytes
-        × IsCheckpoint (M.caller_view map.old).caller.formula bytes) }
+    ensures checkpoint { IfOk result (WritesCheckpoint (M.caller_view map.old).caller.formula
+        (W.written sink.old) (W.written sink.new)) }
+    // A formula is given just if the run goes on with it.
+    ensures goes_on { IfOk result (λ next. is_some next ≡ goes_on) }
     // The clauses of the run's formula that are wanted come first.
     ensures keeps { let f = (M.caller_view map.old).caller.formula in
         IfOk result (λ _. (more : List Entry) × Appends (W.written sink.old) (W.written sink.new)
         (formula_text f.vars (wanted_clauses (K.wants wanted.now) f.clauses ++ more))) }
-    // The map's calls, and what went out.
+    // The map's calls, what went out, and the formula.
     ensures saves { (replies : List Reply)
         × M.moves map.old map.new (fetches (M.caller_view map.old).caller.stream 1 replies)
         × (length replies ≤ last_identity layout.now)
@@ -74,28 +78,32 @@ pub fn save<M: ClauseMap, K: Wanted, W: Sink>(
     ensures failed { IsTrue (W.has_failed sink.new) ↔ (result ≡ Err SaveFault.Unwritten) }
 {
     let clips = live_clauses(alloc, map, layout.last_identity(), wanted)?;
-    save_clips(map, &clips, layout.vars(), sink)
+    save_clips(alloc, map, &clips, layout.vars(), goes_on, sink)
 }
 
-/// Writes the formula of some clauses, which each follow from the run's: those that are live, or fewer. It takes no memory, and
-/// at the map it is no event.
+/// Writes the formula of some clauses, which each follow from the run's, those that are live, or fewer; and gives it if the run goes on
+/// with it, for which alone it takes memory. At the map it is no event.
 pub fn save_clips<M: ClauseMap, W: Sink>(
+    alloc: Global,
     map: &mut M,
     clips: &[Clip],
     vars: u32,
+    goes_on: bool,
     sink: &mut W,
-) -> Result<(), SaveFault>
+) -> Result<Option<Formula>, SaveFault>
     requires known { AllByRecursion (IsKnown (M.caller_view map.old)) clips.now }
     requires follow { AllByRecursion (IsDerived (M.caller_view map.old).caller.formula)
         (clauses_of (entries_of (M.caller_view map.old) clips.now)) }
     requires vars { vars ≡ (M.caller_view map.old).caller.formula.vars }
     requires few { vars ≤ max_variable }
     requires running { W.has_failed sink.old ≡ false }
-    ensures checkpoint { IfOk result (λ _. (bytes : List ℕ)
-        × Appends (W.written sink.old) (W.written sink.new) bytes
-        × IsCheckpoint (M.caller_view map.old).caller.formula bytes) }
+    ensures checkpoint { IfOk result (WritesCheckpoint (M.caller_view map.old).caller.formula
+        (W.written sink.old) (W.written sink.new)) }
+    ensures goes_on { IfOk result (λ next. is_some next ≡ goes_on) }
     ensures saves { Saves result vars (entries_of (M.caller_view map.old) clips.now)
-        (W.written sink.old) (W.written sink.new) }
+        (W.written sink.old) (W.written sink.new)
+        ⊎ (result ≡ Err SaveFault.Memory) × (sink.new ≡ sink.old) }
+    ensures memory { result ≡ Err SaveFault.Memory → goes_on ≡ true }
     ensures failed { IsTrue (W.has_failed sink.new) ↔ (result ≡ Err SaveFault.Unwritten) }
     ensures event { M.moves map.old map.new [] }
     ensures stays { M.caller_view map.new ≡ M.caller_view map.old }
@@ -103,14 +111,15 @@ pub fn save_clips<M: ClauseMap, W: Sink>(
     if !are_few(clips) {
         return Err(SaveFault::TooLarge);
     }
+    let next = next_formula(alloc, map, clips, vars, goes_on)?;
     match write_formula(map, clips, vars, sink) {
-        Ok(()) => Ok(()),
+        Ok(()) => Ok(next),
         Err(WriteFault) => Err(SaveFault::Unwritten),
     }
 }
 
 /// Whether a formula may have as many clauses as there are clips, of these lengths.
-pub(crate) fn are_few(clips: &[Clip]) -> bool
+fn are_few(clips: &[Clip]) -> bool
     ensures { IsTrue result ↔ ((length clips.now ≤ max_clauses)
         × AllByRecursion (λ clip. clip.len ≤ max_clause_literals) clips.now) }
 {

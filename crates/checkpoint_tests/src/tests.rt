@@ -13,8 +13,8 @@ use std::process::Abort;
 use std::test::Fail;
 use test_support::Paper;
 
-mod carrying;
 mod limits;
+mod next;
 mod worked;
 
 /// Stops the test where two values differ: an assertion that is proved once for all tests.
@@ -66,7 +66,7 @@ fn save_at_first(
     requires stream { IsStream layout.now 1 }
     requires running { paper.old.failed ≡ false }
 {
-    save(alloc, &mut map.desk(1), layout, &ALL, paper)
+    save(alloc, &mut map.desk(1), layout, &ALL, false, paper).map(|_| ())
 }
 
 /// Texts that are read, and what is written of their formulas.

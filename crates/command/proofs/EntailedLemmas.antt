@@ -9,10 +9,11 @@ use Rattle.command_line.specs.declared.sizes.Sizes.{Sizes}
 use Rattle.command.specs.Commands.{Deeds, FilesView, IsAssumeCause, IsCause, SinkChange, Text, assumed_at, report_status}
 use Rattle.command.specs.Faults.{status_of}
 use Rattle.command.specs.Paths.{formula_path}
-use Rattle.command.specs.Rounds.{AreRounds, CarriesRound, EndsInRounds, IsNextCause, Plan, ProgramEnds, ReportsEntailed, ReportsRounds}
-use Rattle.command.specs.Rounds.{Round, RoundsEnd, SaveEntailed, SavesEntailed, SavesRound, plan_at}
+use Rattle.command.specs.Rounds.{AreRounds, EndsInRounds, IsNextCause, Plan, ProgramEnds, ReportsEntailed, ReportsRounds}
+use Rattle.command.specs.Rounds.{Round, RoundsEnd, SaveEntailed, SavesAfter, SavesEntailed, SavesRound, plan_at}
 use Rattle.command.specs.declared.fault.CommandFault.{CommandFault}
 use Rattle.command.specs.declared.fault.CommandFault.TheVariants as faults
+use Rattle.command.proofs.RoundLemmas.{saved_entails}
 use Rattle.command.proofs.StatusLemmas.{leaves_saved, no_fault, no_zero}
 
 module _ (itself : EntailsItself) (onward : EntailsOnward) (its : Deeds) (plan : Plan) (formula : Cnf) where
@@ -23,9 +24,9 @@ module _ (itself : EntailsItself) (onward : EntailsOnward) (its : Deeds) (plan :
     saving.bytes,
     saving.saved,
     record {
-      formula = next;
-      text = saving.carried.text;
-      entails = onward formula round.formula next follows saving.carried.entails;
+      formula = saving.checkpoint.formula;
+      text = saving.checkpoint.text;
+      entails = onward formula round.formula saving.checkpoint.formula follows saving.checkpoint.entails;
     },
   )
 
@@ -33,14 +34,15 @@ module _ (itself : EntailsItself) (onward : EntailsOnward) (its : Deeds) (plan :
       → (report_status failed last.unsaved last.verdict ≡ 3) ⊎ (report_status failed last.unsaved last.verdict ≡ 8)
       → RoundsEnd number last after → SavesEntailed formula number last
   last_entailed failed number last after follows is (inl (barred, same)) =
-      leaves_saved its (CarriesRound last) formula
-      (λ next from to carries. (
-        carries.checkpoint.0,
-        carries.checkpoint.1,
+      leaves_saved its (SavesAfter last) formula
+      (λ next from to saves.
+      let checkpoint = saves.checkpoint.checkpoint in (
+        saves.checkpoint.bytes,
+        saves.checkpoint.written,
         record {
-          formula = next;
-          text = carries.checkpoint.2.text;
-          entails = onward formula last.formula next follows carries.checkpoint.2.entails;
+          formula = checkpoint.formula;
+          text = checkpoint.text;
+          entails = onward formula last.formula checkpoint.formula follows checkpoint.entails;
         },
       )) failed last.unsaved last.verdict (formula_path plan.folder (number + 1)) last.opened last.after is barred.checkpoint
   last_entailed failed number last after follows is (inr (inl (next, on, alone))) = saves_entailed number last next follows on.saving
@@ -53,7 +55,7 @@ module _ (itself : EntailsItself) (onward : EntailsOnward) (its : Deeds) (plan :
         → AreRounds formula sizes first paths (round ∷ before) → Entails formula round.formula
     round_entailed round [] rounds = subst (Entails formula) (sym rounds.formula_is) (itself formula)
     round_entailed round (b ∷ more) rounds =
-        onward formula b.formula round.formula (round_entailed b more rounds.1) rounds.0.goes_on.saving.carried.entails
+        onward formula b.formula round.formula (round_entailed b more rounds.1) (saved_entails _ b round.formula rounds.0.goes_on.saving)
 
     -- so what each round but the last saved does
     save_entailed : (round : Round its plan) (before : List (Round its plan))

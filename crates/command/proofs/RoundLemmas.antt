@@ -19,7 +19,7 @@ use Rattle.lrup_model.specs.declared.layout.LayoutFault.TheVariants as layouts
 use Rattle.portfolio.specs.Outcomes.{OptionsValue, run_params_of}
 use Rattle.portfolio.specs.declared.outcome.Verdict.{Verdict}
 use Rattle.portfolio.specs.declared.outcome.Verdict.TheVariants.{Unsatisfiable, UnsatisfiableUnder, Unknown}
-use Rattle.checkpoint.specs.Entails.{RefutesBack, RefutesBackUnder}
+use Rattle.checkpoint.specs.Entails.{Entails, RefutesBack, RefutesBackUnder}
 use Rattle.checkpoint.specs.declared.saving.SaveFault.{SaveFault}
 use Rattle.command_line.specs.declared.sizes.Sizes.{Sizes}
 use Rattle.command_line.specs.CommandLine.{rounds_of}
@@ -29,7 +29,7 @@ use Rattle.command_line.specs.declared.words.Next.TheVariants.{Checkpoint, Nothi
 use Rattle.command.specs.Commands.{AreOpened, Deeds, IsStartCause, Text, WasRead, checkpoint_at, created_at, created_path, layout_at}
 use Rattle.command.specs.Commands.{path_of, rounds_at}
 use Rattle.command.specs.Paths.{formula_path, sizes_path, stream_path, stream_paths}
-use Rattle.command.specs.Rounds.{AreRounds, AreSized, CarriesOn, CarriesRound, IsBarred, IsRoundCause, IsRoundStartCause, IsSizesCause}
+use Rattle.command.specs.Rounds.{AreRounds, AreSized, CarriesOn, SavesAfter, IsBarred, IsRoundCause, IsRoundStartCause, IsSizesCause}
 use Rattle.command.specs.Rounds.{Plan, Round, RoundsEnd, SavesRound, StreamsOpened, options_by, plan_at, sizes_of}
 use Rattle.command.specs.Rounds.{run_params_by}
 use Rattle.command.specs.internal.Saving.{CreatesCheckpoint, KeepsNext}
@@ -83,6 +83,11 @@ path_and_rest folder number (suc count) some =
 -- what holds of the one that is there
 pub for_some : {A : Type 0} (P : A → Type 0) (x : A) → P x → ForSome (Some x) P
 for_some P x is other same = let told : x ≡ other = cc in subst P told is
+
+-- what a round goes on with follows from its formula
+pub saved_entails : {its : Deeds} {plan : Plan} (number : ℕ) (round : Round its plan) (next : Cnf) → SavesRound number round next
+    → Entails round.formula next
+saved_entails number round next saving = subst (Entails round.formula) (sym saving.next_is) saving.checkpoint.entails
 
 -- streams that have a layout are some
 pub some_streams : (layout : LayoutValue) → ((fault : LayoutFault) → IsFault layout fault → ⊥) → 0 < layout.streams
@@ -221,14 +226,15 @@ module _ (its : Deeds) (plan : Plan) (formula : Cnf) (sizes : Sizes) (first : it
       → AreRounds formula sizes first paths (round ∷ before) → IsUnsatisfiable round.formula → IsUnsatisfiable formula
   rounds_refute law round [] rounds refuted = subst IsUnsatisfiable rounds.formula_is refuted
   rounds_refute law round (b ∷ more) rounds refuted =
-      rounds_refute law b more rounds.1 (law b.formula round.formula rounds.0.goes_on.saving.carried.entails refuted)
+      rounds_refute law b more rounds.1 (law b.formula round.formula (saved_entails _ b round.formula rounds.0.goes_on.saving) refuted)
 
   rounds_refute_under : RefutesBackUnder → (round : Round its plan) (before : List (Round its plan))
       → AreRounds formula sizes first paths (round ∷ before) → IsUnsatisfiableUnder round.formula plan.cube
       → IsUnsatisfiableUnder formula plan.cube
   rounds_refute_under law round [] rounds refuted = subst (λ (f : Cnf). IsUnsatisfiableUnder f plan.cube) rounds.formula_is refuted
   rounds_refute_under law round (b ∷ more) rounds refuted =
-      rounds_refute_under law b more rounds.1 (law b.formula round.formula plan.cube rounds.0.goes_on.saving.carried.entails refuted)
+      rounds_refute_under law b more rounds.1
+      (law b.formula round.formula plan.cube (saved_entails _ b round.formula rounds.0.goes_on.saving) refuted)
 
   pub ends_sound : RefutesBack → (last : LastRound) (after : its.State) → EndsAt its plan formula sizes first paths last after
       → last.found.verdict ≡ Unsatisfiable → IsUnsatisfiable formula
@@ -316,24 +322,24 @@ pub barred_by : (verdict : Verdict) (unsaved : Option SaveFault) (Ended : Type 0
 barred_by verdict unsaved Ended (inl refuted) = inl (λ is. let no : Unsatisfiable ≡ Unknown = sym refuted ∙ is in cc)
 barred_by verdict unsaved Ended (inr failed) = inr (inl failed)
 
--- what was carried was saved
+-- what a round goes on with was saved
 pub saves_round : {its : Deeds} {plan : Plan} (number : ℕ) (round : Round its plan) (next : Cnf) (first : its.Output)
     (mid : its.State) → CreatesCheckpoint its round.opened (Some (formula_path plan.folder (number + 1))) (Some first) mid
-    → KeepsNext its (CarriesRound round) mid first round.after next → SavesRound number round next
+    → KeepsNext its (SavesAfter round) mid (Some first) round.after next → SavesRound number round next
 saves_round number round next first mid created keeps =
-    let carries = keeps.1 in
-    let wrote = carries.checkpoint in
+    let wrote = keeps.1.checkpoint in
     record {
-      bytes = wrote.0;
+      bytes = wrote.bytes;
       saved = record {
         first = first;
         next = mid;
         created = created.0;
         empty = created.1;
         last = keeps.0;
-        wrote = wrote.1;
+        wrote = wrote.written;
         kept = keeps.2;
       };
-      carried = wrote.2;
-      exactly = carries.exactly;
+      checkpoint = wrote.checkpoint;
+      next_is = wrote.next_is next refl;
+      exactly = keeps.1.exactly;
     }

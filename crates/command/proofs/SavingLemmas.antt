@@ -1,28 +1,27 @@
 -- A checkpoint's file, from its creation to its end.
-use Rattle.std.proofs.Common.{◌≡◌, ◌∙◌, Bool, IfOk, IsTrue, List, ℕ, Option, None, Some, Result, Ok, Err, subst, sym}
+use Rattle.std.proofs.Common.{◌≡◌, ◌∙◌, Bool, IfOk, IsTrue, List, Option, None, Some, Result, Ok, Err, ap, subst, sym}
 use Rattle.std.specs.Prelude.{◌↔◌}
-use Rattle.std.specs.Io.KnownBytes.{Appends}
+use Rattle.std.specs.Option.{ForSome}
 use Rattle.lrup_model.specs.Event.{History}
 use Rattle.lrup_model.specs.Formula.{Cnf}
 use Rattle.lrup_model.specs.Layout.{LayoutValue}
 use Rattle.lrup_model.specs.State.{state}
 use Rattle.lrup_text.specs.ReadOut.{SourceView}
-use Rattle.portfolio.specs.Saving.{CarriesState, SavesState, is_wanted}
+use Rattle.portfolio.specs.Saving.{SavesState, is_wanted}
 use Rattle.portfolio.specs.declared.outcome.Verdict.{Verdict}
 use Rattle.portfolio.specs.declared.outcome.Verdict.TheVariants.{Unsatisfiable, UnsatisfiableUnder, Unknown}
 use Rattle.runs.specs.Streams.{RunParamsValue}
 use Rattle.stream_check.specs.DroppedIdsValue.{DroppedIdsValue}
 use Rattle.stream_check.specs.declared.report.Report.{Report}
-use Rattle.checkpoint.specs.Checkpoints.{IsCheckpoint, IsCheckpointOf}
+use Rattle.checkpoint.specs.Checkpoints.{WritesCheckpoint}
 use Rattle.checkpoint.specs.declared.saving.SaveFault.{SaveFault}
 use Rattle.checkpoint.specs.declared.saving.SaveFault.TheVariants as faults
 use Rattle.command.specs.Commands.{Deeds, ClosesSink, IsLeftUnused, LeavesBehind, SavesCheckpoint, Text}
-use Rattle.command.specs.Rounds.{CarriesCheckpoint}
 use Rattle.command.specs.internal.Running.{HasHistory, StandsBehind, dropped_in, left_layout}
 use Rattle.command.specs.internal.Saving.{ClosesCheckpoint, CreatesCheckpoint, DiscardsIt, KeepsNext, SavesAndCloses}
 use Rattle.command.specs.declared.running.LeftClauses.{LeftClauses}
 
-module _ (its : Deeds) {A : Type 0} (Saves : Result A SaveFault → its.Output → its.Output → Type 0) where
+module _ (its : Deeds) (Saves : Result (Option Cnf) SaveFault → its.Output → its.Output → Type 0) where
   -- what was created and closed was left
   leaves_file : (verdict : Verdict) (before next after : its.State) (path : Text) (first : its.Output) (unsaved : Option SaveFault)
       → CreatesCheckpoint its before (Some path) (Some first) next → ClosesCheckpoint its Saves verdict next (Some first) unsaved after
@@ -71,64 +70,34 @@ left_unused its before next after (Some path) None created discards = absurd cre
 left_unused its before next after (Some path) (Some first) created discards =
     record { output = first; next = next; created = created.0; empty = created.1; discarded = discards }
 
--- what was saved of what was left, and closed
-pub saves_and_closes : (its : Deeds) (f : Cnf) (h : History) (left : LeftClauses) → HasHistory f h left → (before after : its.State)
-    (first last : its.Output) (unsaved : Option SaveFault) (result other : Result (Unit {0}) SaveFault) → result ≡ other
-    → ((f : Cnf) (h : History) → HasHistory f h left → IfOk result (λ _. (bytes : List ℕ)
-    × Appends (its.written first) (its.written last) bytes × IsCheckpoint f bytes))
-    → ((f : Cnf) (h : History) → HasHistory f h left
-    → SavesState its.written result (state f h) (left_layout left) (is_wanted (dropped_in left)) first last)
-    → IsTrue (its.has_failed last) ↔ (result ≡ Err faults.Unwritten)
-    → ClosesSink its other before last unsaved after
-    → SavesAndCloses its (SavesCheckpoint its f (left_layout left) h (dropped_in left)) before first unsaved after
-saves_and_closes its f h left has before after first last unsaved result other same checkpoint saves failed closed = record {
-  result = result;
-  last = last;
-  saving = record { checkpoint = checkpoint f h has; exactly = saves f h has; failed = failed };
-  closed = subst (λ (r : Result (Unit {0}) SaveFault). ClosesSink its r before last unsaved after) (sym same) closed;
-}
-
 module _ (its : Deeds) (f : Cnf) (h : History) (left : LeftClauses) (has : HasHistory f h left) (before after : its.State)
-    (first last : its.Output) (unsaved : Option SaveFault) where
-  carrying : (result : Result Cnf SaveFault)
-      → ((f : Cnf) (h : History) → HasHistory f h left → IfOk result (λ next. (bytes : List ℕ)
-      × Appends (its.written first) (its.written last) bytes × IsCheckpointOf f bytes next))
-      → ((f : Cnf) (h : History) → HasHistory f h left
-      → CarriesState its.written result (state f h) (left_layout left) (is_wanted (dropped_in left)) first last)
-      → IsTrue (its.has_failed last) ↔ (result ≡ Err faults.Unwritten)
-      → CarriesCheckpoint its f (left_layout left) h (dropped_in left) result first last
-  carrying result next carries failed =
-      record { checkpoint = next f h has; exactly = carries f h has; failed = failed }
+    (first last : its.Output) (result : Result (Option Cnf) SaveFault)
+    (checkpoint : (f : Cnf) (h : History) → HasHistory f h left → IfOk result
+    (WritesCheckpoint f (its.written first) (its.written last)))
+    (saves : (f : Cnf) (h : History) → HasHistory f h left
+    → SavesState its.written result (state f h) (left_layout left) (is_wanted (dropped_in left)) first last)
+    (failed : IsTrue (its.has_failed last) ↔ (result ≡ Err faults.Unwritten)) where
+  abbrev Saved : Result (Option Cnf) SaveFault → its.Output → its.Output → Type 0
+  Saved = SavesCheckpoint its f (left_layout left) h (dropped_in left)
 
-  pub carries_and_closes : (result other : Result Cnf SaveFault) → result ≡ other
-      → ((f : Cnf) (h : History) → HasHistory f h left → IfOk result (λ next. (bytes : List ℕ)
-      × Appends (its.written first) (its.written last) bytes × IsCheckpointOf f bytes next))
-      → ((f : Cnf) (h : History) → HasHistory f h left
-      → CarriesState its.written result (state f h) (left_layout left) (is_wanted (dropped_in left)) first last)
-      → IsTrue (its.has_failed last) ↔ (result ≡ Err faults.Unwritten)
-      → ClosesSink its other before last unsaved after
-      → SavesAndCloses its (CarriesCheckpoint its f (left_layout left) h (dropped_in left)) before first unsaved after
-  carries_and_closes result other same next carries failed closed = record {
+  saving : Saved result first last
+  saving = record { checkpoint = checkpoint f h has; exactly = saves f h has; failed = failed }
+
+  -- what was saved of what was left, and closed
+  pub saves_and_closes : (unsaved : Option SaveFault) (other : Result (Option Cnf) SaveFault) → result ≡ other
+      → ClosesSink its other before last unsaved after → SavesAndCloses its Saved before first unsaved after
+  saves_and_closes unsaved other same closed = record {
     result = result;
     last = last;
-    saving = carrying result next carries failed;
-    closed = subst (λ (r : Result Cnf SaveFault). ClosesSink its r before last unsaved after) (sym same) closed;
+    saving = saving;
+    closed = subst (λ (r : Result (Option Cnf) SaveFault). ClosesSink its r before last unsaved after) (sym same) closed;
   }
 
-  pub keeps_next : (result : Result Cnf SaveFault) (made : Cnf) → result ≡ Ok made
-      → ((f : Cnf) (h : History) → HasHistory f h left → IfOk result (λ next. (bytes : List ℕ)
-      × Appends (its.written first) (its.written last) bytes × IsCheckpointOf f bytes next))
-      → ((f : Cnf) (h : History) → HasHistory f h left
-      → CarriesState its.written result (state f h) (left_layout left) (is_wanted (dropped_in left)) first last)
-      → IsTrue (its.has_failed last) ↔ (result ≡ Err faults.Unwritten)
-      → its.keeps before last after
-      → KeepsNext its (CarriesCheckpoint its f (left_layout left) h (dropped_in left)) before first after made
-  keeps_next result made same next carries failed kept = (
-    last,
-    subst (λ (r : Result Cnf SaveFault). CarriesCheckpoint its f (left_layout left) h (dropped_in left) r first last) same
-        (carrying result next carries failed),
-    kept,
-  )
+  -- and what the run goes on with
+  pub keeps_next : (next : Option Cnf) → result ≡ Ok next → its.keeps before last after
+      → ForSome next (KeepsNext its Saved before (Some first) after)
+  keeps_next next same kept made is =
+      (last, subst (λ (r : Result (Option Cnf) SaveFault). Saved r first last) (same ∙ ap Ok is) saving, kept)
 
 -- by other parameters that are the same
 pub stands_moved : {R : Type 0} (view : SourceView R) (serial : Bool) (f : Cnf) (run_params other : RunParamsValue) (firsts : List R)

@@ -131,10 +131,10 @@ no_fault faults.SizesUnread is = neither 5 (λ e. cc) (λ e. cc) is
 no_fault faults.Sizes is = neither 2 (λ e. cc) (λ e. cc) is
 
 -- what was closed without a fault was saved
-module _ (its : Deeds) {A : Type 0} (Saves : Result A SaveFault → its.Output → its.Output → Type 0) (f : Cnf)
-    (saves : (value : A) (first last : its.Output) → Saves (Ok value) first last
+module _ (its : Deeds) (Saves : Result (Option Cnf) SaveFault → its.Output → its.Output → Type 0) (f : Cnf)
+    (saves : (value : Option Cnf) (first last : its.Output) → Saves (Ok value) first last
     → (bytes : List ℕ) × Appends (its.written first) (its.written last) bytes × IsCheckpoint f bytes) where
-  saved_of : (before next after : its.State) (path : Text) (result : Result A SaveFault) (first last : its.Output)
+  saved_of : (before next after : its.State) (path : Text) (result : Result (Option Cnf) SaveFault) (first last : its.Output)
       → its.creates before path first next → ForSome (its.written first) (λ all. all ≡ [])
       → Saves result first last → ClosesSink its result next last None after
       → (bytes : List ℕ) × WasSavedBy its before path bytes after × IsCheckpoint f bytes
@@ -164,7 +164,7 @@ module _ (its : Deeds) {A : Type 0} (Saves : Result A SaveFault → its.Output �
 
 module _ (files : FilesView) where
   abbrev Saves : (words : List Text) (reports : List Report) (verdict : Verdict) → IsOutcome files words reports verdict
-      → Result (Unit {0}) SaveFault → files.its.Output → files.its.Output → Type 0
+      → Result (Option Cnf) SaveFault → files.its.Output → files.its.Output → Type 0
   Saves words reports verdict outcome =
       SavesCheckpoint files.its outcome.formula (layout_at outcome.given outcome.formula) outcome.checked.ran.run.history
       outcome.checked.dropped
@@ -189,7 +189,8 @@ module _ (files : FilesView) where
       let leaves = left_at words after out err status report path ask in
       let statuses = subst (λ (n : ℕ). (n ≡ 3) ⊎ (n ≡ 8)) report.status_is is in
       let saved = leaves_saved files.its (Saves words report.reports report.verdict outcome) outcome.formula
-      (λ done first last saves. saves.checkpoint) out.failed report.unsaved report.verdict path outcome.last after statuses leaves in
+      (λ next first last saves. (saves.checkpoint.bytes, saves.checkpoint.written, saves.checkpoint.checkpoint)) out.failed report.unsaved
+      report.verdict path outcome.last after statuses leaves in
       let read = outcome.is_formula in (
         given,
         outcome.formula,

@@ -30,7 +30,7 @@ use Rattle.runs.specs.Streams.{RunParamsValue}
 use Rattle.stream_check.specs.DroppedIdsValue.{DroppedIdsValue}
 use Rattle.portfolio.specs.declared.outcome.Verdict.{Verdict}
 use Rattle.portfolio.specs.declared.outcome.Verdict.TheVariants.{Unsatisfiable, UnsatisfiableUnder, Unknown}
-use Rattle.checkpoint.specs.Checkpoints.{IsCheckpoint}
+use Rattle.checkpoint.specs.Checkpoints.{IsCheckpoint, WritesCheckpoint}
 use Rattle.checkpoint.specs.declared.saving.SaveFault.{SaveFault}
 use Rattle.checkpoint.specs.declared.saving.SaveFault.TheVariants as saves
 use Rattle.command_line.specs.CommandLine.{AskFor, AskForBoth, AskToSave, HaveFault, IsCommandLineOf, checkpoint_of, rounds_of}
@@ -307,20 +307,20 @@ pub record IsOutcome (files : FilesView) (words : List Text) (reports : List Rep
 
 -- What became of the saving of a checkpoint to a sink that was the first and is the last, after a run of the formula with this layout, whose
 -- history and dropped identities these are. What was written whole is a text of a formula over the same variables, each clause of which
--- follows from this one. It is that of the clauses that the history leaves live, but for those that all streams dropped, and no others.
--- Just where the sink failed, a write is told to have failed.
+-- follows from this one, and it is the next formula, if one is given. It is that of the clauses that the history leaves live, but for those
+-- that all streams dropped, and no others. Just where the sink failed, the result is that a write failed.
 pub record SavesCheckpoint (its : Deeds) (formula : Cnf) (layout : LayoutValue) (history : History)
-    (dropped : List DroppedIdsValue) (result : Result (Unit {0}) SaveFault)
+    (dropped : List DroppedIdsValue) (result : Result (Option Cnf) SaveFault)
     (first last : its.Output) : Type 0 where
-  pub checkpoint : IfOk result (λ _. (bytes : List ℕ)
-      × Appends (its.written first) (its.written last) bytes × IsCheckpoint formula bytes)
+  pub checkpoint : IfOk result
+      (WritesCheckpoint formula (its.written first) (its.written last))
   pub exactly : SavesState its.written result (state formula history) layout (is_wanted dropped)
       first last
   pub failed : IsTrue (its.has_failed last) ↔ (result ≡ Err saves.Unwritten)
 
 -- How a sink was closed, to which something was saved with this result, and why that isn't saved, if it isn't: what was saved was kept,
 -- or that failed; else the sink was discarded.
-abbrev pub ClosesSink : {A : Type 0} → (its : Deeds) → Result A SaveFault → its.State → its.Output
+abbrev pub ClosesSink : (its : Deeds) → Result (Option Cnf) SaveFault → its.State → its.Output
     → Option SaveFault → its.State → Type 0
 ClosesSink its (Ok _) before last None after = its.keeps before last after
 ClosesSink its (Ok _) before last (Some fault) after =
@@ -330,22 +330,22 @@ ClosesSink its (Err fault) before last unsaved after =
 
 -- A file was created at the path, from the files before. Where its device tells its bytes, it was empty. Something was saved to it, and it
 -- was closed.
-pub record LeavesFile {A : Type 0} (its : Deeds)
-    (Saves : Result A SaveFault → its.Output → its.Output → Type 0) (before : its.State)
+pub record LeavesFile (its : Deeds)
+    (Saves : Result (Option Cnf) SaveFault → its.Output → its.Output → Type 0) (before : its.State)
     (path : Text) (unsaved : Option SaveFault) (after : its.State) : Type 0 where
   pub first : its.Output
   pub next : its.State
   pub created : its.creates before path first next
   pub empty : ForSome (its.written first) (λ all. all ≡ [])
-  pub result : Result A SaveFault
+  pub result : Result (Option Cnf) SaveFault
   pub last : its.Output
   pub saving : Saves result first last
   pub closed : ClosesSink its result next last unsaved after
 
 -- What a run with this verdict leaves as its checkpoint, and why that wasn't saved, if it wasn't. Without a path: nothing. With
 -- 'unsatisfiable': a file to which nothing went. Else a file to which the checkpoint was saved.
-abbrev pub LeavesBehind : {A : Type 0} → (its : Deeds)
-    → (Result A SaveFault → its.Output → its.Output → Type 0) → Verdict → its.State → Option Text
+abbrev pub LeavesBehind : (its : Deeds)
+    → (Result (Option Cnf) SaveFault → its.Output → its.Output → Type 0) → Verdict → its.State → Option Text
     → Option SaveFault → its.State → Type 0
 LeavesBehind its Saves verdict before None unsaved after = (unsaved ≡ None) × (after ≡ before)
 LeavesBehind its Saves Unsatisfiable before (Some path) unsaved after =

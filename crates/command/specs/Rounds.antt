@@ -16,10 +16,10 @@ use Rattle.stream_check.specs.declared.report.Ending.TheVariants as endings
 use Rattle.stream_check.specs.declared.report.Report.{Report}
 use Rattle.portfolio.specs.Outcomes.{OptionsValue, run_params_of}
 use Rattle.portfolio.specs.ReportText.{report_text}
-use Rattle.portfolio.specs.Saving.{CarriesState, is_wanted}
+use Rattle.portfolio.specs.Saving.{SavesState, is_wanted}
 use Rattle.portfolio.specs.declared.outcome.Verdict.{Verdict}
 use Rattle.portfolio.specs.declared.outcome.Verdict.TheVariants.{Unknown}
-use Rattle.checkpoint.specs.Checkpoints.{IsCheckpoint, IsCheckpointOf}
+use Rattle.checkpoint.specs.Checkpoints.{IsCheckpoint}
 use Rattle.checkpoint.specs.declared.saving.SaveFault.{SaveFault}
 use Rattle.checkpoint.specs.declared.saving.SaveFault.TheVariants as saves
 use Rattle.command_line.specs.CommandLine.{AskForRounds, IsCommandLineOf}
@@ -27,7 +27,7 @@ use Rattle.command_line.specs.Sizes.{HaveNoSizes, IsSizesText}
 use Rattle.command_line.specs.declared.sizes.Sizes.{Sizes}
 use Rattle.command_line.specs.declared.words.CommandLine.{CommandLine}
 use Rattle.command.specs.Commands.{AreAssumed, AreChecked, AreOpened, Deeds, EndsWithFault, EndsWithReport, FilesView, HasBrokenOff}
-use Rattle.command.specs.Commands.{IsFormulaAt, IsOpenCause, IsStartCause, IsUntouched, LeavesBehind, SaysOfRound, SinkChange}
+use Rattle.command.specs.Commands.{IsFormulaAt, IsOpenCause, IsStartCause, IsUntouched, LeavesBehind, SavesCheckpoint, SaysOfRound, SinkChange}
 use Rattle.command.specs.Commands.{SinkTook, Text, WasRead, WasReadIn, WasSavedBy, assumed_at, report_status, rounds_at}
 use Rattle.command.specs.Faults.{round_error_text, status_of}
 use Rattle.command.specs.Paths.{formula_path, sizes_path, stream_path, stream_paths}
@@ -86,24 +86,11 @@ pub record StreamsOpened (its : Deeds) (before : its.State) (paths : List Text)
 abbrev pub HaveEnded : List Report → Type 0
 HaveEnded reports = AllByRecursion (λ report. report.ending ≡ endings.Ended) reports
 
--- What became of the carrying of clauses to a sink that was the first and is the last, after a run of the formula with this layout, whose
--- history and dropped identities these are. What was written whole is a text of just the next formula, each clause of which follows from
--- this one. They are those that the history leaves live, but for those that all streams dropped, and no others. Just where the sink failed,
--- a write is told to have failed.
-pub record CarriesCheckpoint (its : Deeds) (formula : Cnf) (layout : LayoutValue)
-    (history : History) (dropped : List DroppedIdsValue) (result : Result Cnf SaveFault)
-    (first last : its.Output) : Type 0 where
-  pub checkpoint : IfOk result (λ next. (bytes : List ℕ)
-      × Appends (its.written first) (its.written last) bytes × IsCheckpointOf formula bytes next)
-  pub exactly : CarriesState its.written result (state formula history) layout
-      (is_wanted dropped) first last
-  pub failed : IsTrue (its.has_failed last) ↔ (result ≡ Err saves.Unwritten)
-
--- the same, of a round
-abbrev pub CarriesRound : {its : Deeds} {plan : Plan} → Round its plan → Result Cnf SaveFault
-    → its.Output → its.Output → Type 0
-CarriesRound {its} {plan} round =
-    CarriesCheckpoint its round.formula (run_params_by plan round.formula round.sizes).layout
+-- what became of the saving of a round's clauses
+abbrev pub SavesAfter : {its : Deeds} {plan : Plan} → Round its plan
+    → Result (Option Cnf) SaveFault → its.Output → its.Output → Type 0
+SavesAfter {its} {plan} round =
+    SavesCheckpoint its round.formula (run_params_by plan round.formula round.sizes).layout
     round.checked.ran.run.history round.checked.dropped
 
 -- The checkpoint of the round with this number was saved: a text of just this next formula, each clause of which follows from the round's.
@@ -113,8 +100,9 @@ pub record SavesRound {its : Deeds} {plan : Plan} (number : ℕ) (round : Round 
   pub bytes : List ℕ
   pub saved : WasSavedBy its round.opened (formula_path plan.folder (number + 1)) bytes
       round.after
-  pub carried : IsCheckpointOf round.formula bytes next
-  pub exactly : CarriesState its.written (Ok next)
+  pub checkpoint : IsCheckpoint round.formula bytes
+  pub next_is : next ≡ checkpoint.formula
+  pub exactly : SavesState its.written (Ok (Some next))
       (state round.formula round.checked.ran.run.history)
       (run_params_by plan round.formula round.sizes).layout (is_wanted round.checked.dropped)
       saved.first saved.last
@@ -132,7 +120,7 @@ pub record CarriesOn {its : Deeds} {plan : Plan} (number : ℕ) (round : Round i
 pub record IsBarred {its : Deeds} {plan : Plan} (number : ℕ) (round : Round its plan) : Type 0 where
   pub why : (¬ (round.verdict ≡ Unknown))
       ⊎ (((fault : SaveFault) × (round.unsaved ≡ Some fault)) ⊎ (¬ HaveEnded round.reports))
-  pub checkpoint : LeavesBehind its (CarriesRound round) round.verdict round.opened
+  pub checkpoint : LeavesBehind its (SavesAfter round) round.verdict round.opened
       (Some (formula_path plan.folder (number + 1))) round.unsaved round.after
 
 -- the sizes of the round after: those before, if there is no file of them; else what was read of the file is a text of them

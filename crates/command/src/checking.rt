@@ -134,11 +134,11 @@ pub fn check_asked<T: Threads + Wait + Sync, C: Clock + Sync, F: Machine>(
         verdict,
         left,
     } = run;
-    let unsaved = close_checkpoint(alloc, files, verdict, left, output);
+    let closed = close_checkpoint(alloc, files, verdict, left, false, output);
     Ok(RunResult {
         reports,
         verdict,
-        unsaved,
+        unsaved: closed.unsaved,
     })
 }
 

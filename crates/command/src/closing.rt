@@ -1,16 +1,15 @@
 //! A checkpoint's file, from its creation to its end.
-ghost use Rattle.std.specs.Prelude.{◌≡◌, ◌⊎◌, [], None, Some, false, IfErr, IfOk};
+ghost use Rattle.std.specs.Prelude.{◌≡◌, ◌⊎◌, [], None, Some, false, IfErr, IfOk, is_some, true};
 ghost use Rattle.std.specs.Option.{ForSome};
 ghost use Rattle.lrup_model.specs.Event.{History};
 ghost use Rattle.lrup_model.specs.Formula.{Cnf};
 ghost use Rattle.command.specs.Commands.{SavesCheckpoint, path_of};
-ghost use Rattle.command.specs.Rounds.{CarriesCheckpoint};
 ghost use Rattle.command.specs.internal.Running.{CanBeSaved, HasHistory, dropped_in, left_layout};
 ghost use Rattle.command.specs.internal.Saving.{ClosesCheckpoint, CreatesCheckpoint, DiscardsIt, IsNotCreated, KeepsNext, SavesAndCloses};
 
 use crate::fault::CommandFault;
 use crate::files::{Machine, OpenFault, Viewed};
-use crate::running::{LeftClauses, carry_left, save_left};
+use crate::running::{LeftClauses, save_left};
 use checkpoint::SaveFault;
 use lrup_model::Formula;
 use lrup_text::WriteFault;
@@ -63,32 +62,59 @@ pub(crate) fn discard_it<F: Machine>(files: &mut F, output: Option<F::Output>)
     }
 }
 
-/// Saves the clauses that were left to the checkpoint's file, if there is one, unless the verdict is 'unsatisfiable', and closes it. Gives
-/// why they weren't saved, if they weren't.
+/// What became of a checkpoint: why it wasn't saved, if it wasn't; and its formula, if it was, and the run goes on with it.
+#[derive(Drop)]
+pub(crate) struct Closed {
+    pub(crate) unsaved: Option<SaveFault>,
+    pub(crate) next: Option<Formula>,
+}
+
+impl Closed {
+    /// Nothing to go on with.
+    fn without_next(unsaved: Option<SaveFault>) -> Closed
+        ensures unsaved { result.unsaved ≡ unsaved }
+        ensures next { result.next ≡ None }
+    {
+        Closed {
+            unsaved,
+            next: None,
+        }
+    }
+}
+
+/// Saves the clauses that were left to the checkpoint's file, if there is one, unless the verdict is 'unsatisfiable', and closes it.
 pub(crate) fn close_checkpoint<F: Machine>(
     alloc: Global,
     files: &mut F,
     verdict: Verdict,
     left: LeftClauses,
+    goes_on: bool,
     output: Option<F::Output>,
-) -> Option<SaveFault>
+) -> Closed
     requires ready { CanBeSaved left }
     requires running { ForSome output (λ sink. F.Output.Sink.has_failed sink ≡ false) }
-    ensures { let its = ⟦<F as Viewed>⟧.deeds in
+    ensures closes { let its = ⟦<F as Viewed>⟧.deeds in
         (f : Cnf) (h : History) → HasHistory f h left
         → ClosesCheckpoint its (SavesCheckpoint its f (left_layout left) h (dropped_in left))
-        verdict files.old output result files.new }
+        verdict files.old output result.unsaved files.new }
+    ensures next { let its = ⟦<F as Viewed>⟧.deeds in
+        (f : Cnf) (h : History) → HasHistory f h left
+        → ForSome result.next (KeepsNext its (SavesCheckpoint its f (left_layout left) h
+        (dropped_in left)) files.old output files.new) }
+    ensures none { is_some output ≡ true → goes_on ≡ true → result.next ≡ None
+        → (verdict ≡ Verdict.Unsatisfiable)
+        ⊎ ((fault : SaveFault) × (result.unsaved ≡ Some fault)) }
 {
     let Some(output) = output else {
-        return None;
+        return Closed::without_next(None);
     };
     match verdict {
         Verdict::Unsatisfiable => {
             files.discard(output);
-            None
+            Closed::without_next(None)
         }
         Verdict::UnsatisfiableUnder | Verdict::Unknown => {
-            save_and_close(alloc, files, left, output)
+            save_and_close(alloc, files, left, goes_on, output)
         }
     }
 }
@@ -98,107 +124,33 @@ fn save_and_close<F: Machine>(
     alloc: Global,
     files: &mut F,
     left: LeftClauses,
+    goes_on: bool,
     mut output: F::Output,
-) -> Option<SaveFault>
+) -> Closed
     requires ready { CanBeSaved left }
     requires running { F.Output.Sink.has_failed output ≡ false }
-    ensures { let its = ⟦<F as Viewed>⟧.deeds in
+    ensures closes { let its = ⟦<F as Viewed>⟧.deeds in
         (f : Cnf) (h : History) → HasHistory f h left
         → SavesAndCloses its (SavesCheckpoint its f (left_layout left) h (dropped_in left))
-        files.old output result files.new }
-{
-    match save_left(alloc, left, &mut output) {
-        Ok(()) => match files.keep(output) {
-            Ok(()) => None,
-            Err(WriteFault) => Some(SaveFault::Unwritten),
-        },
-        Err(fault) => {
-            files.discard(output);
-            Some(fault)
-        }
-    }
-}
-
-/// What became of the clauses of a round that were to be carried on: why they weren't saved, if they weren't; and the next formula, if
-/// they were.
-#[derive(Drop)]
-pub(crate) struct CarriedClauses {
-    pub(crate) unsaved: Option<SaveFault>,
-    pub(crate) next: Option<Formula>,
-}
-
-/// Saves the clauses of a round that were left, as `close_checkpoint` does, and gives their formula.
-pub(crate) fn close_round<F: Machine>(
-    alloc: Global,
-    files: &mut F,
-    verdict: Verdict,
-    left: LeftClauses,
-    output: F::Output,
-) -> CarriedClauses
-    requires ready { CanBeSaved left }
-    requires running { F.Output.Sink.has_failed output ≡ false }
-    ensures closes { let its = ⟦<F as Viewed>⟧.deeds in
-        (f : Cnf) (h : History) → HasHistory f h left
-        → ClosesCheckpoint its (CarriesCheckpoint its f (left_layout left) h (dropped_in left))
-        verdict files.old (Some output) result.unsaved files.new }
-    ensures next { let its = ⟦<F as Viewed>⟧.deeds in
-        (f : Cnf) (h : History) → HasHistory f h left
-        → ForSome result.next (KeepsNext its (CarriesCheckpoint its f (left_layout left) h
-        (dropped_in left)) files.old output files.new) }
-    ensures none { result.next ≡ None → (verdict ≡ Verdict.Unsatisfiable)
-        ⊎ ((fault : SaveFault) × (result.unsaved ≡ Some fault)) }
-{
-    match verdict {
-        Verdict::Unsatisfiable => {
-            files.discard(output);
-            CarriedClauses {
-                unsaved: None,
-                next: None,
-            }
-        }
-        Verdict::UnsatisfiableUnder | Verdict::Unknown => {
-            carry_and_close(alloc, files, left, output)
-        }
-    }
-}
-
-/// Saves the clauses that were left to the file, closes it, and gives their formula.
-fn carry_and_close<F: Machine>(
-    alloc: Global,
-    files: &mut F,
-    left: LeftClauses,
-    mut output: F::Output,
-) -> CarriedClauses
-    requires ready { CanBeSaved left }
-    requires running { F.Output.Sink.has_failed output ≡ false }
-    ensures closes { let its = ⟦<F as Viewed>⟧.deeds in
-        (f : Cnf) (h : History) → HasHistory f h left
-        → SavesAndCloses its (CarriesCheckpoint its f (left_layout left) h (dropped_in left))
         files.old output result.unsaved files.new }
     ensures next { let its = ⟦<F as Viewed>⟧.deeds in
         (f : Cnf) (h : History) → HasHistory f h left
-        → ForSome result.next (KeepsNext its (CarriesCheckpoint its f (left_layout left) h
-        (dropped_in left)) files.old output files.new) }
-    ensures none { result.next ≡ None
+        → ForSome result.next (KeepsNext its (SavesCheckpoint its f (left_layout left) h
+        (dropped_in left)) files.old (Some output) files.new) }
+    ensures none { goes_on ≡ true → result.next ≡ None
         → (fault : SaveFault) × (result.unsaved ≡ Some fault) }
 {
-    match carry_left(alloc, left, &mut output) {
+    match save_left(alloc, left, goes_on, &mut output) {
         Ok(next) => match files.keep(output) {
-            Ok(()) => CarriedClauses {
+            Ok(()) => Closed {
                 unsaved: None,
-                next: Some(next),
+                next,
             },
-            Err(WriteFault) => CarriedClauses {
-                unsaved: Some(SaveFault::Unwritten),
-                next: None,
-            },
+            Err(WriteFault) => Closed::without_next(Some(SaveFault::Unwritten)),
         },
         Err(fault) => {
             files.discard(output);
-            CarriedClauses {
-                unsaved: Some(fault),
-                next: None,
-            }
+            Closed::without_next(Some(fault))
         }
     }
 }

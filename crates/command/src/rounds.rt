@@ -17,7 +17,7 @@ ghost use Rattle.stream_check.specs.StreamParams.{max_tries};
 
 use crate::arguments::words_of;
 use crate::checking::{Asked, Beginning, RunResult, begin, find_layout, open_streams};
-use crate::closing::{close_round, create_new};
+use crate::closing::{close_checkpoint, create_new};
 use crate::course::{Course, LastRound, OpenRound, RoundFault};
 use crate::fault::CommandFault;
 use crate::files::{Machine, OpenFault, Viewed};
@@ -94,7 +94,7 @@ fn check_round<T: Threads + Wait + Sync, C: Clock + Sync, F: Machine>(
         verdict,
         left,
     } = run;
-    let closed = close_round(alloc, files, verdict, left, output);
+    let closed = close_checkpoint(alloc, files, verdict, left, true, Some(output));
     let next = next_of(&reports, verdict, closed.unsaved, closed.next);
     let found = RunResult {
         reports,

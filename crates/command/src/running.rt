@@ -1,12 +1,11 @@
 //! The check of streams, in threads or by turns, and what it leaves for a checkpoint.
-ghost use Rattle.std.specs.Prelude.{◌≡◌, ◌↔◌, true, false, Err, IfErr, IfOk, IsTrue, List, ℕ, length, vec_len};
-ghost use Rattle.std.specs.Io.KnownBytes.{Appends};
+ghost use Rattle.std.specs.Prelude.{◌≡◌, ◌↔◌, true, false, Err, IfErr, IfOk, IsTrue, is_some, length, vec_len};
 ghost use Rattle.std.specs.List.{AllByRecursion};
 ghost use Rattle.lrup_model.specs.Event.{History};
 ghost use Rattle.lrup_model.specs.Formula.{Cnf};
 ghost use Rattle.lrup_model.specs.State.{state};
-ghost use Rattle.checkpoint.specs.Checkpoints.{IsCheckpoint, IsCheckpointOf};
-ghost use Rattle.portfolio.specs.Saving.{CarriesState, SavesState, is_wanted};
+ghost use Rattle.checkpoint.specs.Checkpoints.{WritesCheckpoint};
+ghost use Rattle.portfolio.specs.Saving.{SavesState, is_wanted};
 ghost use Rattle.command.specs.internal.Running.{run_params_on, HasHistory, CanBeSaved, IsRunCause, StandsBehind, dropped_in, left_layout};
 ghost use Rattle.runs.specs.Readings.{readers_view};
 
@@ -17,8 +16,8 @@ use clause_store::{Pass, Store};
 use lrup_model::{Cube, Formula, PlainMap};
 use lrup_text::Sink;
 use portfolio::{
-    Options, Outcome, Pause, SerialOutcome, TurnWatch, Verdict, Watch, carry_live, carry_plain,
-    run, run_serial, save_live, save_plain,
+    Options, Outcome, Pause, SerialOutcome, TurnWatch, Verdict, Watch, run, run_serial, save_live,
+    save_plain,
 };
 use std::alloc::{AllocError, Global};
 use std::sync::Wait;
@@ -179,17 +178,18 @@ fn run_in_threads<T: Threads + Wait + Sync, C: Clock + Sync, F: Machine>(
     })
 }
 
-/// Writes the formula of the clauses that were left, except for those that all streams dropped.
+/// Writes the formula of the clauses that were left, except for those that all streams dropped, and gives it if the run goes on with it.
 pub(crate) fn save_left<W: Sink>(
     alloc: Global,
     left: LeftClauses,
+    goes_on: bool,
     sink: &mut W,
-) -> Result<(), SaveFault>
+) -> Result<Option<Formula>, SaveFault>
     requires ready { CanBeSaved left }
     requires running { W.has_failed sink.old ≡ false }
-    ensures checkpoint { (f : Cnf) (h : History) → HasHistory f h left → IfOk result (λ _.
-        (bytes : List ℕ) × Appends (W.written sink.old) (W.written sink.new) bytes
-        × IsCheckpoint f bytes) }
+    ensures checkpoint { (f : Cnf) (h : History) → HasHistory f h left
+        → IfOk result (WritesCheckpoint f (W.written sink.old) (W.written sink.new)) }
+    ensures goes_on { IfOk result (λ next. is_some next ≡ goes_on) }
     ensures saves { (f : Cnf) (h : History) → HasHistory f h left
         → SavesState W.written result (state f h) (left_layout left) (is_wanted (dropped_in left))
         sink.old sink.new }
@@ -202,39 +202,9 @@ pub(crate) fn save_left<W: Sink>(
                 passes,
                 dropped,
             },
-        ) => save_live(alloc, &store, passes, &dropped, sink),
+        ) => save_live(alloc, &store, passes, &dropped, goes_on, sink),
         LeftClauses::Plain(PlainClauses { mut map, dropped }) => {
-            save_plain(alloc, &mut map, &dropped, sink)
-        }
-    }
-}
-
-/// Writes the formula of the clauses that were left, as `save_left` does, and returns it, for a later round to go on with.
-pub(crate) fn carry_left<W: Sink>(
-    alloc: Global,
-    left: LeftClauses,
-    sink: &mut W,
-) -> Result<Formula, SaveFault>
-    requires ready { CanBeSaved left }
-    requires running { W.has_failed sink.old ≡ false }
-    ensures next { (f : Cnf) (h : History) → HasHistory f h left → IfOk result (λ next.
-        (bytes : List ℕ) × Appends (W.written sink.old) (W.written sink.new) bytes
-        × IsCheckpointOf f bytes next) }
-    ensures carries { (f : Cnf) (h : History) → HasHistory f h left
-        → CarriesState W.written result (state f h) (left_layout left) (is_wanted (dropped_in left))
-        sink.old sink.new }
-    ensures failed { IsTrue (W.has_failed sink.new) ↔ (result ≡ Err SaveFault.Unwritten) }
-{
-    match left {
-        LeftClauses::Shared(
-            SharedClauses {
-                store,
-                passes,
-                dropped,
-            },
-        ) => carry_live(alloc, &store, passes, &dropped, sink),
-        LeftClauses::Plain(PlainClauses { mut map, dropped }) => {
-            carry_plain(alloc, &mut map, &dropped, sink)
+            save_plain(alloc, &mut map, &dropped, goes_on, sink)
         }
     }
 }

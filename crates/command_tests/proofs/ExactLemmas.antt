@@ -52,7 +52,7 @@ nine_is faults.SizesUnread is = absurd (let no : Path ℕ 5 9 = is in cc)
 nine_is faults.Sizes is = absurd (let no : Path ℕ 2 9 = is in cc)
 
 -- what a report with this status left
-left_unsaved : {A : Type 0} (its : Deeds) (Saves : Result A SaveFault → its.Output → its.Output → Type 0)
+left_unsaved : (its : Deeds) (Saves : Result (Option Cnf) SaveFault → its.Output → its.Output → Type 0)
     (failed : Bool) (unsaved : Option SaveFault) (verdict : Verdict) (path : Text) (before after : its.State)
     → report_status failed unsaved verdict ≡ 9 → LeavesBehind its Saves verdict before (Some path) unsaved after
     → (why : SaveFault) × LeavesFile its Saves before path (Some why) after
@@ -216,7 +216,7 @@ module _ {R W : Type 0} (left : R → List ℕ) (content : W → List ℕ) (read
   -- how a file is closed that isn't saved
   module _ (words : List Text) (first : ExactValue) (reports : List Report) (verdict : Verdict)
       (outcome : IsOutcome (exact_view first) words reports verdict) (path : List ℕ) where
-    unsure_by : (why : SaveFault) (from to : W) (next after : ExactValue) (result : Result (Unit {0}) SaveFault)
+    unsure_by : (why : SaveFault) (from to : W) (next after : ExactValue) (result : Result (Option Cnf) SaveFault)
         → IsCreated outcome.last path (content from) next
         → SavesCheckpoint exact_deeds outcome.formula (layout_at outcome.given outcome.formula)
         outcome.checked.ran.run.history outcome.checked.dropped result from to
@@ -230,9 +230,9 @@ module _ {R W : Type 0} (left : R → List ℕ) (content : W → List ℕ) (read
         ∙ assumed_stays first outcome.formula.vars outcome.next (assumed_at outcome.given) outcome.cube outcome.later outcome.assumed
         ∙ read.1.opened.0 in
         inl (
-          lies_at words first outcome.last path wrote.0 closings.Lost after outcome.given outcome.formula read.0 outcome.next
-              outcome.command_line read.1 read.2 wrote.2 stays
-              (closed_at closings.Lost outcome.last next path from to wrote.0 after created wrote.1 closed.1.0),
+          lies_at words first outcome.last path wrote.bytes closings.Lost after outcome.given outcome.formula read.0 outcome.next
+              outcome.command_line read.1 read.2 wrote.checkpoint stays
+              (closed_at closings.Lost outcome.last next path from to wrote.bytes after created wrote.written closed.1.0),
           ap (λ (files : ExactValue). files.is_lossy) (sym stays)
               ∙ ap (λ (files : ExactValue). files.is_lossy) (sym created.2)
               ∙ closed.1.1,

@@ -17,11 +17,11 @@ use Rattle.outcome_laws.proofs.StatusLemmas.{refuted}
 
 -- what was saved is a checkpoint
 module _ (its : Deeds) (f : Cnf) (layout : LayoutValue) (history : History) (dropped : List DroppedIdsValue) where
-  is_written : (result : Result (Unit {0}) SaveFault) (first last : its.Output)
+  is_written : (result : Result (Option Cnf) SaveFault) (first last : its.Output)
       (saves : SavesCheckpoint its f layout history dropped result first last) (saved : List ℕ)
       → written_bytes result first last saves ≡ Some saved → IsCheckpoint f saved
   is_written (Ok done) first last saves saved is =
-      let same : saves.checkpoint.0 ≡ saved = cc in subst (IsCheckpoint f) same saves.checkpoint.2
+      let same : saves.checkpoint.bytes ≡ saved = cc in subst (IsCheckpoint f) same saves.checkpoint.checkpoint
   is_written (Err fault) first last saves saved is = absurd (let no : None ≡ Some saved = is in cc)
 
   is_saved : (verdict : Verdict) (before : its.State) (path : Option Text) (unsaved : Option SaveFault) (after : its.State)

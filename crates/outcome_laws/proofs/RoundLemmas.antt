@@ -190,7 +190,8 @@ module _ (Mode : Bool → Type 0) (Before Last : RoundAsk) (Early Late : Loss) (
       let ready = provided.ready round.sizes comes.sized comes.sizes in
       let number : length (b ∷ more) + 1 ≡ length (round ∷ b ∷ more) = omega arith in
       record {
-        cnf = text_cnf comes.goes_on.saving.bytes round.formula comes.goes_on.saving.carried.text;
+        cnf = subst IsCnf (sym comes.goes_on.saving.next_is)
+            (text_cnf comes.goes_on.saving.bytes comes.goes_on.saving.checkpoint.formula comes.goes_on.saving.checkpoint.text);
         tells = files.its.tells comes.sized;
         paths = stream_paths folder (length (b ∷ more) + 1) round.sizes.streams;
         left = comes.opened.left;

@@ -62,7 +62,7 @@ text_cnf bytes f is = record {
 
 -- With a report
 
-module _ (its : Deeds) (Saves : Result (Unit {0}) SaveFault → its.Output → its.Output → Type 0) where
+module _ (its : Deeds) (Saves : Result (Option Cnf) SaveFault → its.Output → its.Output → Type 0) where
   -- with 'unsatisfiable' there is nothing to be saved
   all_saved : (verdict : Verdict) (before : its.State) (path : Option Text) (unsaved : Option SaveFault) (after : its.State)
       → verdict ≡ Unsatisfiable → LeavesBehind its Saves verdict before path unsaved after → unsaved ≡ None

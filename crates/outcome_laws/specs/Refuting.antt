@@ -23,10 +23,10 @@ pub record IsRunOn (files : FilesView) (bytes : List ℕ) (status : ℕ) : Type 
 
 -- the bytes that were written to a sink, where that succeeded
 abbrev pub written_bytes : {its : Deeds} {formula : Cnf} {layout : LayoutValue} {history : History}
-    {dropped : List DroppedIdsValue} (result : Result (Unit {0}) SaveFault)
+    {dropped : List DroppedIdsValue} (result : Result (Option Cnf) SaveFault)
     (first last : its.Output)
     → SavesCheckpoint its formula layout history dropped result first last → Option (List ℕ)
-written_bytes (Ok _) first last saves = Some saves.checkpoint.0
+written_bytes (Ok _) first last saves = Some saves.checkpoint.bytes
 written_bytes (Err fault) first last saves = None
 
 -- the bytes that were saved as a checkpoint, if there is one

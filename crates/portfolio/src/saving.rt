@@ -1,6 +1,5 @@
 //! Saves the clauses that are live after a run.
-ghost use Rattle.std.specs.Prelude.{◌≡◌, ◌↔◌, ◌<◌, Err, IfOk, IsTrue, List, ℕ, false, vec_len};
-ghost use Rattle.std.specs.Io.KnownBytes.{Appends};
+ghost use Rattle.std.specs.Prelude.{◌≡◌, ◌↔◌, ◌<◌, Err, IfOk, IsTrue, List, false, is_some, vec_len};
 ghost use Rattle.lrup_model.specs.Event.{History, Reply};
 ghost use Rattle.lrup_model.specs.Formula.{Cnf};
 ghost use Rattle.lrup_model.specs.Layout.{Fits};
@@ -8,11 +7,11 @@ ghost use Rattle.lrup_model.specs.Plain.{PlainMoves, formula_of, plain_state};
 ghost use Rattle.lrup_model.specs.State.{state};
 ghost use Rattle.clause_store.specs.Passes.{AreOf, views};
 ghost use Rattle.runs.specs.SequentialConsistency.{HaveOneHistory};
-ghost use Rattle.checkpoint.specs.Checkpoints.{IsCheckpoint, IsCheckpointOf};
+ghost use Rattle.checkpoint.specs.Checkpoints.{WritesCheckpoint};
 ghost use Rattle.checkpoint.specs.Live.{fetches};
-ghost use Rattle.portfolio.specs.Saving.{CarriesState, SavesState, is_wanted};
+ghost use Rattle.portfolio.specs.Saving.{SavesState, is_wanted};
 
-use checkpoint::{SaveFault, Wanted, carry, save};
+use checkpoint::{SaveFault, Wanted, save};
 use clause_store::{Desk, Pass, Store};
 use lrup_model::{Formula, Id, PlainMap};
 use lrup_text::Sink;
@@ -33,22 +32,25 @@ impl Wanted for NotAllDropped<'_> {
     }
 }
 
-/// Writes the formula of the clauses that are live after a run, except for those that all streams dropped. The passes are used up.
+/// Writes the formula of the clauses that are live after a run, except for those that all streams dropped, and gives it if the run goes on
+/// with it. The passes are used up.
 pub fn save_live<W: Sink>(
     alloc: Global,
     store: &Store,
     passes: Vec<Pass>,
     dropped: &[DroppedIds],
+    goes_on: bool,
     sink: &mut W,
-) -> Result<(), SaveFault>
+) -> Result<Option<Formula>, SaveFault>
     requires of { AreOf store.now passes.items }
     requires some { 0 < vec_len passes }
     requires running { W.has_failed sink.old ≡ false }
     // What was written whole is a text of a formula, each clause of which follows from the run's.
     ensures checkpoint { (f : Cnf) (h : History)
-        → HaveOneHistory f store.now.layout h (views passes.items) → IfOk result (λ _.
-        (bytes : List ℕ) × Appends (W.written sink.old) (W.written sink.new) bytes
-        × IsCheckpoint f bytes) }
+        → HaveOneHistory f store.now.layout h (views passes.items)
+        → IfOk result (WritesCheckpoint f (W.written sink.old) (W.written sink.new)) }
+    // It is given just if the run goes on with it.
+    ensures goes_on { IfOk result (λ next. is_some next ≡ goes_on) }
     // It is that of the clauses that the run's history leaves live, and that not all streams
     // dropped.
     ensures saves { (f : Cnf) (h : History)
@@ -64,7 +66,8 @@ pub fn save_live<W: Sink>(
     // For the proof alone: the contract of `stream` says that the pass is fair, so the layout is one for the formula.
     let _ = pass.stream();
     let mut desk = Desk::new(store, pass);
-    let saved = save(alloc, &mut desk, layout, &NotAllDropped { dropped }, sink);
+    let wanted = NotAllDropped { dropped };
+    let saved = save(alloc, &mut desk, layout, &wanted, goes_on, sink);
     // For the proof alone: the passes meet once more, which shows that no other stream published or retired meanwhile. So what was
     // fetched is what the run left.
     passes.push_reserved(desk.into_pass());
@@ -72,19 +75,20 @@ pub fn save_live<W: Sink>(
     saved
 }
 
-/// Writes the formula of the clauses that are live after a run on one thread, except for those that all streams dropped.
+/// Writes the formula of the clauses that are live after a run on one thread, as `save_live` does, and gives it if the run goes on.
 pub fn save_plain<W: Sink>(
     alloc: Global,
     map: &mut PlainMap,
     dropped: &[DroppedIds],
+    goes_on: bool,
     sink: &mut W,
-) -> Result<(), SaveFault>
+) -> Result<Option<Formula>, SaveFault>
     requires fits { Fits map.old.layout (formula_of map.old) }
     requires running { W.has_failed sink.old ≡ false }
     // What was written whole is a text of a formula, each clause of which follows from the map's.
-    ensures checkpoint { IfOk result (λ _. (bytes : List ℕ)
-        × Appends (W.written sink.old) (W.written sink.new) bytes
-        × IsCheckpoint (formula_of map.old) bytes) }
+    ensures checkpoint { IfOk result
+        (WritesCheckpoint (formula_of map.old) (W.written sink.old) (W.written sink.new)) }
+    ensures goes_on { IfOk result (λ next. is_some next ≡ goes_on) }
     // It is that of the clauses that the map has live, and that not all streams dropped.
     ensures saves { SavesState W.written result (plain_state map.old) map.old.layout
         (is_wanted dropped.now) sink.old sink.new }
@@ -97,71 +101,6 @@ pub fn save_plain<W: Sink>(
     // For the proof alone: the contract of `streams` says that there is a stream.
     let _ = layout.streams();
     let mut desk = map.desk(1);
-    save(alloc, &mut desk, &layout, &NotAllDropped { dropped }, sink)
-}
-
-/// Writes the formula of the live clauses, as `save_live` does, and returns that formula, for a later round to go on with.
-pub fn carry_live<W: Sink>(
-    alloc: Global,
-    store: &Store,
-    passes: Vec<Pass>,
-    dropped: &[DroppedIds],
-    sink: &mut W,
-) -> Result<Formula, SaveFault>
-    requires of { AreOf store.now passes.items }
-    requires some { 0 < vec_len passes }
-    requires running { W.has_failed sink.old ≡ false }
-    // What was written whole is a text of the formula that is given, each clause of which follows from the run's.
-    ensures next { (f : Cnf) (h : History)
-        → HaveOneHistory f store.now.layout h (views passes.items) → IfOk result (λ next.
-        (bytes : List ℕ) × Appends (W.written sink.old) (W.written sink.new) bytes
-        × IsCheckpointOf f bytes next) }
-    // It is that of the clauses that the run's history leaves live, and that not all streams
-    // dropped.
-    ensures carries { (f : Cnf) (h : History)
-        → HaveOneHistory f store.now.layout h (views passes.items) → CarriesState W.written result
-        (state f h) store.now.layout (is_wanted dropped.now) sink.old sink.new }
-    ensures failed { IsTrue (W.has_failed sink.new) ↔ (result ≡ Err SaveFault.Unwritten) }
-{
-    let layout = store.layout();
-    let mut passes = passes;
-    let Some(last) = passes.pop() else {
-        unreachable!()
-    };
-    // For the proof alone: the contract of `stream` says that the pass is fair, so the layout is one for the formula.
-    let _ = last.stream();
-    let mut desk = Desk::new(store, last);
-    let carried = carry(alloc, &mut desk, layout, &NotAllDropped { dropped }, sink);
-    // For the proof alone, as in `save_live`: what was fetched is what the run left.
-    passes.push_reserved(desk.into_pass());
-    store.meet_all(&mut passes);
-    carried
-}
-
-/// Writes the formula of the live clauses, as `save_plain` does, and returns that formula.
-pub fn carry_plain<W: Sink>(
-    alloc: Global,
-    map: &mut PlainMap,
-    dropped: &[DroppedIds],
-    sink: &mut W,
-) -> Result<Formula, SaveFault>
-    requires fits { Fits map.old.layout (formula_of map.old) }
-    requires running { W.has_failed sink.old ≡ false }
-    // What was written whole is a text of the formula that is given, each clause of which follows from the map's.
-    ensures next { IfOk result (λ next. (bytes : List ℕ)
-        × Appends (W.written sink.old) (W.written sink.new) bytes
-        × IsCheckpointOf (formula_of map.old) bytes next) }
-    // It is that of the clauses that the map has live, and that not all streams dropped.
-    ensures carries { CarriesState W.written result (plain_state map.old) map.old.layout
-        (is_wanted dropped.now) sink.old sink.new }
-    // The map only answered fetches.
-    ensures moves { (replies : List Reply)
-        × PlainMoves map.old map.new 1 (fetches 1 1 replies) }
-    ensures failed { IsTrue (W.has_failed sink.new) ↔ (result ≡ Err SaveFault.Unwritten) }
-{
-    let layout = *map.layout();
-    // For the proof alone: the contract of `streams` says that there is a stream.
-    let _ = layout.streams();
-    let mut desk = map.desk(1);
-    carry(alloc, &mut desk, &layout, &NotAllDropped { dropped }, sink)
+    let wanted = NotAllDropped { dropped };
+    save(alloc, &mut desk, &layout, &wanted, goes_on, sink)
 }

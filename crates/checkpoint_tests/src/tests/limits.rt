@@ -29,7 +29,7 @@ fn save_copies<M: ClauseMap>(
         return Err("no clause".into());
     };
     let copies = vec![in alloc; clip; count]?;
-    Ok(save_clips(desk, &copies, layout.vars(), paper))
+    Ok(save_clips(alloc, desk, &copies, layout.vars(), false, paper).map(|_| ()))
 }
 
 /// The same, at the first desk.

@@ -56,7 +56,7 @@ fn save_after(
 {
     let mut desk = map.desk(1);
     act(&mut desk, case);
-    save(alloc, &mut desk, layout, &case.wanted, paper)
+    save(alloc, &mut desk, layout, &case.wanted, false, paper).map(|_| ())
 }
 
 /// The worked formula's map of one stream with two identities, 5 and 6, and its layout.

@@ -33,17 +33,17 @@ DiscardsIt its before None after = after ≡ before
 DiscardsIt its before (Some output) after = its.discards before output after
 
 -- Something was saved to the file, and it was closed: what was saved was kept, or that failed; else the file was discarded.
-pub record SavesAndCloses {A : Type 0} (its : Deeds)
-    (Saves : Result A SaveFault → its.Output → its.Output → Type 0) (before : its.State)
+pub record SavesAndCloses (its : Deeds)
+    (Saves : Result (Option Cnf) SaveFault → its.Output → its.Output → Type 0) (before : its.State)
     (first : its.Output) (unsaved : Option SaveFault) (after : its.State) : Type 0 where
-  pub result : Result A SaveFault
+  pub result : Result (Option Cnf) SaveFault
   pub last : its.Output
   pub saving : Saves result first last
   pub closed : ClosesSink its result before last unsaved after
 
 -- What became of the file, if there is one, by the verdict: with 'unsatisfiable' it was discarded.
-abbrev pub ClosesCheckpoint : {A : Type 0} → (its : Deeds)
-    → (Result A SaveFault → its.Output → its.Output → Type 0) → Verdict → its.State
+abbrev pub ClosesCheckpoint : (its : Deeds)
+    → (Result (Option Cnf) SaveFault → its.Output → its.Output → Type 0) → Verdict → its.State
     → Option its.Output → Option SaveFault → its.State → Type 0
 ClosesCheckpoint its Saves verdict before None unsaved after =
     (unsaved ≡ None) × (after ≡ before)
@@ -53,7 +53,9 @@ ClosesCheckpoint its Saves verdict before (Some first) unsaved after =
     SavesAndCloses its Saves before first unsaved after
 
 -- what was saved was this next formula, and it was kept
-abbrev pub KeepsNext : (its : Deeds) → (Result Cnf SaveFault → its.Output → its.Output → Type 0)
-    → its.State → its.Output → its.State → Cnf → Type 0
-KeepsNext its Saves before first after next =
-    (last : its.Output) × Saves (Ok next) first last × its.keeps before last after
+abbrev pub KeepsNext : (its : Deeds)
+    → (Result (Option Cnf) SaveFault → its.Output → its.Output → Type 0) → its.State
+    → Option its.Output → its.State → Cnf → Type 0
+KeepsNext its Saves before None after next = ⊥
+KeepsNext its Saves before (Some first) after next =
+    (last : its.Output) × Saves (Ok (Some next)) first last × its.keeps before last after

@@ -108,11 +108,11 @@ returns-clause-outcome g c words first good at =
     let run = c.in-Ok.run' in
     let stands = c.in-Ok.ensures.stands in
     let h = stands.checked.ran.run.history in
-    let after = c.close_checkpoint-unsaved.new.files in
-    let unsaved = c.close_checkpoint-unsaved.result in
+    let after = c.close_checkpoint-closed.new.files in
+    let unsaved = c.close_checkpoint-closed.result.unsaved in
     let f = begun.formula in
     let closes = left_moved stands (λ p dropped. ClosesCheckpoint files.its (SavesCheckpoint files.its f p h dropped) run.verdict
-    c.create_checkpoint.new.files c.in_ok-output.output unsaved after) (c.close_checkpoint-unsaved.ensures f h stands.has) in
+    c.create_checkpoint.new.files c.in_ok-output.output unsaved after) (c.close_checkpoint-closed.ensures.closes f h stands.has) in
     is_outcome files words line begun.formula begun.cube c.unwrap-options.result readers c.args.files.now of.later last good is_formula
     of.assumed options of.opened of.left run.reports.items run.verdict unsaved after (
       stands.checked,

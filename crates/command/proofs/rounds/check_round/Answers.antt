@@ -1,8 +1,8 @@
-use Rattle.std.proofs.Common.{◌≡◌, ◌+◌, ◌∙◌, None, Some, inl, inr, length, subst}
-use Rattle.command.specs.Commands.{Text, deeds_of}
+use Rattle.std.proofs.Common.{◌≡◌, ◌+◌, ◌∙◌, None, Some, inl, inr, length, refl, subst}
+use Rattle.command.specs.Commands.{SavesCheckpoint, Text, deeds_of}
 use Rattle.runs.specs.Readings.{readers_view}
 use Rattle.command.specs.Paths.{formula_path}
-use Rattle.command.specs.Rounds.{CarriesCheckpoint, HaveEnded, run_params_by}
+use Rattle.command.specs.Rounds.{HaveEnded, run_params_by}
 use Rattle.command.specs.internal.Running.{StandsBehind}
 use Rattle.command.specs.internal.Saving.{ClosesCheckpoint, CreatesCheckpoint, KeepsNext}
 use Rattle.command.specs.internal.RoundProgress.{plan_of}
@@ -44,7 +44,7 @@ returns-clause-found g c =
     let number = c.args.round.number in
     let f = c.args.round.formula in
     let run = c.in-Ok.run' in
-    let closed = c.close_round-closed in
+    let closed = c.close_checkpoint-closed in
     let of = c.next_of-next.ensures in
     let left = stands g c in
     let h = left.checked.ran.run.history in
@@ -53,7 +53,7 @@ returns-clause-found g c =
     record {
       was = record { count = c.requires.count; checked = left.checked };
       goes_on = λ next is.
-          let keeps = left_moved left (λ p dropped. KeepsNext its (CarriesCheckpoint its f p h dropped) mid first closed.new.files next)
+          let keeps = left_moved left (λ p dropped. KeepsNext its (SavesCheckpoint its f p h dropped) mid (Some first) closed.new.files next)
           (closed.ensures.next f h left.has next (some_given (λ made. closed.result.next ≡ Some made) is of.next)) in
           record {
             verdict = some_given (λ made. run.verdict ≡ Unknown) is of.verdict;
@@ -63,12 +63,12 @@ returns-clause-found g c =
           };
       over = λ none. record {
         why = elim (of.none none) [
-          | inl nothing ↦ barred_by run.verdict closed.result.unsaved (HaveEnded run.reports.items) (closed.ensures.none nothing)
+          | inl nothing ↦ barred_by run.verdict closed.result.unsaved (HaveEnded run.reports.items) (closed.ensures.none refl refl nothing)
           | inr why ↦ (rw c.deref.ensures.value at why)
         ];
         checkpoint = leaves_behind its _ run.verdict c.args.files.now mid closed.new.files
             (Some (formula_path plan.folder (number + 1))) (Some first) closed.result.unsaved (created g c)
-            (left_moved left (λ p dropped. ClosesCheckpoint its (CarriesCheckpoint its f p h dropped) run.verdict mid (Some first)
+            (left_moved left (λ p dropped. ClosesCheckpoint its (SavesCheckpoint its f p h dropped) run.verdict mid (Some first)
             closed.result.unsaved closed.new.files) (closed.ensures.closes f h left.has));
       };
     }

@@ -1,6 +1,5 @@
 use Rattle.std.proofs.Common.{◌≡◌, ◌+◌, ◌-◌, ◌++◌, ◌∷◌, [], ℕ, List, Some, length, sym, ap, subst, ◌∙◌, arith}
 use Rattle.std.specs.Prelude.{IfOk, slice_get}
-use Rattle.std.specs.Io.KnownBytes.{Appends}
 use Rattle.std.proofs.lemmas.List.{map-append}
 use Rattle.lrup_model.specs.Formula.{Cnf}
 use Rattle.lrup_model.specs.Layout.{LayoutValue}
@@ -8,7 +7,7 @@ use Rattle.lrup_model.specs.Pass.{View, AreSynced}
 use Rattle.lrup_model.specs.CallerView.{Caller}
 use Rattle.clause_store.specs.Passes.{PassValue, StoreValue, AreOf, store_of, views}
 use Rattle.runs.specs.SequentialConsistency.{HaveOneHistory}
-use Rattle.checkpoint.specs.Checkpoints.{IsCheckpoint}
+use Rattle.checkpoint.specs.Checkpoints.{WritesCheckpoint}
 use Rattle.portfolio.specs.Saving.{SavesFound, is_wanted}
 use Rattle.portfolio.proofs.SavingLemmas.{fetched_so, last_at, other_last}
 use Rattle.portfolio.proofs.saving.save_live.Goals as goal
@@ -27,8 +26,8 @@ returns-clause-checkpoint g c = λ f h history.
     let caller = (history.calls (length vs + 1) pass.view (omega arith, at)).0 in
     let formula : c.new-desk.result.pass.view.caller.formula ≡ f = ap (λ (p : PassValue). p.view.caller.formula) c.new-desk.ensures
     ∙ ap (λ (k : Caller). k.formula) caller in
-    subst (λ (k : Cnf). IfOk c.save-saved.result (λ _. (bytes : List ℕ)
-    × Appends (g.W.Sink.written c.args.sink.now) (g.W.Sink.written c.save-saved.new.sink) bytes × IsCheckpoint k bytes))
+    subst (λ (k : Cnf). IfOk c.save-saved.result
+    (WritesCheckpoint k (g.W.Sink.written c.args.sink.now) (g.W.Sink.written c.save-saved.new.sink)))
     formula c.save-saved.ensures.checkpoint
 
 pub meet_all-requires : goal.meet_all-requires

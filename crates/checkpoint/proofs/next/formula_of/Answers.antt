@@ -2,8 +2,8 @@ use Rattle.std.proofs.Common.{◌∙◌, ap, sym, subst, ℕ}
 use Rattle.lrup_model.specs.Clause.{Clause}
 use Rattle.lrup_model.specs.Formula.{Cnf, IsFormulaClause}
 use Rattle.lrup_model.specs.CallerView.{CallerView, clip_clause}
-use Rattle.checkpoint.proofs.CarryLemmas.{clause_at_clip, printed_next}
-use Rattle.checkpoint.proofs.carrying.formula_of.Goals as goal
+use Rattle.checkpoint.proofs.NextLemmas.{clause_at_clip, printed_next}
+use Rattle.checkpoint.proofs.next.formula_of.Goals as goal
 
 pub returns-in_err-spell-clause-event : goal.returns-in_err-spell-clause-event
 returns-in_err-spell-clause-event g c =

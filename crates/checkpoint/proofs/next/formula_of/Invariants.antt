@@ -1,7 +1,7 @@
 use Rattle.std.proofs.Common.{◌≡◌, [], take}
 use Rattle.checkpoint.specs.Live.{entries_of}
 use Rattle.checkpoint.specs.Printing.{printed}
-use Rattle.checkpoint.proofs.carrying.formula_of.Given as goal
+use Rattle.checkpoint.proofs.next.formula_of.Given as goal
 
 abbrev pub invariant-loop-clip : goal.invariant-loop-clip
 invariant-loop-clip g l =

@@ -1,7 +1,7 @@
 use Rattle.std.proofs.Common.{◌++◌, ◌∷◌, [], ap, sym, ◌∙◌, add-one, take}
 use Rattle.lrup_model.specs.lemmas.ClauseLemmas.{take-next}
 use Rattle.lrup_model.specs.CallerView.{clip_clause}
-use Rattle.checkpoint.proofs.carrying.spell.Goals as goal
+use Rattle.checkpoint.proofs.next.spell.Goals as goal
 
 pub returns-in_err-push-clause-event : goal.returns-in_err-push-clause-event
 returns-in_err-push-clause-event g c =

@@ -1,4 +1,4 @@
-//! What is carried of the worked formula: the text that is written, and the formula, by what is saved of it in turn.
+//! What a later round goes on with, of the worked formula: the text that is written, and the formula, by what is saved of it in turn.
 ghost use Rattle.std.specs.Prelude.{◌≡◌, ◌||◌, false, nat_lt};
 ghost use Rattle.lrup_model.specs.Layout.{Fits, IsStream};
 ghost use Rattle.lrup_model.specs.Plain.{formula_of};
@@ -6,7 +6,7 @@ ghost use Rattle.test_support.specs.Worked.{four};
 
 use super::worked::{Case, act, open_worked};
 use super::{ALL, Except, same, save_formula};
-use checkpoint::{SaveFault, Wanted, carry};
+use checkpoint::{SaveFault, Wanted, save};
 use lrup_model::{Formula, Id, Layout, PlainMap};
 use lrup_text::Sink;
 use std::alloc::Global;
@@ -26,15 +26,15 @@ impl Wanted for Either {
     }
 }
 
-/// Carries what is live then, and what one of the streams wants.
-fn carry_after(
+/// Saves what is live then, and what one of the streams wants, for a run that goes on.
+fn save_after(
     alloc: Global,
     map: &mut PlainMap,
     layout: &Layout,
     case: &Case,
     other: Except,
     paper: &mut Paper,
-) -> Result<Formula, SaveFault>
+) -> Result<Option<Formula>, SaveFault>
     requires formula { formula_of map.old ≡ four }
     requires layout { layout.now ≡ map.old.layout }
     requires fits { Fits layout.now four }
@@ -44,33 +44,34 @@ fn carry_after(
     let mut desk = map.desk(1);
     act(&mut desk, case);
     let wanted = Either(case.wanted, other);
-    carry(alloc, &mut desk, layout, &wanted, paper)
+    save(alloc, &mut desk, layout, &wanted, true, paper)
 }
 
-/// Carries the worked formula's map onto a paper.
-fn carry_worked(
+/// The same, of the worked formula's map, onto a paper.
+fn save_worked(
     alloc: Global,
     case: &Case,
     other: Except,
     paper: &mut Paper,
-) -> Result<Result<Formula, SaveFault>, Fail>
+) -> Result<Result<Option<Formula>, SaveFault>, Fail>
     requires { paper.old.failed ≡ false }
 {
     let (mut map, layout) = open_worked(alloc)?;
     // The call shows that there is a stream.
     let _ = layout.streams();
-    Ok(carry_after(alloc, &mut map, &layout, case, other, paper))
+    Ok(save_after(alloc, &mut map, &layout, case, other, paper))
 }
 
-/// Where this formula was carried, it is the one of this text.
-fn is_carried(
+/// Where a formula was given, it is the one of this text.
+fn is_given(
     rt: &(impl Abort + AllocGlobal),
-    carried: Result<Formula, SaveFault>,
+    saved: Result<Option<Formula>, SaveFault>,
     wanted: Result<&str, SaveFault>,
 ) -> Result<(), Fail> {
     let mut paper = Paper::new(rt.alloc(), 1_000, 0);
-    let found = match carried {
-        Ok(next) => save_formula(rt.alloc(), &next, &mut paper)?,
+    let found = match saved {
+        Ok(Some(next)) => save_formula(rt.alloc(), &next, &mut paper)?,
+        Ok(None) => return Err("no formula".into()),
         Err(fault) => Err(fault),
     };
     let text = wanted.unwrap_or("");
@@ -83,8 +84,8 @@ fn is_carried(
     Ok(())
 }
 
-/// Carries the worked formula's map by writes of 7 bytes, of which this one fails, and none where that is 0.
-fn carries_worked(
+/// Saves the worked formula's map by writes of 7 bytes, of which this one fails, and none where that is 0.
+fn saves_worked(
     rt: &(impl Abort + AllocGlobal),
     case: &Case,
     other: Except,
@@ -93,15 +94,15 @@ fn carries_worked(
     written: &[u8],
 ) -> Result<(), Fail> {
     let mut paper = Paper::new(rt.alloc(), 7, fails_at);
-    let carried = carry_worked(rt.alloc(), case, other, &mut paper)?;
+    let saved = save_worked(rt.alloc(), case, other, &mut paper)?;
     let went = (paper.failed(), paper.bytes.as_slice());
     same(rt, went, (wanted.is_err(), written));
-    is_carried(rt, carried, wanted)
+    is_given(rt, saved, wanted)
 }
 
 /// What stream 1 does and wants, what another stream wants, the text that is written, and that of the formula: it has the same clauses
 /// in the same order, but not under the same identities.
-static CARRIED: [(Case, Except, &str, &str); 8] = [
+static GIVEN: [(Case, Except, &str, &str); 8] = [
     (
         Case {
             publishes: None,
@@ -122,7 +123,7 @@ static CARRIED: [(Case, Except, &str, &str); 8] = [
         "p cnf 2 5\n1 2 0\n-1 2 0\n1 -2 0\n-1 -2 0\nc id 6\n2 0\n",
         "p cnf 2 5\n1 2 0\n-1 2 0\n1 -2 0\n-1 -2 0\n2 0\n",
     ),
-    // What was retired isn't carried.
+    // What was retired isn't given.
     (
         Case {
             publishes: Some(5),
@@ -191,14 +192,14 @@ static CARRIED: [(Case, Except, &str, &str); 8] = [
 ];
 
 #[test]
-fn what_is_written_is_carried(rt: HostRuntime) -> Result<(), Fail> {
-    for &(case, other, text, next) in &CARRIED {
-        carries_worked(&rt, &case, other, 0, Ok(next), text.as_bytes())?;
+fn what_is_written_is_given(rt: HostRuntime) -> Result<(), Fail> {
+    for &(case, other, text, next) in &GIVEN {
+        saves_worked(&rt, &case, other, 0, Ok(next), text.as_bytes())?;
     }
     Ok(())
 }
 
-/// Carries a case by writes of which each fails in turn, and at last none.
+/// Saves a case by writes of which each fails in turn, and at last none.
 fn breaks_anywhere(
     rt: &(impl Abort + AllocGlobal),
     case: &Case,
@@ -210,22 +211,22 @@ fn breaks_anywhere(
     for before in 0..writes {
         let went = before.saturating_mul(7).min(text.len());
         let fault = Err(SaveFault::Unwritten);
-        carries_worked(rt, case, other, before + 1, fault, &text[..went])?;
+        saves_worked(rt, case, other, before + 1, fault, &text[..went])?;
     }
-    carries_worked(rt, case, other, 0, Ok(next), text)
+    saves_worked(rt, case, other, 0, Ok(next), text)
 }
 
 #[test]
-fn a_write_that_fails_carries_nothing(rt: HostRuntime) -> Result<(), Fail> {
-    for &(case, other, text, next) in &CARRIED {
+fn a_write_that_fails_gives_nothing(rt: HostRuntime) -> Result<(), Fail> {
+    for &(case, other, text, next) in &GIVEN {
         breaks_anywhere(&rt, &case, other, text.as_bytes(), next)?;
     }
     Ok(())
 }
 
-/// Where memory is refused, for the clips or for the formula, nothing is written, and the next call carries all.
+/// Where memory is refused, for the clips or for the formula, nothing is written, and the next call saves all.
 #[test]
-fn a_refused_carry_can_be_made_again(rt: HostRuntime) -> Result<(), Fail> {
+fn a_refused_save_can_be_made_again(rt: HostRuntime) -> Result<(), Fail> {
     let text = "p cnf 2 5\n1 2 0\n-1 2 0\n1 -2 0\n-1 -2 0\nc id 6\n2 0\n";
     let case = Case {
         publishes: Some(6),
@@ -233,21 +234,21 @@ fn a_refused_carry_can_be_made_again(rt: HostRuntime) -> Result<(), Fail> {
         wanted: ALL,
     };
     let mut paper = Paper::new(rt.alloc(), 1_000, 0);
-    let mut carried = carry_worked(rt.alloc(), &case, ALL, &mut paper)?;
-    if let Err(SaveFault::Memory) = carried {
+    let mut saved = save_worked(rt.alloc(), &case, ALL, &mut paper)?;
+    if let Err(SaveFault::Memory) = saved {
         same(&rt, (paper.writes, paper.failed()), (0, false));
         let mut again = Paper::new(rt.alloc(), 1_000, 0);
-        carried = carry_worked(rt.alloc(), &case, ALL, &mut again)?;
+        saved = save_worked(rt.alloc(), &case, ALL, &mut again)?;
         paper = again;
     }
-    if let Err(SaveFault::Unwritten) = carried {
+    if let Err(SaveFault::Unwritten) = saved {
         return Ok(());
     }
-    let length = carried.map(|next| next.len());
+    let length = saved.map(|next| next.map(|formula| formula.len()));
     same(
         &rt,
         (length, paper.bytes.as_slice()),
-        (Ok(5), text.as_bytes()),
+        (Ok(Some(5)), text.as_bytes()),
     );
     Ok(())
 }

@@ -1,6 +1,6 @@
 use Rattle.std.proofs.Common.{◌≡◌, [], take}
 use Rattle.lrup_model.specs.CallerView.{clip_clause}
-use Rattle.checkpoint.proofs.carrying.spell.Given as goal
+use Rattle.checkpoint.proofs.next.spell.Given as goal
 
 abbrev pub invariant-loop-k : goal.invariant-loop-k
 invariant-loop-k g l =

@@ -1,23 +1,14 @@
--- Why the formula that is carried on is the one whose text was written.
-use Rattle.std.proofs.Common.{◌≡◌, ◌<◌, ◌≤◌, ◌+◌, ◌++◌, ◌∷◌, ◌⊎◌, ℕ, zero, suc, List, [], length, take, get_or, refl, sym, ap, ◌∙◌, arith}
-use Rattle.std.proofs.Common.{inl, inr, subst, Option}
-use Rattle.std.specs.Prelude.{Result, Err}
+-- Why the formula that is given is the one whose text was written.
+use Rattle.std.proofs.Common.{◌≡◌, ◌<◌, ◌≤◌, ◌+◌, ◌++◌, ◌∷◌, ℕ, zero, suc, List, [], length, take, get_or, sym, ap, ◌∙◌, arith}
+use Rattle.std.proofs.Common.{subst}
 use Rattle.std.specs.List.{AllByRecursion}
 use Rattle.std.proofs.lemmas.List.{map_more, map-append}
 use Rattle.lrup_model.specs.Clause.{Clause, IsClause}
-use Rattle.lrup_model.specs.Entailment.{Follows, IsDerived}
+use Rattle.lrup_model.specs.Entailment.{IsDerived}
 use Rattle.lrup_model.specs.Formula.{Cnf, IsFormulaClause, max_clause_literals}
-use Rattle.lrup_model.specs.lemmas.ListLemmas.{All-map}
-use Rattle.lrup_model.specs.Literal.{max_variable}
 use Rattle.lrup_model.specs.CallerView.{CallerView, ClipValue, clip_clause}
-use Rattle.lrup_text.specs.lemmas.WritingLemmas.{appends_nothing}
-use Rattle.checkpoint.specs.Checkpoints.{AreWithinLimits, Carries, IsCheckpointOf}
-use Rattle.checkpoint.specs.internal.TooLarge.{IsTooLarge}
 use Rattle.checkpoint.specs.Live.{Entry, clauses_of, entries_of, entry_of}
-use Rattle.checkpoint.specs.Printing.{formula_text, printed}
-use Rattle.checkpoint.specs.declared.saving.SaveFault.{SaveFault}
-use Rattle.checkpoint.specs.declared.saving.SaveFault.TheVariants as faults
-use Rattle.checkpoint.proofs.ReadBack.{printed_is_read}
+use Rattle.checkpoint.specs.Printing.{printed}
 
 module _ (p : CallerView) (vars : ℕ) where
   -- the clause of this clip
@@ -46,23 +37,3 @@ pub derived_clauses : (f : Cnf) (vars : ℕ) (cs : List Clause) → vars ≡ f.v
 derived_clauses f vars [] same derived short = tt
 derived_clauses f vars (c ∷ cs) same derived short =
     ((subst (λ n. IsClause n c) (sym same) derived.0.0, short.0), derived_clauses f vars cs same derived.1 short.1)
-
--- the formula of clauses that follow is a checkpoint of the first one
-pub checkpoint_next : (f : Cnf) (vars : ℕ) (entries : List Entry) (next : Cnf) → vars ≡ f.vars → vars ≤ max_variable
-    → AreWithinLimits (clauses_of entries) → AllByRecursion (IsDerived f) (clauses_of entries) → next ≡ printed vars entries
-    → IsCheckpointOf f (formula_text vars entries) next
-checkpoint_next f vars entries next same few within derived is = subst (IsCheckpointOf f (formula_text vars entries)) (sym is) (record {
-  text = printed_is_read vars entries (record {
-    vars = few;
-    count = within.0;
-    clauses = derived_clauses f vars (clauses_of entries) same derived within.1;
-  });
-  entails = record { vars = same; each = All-map (IsDerived f) (Follows f) (λ c is. is.1) (clauses_of entries) derived };
-})
-
--- why none was carried
-pub not_carried : (fault : SaveFault) (vars : ℕ) (entries : List Entry) (written : Option (List ℕ)) → IsTooLarge (clauses_of entries) fault
-    → Carries (Err fault) vars entries written written ⊎ Path (Result Cnf SaveFault) (Err fault) (Err faults.Memory)
-not_carried faults.Memory vars entries written why = inr refl
-not_carried faults.TooLarge vars entries written why = inl (why, appends_nothing written)
-not_carried faults.Unwritten vars entries written why = absurd why

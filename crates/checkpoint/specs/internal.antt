@@ -1,2 +1,0 @@
--- What contracts of private functions say.
-pub mod TooLarge
