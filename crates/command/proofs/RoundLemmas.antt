@@ -321,25 +321,3 @@ pub barred_by : (verdict : Verdict) (unsaved : Option SaveFault) (Ended : Type 0
     → (¬ (verdict ≡ Unknown)) ⊎ (((fault : SaveFault) × (unsaved ≡ Some fault)) ⊎ (¬ Ended))
 barred_by verdict unsaved Ended (inl refuted) = inl (λ is. let no : Unsatisfiable ≡ Unknown = sym refuted ∙ is in cc)
 barred_by verdict unsaved Ended (inr failed) = inr (inl failed)
-
--- what a round goes on with was saved
-pub saves_round : {its : Deeds} {plan : Plan} (number : ℕ) (round : Round its plan) (next : Cnf) (first : its.Output)
-    (mid : its.State) → CreatesCheckpoint its round.opened (Some (formula_path plan.folder (number + 1))) (Some first) mid
-    → KeepsNext its (SavesAfter round) mid (Some first) round.after next → SavesRound number round next
-saves_round number round next first mid created keeps =
-    let wrote = keeps.1.checkpoint in
-    record {
-      bytes = wrote.bytes;
-      saved = record {
-        first = first;
-        next = mid;
-        created = created.0;
-        empty = created.1;
-        last = keeps.0;
-        wrote = wrote.written;
-        kept = keeps.2;
-      };
-      checkpoint = wrote.checkpoint;
-      next_is = wrote.next_is next refl;
-      exactly = keeps.1.exactly;
-    }

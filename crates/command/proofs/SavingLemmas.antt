@@ -1,5 +1,5 @@
 -- A checkpoint's file, from its creation to its end.
-use Rattle.std.proofs.Common.{◌≡◌, ◌∙◌, Bool, IfOk, IsTrue, List, Option, None, Some, Result, Ok, Err, ap, subst, sym}
+use Rattle.std.proofs.Common.{◌≡◌, ◌∙◌, Bool, IfOk, IsTrue, List, Option, None, Some, Result, Ok, Err, ap, refl, subst, sym}
 use Rattle.std.specs.Prelude.{◌↔◌}
 use Rattle.std.specs.Option.{ForSome}
 use Rattle.lrup_model.specs.Event.{History}
@@ -17,6 +17,7 @@ use Rattle.checkpoint.specs.Checkpoints.{WritesCheckpoint}
 use Rattle.checkpoint.specs.declared.saving.SaveFault.{SaveFault}
 use Rattle.checkpoint.specs.declared.saving.SaveFault.TheVariants as faults
 use Rattle.command.specs.Commands.{Deeds, ClosesSink, IsLeftUnused, LeavesBehind, SavesCheckpoint, Text}
+use Rattle.command.specs.Rounds.{SavesNext}
 use Rattle.command.specs.internal.Running.{HasHistory, StandsBehind, dropped_in, left_layout}
 use Rattle.command.specs.internal.Saving.{ClosesCheckpoint, CreatesCheckpoint, DiscardsIt, KeepsNext, SavesAndCloses}
 use Rattle.command.specs.declared.running.LeftClauses.{LeftClauses}
@@ -99,12 +100,33 @@ module _ (its : Deeds) (f : Cnf) (h : History) (left : LeftClauses) (has : HasHi
   keeps_next next same kept made is =
       (last, subst (λ (r : Result (Option Cnf) SaveFault). Saved r first last) (same ∙ ap Ok is) saving, kept)
 
--- by other parameters that are the same
-pub stands_moved : {R : Type 0} (view : SourceView R) (serial : Bool) (f : Cnf) (run_params other : RunParamsValue) (firsts : List R)
-    (reports : List Report) (verdict : Verdict) (left : LeftClauses) → run_params ≡ other
-    → StandsBehind view serial f run_params firsts reports verdict left → StandsBehind view serial f other firsts reports verdict left
-stands_moved view serial f run_params other firsts reports verdict left same =
-    subst (λ (t : RunParamsValue). StandsBehind view serial f t firsts reports verdict left) same
+-- what a run goes on with was saved at the path
+pub saves_next : (its : Deeds) (f : Cnf) (layout : LayoutValue) (h : History) (dropped : List DroppedIdsValue)
+    (before mid after : its.State) (path : Option Text) (output : Option its.Output) (next : Cnf) → CreatesCheckpoint its before path output mid
+    → KeepsNext its (SavesCheckpoint its f layout h dropped) mid output after next
+    → (at : Text) × (path ≡ Some at) × SavesNext its f layout h dropped before at next after
+saves_next its f layout h dropped before mid after path None next created keeps = absurd keeps
+saves_next its f layout h dropped before mid after None (Some first) next created keeps = absurd created
+saves_next its f layout h dropped before mid after (Some at) (Some first) next created keeps =
+    let wrote = keeps.1.checkpoint in (
+      at,
+      refl,
+      record {
+        bytes = wrote.bytes;
+        saved = record {
+          first = first;
+          next = mid;
+          created = created.0;
+          empty = created.1;
+          last = keeps.0;
+          wrote = wrote.written;
+          kept = keeps.2;
+        };
+        checkpoint = wrote.checkpoint;
+        next_is = wrote.next_is next refl;
+        exactly = keeps.1.exactly;
+      },
+    )
 
 -- What was saved of what was left was saved of the run: by its layout, and with what its streams dropped.
 pub left_moved : {R : Type 0} {view : SourceView R} {serial : Bool} {f : Cnf} {run_params : RunParamsValue} {firsts : List R}

@@ -345,8 +345,8 @@ pub record LeavesFile (its : Deeds)
 -- What a run with this verdict leaves as its checkpoint, and why that wasn't saved, if it wasn't. Without a path: nothing. With
 -- 'unsatisfiable': a file to which nothing went. Else a file to which the checkpoint was saved.
 abbrev pub LeavesBehind : (its : Deeds)
-    → (Result (Option Cnf) SaveFault → its.Output → its.Output → Type 0) → Verdict → its.State → Option Text
-    → Option SaveFault → its.State → Type 0
+    → (Result (Option Cnf) SaveFault → its.Output → its.Output → Type 0) → Verdict → its.State
+    → Option Text → Option SaveFault → its.State → Type 0
 LeavesBehind its Saves verdict before None unsaved after = (unsaved ≡ None) × (after ≡ before)
 LeavesBehind its Saves Unsatisfiable before (Some path) unsaved after =
     (unsaved ≡ None) × IsLeftEmpty its.creates its.written its.discards before path after

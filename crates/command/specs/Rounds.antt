@@ -93,19 +93,25 @@ SavesAfter {its} {plan} round =
     SavesCheckpoint its round.formula (run_params_by plan round.formula round.sizes).layout
     round.checked.ran.run.history round.checked.dropped
 
+-- A file was created at the path and kept, to which a run of the formula with this layout, history and dropped identities saved its clauses:
+-- a text of just this next formula, over the same variables, each clause of which follows from the run's.
+pub record SavesNext (its : Deeds) (formula : Cnf) (layout : LayoutValue) (history : History)
+    (dropped : List DroppedIdsValue) (before : its.State) (path : Text) (next : Cnf)
+    (after : its.State) : Type 0 where
+  pub bytes : List ℕ
+  pub saved : WasSavedBy its before path bytes after
+  pub checkpoint : IsCheckpoint formula bytes
+  pub next_is : next ≡ checkpoint.formula
+  pub exactly : SavesState its.written (Ok (Some next)) (state formula history) layout
+      (is_wanted dropped) saved.first saved.last
+
 -- The checkpoint of the round with this number was saved: a text of just this next formula, each clause of which follows from the round's.
 -- They are those that the round's history leaves live, but for those that all streams dropped, and no others.
-pub record SavesRound {its : Deeds} {plan : Plan} (number : ℕ) (round : Round its plan)
-    (next : Cnf) : Type 0 where
-  pub bytes : List ℕ
-  pub saved : WasSavedBy its round.opened (formula_path plan.folder (number + 1)) bytes
-      round.after
-  pub checkpoint : IsCheckpoint round.formula bytes
-  pub next_is : next ≡ checkpoint.formula
-  pub exactly : SavesState its.written (Ok (Some next))
-      (state round.formula round.checked.ran.run.history)
-      (run_params_by plan round.formula round.sizes).layout (is_wanted round.checked.dropped)
-      saved.first saved.last
+abbrev pub SavesRound : {its : Deeds} {plan : Plan} → ℕ → Round its plan → Cnf → Type 0
+SavesRound {its} {plan} number round next =
+    SavesNext its round.formula (run_params_by plan round.formula round.sizes).layout
+    round.checked.ran.run.history round.checked.dropped round.opened
+    (formula_path plan.folder (number + 1)) next round.after
 
 -- The round goes on: its verdict is 'unknown', its streams ended, and its checkpoint was saved.
 pub record CarriesOn {its : Deeds} {plan : Plan} (number : ℕ) (round : Round its plan)

@@ -1,5 +1,5 @@
 //! From the words to the reports.
-ghost use Rattle.std.specs.Prelude.{◌≡◌, ◌≢◌, ◌<◌, ◌≤◌, List, None, true, false, IfErr, IfOk, Some, length, map, vec_len};
+ghost use Rattle.std.specs.Prelude.{◌≡◌, ◌≢◌, ◌⊎◌, ◌<◌, ◌≤◌, List, None, true, false, IfErr, IfOk, Some, is_some, length, map, vec_len};
 ghost use Rattle.std.specs.List.{AllByRecursion};
 ghost use Rattle.std.specs.Option.{ForSome};
 ghost use Rattle.clap.specs.Walk.{texts};
@@ -8,12 +8,12 @@ ghost use Rattle.dimacs.specs.FormulaFault.{IsFormulaFault};
 ghost use Rattle.dimacs.specs.FormulaText.{IsFormulaText};
 ghost use Rattle.checkpoint.specs.Checkpoints.{IsUnsatisfiableText};
 ghost use Rattle.lrup_text.specs.Reads.{GaveAll};
-ghost use Rattle.command.specs.Commands.{AreAssumed, AreOpened, IsAssumeCause, IsCause, IsFileCause, IsOpenCause, HasNoFault, IsUnsatisfiableTextWith};
+ghost use Rattle.command.specs.Commands.{AreAssumed, AreOpened, IsAssumeCause, IsCause, IsFileCause, IsOpenCause, HasNoFault, IsStartCause, IsUnsatisfiableTextWith};
 ghost use Rattle.command.specs.internal.Running.{IsFailedRead, run_params_on, IsLayoutCause};
 ghost use Rattle.command.specs.Commands.{IsOutcome, LeavesCheckpoint, Text, WasRead, WasReadIn, assumed_at};
 ghost use Rattle.command.specs.Commands.{from_first, path_of, rounds_at};
 ghost use Rattle.runs.specs.Readings.{readers_view};
-ghost use Rattle.command.specs.internal.RoundProgress.{HasBegun};
+ghost use Rattle.command.specs.internal.RoundProgress.{HasBegun, RanAndLeft};
 ghost use Rattle.command.specs.internal.FaultSources.{of_cube_file};
 ghost use Rattle.stream_check.specs.StreamParams.{max_tries};
 
@@ -21,6 +21,7 @@ use crate::closing::{close_checkpoint, create_checkpoint, discard_it};
 use crate::fault::CommandFault;
 use crate::files::{Machine, OpenFault, Viewed};
 use crate::running::{EndedRun, Setup, run_streams};
+use crate::watching::now_if;
 use checkpoint::SaveFault;
 use command_line::{CommandLine, read_words};
 use dimacs::DimacsFault;
@@ -30,7 +31,7 @@ use portfolio::{Options, Verdict};
 use std::alloc::Global;
 use std::sync::Wait;
 use std::thread::Threads;
-use std::time::Clock;
+use std::time::{Clock, Instant};
 use stream_check::Report;
 
 /// What a run found, and what it made of its checkpoint.
@@ -114,31 +115,77 @@ pub fn check_asked<T: Threads + Wait + Sync, C: Clock + Sync, F: Machine>(
     } = begun;
     let options = Options::new(line.tries, line.lines, line.room).unwrap();
     let setup = Setup {
-        formula: &formula,
         cube: &cube,
         options,
         serial: line.serial,
+        watch: line.watch,
     };
-    find_layout(&setup, readers.len())?;
-    let output = create_checkpoint(files, line.next.checkpoint())?;
-    let watched = line.watch.then_some(&*files);
-    let run = match run_streams(threads, clock, alloc, &setup, watched, readers) {
+    let path = line.next.checkpoint();
+    let checked = check_streams(
+        threads, clock, alloc, &setup, formula, readers, path, false, files,
+    )?;
+    Ok(checked.found)
+}
+
+/// What was found of streams, the formula that the run goes on with, if it does, and when the streams were over, if that is watched.
+#[derive(Drop)]
+pub(crate) struct CheckedStreams {
+    pub(crate) found: RunResult,
+    pub(crate) next: Option<Formula>,
+    pub(crate) ended: Option<Instant>,
+}
+
+/// Finds the layout of streams that are open, creates the checkpoint's file if there is to be one, checks the streams, and saves the
+/// checkpoint unless one of them refuted the formula. The formula is given back before the next one is made.
+pub(crate) fn check_streams<T: Threads + Wait + Sync, C: Clock + Sync, F: Machine>(
+    threads: &T,
+    clock: &C,
+    alloc: Global,
+    setup: &Setup<'_>,
+    formula: Formula,
+    readers: Vec<F::Input>,
+    path: Option<&str>,
+    goes_on: bool,
+    files: &mut F,
+) -> Result<CheckedStreams, CommandFault>
+    requires running { AllByRecursion (λ r. F.Input.Source.has_failed r ≡ false) readers.items }
+    ensures ran { let run_params = run_params_on setup.now formula (length readers.items) in
+        IfOk result (λ checked. RanAndLeft ⟦<F as Viewed>⟧.deeds setup.now.serial formula run_params
+        readers.items (path_of path.entry) files.old checked.found checked.next files.new) }
+    ensures none { goes_on ≡ true → is_some path.entry ≡ true → IfOk result (λ checked.
+        checked.next ≡ None → (checked.found.verdict ≡ Verdict.Unsatisfiable)
+        ⊎ ((fault : SaveFault) × (checked.found.unsaved ≡ Some fault))) }
+    ensures cause { let run_params = run_params_on setup.now formula (length readers.items) in
+        IfErr result (λ fault. IsStartCause ⟦<F as Viewed>⟧.deeds setup.now.serial run_params.layout
+        files.old (path_of path.entry) fault files.new) }
+{
+    find_layout(setup, &formula, readers.len())?;
+    let output = create_checkpoint(files, path)?;
+    let watched = setup.watch.then_some(&*files);
+    let run = match run_streams(threads, clock, alloc, setup, &formula, watched, readers) {
         Ok(run) => run,
         Err(fault) => {
             discard_it(files, output);
             return Err(fault);
         }
     };
+    drop(formula);
+    let ended = now_if(clock, goes_on && setup.watch);
     let EndedRun {
         reports,
         verdict,
         left,
     } = run;
-    let closed = close_checkpoint(alloc, files, verdict, left, false, output);
-    Ok(RunResult {
+    let closed = close_checkpoint(alloc, files, verdict, left, goes_on, output);
+    let found = RunResult {
         reports,
         verdict,
         unsaved: closed.unsaved,
+    };
+    Ok(CheckedStreams {
+        found,
+        next: closed.next,
+        ended,
     })
 }
 
@@ -312,13 +359,17 @@ pub(crate) fn open_streams<F: Machine>(
 }
 
 /// Refuses streams that have no layout, before a file is created that would be left empty.
-pub(crate) fn find_layout(setup: &Setup<'_>, streams: usize) -> Result<(), CommandFault>
-    ensures found { let run_params = run_params_on setup.now streams in
+fn find_layout(
+    setup: &Setup<'_>,
+    formula: &Formula,
+    streams: usize,
+) -> Result<(), CommandFault>
+    ensures found { let run_params = run_params_on setup.now formula.now streams in
         IfOk result (λ _. HasNoFault run_params.layout) }
-    ensures cause { let run_params = run_params_on setup.now streams in
+    ensures cause { let run_params = run_params_on setup.now formula.now streams in
         IfErr result (IsLayoutCause run_params.layout) }
 {
-    match setup.options.check_layout(setup.formula, streams) {
+    match setup.options.check_layout(formula, streams) {
         Ok(()) => Ok(()),
         Err(fault) => Err(CommandFault::Layout(fault)),
     }

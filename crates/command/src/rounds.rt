@@ -16,14 +16,13 @@ ghost use Rattle.command.specs.internal.RoundProgress.{WasFound, plan_of};
 ghost use Rattle.stream_check.specs.StreamParams.{max_tries};
 
 use crate::arguments::words_of;
-use crate::checking::{Asked, Beginning, RunResult, begin, find_layout, open_streams};
-use crate::closing::{close_checkpoint, create_new};
+use crate::checking::{Asked, Beginning, CheckedStreams, begin, check_streams, open_streams};
 use crate::course::{Course, LastRound, OpenRound, RoundFault};
 use crate::fault::CommandFault;
 use crate::files::{Machine, OpenFault, Viewed};
-use crate::running::{EndedRun, Setup, run_streams};
+use crate::running::Setup;
 use crate::sizing::sizes_of_round;
-use crate::watching::{now_if, report_begin};
+use crate::watching::report_begin;
 use checkpoint::SaveFault;
 use checkpoint::laws::{refutes_back, refutes_back_under};
 use command_line::Sizes;
@@ -70,37 +69,22 @@ fn check_round<T: Threads + Wait + Sync, C: Clock + Sync, F: Machine>(
         readers,
     } = round;
     let setup = Setup {
-        formula: &formula,
         cube: course.cube,
         options: course.options(sizes),
         serial: course.serial,
+        watch: course.watch,
     };
-    find_layout(&setup, readers.len())?;
     let path = formula_path(alloc, course.folder, number + 1)?;
-    let output = create_new(files, path.as_str())?;
-    let watched = course.watch.then_some(&*files);
-    let run = match run_streams(threads, clock, alloc, &setup, watched, readers) {
-        Ok(run) => run,
-        Err(fault) => {
-            files.discard(output);
-            return Err(fault);
-        }
-    };
-    // Its memory is given back before the next formula is made.
-    drop(formula);
-    let ended = now_if(clock, course.watch);
-    let EndedRun {
-        reports,
-        verdict,
-        left,
-    } = run;
-    let closed = close_checkpoint(alloc, files, verdict, left, true, Some(output));
-    let next = next_of(&reports, verdict, closed.unsaved, closed.next);
-    let found = RunResult {
-        reports,
-        verdict,
-        unsaved: closed.unsaved,
-    };
+    let path = Some(path.as_str());
+    let checked = check_streams(
+        threads, clock, alloc, &setup, formula, readers, path, true, files,
+    )?;
+    let CheckedStreams {
+        found,
+        next,
+        ended,
+    } = checked;
+    let next = next_of(&found.reports, found.verdict, found.unsaved, next);
     Ok(CheckedRound {
         last: LastRound {
             number,

@@ -25,13 +25,15 @@ use std::thread::Threads;
 use std::time::Clock;
 use stream_check::{DroppedIds, Report};
 
-/// The parameters by which streams are checked, and whether by turns on one thread.
+/// How streams are checked.
 #[derive(Clone, Copy)]
 pub(crate) struct Setup<'a> {
-    pub(crate) formula: &'a Formula,
     pub(crate) cube: &'a Cube,
     pub(crate) options: Options,
+    /// Whether one thread checks all of them.
     pub(crate) serial: bool,
+    /// Whether their progress is reported.
+    pub(crate) watch: bool,
 }
 
 /// What streams that were checked in threads left.
@@ -73,21 +75,22 @@ pub(crate) fn run_streams<T: Threads + Wait + Sync, C: Clock + Sync, F: Machine>
     clock: &C,
     alloc: Global,
     setup: &Setup<'_>,
+    formula: &Formula,
     watched: Option<&F>,
     readers: Vec<F::Input>,
 ) -> Result<EndedRun, CommandFault>
     requires running { AllByRecursion (λ r. F.Input.Source.has_failed r ≡ false) readers.items }
-    ensures stands { let run_params = run_params_on setup.now (length readers.items) in
+    ensures stands { let run_params = run_params_on setup.now formula.now (length readers.items) in
         IfOk result (λ run. StandsBehind (readers_view F.Input.Source) setup.now.serial
-        setup.now.formula.now run_params readers.items run.reports.items run.verdict run.left) }
+        formula.now run_params readers.items run.reports.items run.verdict run.left) }
     ensures ready { IfOk result (λ run. CanBeSaved run.left) }
-    ensures cause { let run_params = run_params_on setup.now (length readers.items) in
+    ensures cause { let run_params = run_params_on setup.now formula.now (length readers.items) in
         IfErr result (IsRunCause setup.now.serial run_params.layout) }
 {
     if setup.serial {
-        run_by_turns(threads, clock, alloc, setup, watched, readers)
+        run_by_turns(threads, clock, alloc, setup, formula, watched, readers)
     } else {
-        run_in_threads(threads, clock, alloc, setup, watched, readers)
+        run_in_threads(threads, clock, alloc, setup, formula, watched, readers)
     }
 }
 
@@ -97,22 +100,23 @@ fn run_by_turns<W: Wait, C: Clock + Sync, F: Machine>(
     clock: &C,
     alloc: Global,
     setup: &Setup<'_>,
+    formula: &Formula,
     watched: Option<&F>,
     readers: Vec<F::Input>,
 ) -> Result<EndedRun, CommandFault>
     requires running { AllByRecursion (λ r. F.Input.Source.has_failed r ≡ false) readers.items }
-    ensures stands { let run_params = run_params_on setup.now (length readers.items) in
-        IfOk result (λ run. StandsBehind (readers_view F.Input.Source) true setup.now.formula.now
+    ensures stands { let run_params = run_params_on setup.now formula.now (length readers.items) in
+        IfOk result (λ run. StandsBehind (readers_view F.Input.Source) true formula.now
         run_params readers.items run.reports.items run.verdict run.left) }
     ensures ready { IfOk result (λ run. CanBeSaved run.left) }
-    ensures cause { let run_params = run_params_on setup.now (length readers.items) in
+    ensures cause { let run_params = run_params_on setup.now formula.now (length readers.items) in
         IfErr result (IsRunCause true run_params.layout) }
 {
     let gates = turn_gates(alloc, clock, watched, readers.len())?;
     let outcome = run_serial(
         wait,
         alloc,
-        setup.formula,
+        formula,
         setup.cube,
         setup.options,
         readers,
@@ -138,22 +142,23 @@ fn run_in_threads<T: Threads + Wait + Sync, C: Clock + Sync, F: Machine>(
     clock: &C,
     alloc: Global,
     setup: &Setup<'_>,
+    formula: &Formula,
     watched: Option<&F>,
     readers: Vec<F::Input>,
 ) -> Result<EndedRun, CommandFault>
     requires running { AllByRecursion (λ r. F.Input.Source.has_failed r ≡ false) readers.items }
-    ensures stands { let run_params = run_params_on setup.now (length readers.items) in
-        IfOk result (λ run. StandsBehind (readers_view F.Input.Source) false setup.now.formula.now
+    ensures stands { let run_params = run_params_on setup.now formula.now (length readers.items) in
+        IfOk result (λ run. StandsBehind (readers_view F.Input.Source) false formula.now
         run_params readers.items run.reports.items run.verdict run.left) }
     ensures ready { IfOk result (λ run. CanBeSaved run.left) }
-    ensures cause { let run_params = run_params_on setup.now (length readers.items) in
+    ensures cause { let run_params = run_params_on setup.now formula.now (length readers.items) in
         IfErr result (IsRunCause false run_params.layout) }
 {
     let gates = thread_gates(alloc, clock, watched, readers.len())?;
     let outcome = run(
         threads,
         alloc,
-        setup.formula,
+        formula,
         setup.cube,
         setup.options,
         readers,

@@ -9,7 +9,7 @@ use Rattle.clap.specs.Words.{IsUnsignedIn, ReadsOne, Row, Text, first_of, one_of
 use Rattle.command_line.specs.CommandLine.{IsWordsFault, option_number}
 use Rattle.command_line.specs.declared.words.WordsFault.{WordsFault}
 use Rattle.command_line.specs.declared.words.WordsFault.TheVariants.{Memory, TwoCheckpoints, Usage}
-use Rattle.command_line.specs.internal.Matches.{AreRowsOf, HasNumber, HasUpTo, IsFaultOf, IsNumber}
+use Rattle.command_line.specs.internal.Matches.{AreRowsOf, HasNumber, HasUpTo, IsRowsFault, IsNumber}
 
 -- a text that is a number of 64 bits reads as this number, and none as the default
 pub number_read : (E : Type 0) (G : Text → Result ℕ E → Type 0) → ((t : Text) (r : Result ℕ E) → G t r → ParsesUnsigned 64 10 t r)
@@ -52,7 +52,7 @@ same_length {A} {o} {a} {b} one two some = subst (λ (r : Option (List A)). 0 < 
 
 -- why the rows of words give no command line is why the words give none
 pub fault_of_rows : {A : Type 0} (words : List Text) (rows : List Row) → AreRowsOf words rows → (result : Result A WordsFault)
-    → IfErr result (IsFaultOf rows) → IfErr result (IsWordsFault words)
+    → IfErr result (IsRowsFault rows) → IfErr result (IsWordsFault words)
 fault_of_rows words rows are (Ok line) is = is
 fault_of_rows words rows are (Err (Usage text)) is = absurd is
 fault_of_rows words rows are (Err TwoCheckpoints) is =

@@ -3,7 +3,7 @@ ghost use Rattle.std.specs.Prelude.{◌≡◌, IfErr, IfNone, IfOk, IfSome, IsSo
 ghost use Rattle.clap.specs.Walk.{rows_of, texts};
 ghost use Rattle.clap.specs.Words.{FailsBy, all_of, fault_of, first_of, found_of};
 ghost use Rattle.command_line.specs.CommandLine.{IsCommandLineOf, IsWordsFault, IsSaidBy, checkpoint_of, is_set, lrupd, option_number, rounds_of};
-ghost use Rattle.command_line.specs.internal.Matches.{AreBothIn, AreRowsOf, AreWhole, HasNumber, HasTruth, IsFaultFrom, IsFaultOf};
+ghost use Rattle.command_line.specs.internal.Matches.{AreBothIn, AreRowsOf, AreWhole, HasNumber, HasTruth, IsFaultFrom, IsRowsFault};
 
 use crate::arguments::program;
 use clap::error::ErrorKind;
@@ -170,7 +170,7 @@ fn option_number(matches: &ArgMatches<'_>, name: &str, default: u64) -> u64
 fn command_line<'a>(alloc: Global, matches: &ArgMatches<'a>) -> Result<CommandLine<'a>, WordsFault>
     requires { AreWhole (rows_of (found_of matches.now)) }
     ensures ok { IfOk result (IsSaidBy (rows_of (found_of matches.now))) }
-    ensures fault { IfErr result (IsFaultOf (rows_of (found_of matches.now))) }
+    ensures fault { IfErr result (IsRowsFault (rows_of (found_of matches.now))) }
 {
     let Some(next) = next_of(matches) else {
         return Err(WordsFault::TwoCheckpoints);

@@ -29,7 +29,8 @@ SavesFound written result layout wants replies old new =
 -- What became of the saving of what is live in this state of the clause map, and wanted: the replies are the state's answers,
 -- whichever stream fetches, and what they found was saved so.
 pub record SavesState {S : Type 0} (written : S → Option (List ℕ))
-    (result : Result (Option Cnf) SaveFault) (slots : State) (layout : LayoutValue) (wants : ℕ → Bool)
+    (result : Result (Option Cnf) SaveFault) (slots : State) (layout : LayoutValue)
+    (wants : ℕ → Bool)
     (old new : S) : Type 0 where
   pub replies : List Reply
   pub answers : (s : ℕ) → AllByRecursion (Answers slots) (fetches s 1 replies)

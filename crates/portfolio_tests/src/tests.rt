@@ -20,7 +20,7 @@ use test_support::{Paper, Pieces, four_clauses};
 
 mod alone;
 mod assumptions;
-mod carrying;
+mod going_on;
 mod ends;
 mod interleavings;
 mod isolation;

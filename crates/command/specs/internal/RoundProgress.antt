@@ -1,19 +1,22 @@
 -- How the rounds stand while they go on: what private functions say of them (this project's own).
-use Rattle.std.specs.Prelude.{◌≡◌, ◌≤◌, ◌+◌, ◌++◌, ◌∷◌, ◌⊎◌, ℕ, List, Option, None, length, map}
+use Rattle.std.specs.Prelude.{◌≡◌, Bool, ◌≤◌, ◌+◌, ◌++◌, ◌∷◌, ◌⊎◌, ℕ, List, Option, None, Some, length, map}
 use Rattle.std.specs.Option.{ForSome}
 use Rattle.lrup_model.specs.Cube.{CubeValue}
 use Rattle.lrup_model.specs.Formula.{Cnf}
 use Rattle.lrup_text.specs.ReadOut.{SourceView}
 use Rattle.lrup_text.specs.Reads.{Gave, GaveAll}
+use Rattle.runs.specs.Streams.{RunParamsValue}
 use Rattle.command_line.specs.Sizes.{HaveNoSizes, IsSizesText}
 use Rattle.command_line.specs.declared.sizes.Sizes.{Sizes}
 use Rattle.command_line.specs.declared.words.CommandLine.{CommandLine}
-use Rattle.command.specs.Commands.{AreAssumed, AreChecked, AreOpened, Deeds, FilesView, HasBrokenOff, IsCause, Text, WasReadIn, assumed_at}
+use Rattle.command.specs.Commands.{AreAssumed, AreChecked, AreOpened, Deeds, FilesView, HasBrokenOff, IsCause, LeavesBehind, SavesCheckpoint}
+use Rattle.command.specs.Commands.{Text, WasReadIn, assumed_at}
 use Rattle.command.specs.Paths.{sizes_path, stream_path}
 use Rattle.command.specs.Rounds.{AreRounds, AreSized, CarriesOn, IsBarred, IsNextCause, IsRoundCause, IsRoundStartCause, Plan, Round}
-use Rattle.command.specs.Rounds.{RoundsEnd, WereRounds, plan_at, run_params_by}
+use Rattle.command.specs.Rounds.{RoundsEnd, SavesNext, WereRounds, plan_at, run_params_by}
 use Rattle.command.specs.declared.fault.CommandFault.{CommandFault}
 use Rattle.command.specs.declared.fault.CommandFault.TheVariants as faults
+use Rattle.command.specs.declared.checking.RunResult.{RunResult}
 use Rattle.command.specs.declared.course.Course.{Course}
 use Rattle.command.specs.declared.course.LastRound.{LastRound}
 use Rattle.command.specs.declared.course.RoundFault.{RoundFault}
@@ -176,3 +179,17 @@ pub record HasBegun (files : FilesView) (given : CommandLine) (formula : Cnf) (c
     pub left : map files.its.reading.left readers
         ≡ map files.tells given.streams
     pub told : files.its.tells later ≡ files.tells
+
+-- Streams of this formula, opened as these readers, were checked, and left their clauses at the path, if there is one, as the verdict says.
+-- What the run goes on with was saved there.
+pub record RanAndLeft (its : Deeds) (serial : Bool) (formula : Cnf) (run_params : RunParamsValue)
+    (readers : List its.Reader) (path : Option Text) (before : its.State) (found : RunResult)
+    (next : Option Cnf) (after : its.State) : Type 0 where
+  pub checked : AreChecked its.reading serial formula run_params readers found.reports.items
+      found.verdict
+  pub leaves : LeavesBehind its
+      (SavesCheckpoint its formula run_params.layout checked.ran.run.history checked.dropped)
+      found.verdict before path found.unsaved after
+  pub saved : ForSome next (λ made. (at : Text) × (path ≡ Some at)
+      × SavesNext its formula run_params.layout checked.ran.run.history checked.dropped before at
+      made after)

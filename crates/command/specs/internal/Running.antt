@@ -68,9 +68,9 @@ IsRunCause serial layout (faults.Ring stream) =
 IsRunCause serial layout faults.Memory = Unit {0}
 IsRunCause serial layout fault = ⊥
 
--- what so many streams are checked by, with this setup
-abbrev pub run_params_on : Setup → ℕ → RunParamsValue
-run_params_on setup streams = run_params_of setup.options setup.cube.now setup.formula.now streams
+-- what this many streams of a formula are checked by, with this setup
+abbrev pub run_params_on : Setup → Cnf → ℕ → RunParamsValue
+run_params_on setup formula streams = run_params_of setup.options setup.cube.now formula streams
 
 -- why a file that was opened wasn't read to its end
 abbrev pub IsFailedRead : {R : Type 0} → SourceView R → R → CommandFault → Type 0

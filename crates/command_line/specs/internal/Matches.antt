@@ -67,10 +67,10 @@ AreBothIn rows =
     × (first_of (codes "rounds") rows ≡ Some folder)
 
 -- why rows of words without a fault give no command line: they have both, or memory ran out
-abbrev pub IsFaultOf : List Row → WordsFault → Type 0
-IsFaultOf rows (Usage text) = ⊥
-IsFaultOf rows TwoCheckpoints = AreBothIn rows
-IsFaultOf rows Memory = ⊤
+abbrev pub IsRowsFault : List Row → WordsFault → Type 0
+IsRowsFault rows (Usage text) = ⊥
+IsRowsFault rows TwoCheckpoints = AreBothIn rows
+IsRowsFault rows Memory = ⊤
 
 -- what is made of an error of `clap`
 abbrev pub IsFaultFrom : Error → WordsFault → Type 0

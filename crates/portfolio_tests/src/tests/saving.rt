@@ -4,7 +4,7 @@ ghost use Rattle.std.specs.List.{AllByRecursion};
 
 use super::{BOTH, By, Open, readers_of, same};
 use checkpoint::SaveFault;
-use lrup_model::Cube;
+use lrup_model::{Cube, Formula};
 use portfolio::{Options, Outcome, Pause, SerialOutcome, run, run_serial, save_live, save_plain};
 use std::alloc::{AllocError, Global};
 use std::process::Abort;
@@ -14,14 +14,15 @@ use std::thread::Threads;
 use std::time::Clock;
 use test_support::{Paper, Pieces, four_clauses};
 
-/// Saves what is live after a run over the four clauses.
-fn saved_after<'a, T: Threads + Wait + Clock + Sync>(
+/// Saves what is live after a run over the four clauses, and gives its formula if the run goes on.
+pub(super) fn saved_after<'a, T: Threads + Wait + Clock + Sync>(
     rt: &T,
     alloc: Global,
     by: By,
     readers: Vec<Pieces<'a>>,
+    goes_on: bool,
     paper: &mut Paper,
-) -> Result<Result<(), SaveFault>, Fail>
+) -> Result<Result<Option<Formula>, SaveFault>, Fail>
     requires readers { AllByRecursion (λ r. r.failed ≡ false) readers.items }
     requires paper { paper.old.failed ≡ false }
 {
@@ -38,10 +39,12 @@ fn saved_after<'a, T: Threads + Wait + Clock + Sync>(
                 dropped,
                 ..
             } = outcome;
+            // No call needs the run's formula any more.
+            drop(formula);
             if passes.is_empty() {
                 return Err("no pass".into());
             }
-            Ok(save_live(alloc, &store, passes, &dropped, paper))
+            Ok(save_live(alloc, &store, passes, &dropped, goes_on, paper))
         }
         By::Turns => {
             let gates = vec![in alloc; Open; readers.len()]?;
@@ -51,7 +54,7 @@ fn saved_after<'a, T: Threads + Wait + Clock + Sync>(
                 dropped,
                 ..
             } = outcome;
-            Ok(save_plain(alloc, &mut map, &dropped, paper))
+            Ok(save_plain(alloc, &mut map, &dropped, goes_on, paper))
         }
     }
 }
@@ -81,11 +84,11 @@ fn saves<T: Threads + Wait + Clock + Sync + Abort>(
     for by in BOTH {
         let readers = readers_of(alloc, streams, 7)?;
         let mut paper = Paper::new(alloc, 9, 0);
-        let saved = saved_after(rt, alloc, by, readers, &mut paper)?;
+        let saved = saved_after(rt, alloc, by, readers, false, &mut paper)?;
         same(
             rt,
-            (by, saved, paper.bytes.as_slice()),
-            (by, Ok(()), text.as_bytes()),
+            (by, saved.map(|next| next.is_some()), paper.bytes.as_slice()),
+            (by, Ok(false), text.as_bytes()),
         );
     }
     Ok(())

@@ -1,14 +1,10 @@
-use Rattle.std.proofs.Common.{◌≡◌, ◌∙◌, ℕ, List, Option, length, sym, subst}
-use Rattle.lrup_model.specs.Layout.{LayoutValue}
+use Rattle.std.proofs.Common.{◌∙◌, List, Option, length, sym, subst}
 use Rattle.portfolio.specs.Outcomes.{layout_of}
 use Rattle.command_line.specs.CommandLine.{IsCommandLineOf}
-use Rattle.command.specs.Commands.{FilesView, HasNoFault, IsCause, IsFormulaAt, IsLeftUnused, IsStartCause, LeavesBehind, Text, WasReadIn}
-use Rattle.command.specs.Commands.{SavesCheckpoint, created_at, files_view, from_first, path_of}
-use Rattle.command.specs.internal.Running.{IsLayoutCause}
-use Rattle.command.specs.internal.Saving.{ClosesCheckpoint, IsNotCreated}
+use Rattle.command.specs.Commands.{FilesView, IsCause, IsFormulaAt, IsStartCause, LeavesBehind, Text, WasReadIn}
+use Rattle.command.specs.Commands.{created_at, files_view, from_first}
 use Rattle.command.specs.declared.fault.CommandFault.{CommandFault}
-use Rattle.command.proofs.CheckingLemmas.{begun_cause, create_start, created_once, err_given, is_outcome, layout_start, run_start, some_given}
-use Rattle.command.proofs.SavingLemmas.{leaves_behind, left_moved, left_unused}
+use Rattle.command.proofs.CheckingLemmas.{begun_cause, created_once, err_given, is_outcome, some_given}
 use Rattle.command.proofs.checking.check_asked.Given as given
 use Rattle.command.proofs.checking.check_asked.Goals as goal
 use Rattle.command.proofs.checking.check_asked.Goals.{After-unwrap-options}
@@ -41,57 +37,23 @@ started g c words first good at fault after cause =
     c.begin.new.files good (c.args.asked.formula.items, at, c.in_ok-begun.ensures.formula) of.assumed
     (some_given _ c.unwrap-options.ensures c.new.ensures.some) of.opened of.left fault after cause
 
-pub returns-in_err-find_layout-clause-cause : goal.returns-in_err-find_layout-clause-cause
-returns-in_err-find_layout-clause-cause g c words first good at =
-    let found = (goal.at.returns-in_err-find_layout-clause-cause g c).After-unwrap-options in
+-- so by what the check of the streams says
+pub returns-in_err-checked-clause-cause : goal.returns-in_err-checked-clause-cause
+returns-in_err-checked-clause-cause g c words first good at =
+    let found = (goal.at.returns-in_err-checked-clause-cause g c).After-unwrap-options in
     let line = c.args.asked.line in
-    let readers = c.in_ok-begun.begun.readers in
-    let layout : ℕ → LayoutValue = layout_of c.unwrap-options.result c.in_ok-begun.begun.formula in
-    let fault = c.in_err-find_layout.field-0.0 in
-    let last = c.begin.new.files in
-    let refused = subst (λ (n : ℕ). IsLayoutCause (layout n) fault) (c.len.ensures ∙ readers.ok.0) c.in_err-find_layout.ensures.cause in
-    let Cause : CommandFault → Type 0 = λ fault. IsCause (from_first (viewed g found) first) words fault last in
-    let cause : Cause fault = started g found words first good at fault last
-    (layout_start (viewed g found).its line.serial (layout (length readers.items)) last (created_at line) fault refused) in
-    err_given c.from_residual-in_err-find_layout.result _ Cause (λ other is. subst Cause (sym is) cause)
-    c.from_residual-in_err-find_layout.ensures.1
-
-pub returns-in_err-output-clause-cause : goal.returns-in_err-output-clause-cause
-returns-in_err-output-clause-cause g c words first good at =
-    let found = (goal.at.returns-in_err-output-clause-cause g c).After-unwrap-options in
-    let line = c.args.asked.line in
-    let readers = c.in_ok-begun.begun.readers in
-    let layout : ℕ → LayoutValue = layout_of c.unwrap-options.result c.in_ok-begun.begun.formula in
     let its = (viewed g found).its in
-    let fault = c.in_err-output.field-0.0 in
+    let begun = c.in_ok-begun.begun in
+    let fault = c.in_err-checked.field-0.0 in
     let last = c.begin.new.files in
-    let after = c.create_checkpoint.new.files in
-    let none = subst (λ (n : ℕ). HasNoFault (layout n)) (c.len.ensures ∙ readers.ok.0) c.in_ok-find_layout.ensures.found in
-    let refused = subst (λ (o : Option Text). IsNotCreated its last o fault after)
-    (c.checkpoint.ensures ∙ created_once line.next c.requires.once) c.in_err-output.ensures.cause in
+    let after = c.check_streams.new.files in
+    let at_path = subst
+    (λ (o : Option Text). IsStartCause its line.serial (layout_of c.unwrap-options.result begun.formula (length begun.readers.items)) last o
+    fault after) (c.checkpoint-path.ensures ∙ created_once line.next c.requires.once) c.in_err-checked.ensures.cause in
     let Cause : CommandFault → Type 0 = λ fault. IsCause (from_first (viewed g found) first) words fault after in
-    let cause : Cause fault = started g found words first good at fault after
-    (create_start its line.serial (layout (length readers.items)) last (created_at line) fault after none refused) in
-    err_given c.from_residual-in_err-output.result _ Cause (λ other is. subst Cause (sym is) cause)
-    c.from_residual-in_err-output.ensures.1
-
-pub returns-in-Err-clause-cause : goal.returns-in-Err-clause-cause
-returns-in-Err-clause-cause g c words first good at =
-    let found = (goal.at.returns-in-Err-clause-cause g c).After-unwrap-options in
-    let line = c.args.asked.line in
-    let readers = c.in_ok-begun.begun.readers in
-    let layout : ℕ → LayoutValue = layout_of c.unwrap-options.result c.in_ok-begun.begun.formula in
-    let its = (viewed g found).its in
-    let fault = c.in-Err.fault in
-    let last = c.begin.new.files in
-    let after = c.discard_it.new.files in
-    let none = subst (λ (n : ℕ). HasNoFault (layout n)) (c.len.ensures ∙ readers.ok.0) c.in_ok-find_layout.ensures.found in
-    let unused = left_unused its last c.create_checkpoint.new.files after (path_of c.checkpoint.result) c.in_ok-output.output
-    c.in_ok-output.ensures.created c.discard_it.ensures in
-    let at_path = subst (λ (o : Option Text). IsLeftUnused its last o after)
-    (c.checkpoint.ensures ∙ created_once line.next c.requires.once) unused in
-    started g found words first good at fault after
-    (run_start its line.serial (layout (length readers.items)) last (created_at line) fault after none c.in-Err.ensures.cause at_path)
+    let cause : Cause fault = started g found words first good at fault after at_path in
+    err_given c.from_residual-in_err-checked.result _ Cause (λ other is. subst Cause (sym is) cause)
+    c.from_residual-in_err-checked.ensures.1
 
 pub returns-clause-outcome : goal.returns-clause-outcome
 returns-clause-outcome g c words first good at =
@@ -100,30 +62,21 @@ returns-clause-outcome g c words first good at =
     let begun = c.in_ok-begun.begun in
     let of = c.in_ok-begun.ensures.begun in
     let last = c.begin.new.files in
-    let readers = begun.readers.items in
     let is_formula : IsFormulaAt files line.formula.now begun.formula c.args.files.now =
     (c.args.asked.formula.items, at, c.in_ok-begun.ensures.formula) in
     let options = some_given _ c.unwrap-options.ensures c.new.ensures.some in
-    let count : c.len.result ≡ length readers = c.len.ensures ∙ begun.readers.ok.0 in
-    let run = c.in-Ok.run' in
-    let stands = c.in-Ok.ensures.stands in
-    let h = stands.checked.ran.run.history in
-    let after = c.close_checkpoint-closed.new.files in
-    let unsaved = c.close_checkpoint-closed.result.unsaved in
-    let f = begun.formula in
-    let closes = left_moved stands (λ p dropped. ClosesCheckpoint files.its (SavesCheckpoint files.its f p h dropped) run.verdict
-    c.create_checkpoint.new.files c.in_ok-output.output unsaved after) (c.close_checkpoint-closed.ensures.closes f h stands.has) in
-    is_outcome files words line begun.formula begun.cube c.unwrap-options.result readers c.args.files.now of.later last good is_formula
-    of.assumed options of.opened of.left run.reports.items run.verdict unsaved after (
-      stands.checked,
-      subst (λ (o : Option Text). LeavesBehind files.its _ run.verdict last o unsaved after) c.checkpoint.ensures
-          (leaves_behind files.its _ run.verdict last c.create_checkpoint.new.files after (path_of c.checkpoint.result)
-          c.in_ok-output.output unsaved c.in_ok-output.ensures.created closes),
+    let found = c.in_ok-checked.checked.found in
+    let after = c.check_streams.new.files in
+    let ran = c.in_ok-checked.ensures.ran in
+    is_outcome files words line begun.formula begun.cube c.unwrap-options.result begun.readers.items c.args.files.now of.later last good
+    is_formula of.assumed options of.opened of.left found.reports.items found.verdict found.unsaved after (
+      ran.checked,
+      subst (λ (o : Option Text). LeavesBehind files.its _ found.verdict last o found.unsaved after) c.checkpoint-path.ensures ran.leaves,
     )
 
 pub returns-clause-sound : goal.returns-clause-sound
 returns-clause-sound g c unsatisfiable =
-    (c.in_ok-begun.begun.formula, c.in_ok-begun.ensures.formula, c.in-Ok.ensures.stands.checked.sound unsatisfiable)
+    (c.in_ok-begun.begun.formula, c.in_ok-begun.ensures.formula, c.in_ok-checked.ensures.ran.checked.sound unsatisfiable)
 
 pub returns-clause-sound_under : goal.returns-clause-sound_under
 returns-clause-sound_under g c unsatisfiable = (
@@ -132,5 +85,5 @@ returns-clause-sound_under g c unsatisfiable = (
   c.in_ok-begun.ensures.begun.later,
   c.in_ok-begun.ensures.formula,
   c.in_ok-begun.ensures.begun.assumed,
-  c.in-Ok.ensures.stands.checked.sound_under unsatisfiable,
+  c.in_ok-checked.ensures.ran.checked.sound_under unsatisfiable,
 )

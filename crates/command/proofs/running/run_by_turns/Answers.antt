@@ -5,7 +5,7 @@ use Rattle.command.proofs.running.run_by_turns.Goals as goal
 
 pub returns-clause-stands : goal.returns-clause-stands
 returns-clause-stands g c =
-    let p = (run_params_on c.args.setup.now (length c.args.readers.items)).layout in
+    let p = (run_params_on c.args.setup.now c.args.formula.now (length c.args.readers.items)).layout in
     let found = c.in_ok-outcome.ensures in
     record {
       checked = record {
@@ -24,7 +24,7 @@ returns-clause-stands g c =
 
 pub returns-in_err-outcome-clause-cause : goal.returns-in_err-outcome-clause-cause
 returns-in_err-outcome-clause-cause g c =
-    let p = (run_params_on c.args.setup.now (length c.args.readers.items)).layout in
+    let p = (run_params_on c.args.setup.now c.args.formula.now (length c.args.readers.items)).layout in
     err_given c.from_residual-in_err-outcome.result _ _ (λ fault same. subst (IsRunCause true p) (sym same)
     (run_cause true p c.run_serial.result c.in_err-outcome.field-0.0 c.in_err-outcome.was c.run_serial.ensures.layout
     (λ stream e. absurd ((c.run_serial.ensures.no_threads stream).0 e))

@@ -11,8 +11,8 @@ pub returns-clause-stands : goal.returns-clause-stands
 returns-clause-stands g c =
     let outcome = c.in_ok-outcome.outcome in
     let found = c.in_ok-outcome.ensures in
-    let f = c.args.setup.now.formula.now in
-    let p = (run_params_on c.args.setup.now (length c.args.readers.items)).layout in
+    let f = c.args.formula.now in
+    let p = (run_params_on c.args.setup.now c.args.formula.now (length c.args.readers.items)).layout in
     let passes = views outcome.passes.items in
     record {
       checked = record {
@@ -32,7 +32,7 @@ returns-clause-stands g c =
 
 pub returns-in_err-outcome-clause-cause : goal.returns-in_err-outcome-clause-cause
 returns-in_err-outcome-clause-cause g c =
-    let p = (run_params_on c.args.setup.now (length c.args.readers.items)).layout in
+    let p = (run_params_on c.args.setup.now c.args.formula.now (length c.args.readers.items)).layout in
     err_given c.from_residual-in_err-outcome.result _ _ (λ fault same. subst (IsRunCause false p) (sym same)
     (run_cause false p c.run.result c.in_err-outcome.field-0.0 c.in_err-outcome.was c.run.ensures.layout
     (λ stream e. (refl, c.run.ensures.spawn stream e)) (λ stream e. (refl, (c.run.ensures.ring stream e).is_stream))))

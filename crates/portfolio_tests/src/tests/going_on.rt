@@ -1,12 +1,9 @@
 //! What is live after a run, saved, and gone on with in a second run.
-ghost use Rattle.std.specs.Prelude.{◌≡◌, false};
-ghost use Rattle.std.specs.List.{AllByRecursion};
 
-use super::saving::pauses;
-use super::{BOTH, By, Open, ended, readers_of, same};
-use checkpoint::SaveFault;
+use super::saving::saved_after;
+use super::{BOTH, Open, ended, readers_of, same};
 use lrup_model::{Cube, Formula};
-use portfolio::{Options, Outcome, SerialOutcome, carry_live, carry_plain, run, run_serial};
+use portfolio::{Options, SerialOutcome, run_serial};
 use std::alloc::Global;
 use std::process::Abort;
 use std::sync::Wait;
@@ -14,54 +11,9 @@ use std::test::Fail;
 use std::thread::Threads;
 use std::time::Clock;
 use stream_check::Report;
-use test_support::{Paper, Pieces, four_clauses};
+use test_support::Paper;
 
-/// Carries what is live after a run over the four clauses.
-fn carried_after<'a, T: Threads + Wait + Clock + Sync>(
-    rt: &T,
-    alloc: Global,
-    by: By,
-    readers: Vec<Pieces<'a>>,
-    paper: &mut Paper,
-) -> Result<Result<Formula, SaveFault>, Fail>
-    requires readers { AllByRecursion (λ r. r.failed ≡ false) readers.items }
-    requires paper { paper.old.failed ≡ false }
-{
-    let formula = four_clauses(alloc)?;
-    let cube = Cube::empty(alloc);
-    let options = Options::new(1_000_000, 4, 8).ok_or("no options")?;
-    match by {
-        By::Threads => {
-            let gates = pauses(rt, alloc, readers.len())?;
-            let outcome = run(rt, alloc, &formula, &cube, options, readers, gates)?;
-            let Outcome {
-                passes,
-                store,
-                dropped,
-                ..
-            } = outcome;
-            // No call needs the run's formula any more.
-            drop(formula);
-            if passes.is_empty() {
-                return Err("no pass".into());
-            }
-            Ok(carry_live(alloc, &store, passes, &dropped, paper))
-        }
-        By::Turns => {
-            let gates = vec![in alloc; Open; readers.len()]?;
-            let outcome = run_serial(rt, alloc, &formula, &cube, options, readers, gates)?;
-            let SerialOutcome {
-                mut map,
-                dropped,
-                ..
-            } = outcome;
-            drop(formula);
-            Ok(carry_plain(alloc, &mut map, &dropped, paper))
-        }
-    }
-}
-
-/// The reports of a second run, of one stream over the formula that was carried.
+/// The reports of a second run, of one stream over the formula that was given.
 fn reports_of_next<W: Wait>(
     wait: &W,
     alloc: Global,
@@ -78,7 +30,7 @@ fn reports_of_next<W: Wait>(
 }
 
 /// After a run of these streams, with threads and by turns, this text is saved, and the formula is such that this stream refutes it.
-fn carries<T: Threads + Wait + Clock + Sync + Abort>(
+fn goes_on<T: Threads + Wait + Clock + Sync + Abort>(
     rt: &T,
     alloc: Global,
     streams: &[&str],
@@ -88,7 +40,7 @@ fn carries<T: Threads + Wait + Clock + Sync + Abort>(
     for by in BOTH {
         let readers = readers_of(alloc, streams, 7)?;
         let mut paper = Paper::new(alloc, 9, 0);
-        let next = carried_after(rt, alloc, by, readers, &mut paper)??;
+        let next = saved_after(rt, alloc, by, readers, true, &mut paper)??.ok_or("no formula")?;
         same(rt, (by, paper.bytes.as_slice()), (by, text.as_bytes()));
         let reports = reports_of_next(rt, alloc, &next, stream)?;
         same(rt, (by, reports.as_slice()), (by, &[ended(1, true)]));
@@ -97,7 +49,7 @@ fn carries<T: Threads + Wait + Clock + Sync + Abort>(
 }
 
 /// Two streams, the text that is saved after them, and a stream that refutes the next formula: its hints are places in that text.
-static CARRIED: [([&str; 2], &str, &str); 4] = [
+static GONE_ON: [([&str; 2], &str, &str); 4] = [
     // A clause that its stream retired is left out.
     (
         ["5 2 0 1 2 0\n5 d 5 0\n", "6 -2 0 3 4 0\n"],
@@ -125,9 +77,9 @@ static CARRIED: [([&str; 2], &str, &str); 4] = [
 ];
 
 #[test]
-fn what_is_carried_is_gone_on_with(rt: HostRuntime) -> Result<(), Fail> {
-    for (streams, text, stream) in &CARRIED {
-        carries(&rt, rt.alloc(), streams, text, stream)?;
+fn a_second_run_goes_on(rt: HostRuntime) -> Result<(), Fail> {
+    for (streams, text, stream) in &GONE_ON {
+        goes_on(&rt, rt.alloc(), streams, text, stream)?;
     }
     Ok(())
 }

@@ -1,0 +1,77 @@
+use Rattle.std.proofs.Common.{◌∙◌, ℕ, length, subst, sym}
+use Rattle.lrup_model.specs.Layout.{LayoutValue}
+use Rattle.command.specs.Commands.{HasNoFault, IsStartCause, SavesCheckpoint, deeds_of, path_of}
+use Rattle.command.specs.internal.Running.{IsLayoutCause, run_params_on}
+use Rattle.command.specs.internal.Saving.{ClosesCheckpoint, KeepsNext}
+use Rattle.command.specs.declared.fault.CommandFault.{CommandFault}
+use Rattle.command.proofs.CheckingLemmas.{create_start, err_given, layout_start, run_start}
+use Rattle.command.proofs.SavingLemmas.{leaves_behind, left_moved, left_unused, saves_next}
+use Rattle.command.proofs.checking.check_streams.Goals as goal
+
+pub returns-in_err-find_layout-clause-cause : goal.returns-in_err-find_layout-clause-cause
+returns-in_err-find_layout-clause-cause g c =
+    let its = deeds_of g.F.Files g.F.Machine g.F.Input.Source g.F.Output.Sink in
+    let setup = c.args.setup.now in
+    let layout : ℕ → LayoutValue = λ n. (run_params_on setup c.args.formula n).layout in
+    let before = c.args.files.now in
+    let path = path_of c.args.path in
+    let fault = c.in_err-find_layout.field-0.0 in
+    let refused = subst (λ (n : ℕ). IsLayoutCause (layout n) fault) (c.len.ensures ∙ c.args.readers.ok.0)
+    c.in_err-find_layout.ensures.cause in
+    let Cause : CommandFault → Type 0 = λ fault. IsStartCause its setup.serial (layout (length c.args.readers.items)) before path fault
+    before in
+    let cause : Cause fault = layout_start its setup.serial (layout (length c.args.readers.items)) before path fault refused in
+    err_given c.from_residual.result _ Cause (λ other is. subst Cause (sym is) cause) c.from_residual.ensures.1
+
+pub returns-in_err-output-clause-cause : goal.returns-in_err-output-clause-cause
+returns-in_err-output-clause-cause g c =
+    let its = deeds_of g.F.Files g.F.Machine g.F.Input.Source g.F.Output.Sink in
+    let setup = c.args.setup.now in
+    let layout : ℕ → LayoutValue = λ n. (run_params_on setup c.args.formula n).layout in
+    let before = c.args.files.now in
+    let after = c.create_checkpoint.new.files in
+    let path = path_of c.args.path in
+    let fault = c.in_err-output.field-0.0 in
+    let none = subst (λ (n : ℕ). HasNoFault (layout n)) (c.len.ensures ∙ c.args.readers.ok.0) c.in_ok-find_layout.ensures.found in
+    let Cause : CommandFault → Type 0 = λ fault. IsStartCause its setup.serial (layout (length c.args.readers.items)) before path fault
+    after in
+    let cause : Cause fault = create_start its setup.serial (layout (length c.args.readers.items)) before path fault after none
+    c.in_err-output.ensures.cause in
+    err_given c.from_residual-in_err-output.result _ Cause (λ other is. subst Cause (sym is) cause)
+    c.from_residual-in_err-output.ensures.1
+
+pub returns-in-Err-clause-cause : goal.returns-in-Err-clause-cause
+returns-in-Err-clause-cause g c =
+    let its = deeds_of g.F.Files g.F.Machine g.F.Input.Source g.F.Output.Sink in
+    let setup = c.args.setup.now in
+    let layout : ℕ → LayoutValue = λ n. (run_params_on setup c.args.formula n).layout in
+    let before = c.args.files.now in
+    let after = c.discard_it.new.files in
+    let path = path_of c.args.path in
+    let none = subst (λ (n : ℕ). HasNoFault (layout n)) (c.len.ensures ∙ c.args.readers.ok.0) c.in_ok-find_layout.ensures.found in
+    let unused = left_unused its before c.create_checkpoint.new.files after path c.in_ok-output.output c.in_ok-output.ensures.created
+    c.discard_it.ensures in
+    run_start its setup.serial (layout (length c.args.readers.items)) before path c.in-Err.fault after none c.in-Err.ensures.cause unused
+
+pub returns-clause-ran : goal.returns-clause-ran
+returns-clause-ran g c =
+    let its = deeds_of g.F.Files g.F.Machine g.F.Input.Source g.F.Output.Sink in
+    let f = c.args.formula in
+    let before = c.args.files.now in
+    let mid = c.create_checkpoint.new.files in
+    let after = c.close_checkpoint-closed.new.files in
+    let path = path_of c.args.path in
+    let output = c.in_ok-output.output in
+    let run = c.in-Ok.run' in
+    let closed = c.close_checkpoint-closed in
+    let stands = c.in-Ok.ensures.stands in
+    let h = stands.checked.ran.run.history in
+    record {
+      checked = stands.checked;
+      leaves = leaves_behind its _ run.verdict before mid after path output closed.result.unsaved c.in_ok-output.ensures.created
+          (left_moved stands (λ p dropped. ClosesCheckpoint its (SavesCheckpoint its f p h dropped) run.verdict mid output
+          closed.result.unsaved after) (closed.ensures.closes f h stands.has));
+      saved = λ next is. saves_next its f _ h stands.checked.dropped before mid after path output next c.in_ok-output.ensures.created
+          (left_moved stands (λ p dropped. KeepsNext its (SavesCheckpoint its f p h dropped) mid output after next)
+          (closed.ensures.next f h stands.has next is));
+    }
