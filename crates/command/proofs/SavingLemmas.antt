@@ -7,7 +7,8 @@ use Rattle.lrup_model.specs.Formula.{Cnf}
 use Rattle.lrup_model.specs.Layout.{LayoutValue}
 use Rattle.lrup_model.specs.State.{state}
 use Rattle.lrup_text.specs.ReadOut.{SourceView}
-use Rattle.portfolio.specs.Saving.{SavesState, is_wanted}
+use Rattle.portfolio.specs.Saving.{SavesState, WereLeftBy, is_wanted, layout_left}
+use Rattle.portfolio.specs.declared.saving.Clauses.{Clauses}
 use Rattle.portfolio.specs.declared.outcome.Verdict.{Verdict}
 use Rattle.portfolio.specs.declared.outcome.Verdict.TheVariants.{Unsatisfiable, UnsatisfiableUnder, Unknown}
 use Rattle.runs.specs.Streams.{RunParamsValue}
@@ -18,9 +19,8 @@ use Rattle.checkpoint.specs.declared.saving.SaveFault.{SaveFault}
 use Rattle.checkpoint.specs.declared.saving.SaveFault.TheVariants as faults
 use Rattle.command.specs.Commands.{Deeds, ClosesSink, IsLeftUnused, LeavesBehind, SavesCheckpoint, Text}
 use Rattle.command.specs.Rounds.{SavesNext}
-use Rattle.command.specs.internal.Running.{HasHistory, StandsBehind, dropped_in, left_layout}
+use Rattle.command.specs.internal.Running.{StandsBehind}
 use Rattle.command.specs.internal.Saving.{ClosesCheckpoint, CreatesCheckpoint, DiscardsIt, KeepsNext, SavesAndCloses}
-use Rattle.command.specs.declared.running.LeftClauses.{LeftClauses}
 
 module _ (its : Deeds) (Saves : Result (Option Cnf) SaveFault → its.Output → its.Output → Type 0) where
   -- what was created and closed was left
@@ -71,15 +71,15 @@ left_unused its before next after (Some path) None created discards = absurd cre
 left_unused its before next after (Some path) (Some first) created discards =
     record { output = first; next = next; created = created.0; empty = created.1; discarded = discards }
 
-module _ (its : Deeds) (f : Cnf) (h : History) (left : LeftClauses) (has : HasHistory f h left) (before after : its.State)
+module _ (its : Deeds) (f : Cnf) (h : History) (clauses : Clauses) (dropped : List DroppedIdsValue) (has : WereLeftBy f h clauses) (before after : its.State)
     (first last : its.Output) (result : Result (Option Cnf) SaveFault)
-    (checkpoint : (f : Cnf) (h : History) → HasHistory f h left → IfOk result
+    (checkpoint : (f : Cnf) (h : History) → WereLeftBy f h clauses → IfOk result
     (WritesCheckpoint f (its.written first) (its.written last)))
-    (saves : (f : Cnf) (h : History) → HasHistory f h left
-    → SavesState its.written result (state f h) (left_layout left) (is_wanted (dropped_in left)) first last)
+    (saves : (f : Cnf) (h : History) → WereLeftBy f h clauses
+    → SavesState its.written result (state f h) (layout_left clauses) (is_wanted dropped) first last)
     (failed : IsTrue (its.has_failed last) ↔ (result ≡ Err faults.Unwritten)) where
   abbrev Saved : Result (Option Cnf) SaveFault → its.Output → its.Output → Type 0
-  Saved = SavesCheckpoint its f (left_layout left) h (dropped_in left)
+  Saved = SavesCheckpoint its f (layout_left clauses) h dropped
 
   saving : Saved result first last
   saving = record { checkpoint = checkpoint f h has; exactly = saves f h has; failed = failed }
@@ -130,8 +130,8 @@ saves_next its f layout h dropped before mid after (Some at) (Some first) next c
 
 -- What was saved of what was left was saved of the run: by its layout, and with what its streams dropped.
 pub left_moved : {R : Type 0} {view : SourceView R} {serial : Bool} {f : Cnf} {run_params : RunParamsValue} {firsts : List R}
-    {reports : List Report} {verdict : Verdict} {left : LeftClauses}
-    (stands : StandsBehind view serial f run_params firsts reports verdict left) (P : LayoutValue → List DroppedIdsValue → Type 0)
-    → P (left_layout left) (dropped_in left) → P run_params.layout stands.checked.dropped
-left_moved {run_params = run_params} {left = left} stands P is =
-    subst (P run_params.layout) stands.dropped (subst (λ (p : LayoutValue). P p (dropped_in left)) stands.layout is)
+    {reports : List Report} {verdict : Verdict} {clauses : Clauses} {dropped : List DroppedIdsValue}
+    (stands : StandsBehind view serial f run_params firsts reports verdict clauses dropped) (P : LayoutValue → List DroppedIdsValue → Type 0)
+    → P (layout_left clauses) dropped → P run_params.layout stands.checked.dropped
+left_moved {run_params = run_params} {dropped = dropped} stands P is =
+    subst (P run_params.layout) stands.dropped_is (subst (λ (p : LayoutValue). P p dropped) stands.layout is)

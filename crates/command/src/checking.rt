@@ -174,9 +174,10 @@ pub(crate) fn check_streams<T: Threads + Wait + Sync, C: Clock + Sync, F: Machin
     let EndedRun {
         reports,
         verdict,
-        left,
+        clauses,
+        dropped,
     } = run;
-    let closed = close_checkpoint(alloc, files, verdict, left, goes_on, output);
+    let closed = close_checkpoint(alloc, files, verdict, clauses, &dropped, goes_on, output);
     let found = RunResult {
         reports,
         verdict,

@@ -4,17 +4,17 @@ ghost use Rattle.std.specs.Option.{ForSome};
 ghost use Rattle.lrup_model.specs.Event.{History};
 ghost use Rattle.lrup_model.specs.Formula.{Cnf};
 ghost use Rattle.command.specs.Commands.{SavesCheckpoint, path_of};
-ghost use Rattle.command.specs.internal.Running.{CanBeSaved, HasHistory, dropped_in, left_layout};
+ghost use Rattle.portfolio.specs.Saving.{CanBeSaved, WereLeftBy, layout_left};
 ghost use Rattle.command.specs.internal.Saving.{ClosesCheckpoint, CreatesCheckpoint, DiscardsIt, IsNotCreated, KeepsNext, SavesAndCloses};
 
 use crate::fault::CommandFault;
 use crate::files::{Machine, OpenFault, Viewed};
-use crate::running::{LeftClauses, save_left};
 use checkpoint::SaveFault;
 use lrup_model::Formula;
 use lrup_text::WriteFault;
-use portfolio::Verdict;
+use portfolio::{Clauses, Verdict};
 use std::alloc::Global;
+use stream_check::DroppedIds;
 
 /// Creates the checkpoint's file, if there is to be one.
 pub(crate) fn create_checkpoint<F: Machine>(
@@ -87,20 +87,21 @@ pub(crate) fn close_checkpoint<F: Machine>(
     alloc: Global,
     files: &mut F,
     verdict: Verdict,
-    left: LeftClauses,
+    clauses: Clauses,
+    dropped: &[DroppedIds],
     goes_on: bool,
     output: Option<F::Output>,
 ) -> Closed
-    requires ready { CanBeSaved left }
+    requires ready { CanBeSaved clauses }
     requires running { ForSome output (λ sink. F.Output.Sink.has_failed sink ≡ false) }
     ensures closes { let its = ⟦<F as Viewed>⟧.deeds in
-        (f : Cnf) (h : History) → HasHistory f h left
-        → ClosesCheckpoint its (SavesCheckpoint its f (left_layout left) h (dropped_in left))
+        (f : Cnf) (h : History) → WereLeftBy f h clauses
+        → ClosesCheckpoint its (SavesCheckpoint its f (layout_left clauses) h dropped.now)
         verdict files.old output result.unsaved files.new }
     ensures next { let its = ⟦<F as Viewed>⟧.deeds in
-        (f : Cnf) (h : History) → HasHistory f h left
-        → ForSome result.next (KeepsNext its (SavesCheckpoint its f (left_layout left) h
-        (dropped_in left)) files.old output files.new) }
+        (f : Cnf) (h : History) → WereLeftBy f h clauses
+        → ForSome result.next (KeepsNext its (SavesCheckpoint its f (layout_left clauses) h
+        dropped.now) files.old output files.new) }
     ensures none { is_some output ≡ true → goes_on ≡ true → result.next ≡ None
         → (verdict ≡ Verdict.Unsatisfiable)
         ⊎ ((fault : SaveFault) × (result.unsaved ≡ Some fault)) }
@@ -114,7 +115,7 @@ pub(crate) fn close_checkpoint<F: Machine>(
             Closed::without_next(None)
         }
         Verdict::UnsatisfiableUnder | Verdict::Unknown => {
-            save_and_close(alloc, files, left, goes_on, output)
+            save_and_close(alloc, files, clauses, dropped, goes_on, output)
         }
     }
 }
@@ -123,24 +124,25 @@ pub(crate) fn close_checkpoint<F: Machine>(
 fn save_and_close<F: Machine>(
     alloc: Global,
     files: &mut F,
-    left: LeftClauses,
+    clauses: Clauses,
+    dropped: &[DroppedIds],
     goes_on: bool,
     mut output: F::Output,
 ) -> Closed
-    requires ready { CanBeSaved left }
+    requires ready { CanBeSaved clauses }
     requires running { F.Output.Sink.has_failed output ≡ false }
     ensures closes { let its = ⟦<F as Viewed>⟧.deeds in
-        (f : Cnf) (h : History) → HasHistory f h left
-        → SavesAndCloses its (SavesCheckpoint its f (left_layout left) h (dropped_in left))
+        (f : Cnf) (h : History) → WereLeftBy f h clauses
+        → SavesAndCloses its (SavesCheckpoint its f (layout_left clauses) h dropped.now)
         files.old output result.unsaved files.new }
     ensures next { let its = ⟦<F as Viewed>⟧.deeds in
-        (f : Cnf) (h : History) → HasHistory f h left
-        → ForSome result.next (KeepsNext its (SavesCheckpoint its f (left_layout left) h
-        (dropped_in left)) files.old (Some output) files.new) }
+        (f : Cnf) (h : History) → WereLeftBy f h clauses
+        → ForSome result.next (KeepsNext its (SavesCheckpoint its f (layout_left clauses) h
+        dropped.now) files.old (Some output) files.new) }
     ensures none { goes_on ≡ true → result.next ≡ None
         → (fault : SaveFault) × (result.unsaved ≡ Some fault) }
 {
-    match save_left(alloc, left, goes_on, &mut output) {
+    match clauses.save(alloc, dropped, goes_on, &mut output) {
         Ok(next) => match files.keep(output) {
             Ok(()) => Closed {
                 unsaved: None,

@@ -1,23 +1,15 @@
-//! The check of streams, in threads or by turns, and what it leaves for a checkpoint.
-ghost use Rattle.std.specs.Prelude.{◌≡◌, ◌↔◌, true, false, Err, IfErr, IfOk, IsTrue, is_some, length, vec_len};
+//! The check of streams, in threads or by turns.
+ghost use Rattle.std.specs.Prelude.{◌≡◌, true, false, IfErr, IfOk, length, vec_len};
 ghost use Rattle.std.specs.List.{AllByRecursion};
-ghost use Rattle.lrup_model.specs.Event.{History};
-ghost use Rattle.lrup_model.specs.Formula.{Cnf};
-ghost use Rattle.lrup_model.specs.State.{state};
-ghost use Rattle.checkpoint.specs.Checkpoints.{WritesCheckpoint};
-ghost use Rattle.portfolio.specs.Saving.{SavesState, is_wanted};
-ghost use Rattle.command.specs.internal.Running.{run_params_on, HasHistory, CanBeSaved, IsRunCause, StandsBehind, dropped_in, left_layout};
+ghost use Rattle.portfolio.specs.Saving.{CanBeSaved};
+ghost use Rattle.command.specs.internal.Running.{run_params_on, IsRunCause, StandsBehind};
 ghost use Rattle.runs.specs.Readings.{readers_view};
 
 use crate::fault::CommandFault;
 use crate::files::Machine;
-use checkpoint::SaveFault;
-use clause_store::{Pass, Store};
-use lrup_model::{Cube, Formula, PlainMap};
-use lrup_text::Sink;
+use lrup_model::{Cube, Formula};
 use portfolio::{
-    Options, Outcome, Pause, SerialOutcome, TurnWatch, Verdict, Watch, run, run_serial, save_live,
-    save_plain,
+    Clauses, Options, Outcome, Pause, SerialOutcome, TurnWatch, Verdict, Watch, run, run_serial,
 };
 use std::alloc::{AllocError, Global};
 use std::sync::Wait;
@@ -36,36 +28,13 @@ pub(crate) struct Setup<'a> {
     pub(crate) watch: bool,
 }
 
-/// What streams that were checked in threads left.
-#[derive(Drop)]
-pub(crate) struct SharedClauses {
-    store: Store,
-    passes: Vec<Pass>,
-    dropped: Vec<DroppedIds>,
-}
-
-/// What streams that were checked on one thread left.
-#[derive(Drop)]
-pub(crate) struct PlainClauses {
-    map: PlainMap,
-    dropped: Vec<DroppedIds>,
-}
-
-/// The clauses that a run left, and the identities that its streams dropped.
-#[derive(Drop)]
-pub(crate) enum LeftClauses {
-    /// They lie in the store of a run with threads.
-    Shared(SharedClauses),
-    /// They lie in the map of a run on one thread.
-    Plain(PlainClauses),
-}
-
 /// What the check of streams found, and what it left.
 #[derive(Drop)]
 pub(crate) struct EndedRun {
     pub(crate) reports: Vec<Report>,
     pub(crate) verdict: Verdict,
-    pub(crate) left: LeftClauses,
+    pub(crate) clauses: Clauses,
+    pub(crate) dropped: Vec<DroppedIds>,
 }
 
 /// Checks the streams, by turns on this thread or each in two threads of its own. If they are watched, the watchers are of these
@@ -82,8 +51,8 @@ pub(crate) fn run_streams<T: Threads + Wait + Sync, C: Clock + Sync, F: Machine>
     requires running { AllByRecursion (λ r. F.Input.Source.has_failed r ≡ false) readers.items }
     ensures stands { let run_params = run_params_on setup.now formula.now (length readers.items) in
         IfOk result (λ run. StandsBehind (readers_view F.Input.Source) setup.now.serial
-        formula.now run_params readers.items run.reports.items run.verdict run.left) }
-    ensures ready { IfOk result (λ run. CanBeSaved run.left) }
+        formula.now run_params readers.items run.reports.items run.verdict run.clauses run.dropped.items) }
+    ensures ready { IfOk result (λ run. CanBeSaved run.clauses) }
     ensures cause { let run_params = run_params_on setup.now formula.now (length readers.items) in
         IfErr result (IsRunCause setup.now.serial run_params.layout) }
 {
@@ -107,8 +76,8 @@ fn run_by_turns<W: Wait, C: Clock + Sync, F: Machine>(
     requires running { AllByRecursion (λ r. F.Input.Source.has_failed r ≡ false) readers.items }
     ensures stands { let run_params = run_params_on setup.now formula.now (length readers.items) in
         IfOk result (λ run. StandsBehind (readers_view F.Input.Source) true formula.now
-        run_params readers.items run.reports.items run.verdict run.left) }
-    ensures ready { IfOk result (λ run. CanBeSaved run.left) }
+        run_params readers.items run.reports.items run.verdict run.clauses run.dropped.items) }
+    ensures ready { IfOk result (λ run. CanBeSaved run.clauses) }
     ensures cause { let run_params = run_params_on setup.now formula.now (length readers.items) in
         IfErr result (IsRunCause true run_params.layout) }
 {
@@ -132,7 +101,8 @@ fn run_by_turns<W: Wait, C: Clock + Sync, F: Machine>(
     Ok(EndedRun {
         reports,
         verdict,
-        left: LeftClauses::Plain(PlainClauses { map, dropped }),
+        clauses: Clauses::Plain(map),
+        dropped,
     })
 }
 
@@ -149,8 +119,8 @@ fn run_in_threads<T: Threads + Wait + Sync, C: Clock + Sync, F: Machine>(
     requires running { AllByRecursion (λ r. F.Input.Source.has_failed r ≡ false) readers.items }
     ensures stands { let run_params = run_params_on setup.now formula.now (length readers.items) in
         IfOk result (λ run. StandsBehind (readers_view F.Input.Source) false formula.now
-        run_params readers.items run.reports.items run.verdict run.left) }
-    ensures ready { IfOk result (λ run. CanBeSaved run.left) }
+        run_params readers.items run.reports.items run.verdict run.clauses run.dropped.items) }
+    ensures ready { IfOk result (λ run. CanBeSaved run.clauses) }
     ensures cause { let run_params = run_params_on setup.now formula.now (length readers.items) in
         IfErr result (IsRunCause false run_params.layout) }
 {
@@ -175,43 +145,9 @@ fn run_in_threads<T: Threads + Wait + Sync, C: Clock + Sync, F: Machine>(
     Ok(EndedRun {
         reports,
         verdict,
-        left: LeftClauses::Shared(SharedClauses {
-            store,
-            passes,
-            dropped,
-        }),
+        clauses: Clauses::Shared(store, passes),
+        dropped,
     })
-}
-
-/// Writes the formula of the clauses that were left, except for those that all streams dropped, and gives it if the run goes on with it.
-pub(crate) fn save_left<W: Sink>(
-    alloc: Global,
-    left: LeftClauses,
-    goes_on: bool,
-    sink: &mut W,
-) -> Result<Option<Formula>, SaveFault>
-    requires ready { CanBeSaved left }
-    requires running { W.has_failed sink.old ≡ false }
-    ensures checkpoint { (f : Cnf) (h : History) → HasHistory f h left
-        → IfOk result (WritesCheckpoint f (W.written sink.old) (W.written sink.new)) }
-    ensures goes_on { IfOk result (λ next. is_some next ≡ goes_on) }
-    ensures saves { (f : Cnf) (h : History) → HasHistory f h left
-        → SavesState W.written result (state f h) (left_layout left) (is_wanted (dropped_in left))
-        sink.old sink.new }
-    ensures failed { IsTrue (W.has_failed sink.new) ↔ (result ≡ Err SaveFault.Unwritten) }
-{
-    match left {
-        LeftClauses::Shared(
-            SharedClauses {
-                store,
-                passes,
-                dropped,
-            },
-        ) => save_live(alloc, &store, passes, &dropped, goes_on, sink),
-        LeftClauses::Plain(PlainClauses { mut map, dropped }) => {
-            save_plain(alloc, &mut map, &dropped, goes_on, sink)
-        }
-    }
 }
 
 /// A gate for each of `count` streams that are checked in threads. If they are watched, each reports on a watcher of its own.

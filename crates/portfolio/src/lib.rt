@@ -15,7 +15,7 @@ pub use options::Options;
 pub use outcome::{Outcome, RunFault, SerialOutcome, Verdict};
 pub use pause::Pause;
 pub use report_text::write_report;
-pub use saving::{save_live, save_plain};
+pub use saving::Clauses;
 pub use serial::run_serial;
 pub use threads::run;
 pub use watch::{TurnWatch, Watch};

@@ -9,7 +9,7 @@ ghost use Rattle.clause_store.specs.Passes.{AreOf, views};
 ghost use Rattle.runs.specs.SequentialConsistency.{HaveOneHistory};
 ghost use Rattle.checkpoint.specs.Checkpoints.{WritesCheckpoint};
 ghost use Rattle.checkpoint.specs.Live.{fetches};
-ghost use Rattle.portfolio.specs.Saving.{SavesState, is_wanted};
+ghost use Rattle.portfolio.specs.Saving.{CanBeSaved, SavesState, WereLeftBy, is_wanted, layout_left};
 
 use checkpoint::{SaveFault, Wanted, save};
 use clause_store::{Desk, Pass, Store};
@@ -17,6 +17,47 @@ use lrup_model::{Formula, Id, PlainMap};
 use lrup_text::Sink;
 use std::alloc::Global;
 use stream_check::DroppedIds;
+
+/// The clauses that a run left.
+#[derive(Drop)]
+pub enum Clauses {
+    /// They lie in the store of a run with threads, whose passes have met.
+    Shared(Store, Vec<Pass>),
+    /// They lie in the map of a run on one thread.
+    Plain(PlainMap),
+}
+
+impl Clauses {
+    /// Writes the formula of the clauses that are live, except for those that all streams dropped, and gives it if the run goes on with
+    /// it. Each id is fetched once. It takes memory as `checkpoint::save` does.
+    pub fn save<W: Sink>(
+        self,
+        alloc: Global,
+        dropped: &[DroppedIds],
+        goes_on: bool,
+        sink: &mut W,
+    ) -> Result<Option<Formula>, SaveFault>
+        requires ready { CanBeSaved self }
+        requires running { W.has_failed sink.old ≡ false }
+        // What was written whole is a text of a formula, each clause of which follows from the run's.
+        ensures checkpoint { (f : Cnf) (h : History) → WereLeftBy f h self
+            → IfOk result (WritesCheckpoint f (W.written sink.old) (W.written sink.new)) }
+        // It is given just if the run goes on with it.
+        ensures goes_on { IfOk result (λ next. is_some next ≡ goes_on) }
+        // It is that of the clauses that the run's history leaves live, and that not all streams dropped.
+        ensures saves { (f : Cnf) (h : History) → WereLeftBy f h self
+            → SavesState W.written result (state f h) (layout_left self) (is_wanted dropped.now)
+            sink.old sink.new }
+        ensures failed { IsTrue (W.has_failed sink.new) ↔ (result ≡ Err SaveFault.Unwritten) }
+    {
+        match self {
+            Clauses::Shared(store, passes) => {
+                save_live(alloc, &store, passes, dropped, goes_on, sink)
+            }
+            Clauses::Plain(mut map) => save_plain(alloc, &mut map, dropped, goes_on, sink),
+        }
+    }
+}
 
 /// Wants each clause that some stream hasn't dropped; all, if there are no streams.
 #[derive(Drop)]
@@ -32,9 +73,8 @@ impl Wanted for NotAllDropped<'_> {
     }
 }
 
-/// Writes the formula of the clauses that are live after a run, except for those that all streams dropped, and gives it if the run goes on
-/// with it. The passes are used up.
-pub fn save_live<W: Sink>(
+/// Saves the clauses of a run with threads. The passes are used up.
+fn save_live<W: Sink>(
     alloc: Global,
     store: &Store,
     passes: Vec<Pass>,
@@ -75,8 +115,8 @@ pub fn save_live<W: Sink>(
     saved
 }
 
-/// Writes the formula of the clauses that are live after a run on one thread, as `save_live` does, and gives it if the run goes on.
-pub fn save_plain<W: Sink>(
+/// Saves the clauses of a run on one thread.
+fn save_plain<W: Sink>(
     alloc: Global,
     map: &mut PlainMap,
     dropped: &[DroppedIds],

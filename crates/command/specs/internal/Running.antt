@@ -13,45 +13,22 @@ use Rattle.runs.specs.Streams.{RunParamsValue}
 use Rattle.stream_check.specs.DroppedIdsValue.{DroppedIdsValue}
 use Rattle.stream_check.specs.declared.report.Report.{Report}
 use Rattle.portfolio.specs.Outcomes.{run_params_of}
+use Rattle.portfolio.specs.Saving.{WereLeftBy, layout_left}
+use Rattle.portfolio.specs.declared.saving.Clauses.{Clauses}
 use Rattle.portfolio.specs.declared.outcome.Verdict.{Verdict}
 use Rattle.command.specs.Commands.{AreChecked, HasBrokenOff, HasNoFault}
 use Rattle.command.specs.declared.fault.CommandFault.{CommandFault}
 use Rattle.command.specs.declared.fault.CommandFault.TheVariants as faults
-use Rattle.command.specs.declared.running.LeftClauses.{LeftClauses}
-use Rattle.command.specs.declared.running.LeftClauses.TheVariants as lefts
 use Rattle.command.specs.declared.running.Setup.{Setup}
-
--- the layout by which clauses were left
-abbrev pub left_layout : LeftClauses → LayoutValue
-left_layout (lefts.Shared left) = left.store.layout
-left_layout (lefts.Plain left) = left.map.layout
-
--- the identities that the streams dropped
-abbrev pub dropped_in : LeftClauses → List DroppedIdsValue
-dropped_in (lefts.Shared left) = left.dropped.items
-dropped_in (lefts.Plain left) = left.dropped.items
-
--- these clauses of a formula are left by this history
-abbrev pub HasHistory : Cnf → History → LeftClauses → Type 0
-HasHistory formula history (lefts.Shared left) =
-    HaveOneHistory formula left.store.layout history (views left.passes.items)
-HasHistory formula history (lefts.Plain left) =
-    (formula_of left.map ≡ formula) × (plain_state left.map ≡ state formula history)
-
--- these clauses can be saved
-abbrev pub CanBeSaved : LeftClauses → Type 0
-CanBeSaved (lefts.Shared left) =
-    AreOf left.store left.passes.items × (0 < vec_len left.passes)
-CanBeSaved (lefts.Plain left) = Fits left.map.layout (formula_of left.map)
 
 -- The streams were checked, and these clauses were left by the run's history, with what its streams dropped.
 pub record StandsBehind {R : Type 0} (view : SourceView R) (serial : Bool) (formula : Cnf)
     (run_params : RunParamsValue) (firsts : List R) (reports : List Report) (verdict : Verdict)
-    (left : LeftClauses) : Type 0 where
+    (clauses : Clauses) (dropped : List DroppedIdsValue) : Type 0 where
   pub checked : AreChecked view serial formula run_params firsts reports verdict
-  pub layout : left_layout left ≡ run_params.layout
-  pub dropped : dropped_in left ≡ checked.dropped
-  pub has : HasHistory formula checked.ran.run.history left
+  pub layout : layout_left clauses ≡ run_params.layout
+  pub dropped_is : dropped ≡ checked.dropped
+  pub has : WereLeftBy formula checked.ran.run.history clauses
 
 -- why streams aren't checked: there is no layout
 abbrev pub IsLayoutCause : LayoutValue → CommandFault → Type 0

@@ -5,7 +5,7 @@ ghost use Rattle.std.specs.List.{AllByRecursion};
 use super::{BOTH, By, Open, readers_of, same};
 use checkpoint::SaveFault;
 use lrup_model::{Cube, Formula};
-use portfolio::{Options, Outcome, Pause, SerialOutcome, run, run_serial, save_live, save_plain};
+use portfolio::{Clauses, Options, Outcome, Pause, SerialOutcome, run, run_serial};
 use std::alloc::{AllocError, Global};
 use std::process::Abort;
 use std::sync::Wait;
@@ -44,17 +44,13 @@ pub(super) fn saved_after<'a, T: Threads + Wait + Clock + Sync>(
             if passes.is_empty() {
                 return Err("no pass".into());
             }
-            Ok(save_live(alloc, &store, passes, &dropped, goes_on, paper))
+            Ok(Clauses::Shared(store, passes).save(alloc, &dropped, goes_on, paper))
         }
         By::Turns => {
             let gates = vec![in alloc; Open; readers.len()]?;
             let outcome = run_serial(rt, alloc, &formula, &cube, options, readers, gates)?;
-            let SerialOutcome {
-                mut map,
-                dropped,
-                ..
-            } = outcome;
-            Ok(save_plain(alloc, &mut map, &dropped, goes_on, paper))
+            let SerialOutcome { map, dropped, .. } = outcome;
+            Ok(Clauses::Plain(map).save(alloc, &dropped, goes_on, paper))
         }
     }
 }

@@ -18,7 +18,7 @@ returns-clause-stands g c =
         sound_under = found.sound_under;
       };
       layout = found.kept.1;
-      dropped = refl;
+      dropped_is = refl;
       has = (found.kept.0, found.ordered.1.0);
     }
 

@@ -25,7 +25,7 @@ returns-clause-stands g c =
         sound_under = found.sound_under;
       };
       layout = found.store.1;
-      dropped = refl;
+      dropped_is = refl;
       has = subst (λ (h : History). HaveOneHistory f outcome.store.layout h passes) (sym found.reports.1.0)
           (subst (λ (p : LayoutValue). HaveOneHistory f p (seen_by passes) passes) (sym found.store.1) found.history);
     }
