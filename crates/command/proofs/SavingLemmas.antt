@@ -71,7 +71,8 @@ left_unused its before next after (Some path) None created discards = absurd cre
 left_unused its before next after (Some path) (Some first) created discards =
     record { output = first; next = next; created = created.0; empty = created.1; discarded = discards }
 
-module _ (its : Deeds) (f : Cnf) (h : History) (clauses : Clauses) (dropped : List DroppedIdsValue) (has : WereLeftBy f h clauses) (before after : its.State)
+module _ (its : Deeds) (f : Cnf) (h : History) (clauses : Clauses) (dropped : List DroppedIdsValue) (has : WereLeftBy f h clauses)
+    (before after : its.State)
     (first last : its.Output) (result : Result (Option Cnf) SaveFault)
     (checkpoint : (f : Cnf) (h : History) → WereLeftBy f h clauses → IfOk result
     (WritesCheckpoint f (its.written first) (its.written last)))
@@ -102,7 +103,8 @@ module _ (its : Deeds) (f : Cnf) (h : History) (clauses : Clauses) (dropped : Li
 
 -- what a run goes on with was saved at the path
 pub saves_next : (its : Deeds) (f : Cnf) (layout : LayoutValue) (h : History) (dropped : List DroppedIdsValue)
-    (before mid after : its.State) (path : Option Text) (output : Option its.Output) (next : Cnf) → CreatesCheckpoint its before path output mid
+    (before mid after : its.State) (path : Option Text) (output : Option its.Output) (next : Cnf)
+    → CreatesCheckpoint its before path output mid
     → KeepsNext its (SavesCheckpoint its f layout h dropped) mid output after next
     → (at : Text) × (path ≡ Some at) × SavesNext its f layout h dropped before at next after
 saves_next its f layout h dropped before mid after path None next created keeps = absurd keeps
@@ -131,7 +133,8 @@ saves_next its f layout h dropped before mid after (Some at) (Some first) next c
 -- What was saved of what was left was saved of the run: by its layout, and with what its streams dropped.
 pub left_moved : {R : Type 0} {view : SourceView R} {serial : Bool} {f : Cnf} {run_params : RunParamsValue} {firsts : List R}
     {reports : List Report} {verdict : Verdict} {clauses : Clauses} {dropped : List DroppedIdsValue}
-    (stands : StandsBehind view serial f run_params firsts reports verdict clauses dropped) (P : LayoutValue → List DroppedIdsValue → Type 0)
+    (stands : StandsBehind view serial f run_params firsts reports verdict clauses dropped)
+    (P : LayoutValue → List DroppedIdsValue → Type 0)
     → P (layout_left clauses) dropped → P run_params.layout stands.checked.dropped
 left_moved {run_params = run_params} {dropped = dropped} stands P is =
     subst (P run_params.layout) stands.dropped_is (subst (λ (p : LayoutValue). P p dropped) stands.layout is)

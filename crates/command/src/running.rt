@@ -51,7 +51,8 @@ pub(crate) fn run_streams<T: Threads + Wait + Sync, C: Clock + Sync, F: Machine>
     requires running { AllByRecursion (λ r. F.Input.Source.has_failed r ≡ false) readers.items }
     ensures stands { let run_params = run_params_on setup.now formula.now (length readers.items) in
         IfOk result (λ run. StandsBehind (readers_view F.Input.Source) setup.now.serial
-        formula.now run_params readers.items run.reports.items run.verdict run.clauses run.dropped.items) }
+        formula.now run_params readers.items run.reports.items run.verdict run.clauses
+        run.dropped.items) }
     ensures ready { IfOk result (λ run. CanBeSaved run.clauses) }
     ensures cause { let run_params = run_params_on setup.now formula.now (length readers.items) in
         IfErr result (IsRunCause setup.now.serial run_params.layout) }

@@ -8,26 +8,26 @@ pub returns-in-Ok-keep-clause-closes : goal.returns-in-Ok-keep-clause-closes
 returns-in-Ok-keep-clause-closes g c f h has =
     let its = deeds_of g.F.Files g.F.Machine g.F.Input.Source g.F.Output.Sink in
     let saved = c.save.ensures in
-    saves_and_closes its f h c.args.clauses c.args.dropped.now has c.args.files.now c.keep.new.self c.args.output c.save.new.sink c.save.result
-    saved.checkpoint saved.saves saved.failed None _ c.in-Ok.is c.in-Ok-keep.ensures.keeps
+    saves_and_closes its f h c.args.clauses c.args.dropped.now has c.args.files.now c.keep.new.self c.args.output c.save.new.sink
+    c.save.result saved.checkpoint saved.saves saved.failed None _ c.in-Ok.is c.in-Ok-keep.ensures.keeps
 
 pub returns-in-Ok-keep-clause-next : goal.returns-in-Ok-keep-clause-next
 returns-in-Ok-keep-clause-next g c f h has =
     let its = deeds_of g.F.Files g.F.Machine g.F.Input.Source g.F.Output.Sink in
     let saved = c.save.ensures in
-    keeps_next its f h c.args.clauses c.args.dropped.now has c.args.files.now c.keep.new.self c.args.output c.save.new.sink c.save.result
-    saved.checkpoint saved.saves saved.failed c.in-Ok.next c.in-Ok.is c.in-Ok-keep.ensures.keeps
+    keeps_next its f h c.args.clauses c.args.dropped.now has c.args.files.now c.keep.new.self c.args.output c.save.new.sink
+    c.save.result saved.checkpoint saved.saves saved.failed c.in-Ok.next c.in-Ok.is c.in-Ok-keep.ensures.keeps
 
 pub returns-in-Err-keep-clause-closes : goal.returns-in-Err-keep-clause-closes
 returns-in-Err-keep-clause-closes g c f h has =
     let its = deeds_of g.F.Files g.F.Machine g.F.Input.Source g.F.Output.Sink in
     let saved = c.save.ensures in
-    saves_and_closes its f h c.args.clauses c.args.dropped.now has c.args.files.now c.keep.new.self c.args.output c.save.new.sink c.save.result
-    saved.checkpoint saved.saves saved.failed (Some faults.Unwritten) _ c.in-Ok.is (refl, c.in-Err-keep.ensures.loses)
+    saves_and_closes its f h c.args.clauses c.args.dropped.now has c.args.files.now c.keep.new.self c.args.output c.save.new.sink
+    c.save.result saved.checkpoint saved.saves saved.failed (Some faults.Unwritten) _ c.in-Ok.is (refl, c.in-Err-keep.ensures.loses)
 
 pub returns-in-Err-clause-closes : goal.returns-in-Err-clause-closes
 returns-in-Err-clause-closes g c f h has =
     let its = deeds_of g.F.Files g.F.Machine g.F.Input.Source g.F.Output.Sink in
     let saved = c.save.ensures in
-    saves_and_closes its f h c.args.clauses c.args.dropped.now has c.args.files.now c.discard.new.self c.args.output c.save.new.sink c.save.result
-    saved.checkpoint saved.saves saved.failed (Some c.in-Err.fault) _ c.in-Err.is (refl, c.discard.ensures)
+    saves_and_closes its f h c.args.clauses c.args.dropped.now has c.args.files.now c.discard.new.self c.args.output c.save.new.sink
+    c.save.result saved.checkpoint saved.saves saved.failed (Some c.in-Err.fault) _ c.in-Err.is (refl, c.discard.ensures)
