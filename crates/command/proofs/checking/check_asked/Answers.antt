@@ -2,7 +2,7 @@ use Rattle.std.proofs.Common.{◌∙◌, List, Option, length, sym, subst}
 use Rattle.portfolio.specs.Outcomes.{layout_of}
 use Rattle.command_line.specs.CommandLine.{IsCommandLineOf}
 use Rattle.command.specs.Commands.{FilesView, IsCause, IsFormulaAt, IsStartCause, LeavesBehind, Text, WasReadIn}
-use Rattle.command.specs.Commands.{created_at, files_view, from_first}
+use Rattle.command.specs.Commands.{SavesCheckpoint, created_at, files_view, from_first}
 use Rattle.command.specs.declared.fault.CommandFault.{CommandFault}
 use Rattle.command.proofs.CheckingLemmas.{begun_cause, created_once, err_given, is_outcome, some_given}
 use Rattle.command.proofs.checking.check_asked.Given as given
@@ -71,7 +71,11 @@ returns-clause-outcome g c words first good at =
     is_outcome files words line begun.formula begun.cube c.unwrap-options.result begun.readers.items c.args.files.now of.later last good
     is_formula of.assumed options of.opened of.left found.reports.items found.verdict found.unsaved after (
       ran.checked,
-      subst (λ (o : Option Text). LeavesBehind files.its _ found.verdict last o found.unsaved after) c.checkpoint-path.ensures ran.leaves,
+      subst
+          (λ (o : Option Text). LeavesBehind files.its
+          (SavesCheckpoint files.its begun.formula (layout_of c.unwrap-options.result begun.formula (length begun.readers.items))
+          ran.checked.ran.run.history ran.checked.dropped) found.verdict last o found.unsaved after)
+          c.checkpoint-path.ensures ran.leaves,
     )
 
 pub returns-clause-sound : goal.returns-clause-sound

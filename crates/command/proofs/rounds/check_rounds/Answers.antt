@@ -16,7 +16,7 @@ returns-in-Err-clause-cause g c words first good at =
     c.args.files.now) first) words fault
     c.begin.new.files in
     let cause : Cause c.in-Err.fault = c.in-Err.ensures.cause words first good at in
-    let of = c.of_first-in-Err.ensures in
+    let of = c.of_first.ensures in
     inl (of.round, subst Cause (sym of.fault) cause)
 
 -- the streams of round 1 were opened
