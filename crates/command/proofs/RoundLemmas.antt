@@ -23,8 +23,8 @@ use Rattle.checkpoint.specs.Entails.{RefutesBack, RefutesBackUnder}
 use Rattle.checkpoint.specs.declared.saving.SaveFault.{SaveFault}
 use Rattle.command_line.specs.declared.sizes.Sizes.{Sizes}
 use Rattle.command_line.specs.declared.words.CommandLine.{CommandLine}
-use Rattle.command.specs.Commands.{AreOpened, Deeds, IsStartCause, Text, WasRead, checkpoint_at, created_at, created_path, layout_at}
-use Rattle.command.specs.Commands.{path_of, rounds_at}
+use Rattle.command.specs.Commands.{AreOpened, Deeds, IsStartCause, Text, checkpoint_at, created_at, created_path, path_of}
+use Rattle.command.specs.Commands.{rounds_at, run_params_given}
 use Rattle.command.specs.Paths.{formula_path, sizes_path, stream_path, stream_paths}
 use Rattle.command.specs.Rounds.{AreRounds, AreSized, CarriesOn, CarriesRound, IsBarred, IsRoundCause, IsRoundStartCause, IsSizesCause}
 use Rattle.command.specs.Rounds.{Plan, Round, RoundsEnd, SavesRound, StreamsOpened, options_by, plan_at, sizes_of}
@@ -277,9 +277,13 @@ pub sizes_cause : (its : Deeds) (before : its.State) (path : Text) (reader : its
 sizes_cause its before path reader after opened left faults.SizesUnread cause =
     inr (record { reader = reader; opened = opened; left = left; broken = cause.0; few = cause.1 })
 sizes_cause its before path reader after opened left faults.Sizes (inl (bytes, whole, none, few)) =
-    let read : WasRead its.opens its.reading.reads (its.tells before) before path bytes after =
-    record { reader = reader; opened = opened; gave = whole.gave; told = λ all told. whole.told all (left ∙ told) } in
-    record { reader = reader; opened = opened; bytes = bytes; few = few; holds = inl (read, none) }
+    record {
+      reader = reader;
+      opened = opened;
+      bytes = bytes;
+      few = few;
+      holds = inl (whole.gave, λ all told. whole.told all (left ∙ told), none);
+    }
 sizes_cause its before path reader after opened left faults.Sizes (inr (bytes, last, gave, is, told)) =
     record {
       reader = reader;
@@ -293,12 +297,12 @@ sizes_cause its before path reader after opened left fault cause = absurd cause
 
 -- why round 1, whose streams were opened, has no report, by the words
 pub first_start : (its : Deeds) (plan : Plan) (given : CommandLine) (cube : CubeValue) (folder : Text) (f : Cnf)
-    (opened : its.State) → rounds_at given ≡ Some folder → (fault : CommandFault) (after : its.State)
-    → IsRoundStartCause its (plan_at given cube folder) 1 f (sizes_of given) opened fault after
-    → IsStartCause its given.serial (layout_at given f) opened (created_at given) fault after
-first_start its plan given cube folder f opened asked fault after cause =
-    subst (λ (o : Option Text). IsStartCause its given.serial (layout_at given f) opened (created_path o (checkpoint_at given)) fault after)
-    (sym asked) cause
+    (readers : List its.Reader) (opened : its.State) → rounds_at given ≡ Some folder → (fault : CommandFault) (after : its.State)
+    → IsRoundStartCause its (plan_at given cube folder) 1 f (sizes_of given) readers opened fault after
+    → IsStartCause its given.serial f (run_params_given given cube f) readers opened (created_at given) fault after
+first_start its plan given cube folder f readers opened asked fault after cause =
+    subst (λ (o : Option Text). IsStartCause its given.serial f (run_params_given given cube f) readers opened
+    (created_path o (checkpoint_at given)) fault after) (sym asked) cause
 
 -- a path that isn't there
 pub no_path : (path : Option (Bor Text)) → false ≡ is_some path → path_of path ≡ None

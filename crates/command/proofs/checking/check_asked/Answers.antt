@@ -1,6 +1,6 @@
 use Rattle.std.proofs.Common.{◌≡◌, ◌∙◌, ℕ, List, Option, inl, length, sym, subst}
-use Rattle.lrup_model.specs.Layout.{LayoutValue}
-use Rattle.portfolio.specs.Outcomes.{layout_of}
+use Rattle.portfolio.specs.Outcomes.{run_params_of}
+use Rattle.runs.specs.Streams.{RunParamsValue}
 use Rattle.command_line.specs.CommandLine.{IsCommandLineOf}
 use Rattle.command.specs.Commands.{FilesView, HasNoFault, IsCause, IsFormulaAt, IsLeftUnused, IsStartCause, Text, WasReadIn, checkpoint_at}
 use Rattle.command.specs.Commands.{SavesCheckpoint, created_at, created_path, files_view, from_first}
@@ -32,9 +32,9 @@ started : (g : given.Over) (c : After-unwrap-options g) (words : List Text) (fir
     → IsCommandLineOf words c.args.asked.line
     → WasReadIn (from_first (viewed g c) first) first c.args.asked.line.formula.now c.args.asked.formula.items c.args.files.now
     → (fault : CommandFault) (after : (viewed g c).its.State)
-    → IsStartCause (viewed g c).its c.args.asked.line.serial
-    (layout_of c.unwrap-options.result c.in_ok-begun.begun.formula (length c.in_ok-begun.begun.readers.items)) c.begin.new.files
-    (created_at c.args.asked.line) fault after
+    → IsStartCause (viewed g c).its c.args.asked.line.serial c.in_ok-begun.begun.formula
+    (run_params_of c.unwrap-options.result c.in_ok-begun.begun.cube c.in_ok-begun.begun.formula (length c.in_ok-begun.begun.readers.items))
+    c.in_ok-begun.begun.readers.items c.begin.new.files (created_at c.args.asked.line) fault after
     → IsCause (from_first (viewed g c) first) words fault after
 started g c words first good at fault after cause =
     let files = from_first (viewed g c) first in
@@ -49,13 +49,16 @@ returns-in_err-find_layout-clause-cause g c words first good at =
     let found = (goal.at.returns-in_err-find_layout-clause-cause g c).After-unwrap-options in
     let line = c.args.asked.line in
     let readers = c.in_ok-begun.begun.readers in
-    let layout : ℕ → LayoutValue = layout_of c.unwrap-options.result c.in_ok-begun.begun.formula in
+    let f = c.in_ok-begun.begun.formula in
+    let run_params : ℕ → RunParamsValue = run_params_of c.unwrap-options.result c.in_ok-begun.begun.cube f in
     let fault = c.in_err-find_layout.field-0.0 in
     let last = c.begin.new.files in
-    let refused = subst (λ (n : ℕ). IsLayoutCause (layout n) fault) (c.len.ensures ∙ readers.ok.0) c.in_err-find_layout.ensures.cause in
+    let refused = subst (λ (n : ℕ). IsLayoutCause (run_params n).layout fault) (c.len.ensures ∙ readers.ok.0)
+    c.in_err-find_layout.ensures.cause in
     let Cause : CommandFault → Type 0 = λ fault. IsCause (from_first (viewed g found) first) words fault last in
     let cause : Cause fault = started g found words first good at fault last
-    (layout_start (viewed g found).its line.serial (layout (length readers.items)) last (created_at line) fault refused) in
+    (layout_start (viewed g found).its line.serial f (run_params (length readers.items)) readers.items last (created_at line) fault
+    refused) in
     err_given c.from_residual-in_err-find_layout.result _ Cause (λ other is. subst Cause (sym is) cause)
     c.from_residual-in_err-find_layout.ensures.1
 
@@ -64,17 +67,18 @@ returns-in_err-output-clause-cause g c words first good at =
     let found = (goal.at.returns-in_err-output-clause-cause g c).After-unwrap-options in
     let line = c.args.asked.line in
     let readers = c.in_ok-begun.begun.readers in
-    let layout : ℕ → LayoutValue = layout_of c.unwrap-options.result c.in_ok-begun.begun.formula in
+    let f = c.in_ok-begun.begun.formula in
+    let run_params : ℕ → RunParamsValue = run_params_of c.unwrap-options.result c.in_ok-begun.begun.cube f in
     let its = (viewed g found).its in
     let fault = c.in_err-output.field-0.0 in
     let last = c.begin.new.files in
     let after = c.create_checkpoint.new.files in
-    let none = subst (λ (n : ℕ). HasNoFault (layout n)) (c.len.ensures ∙ readers.ok.0) c.in_ok-find_layout.ensures.found in
+    let none = subst (λ (n : ℕ). HasNoFault (run_params n).layout) (c.len.ensures ∙ readers.ok.0) c.in_ok-find_layout.ensures.found in
     let refused = subst (λ (o : Option Text). IsNotCreated its last (created_path o (checkpoint_at line)) fault after)
     (sym c.requires.once) c.in_err-output.ensures.cause in
     let Cause : CommandFault → Type 0 = λ fault. IsCause (from_first (viewed g found) first) words fault after in
     let cause : Cause fault = started g found words first good at fault after
-    (create_start its line.serial (layout (length readers.items)) last (created_at line) fault after none refused) in
+    (create_start its line.serial f (run_params (length readers.items)) readers.items last (created_at line) fault after none refused) in
     err_given c.from_residual-in_err-output.result _ Cause (λ other is. subst Cause (sym is) cause)
     c.from_residual-in_err-output.ensures.1
 
@@ -83,18 +87,20 @@ returns-in-Err-clause-cause g c words first good at =
     let found = (goal.at.returns-in-Err-clause-cause g c).After-unwrap-options in
     let line = c.args.asked.line in
     let readers = c.in_ok-begun.begun.readers in
-    let layout : ℕ → LayoutValue = layout_of c.unwrap-options.result c.in_ok-begun.begun.formula in
+    let f = c.in_ok-begun.begun.formula in
+    let run_params : ℕ → RunParamsValue = run_params_of c.unwrap-options.result c.in_ok-begun.begun.cube f in
     let its = (viewed g found).its in
     let fault = c.in-Err.fault in
     let last = c.begin.new.files in
     let after = c.discard_it.new.files in
-    let none = subst (λ (n : ℕ). HasNoFault (layout n)) (c.len.ensures ∙ readers.ok.0) c.in_ok-find_layout.ensures.found in
+    let none = subst (λ (n : ℕ). HasNoFault (run_params n).layout) (c.len.ensures ∙ readers.ok.0) c.in_ok-find_layout.ensures.found in
     let unused = left_unused its last c.create_checkpoint.new.files after (checkpoint_at line) c.in_ok-output.output
     c.in_ok-output.ensures.created c.discard_it.ensures in
     let at_path = subst (λ (o : Option Text). IsLeftUnused its last (created_path o (checkpoint_at line)) after)
     (sym c.requires.once) unused in
     started g found words first good at fault after
-    (run_start its line.serial (layout (length readers.items)) last (created_at line) fault after none c.in-Err.ensures.cause at_path)
+    (run_start its line.serial f (run_params (length readers.items)) readers.items last (created_at line) fault after none
+    c.in-Err.ensures.cause at_path)
 
 pub returns-clause-outcome : goal.returns-clause-outcome
 returns-clause-outcome g c words first good at =
