@@ -111,11 +111,11 @@ CHECKPOINTS_TOP = """## Checkpoints"""
 CHECKPOINT_ROWS: Rows = [
     ("If a run with a checkpoint ends with status 3 or 8, the saved bytes are a text of a formula over the same variables. "
      "All its clauses follow from the run's formula.",
-     """[[CheckpointEntailed: (status ≡ 3) ⊎ (status ≡ 8)]], [[CheckpointEntailed: Save before path saved last × IsCheckpoint formula
+     """[[CheckpointEntailed: (status ≡ 3) ⊎ (status ≡ 8)]], [[CheckpointEntailed: Save before path saved after × IsCheckpoint formula
      saved]]. `Save` is [[fn command.saved: WasSaved F.creates F.Output.Sink.written F.keeps]]: a file was created at the
      path ([[Machine]]), and it was empty; these bytes went to it ([[WasSaved]], [[Sink]]); and it was kept."""),
-    ("The run's formula was read at FORMULA.", """[[CheckpointEntailed: Read first given.formula.now bytes next × IsFormulaText bytes
-     formula]], by what the words say ([[IsCommandLineOf]], [[IsSaidBy: formula : first_of (codes "FORMULA") rows ≡ Some
+    ("The run's formula was read at FORMULA.", """[[ComesLast: read : Read first given.formula.now bytes next]], [[ComesLast: is_text :
+     IsFormulaText bytes formula]], by what the words say ([[IsCommandLineOf]], [[IsSaidBy: formula : first_of (codes "FORMULA") rows ≡ Some
      given.formula.now]]). Then assumptions were read and streams opened ([[AreOpened]])."""),
     ("If each run of a chain writes its report, the next reads what it saved, and the last has status 0, no assignment "
      "satisfies the first formula.",

@@ -7,7 +7,9 @@ use Rattle.lrup_model.specs.Cube.{CubeValue}
 use Rattle.lrup_model.specs.Formula.{Cnf}
 use Rattle.lrup_model.specs.Layout.{LayoutValue, IsFault, IsStream}
 use Rattle.lrup_model.specs.declared.layout.LayoutFault.{LayoutFault}
+use Rattle.lrup_text.specs.ReadOut.{SourceView}
 use Rattle.portfolio.specs.Outcomes.{OptionsValue, layout_of, run_params_of}
+use Rattle.portfolio.specs.RingStops.{StopsAtRing}
 use Rattle.runs.specs.Streams.{RunParamsValue}
 use Rattle.portfolio.specs.declared.outcome.RunFault.{RunFault}
 use Rattle.portfolio.specs.declared.outcome.RunFault.TheVariants as runs
@@ -23,7 +25,7 @@ use Rattle.command.specs.Commands.{AreAssumed, AreChecked, AreOpened, Deeds, Fil
 use Rattle.command.specs.Commands.{IsFormulaAt, IsLeftUnused, IsOpenCause, IsOutcome, IsReadCause, IsStartCause, IsUnsatisfiableTextWith}
 use Rattle.command.specs.Commands.{LeavesBehind, LeavesCheckpoint, NameUnsatisfiable, NameUnsatisfiableUnder, SavesCheckpoint, Text}
 use Rattle.command.specs.Commands.{WasRead, WasReadIn}
-use Rattle.command.specs.Commands.{assumed_at, checkpoint_at, created_at, created_path, layout_at, options_of, run_params_given}
+use Rattle.command.specs.Commands.{assumed_at, checkpoint_at, created_at, created_path, options_of, run_params_given}
 use Rattle.command.specs.internal.Running.{IsLayoutCause, IsRunCause}
 use Rattle.command.specs.internal.Saving.{IsNotCreated}
 use Rattle.command.specs.internal.FaultSources.{of_run}
@@ -55,19 +57,20 @@ no_ring : {T : Type 0} (stream : ℕ) (fault : LayoutFault) → Path (Result T R
 no_ring stream fault both = search (both, rules)
 
 -- the cause of a run's fault
-pub run_cause : {T : Type 0} (serial : Bool) (p : LayoutValue) (result : Result T RunFault) (fault : RunFault) → result ≡ Err fault
-    → ((fault : LayoutFault) → (result ≡ Err (runs.Layout fault)) ↔ IsFault p fault)
-    → ((stream : ℕ) → result ≡ Err (runs.Spawn stream) → (serial ≡ false) × IsStream p stream)
-    → ((stream : ℕ) → result ≡ Err (runs.Ring stream) → (serial ≡ false) × IsStream p stream)
-    → IsRunCause serial p (of_run fault)
-run_cause serial p result (runs.Layout fault) is layout spawn ring = (layout fault).0 is
-run_cause serial p result runs.Memory is layout spawn ring = tt
-run_cause serial p result (runs.Spawn stream) is layout spawn ring =
+pub run_cause : {T R : Type 0} (view : SourceView R) (serial : Bool) (f : Cnf) (run_params : RunParamsValue) (readers : List R)
+    (result : Result T RunFault) (fault : RunFault) → result ≡ Err fault
+    → ((fault : LayoutFault) → (result ≡ Err (runs.Layout fault)) ↔ IsFault run_params.layout fault)
+    → ((stream : ℕ) → result ≡ Err (runs.Spawn stream) → (serial ≡ false) × IsStream run_params.layout stream)
+    → ((stream : ℕ) → result ≡ Err (runs.Ring stream) → (serial ≡ false) × StopsAtRing view f run_params readers stream)
+    → IsRunCause view serial f run_params readers (of_run fault)
+run_cause view serial f run_params readers result (runs.Layout fault) is layout spawn ring = (layout fault).0 is
+run_cause view serial f run_params readers result runs.Memory is layout spawn ring = tt
+run_cause view serial f run_params readers result (runs.Spawn stream) is layout spawn ring =
     let started = spawn stream is in
     (λ fault refused. not_both stream fault (sym is ∙ (layout fault).1 refused), started.0, started.1)
-run_cause serial p result (runs.Ring stream) is layout spawn ring =
-    let started = ring stream is in
-    (λ fault refused. no_ring stream fault (sym is ∙ (layout fault).1 refused), started.0, started.1)
+run_cause view serial f run_params readers result (runs.Ring stream) is layout spawn ring =
+    let stopped = ring stream is in
+    (λ fault refused. no_ring stream fault (sym is ∙ (layout fault).1 refused), stopped.0, stopped.1)
 
 -- a run with an outcome has a layout
 pub has_layout : {T : Type 0} (p : LayoutValue) (result : Result T RunFault) (outcome : T) → result ≡ Ok outcome
@@ -77,11 +80,11 @@ has_layout p result outcome is layout fault refused =
     let both : Ok outcome ≡ Err (runs.Layout fault) = sym is ∙ (layout fault).1 refused in
     search (both, rules)
 
--- the layout is that of the command line
-same_layout : (options : OptionsValue) (f : Cnf) (given : CommandLine) (count : ℕ) → options ≡ options_of given
-    → count ≡ length given.streams → layout_of options f count ≡ layout_at given f
-same_layout options f given count options_are count_is =
-    ap (λ o. layout_of o f count) options_are ∙ ap (layout_of (options_of given) f) count_is
+-- the parameters are those of the command line
+same_params : (options : OptionsValue) (cube : CubeValue) (f : Cnf) (given : CommandLine) (count : ℕ) → options ≡ options_of given
+    → count ≡ length given.streams → run_params_of options cube f count ≡ run_params_given given cube f
+same_params options cube f given count options_are count_is =
+    ap (λ o. run_params_of o cube f count) options_are ∙ ap (run_params_of (options_of given) cube f) count_is
 
 same_count : {A B C : Type 0} (f : A → C) (g : B → C) (xs : List A) (ys : List B) → map f xs ≡ map g ys → length xs ≡ length ys
 same_count f g xs ys same = sym (length-map xs f) ∙ ap length same ∙ length-map ys g
@@ -127,8 +130,7 @@ pub is_outcome : (files : FilesView) (words : List Text) (given : CommandLine) (
 is_outcome files words given f cube options readers next later last line at assumed options_are opened entries_are reports verdict unsaved
     after left =
     let run_params : run_params_of options cube f (length readers) ≡ run_params_given given cube f =
-    ap (λ o. run_params_of o cube f (length readers)) options_are
-    ∙ ap (run_params_of (options_of given) cube f) (same_count _ _ readers given.streams entries_are) in
+    same_params options cube f given (length readers) options_are (same_count _ _ readers given.streams entries_are) in
     let moved = subst (λ (t : RunParamsValue). (checked : AreChecked files.its.reading given.serial f t readers reports verdict)
     × LeavesBehind files.its (SavesCheckpoint files.its f t.layout checked.ran.run.history checked.dropped) verdict last
     (checkpoint_at given) unsaved after) run_params left in
@@ -198,7 +200,8 @@ module _ (files : FilesView) (words : List Text) (given : CommandLine) (line : I
 
       pub start_cause : (readers : List files.its.Reader) (last : files.its.State)
           → AreOpened files.its.opens later given.streams readers last → (fault : CommandFault) (after : files.its.State)
-          → IsStartCause files.its given.serial (layout_at given f) last (created_at given) fault after → IsCause files words fault after
+          → IsStartCause files.its given.serial f (run_params_given given cube f) readers last (created_at given) fault after
+          → IsCause files words fault after
       start_cause readers last opened (faults.Layout fault) after cause =
           (given, line, inr (f, next, at, inr (cube, later, assumed, inr (readers, last, opened, cause))))
       start_cause readers last opened faults.NotCreated after cause =
@@ -218,37 +221,30 @@ created_once (Checkpoint path) once = refl
 created_once (Rounds folder) once = absurd (let no : Some folder.now ≡ None = once in cc)
 
 -- why streams that were opened weren't checked: there is no layout
-module _ (its : Deeds) (serial : Bool) (layout : LayoutValue) (before : its.State) (path : Option Text) where
-  pub layout_start : (fault : CommandFault) → IsLayoutCause layout fault → IsStartCause its serial layout before path fault before
+module _ (its : Deeds) (serial : Bool) (f : Cnf) (run_params : RunParamsValue) (readers : List its.Reader) (before : its.State)
+    (path : Option Text) where
+  abbrev Starts : CommandFault → its.State → Type 0
+  Starts fault after = IsStartCause its serial f run_params readers before path fault after
+
+  pub layout_start : (fault : CommandFault) → IsLayoutCause run_params.layout fault → Starts fault before
   layout_start (faults.Layout fault) cause = (cause, refl)
   layout_start fault cause = absurd cause
 
   -- or the file wasn't created
-  pub create_start : (fault : CommandFault) (after : its.State) → HasNoFault layout → IsNotCreated its before path fault after
-      → IsStartCause its serial layout before path fault after
+  pub create_start : (fault : CommandFault) (after : its.State) → HasNoFault run_params.layout → IsNotCreated its before path fault after
+      → Starts fault after
   create_start faults.NotCreated after none cause = (none, cause)
   create_start faults.Memory after none cause = inr (none, inl cause)
   create_start fault after none cause = absurd cause
 
   -- or it was, and was discarded since the run had a fault
-  pub run_start : (fault : CommandFault) (after : its.State) → HasNoFault layout → IsRunCause serial layout fault
-      → IsLeftUnused its before path after → IsStartCause its serial layout before path fault after
+  pub run_start : (fault : CommandFault) (after : its.State) → HasNoFault run_params.layout
+      → IsRunCause its.reading serial f run_params readers fault → IsLeftUnused its before path after → Starts fault after
   run_start (faults.Layout fault) after none cause unused = absurd (none fault cause)
   run_start (faults.Spawn stream) after none cause unused = (cause.0, cause.1, cause.2, unused)
   run_start (faults.Ring stream) after none cause unused = (cause.0, cause.1, cause.2, unused)
   run_start faults.Memory after none cause unused = inr (none, inr unused)
   run_start fault after none cause unused = absurd cause
-
--- so by the layout that a run has
-pub start_moved : (files : FilesView) (given : CommandLine) (f : Cnf) (options : OptionsValue) (readers : List files.its.Reader)
-    → options ≡ options_of given → map files.its.reading.left readers ≡ map files.tells given.streams
-    → (serial : Bool) (before : files.its.State) (path : Option Text) (fault : CommandFault) (after : files.its.State)
-    → IsStartCause files.its serial (layout_of options f (length readers)) before path fault after
-    → IsStartCause files.its serial (layout_at given f) before path fault after
-start_moved files given f options readers options_are entries_are serial before path fault after =
-    let count = same_count _ _ readers given.streams entries_are in
-    subst (λ (p : LayoutValue). IsStartCause files.its serial p before path fault after)
-    (same_layout options f given (length readers) options_are count)
 
 -- so of the words and the files
 pub begun_cause : (files : FilesView) (words : List Text) (given : CommandLine) (f : Cnf) (cube : CubeValue) (options : OptionsValue)
@@ -258,8 +254,10 @@ pub begun_cause : (files : FilesView) (words : List Text) (given : CommandLine) 
     → options ≡ options_of given → AreOpened files.its.opens later given.streams readers last
     → map files.its.reading.left readers ≡ map files.tells given.streams
     → (fault : CommandFault) (after : files.its.State)
-    → IsStartCause files.its given.serial (layout_of options f (length readers)) last (created_at given) fault after
+    → IsStartCause files.its given.serial f (run_params_of options cube f (length readers)) readers last (created_at given) fault after
     → IsCause files words fault after
 begun_cause files words given f cube options readers next later last line at assumed options_are opened entries_are fault after cause =
+    let count = same_count _ _ readers given.streams entries_are in
     start_cause files words given line f next at cube later assumed readers last opened fault after
-    (start_moved files given f options readers options_are entries_are given.serial last (created_at given) fault after cause)
+    (subst (λ (p : RunParamsValue). IsStartCause files.its given.serial f p readers last (created_at given) fault after)
+    (same_params options cube f given (length readers) options_are count) cause)

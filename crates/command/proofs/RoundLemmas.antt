@@ -26,8 +26,8 @@ use Rattle.command_line.specs.CommandLine.{rounds_of}
 use Rattle.command_line.specs.declared.words.CommandLine.{CommandLine}
 use Rattle.command_line.specs.declared.words.Next.{Next}
 use Rattle.command_line.specs.declared.words.Next.TheVariants.{Checkpoint, Nothing, Rounds}
-use Rattle.command.specs.Commands.{AreOpened, Deeds, IsStartCause, Text, WasRead, checkpoint_at, created_at, created_path, layout_at}
-use Rattle.command.specs.Commands.{path_of, rounds_at}
+use Rattle.command.specs.Commands.{AreOpened, Deeds, IsStartCause, Text, created_at, created_path}
+use Rattle.command.specs.Commands.{rounds_at, run_params_given}
 use Rattle.command.specs.Paths.{formula_path, sizes_path, stream_path, stream_paths}
 use Rattle.command.specs.Rounds.{AreRounds, AreSized, CarriesOn, SavesAfter, IsBarred, IsRoundCause, IsRoundStartCause, IsSizesCause}
 use Rattle.command.specs.Rounds.{Plan, Round, RoundsEnd, SavesRound, StreamsOpened, options_by, plan_at, sizes_of}
@@ -286,9 +286,13 @@ pub sizes_cause : (its : Deeds) (before : its.State) (path : Text) (reader : its
 sizes_cause its before path reader after opened left faults.SizesUnread cause =
     inr (record { reader = reader; opened = opened; left = left; broken = cause.0; few = cause.1 })
 sizes_cause its before path reader after opened left faults.Sizes (inl (bytes, whole, none, few)) =
-    let read : WasRead its.opens its.reading.reads (its.tells before) before path bytes after =
-    record { reader = reader; opened = opened; gave = whole.gave; told = λ all told. whole.told all (left ∙ told) } in
-    record { reader = reader; opened = opened; bytes = bytes; few = few; holds = inl (read, none) }
+    record {
+      reader = reader;
+      opened = opened;
+      bytes = bytes;
+      few = few;
+      holds = inl (whole.gave, λ all told. whole.told all (left ∙ told), none);
+    }
 sizes_cause its before path reader after opened left faults.Sizes (inr (bytes, last, gave, is, told)) =
     record {
       reader = reader;
@@ -308,11 +312,11 @@ created_in_rounds (Rounds other) folder asked = ap (option_map (λ at. formula_p
 
 -- why round 1, whose streams were opened, has no report, by the words
 pub first_start : (its : Deeds) (plan : Plan) (given : CommandLine) (cube : CubeValue) (folder : Text) (f : Cnf)
-    (opened : its.State) → rounds_at given ≡ Some folder → (fault : CommandFault) (after : its.State)
-    → IsRoundStartCause its (plan_at given cube folder) 1 f (sizes_of given) opened fault after
-    → IsStartCause its given.serial (layout_at given f) opened (created_at given) fault after
-first_start its plan given cube folder f opened asked fault after cause =
-    subst (λ (o : Option Text). IsStartCause its given.serial (layout_at given f) opened o fault after)
+    (readers : List its.Reader) (opened : its.State) → rounds_at given ≡ Some folder → (fault : CommandFault) (after : its.State)
+    → IsRoundStartCause its (plan_at given cube folder) 1 f (sizes_of given) readers opened fault after
+    → IsStartCause its given.serial f (run_params_given given cube f) readers opened (created_at given) fault after
+first_start its plan given cube folder f readers opened asked fault after cause =
+    subst (λ (o : Option Text). IsStartCause its given.serial f (run_params_given given cube f) readers opened o fault after)
     (created_in_rounds given.next folder asked) cause
 
 -- why a round doesn't go on, of which nothing was carried

@@ -13,9 +13,10 @@ use Rattle.checkpoint.specs.Checkpoints.{IsCheckpoint}
 use Rattle.checkpoint.specs.declared.saving.SaveFault.{SaveFault}
 use Rattle.command_line.specs.CommandLine.{AskToSave}
 use Rattle.command_line.specs.lemmas.NextLemmas.{asks_for_one}
-use Rattle.command.specs.Commands.{CheckpointEntailed, CheckpointLeftEmpty, ClosesSink, Deeds, EndsWithFault, EndsWithReport, FilesView}
-use Rattle.command.specs.Commands.{IsAssumeCause, IsCause, IsOutcome, LeavesBehind, LeavesFile, SavesCheckpoint, SinkChange, Text}
-use Rattle.command.specs.Commands.{WasReadIn, WasSavedBy, assumed_at, checkpoint_at, layout_at, report_status}
+use Rattle.command.specs.Commands.{CheckpointEntailed, CheckpointLeftEmpty, ClosesSink, ComesLast, Deeds, EndsWithFault}
+use Rattle.command.specs.Commands.{EndsWithReport, FilesView, IsAssumeCause, IsCause, IsOutcome, LeavesBehind, LeavesFile}
+use Rattle.command.specs.Commands.{SavesCheckpoint, SinkChange, Text, WasReadIn, WasSavedBy}
+use Rattle.command.specs.Commands.{assumed_at, checkpoint_at, layout_at, report_status}
 use Rattle.command.specs.Faults.{status_of}
 use Rattle.command.specs.declared.fault.CommandFault.{CommandFault}
 use Rattle.command.specs.declared.fault.CommandFault.TheVariants as faults
@@ -180,35 +181,38 @@ module _ (files : FilesView) where
       subst (λ (o : Option Text). LeavesBehind files.its (Saves words report.reports report.verdict outcome) report.verdict outcome.last o
       report.unsaved after) asked report.checkpoint
 
+  -- what was done after the streams were opened
+  comes_last : (words : List Text) (reports : List Report) (verdict : Verdict) (outcome : IsOutcome files words reports verdict)
+      (Came : Cnf → files.its.State → files.its.State → Type 0) (after : files.its.State) → Came outcome.formula outcome.last after
+      → ComesLast files.its.opens (WasReadIn files) Came files.first words after
+  comes_last words reports verdict outcome Came after came = record {
+    given = outcome.given;
+    command_line = outcome.command_line;
+    bytes = outcome.is_formula.0;
+    formula = outcome.formula;
+    next = outcome.next;
+    read = outcome.is_formula.1;
+    is_text = outcome.is_formula.2;
+    cube = outcome.cube;
+    later = outcome.later;
+    assumed = outcome.assumed;
+    readers = outcome.readers;
+    before = outcome.last;
+    opened = outcome.opened;
+    came = came;
+  }
+
   pub ends_saved : (words : List Text) (after : files.its.State) (out err : SinkChange) (status : ℕ)
       → EndsWithReport files words after out err status ⊎ EndsWithFault files words after out err status
       → CheckpointEntailed files.its.opens (WasReadIn files) (WasSavedBy files.its) files.first words after status
   ends_saved words after out err status (inl report) path ask is =
       let outcome = report.outcome in
-      let given = outcome.given in
       let leaves = left_at words after out err status report path ask in
       let statuses = subst (λ (n : ℕ). (n ≡ 3) ⊎ (n ≡ 8)) report.status_is is in
       let saved = leaves_saved files.its (Saves words report.reports report.verdict outcome) outcome.formula
       (λ next first last saves. (saves.checkpoint.bytes, saves.checkpoint.written, saves.checkpoint.checkpoint)) out.failed report.unsaved
       report.verdict path outcome.last after statuses leaves in
-      let read = outcome.is_formula in (
-        given,
-        outcome.formula,
-        outcome.cube,
-        read.0,
-        saved.0,
-        outcome.next,
-        outcome.later,
-        outcome.last,
-        outcome.readers,
-        outcome.command_line,
-        read.1,
-        read.2,
-        outcome.assumed,
-        outcome.opened,
-        saved.1,
-        saved.2,
-      )
+      comes_last words report.reports report.verdict outcome _ after saved
   ends_saved words after out err status (inr fault) path ask is =
       absurd (no_fault fault.fault (subst (λ (n : ℕ). (n ≡ 3) ⊎ (n ≡ 8)) fault.status_is is))
 
@@ -237,14 +241,14 @@ no_zero faults.Sizes is = let no : Path ℕ 2 0 = is in cc
 
 pub ends_empty : (files : FilesView) (words : List Text) (after : files.its.State) (out err : SinkChange) (status : ℕ)
     → EndsWithReport files words after out err status ⊎ EndsWithFault files words after out err status
-    → CheckpointLeftEmpty files.its words after status
+    → CheckpointLeftEmpty files words after status
 ends_empty files words after out err status (inl report) path ask is =
     let outcome = report.outcome in
     let refuted = zero_is out.failed report.unsaved report.verdict (sym report.status_is ∙ is) in
     let leaves = left_at files words after out err status report path ask in
     let left = subst (λ (verdict : Verdict). LeavesBehind files.its (Saves files words report.reports report.verdict outcome) verdict
     outcome.last (Some path) report.unsaved after) refuted leaves in
-    (outcome.last, left.1)
+    comes_last files words report.reports report.verdict outcome _ after left.1
 ends_empty files words after out err status (inr fault) path ask is = absurd (no_zero fault.fault (sym fault.status_is ∙ is))
 
 -- ---- the same, where the program may end in rounds
@@ -296,7 +300,7 @@ module _ (files : FilesView) (words : List Text) where
   all_saved after out err status (inr (inr rounds)) path ask is = absurd (not_both after out err status path ask rounds)
 
   pub all_empty : (after : files.its.State) (out err : SinkChange) (status : ℕ) → ProgramEnds files words after out err status
-      → CheckpointLeftEmpty files.its words after status
+      → CheckpointLeftEmpty files words after status
   all_empty after out err status (inl report) path ask is = ends_empty files words after out err status (inl report.0) path ask is
   all_empty after out err status (inr (inl fault)) path ask is = ends_empty files words after out err status (inr fault) path ask is
   all_empty after out err status (inr (inr rounds)) path ask is = absurd (not_both after out err status path ask rounds)

@@ -24,6 +24,7 @@ use Rattle.stream_check.specs.declared.report.Report.{Report}
 use Rattle.portfolio.specs.Histories.{IsRunOf, way_of}
 use Rattle.portfolio.specs.Outcomes.{OptionsValue, layout_of, run_params_of, verdict_of}
 use Rattle.portfolio.specs.ReportText.{report_text}
+use Rattle.portfolio.specs.RingStops.{StopsAtRing}
 use Rattle.portfolio.specs.Saving.{SavesState, is_wanted}
 use Rattle.runs.specs.Readings.{readers_view}
 use Rattle.runs.specs.Streams.{RunParamsValue}
@@ -93,12 +94,6 @@ pub record IsLeftEmpty {F W : Type 0} (creates : F → Text → W → F → Type
   pub empty : ForSome (written output) (λ all. all ≡ [])
   pub discarded : discards next output after
 
--- That is the last that was done to the files.
-abbrev pub WasLeftEmpty : {F W : Type 0} → (F → Text → W → F → Type 0) → (W → Option (List ℕ))
-    → (F → W → F → Type 0) → Text → F → Type 0
-WasLeftEmpty {F = F} creates written discards path last =
-    (before : F) × IsLeftEmpty creates written discards before path last
-
 -- what was read of the file of the assumed literals, over the variables 1 to vars; without a path
 -- there are none, and nothing is opened
 abbrev pub AreAssumed : {F : Type 0} → (F → Text → List ℕ → F → Type 0) → ℕ → F → Option Text
@@ -143,20 +138,35 @@ AreOpened {F = F} opens before (path ∷ paths) (reader ∷ readers) after =
     (next : F) × opens before path reader next × AreOpened opens next paths readers after
 AreOpened opens before _ _ after = ⊥
 
--- With status 3 or 8, if the words ask for a checkpoint at a path: the bytes that were read of the file at FORMULA, the first to be
--- opened, are a text of a formula; then the assumed literals were read, if any, and the streams opened; then a checkpoint of the
--- formula was saved at the path, as the last that was done to the files.
+-- The bytes that were read of the file at FORMULA, the first to be opened, are a text of a formula; then the assumed literals were read,
+-- if any, and the streams opened. What came after that, as the last that was done to the files, is `Came` of the formula.
+pub record ComesLast {F R : Type 0} (opens : F → Text → R → F → Type 0)
+    (Read : F → Text → List ℕ → F → Type 0) (Came : Cnf → F → F → Type 0) (first : F)
+    (words : List Text) (last : F) : Type 0 where
+  pub given : CommandLine
+  pub command_line : IsCommandLineOf words given
+  pub bytes : List ℕ
+  pub formula : Cnf
+  pub next : F
+  pub read : Read first given.formula.now bytes next
+  pub is_text : IsFormulaText bytes formula
+  pub cube : CubeValue
+  pub later : F
+  pub assumed : AreAssumed Read formula.vars next (assumed_at given) cube later
+  pub readers : List R
+  pub before : F
+  pub opened : AreOpened opens later given.streams readers before
+  pub came : Came formula before last
+
+-- With status 3 or 8, if the words ask for a checkpoint at a path: a checkpoint of the formula was saved there, as the last that was done
+-- to the files.
 abbrev pub CheckpointEntailed : {F R : Type 0} → (F → Text → R → F → Type 0)
     → (F → Text → List ℕ → F → Type 0) → (F → Text → List ℕ → F → Type 0) → F → List Text → F → ℕ
     → Type 0
-CheckpointEntailed {F = F} {R = R} opens Read Save first words last status =
+CheckpointEntailed opens Read Save first words last status =
     (path : Text) → AskToSave words path → (status ≡ 3) ⊎ (status ≡ 8)
-    → (given : CommandLine) × (formula : Cnf) × (cube : CubeValue) × (bytes saved : List ℕ)
-    × (next later before : F) × (readers : List R) × IsCommandLineOf words given
-    × Read first given.formula.now bytes next × IsFormulaText bytes formula
-    × AreAssumed Read formula.vars next (assumed_at given) cube later
-    × AreOpened opens later given.streams readers before
-    × Save before path saved last × IsCheckpoint formula saved
+    → ComesLast opens Read (λ formula before after. (saved : List ℕ)
+    × Save before path saved after × IsCheckpoint formula saved) first words last
 
 -- the options of a command line
 abbrev pub options_of : CommandLine → OptionsValue
@@ -253,12 +263,14 @@ WasReadIn files = WasRead files.its.opens files.its.reading.reads files.tells
 abbrev pub WasSavedBy : (its : Deeds) → its.State → Text → List ℕ → its.State → Type 0
 WasSavedBy its = WasSaved its.creates its.written its.keeps
 
--- With status 0, if the words ask for a checkpoint, none was written: the last that was done to the files was that one was created
--- at that path, and discarded before anything went to it.
-abbrev pub CheckpointLeftEmpty : (its : Deeds) → List Text → its.State → ℕ → Type 0
-CheckpointLeftEmpty its words last status =
+-- With status 0, if the words ask for a checkpoint at a path, none was written: its file was created there, and discarded before anything
+-- went to it, as the last that was done to the files.
+abbrev pub CheckpointLeftEmpty : (files : FilesView) → List Text → files.its.State → ℕ → Type 0
+CheckpointLeftEmpty files words last status =
     (path : Text) → AskToSave words path → status ≡ 0
-    → WasLeftEmpty its.creates its.written its.discards path last
+    → ComesLast files.its.opens (WasReadIn files) (λ formula before after.
+    IsLeftEmpty files.its.creates files.its.written files.its.discards before path after)
+    files.first words last
 
 -- the formula whose text was read of the file at a path, the first to be opened, and the files after that
 abbrev pub IsFormulaAt : (files : FilesView) → Text → Cnf → files.its.State → Type 0
@@ -457,25 +469,26 @@ IsRefusedNew its before (Some path) fault after = its.refuses_new before path fa
 abbrev pub HasNoFault : LayoutValue → Type 0
 HasNoFault layout = (fault : LayoutFault) → IsFault layout fault → ⊥
 
--- why streams weren't checked, which were opened: there is no layout; or there is one, and the file at the path wasn't created, if there is
--- to be one; or it was, and a thread wasn't started, or what it sent had no end
-abbrev pub IsStartCause : (its : Deeds) → Bool → LayoutValue → its.State → Option Text
-    → CommandFault → its.State → Type 0
-IsStartCause its serial layout before path (faults.Layout fault) after =
-    IsFault layout fault × (after ≡ before)
-IsStartCause its serial layout before path faults.NotCreated after =
-    HasNoFault layout × IsRefusedNew its before path open_faults.NotOpened after
-IsStartCause its serial layout before path (faults.Spawn stream) after =
-    HasNoFault layout × (serial ≡ false) × IsStream layout stream
+-- why the streams of a formula, which were opened as these readers, weren't checked: there is no layout; or there is one, and the file at
+-- the path wasn't created, if there is to be one; or it was, and a thread wasn't started, or what it sent had no end
+abbrev pub IsStartCause : (its : Deeds) → Bool → Cnf → RunParamsValue → List its.Reader → its.State
+    → Option Text → CommandFault → its.State → Type 0
+IsStartCause its serial formula run_params readers before path (faults.Layout fault) after =
+    IsFault run_params.layout fault × (after ≡ before)
+IsStartCause its serial formula run_params readers before path faults.NotCreated after =
+    HasNoFault run_params.layout × IsRefusedNew its before path open_faults.NotOpened after
+IsStartCause its serial formula run_params readers before path (faults.Spawn stream) after =
+    HasNoFault run_params.layout × (serial ≡ false) × IsStream run_params.layout stream
     × IsLeftUnused its before path after
-IsStartCause its serial layout before path (faults.Ring stream) after =
-    HasNoFault layout × (serial ≡ false) × IsStream layout stream
+IsStartCause its serial formula run_params readers before path (faults.Ring stream) after =
+    HasNoFault run_params.layout × (serial ≡ false)
+    × StopsAtRing its.reading formula run_params readers stream
     × IsLeftUnused its before path after
-IsStartCause its serial layout before path faults.Memory after =
+IsStartCause its serial formula run_params readers before path faults.Memory after =
     (after ≡ before)
-    ⊎ (HasNoFault layout × (IsRefusedNew its before path open_faults.Memory after
+    ⊎ (HasNoFault run_params.layout × (IsRefusedNew its before path open_faults.Memory after
     ⊎ IsLeftUnused its before path after))
-IsStartCause its serial layout before path fault after = ⊥
+IsStartCause its serial formula run_params readers before path fault after = ⊥
 
 -- the cause of a fault of the formula; or, of a formula that was read, of a fault of the assumed literals; or, of both that were read,
 -- of a fault of the opening of the streams; or, of streams that were opened, of their check
@@ -490,8 +503,8 @@ IsCauseAt files given fault after =
     × (IsOpenCause files.its 0 later given.streams fault after
     ⊎ ((readers : List files.its.Reader) × (last : files.its.State)
     × AreOpened files.its.opens later given.streams readers last
-    × IsStartCause files.its given.serial (layout_at given formula) last (created_at given) fault
-    after)))))
+    × IsStartCause files.its given.serial formula (run_params_given given cube formula) readers last
+    (created_at given) fault after)))))
 
 -- Why there is no outcome, by the words and the files, and the files then. Words with a fault, words that ask for a checkpoint and for
 -- rounds, or the want of memory for them, leave the files as they were.

@@ -9,7 +9,7 @@ use Rattle.lrup_model.specs.Event.{History}
 use Rattle.lrup_model.specs.Formula.{Cnf}
 use Rattle.lrup_model.specs.Layout.{LayoutValue}
 use Rattle.lrup_model.specs.State.{state}
-use Rattle.lrup_text.specs.Reads.{Gave}
+use Rattle.lrup_text.specs.Reads.{Gave, GaveAll}
 use Rattle.runs.specs.Streams.{RunParamsValue}
 use Rattle.stream_check.specs.DroppedIdsValue.{DroppedIdsValue}
 use Rattle.stream_check.specs.declared.report.Ending.TheVariants as endings
@@ -180,15 +180,16 @@ RoundsEnd {its} {plan} number last after =
 -- Causes.
 
 -- The file at the path was opened, and what it holds is no text of sizes: at most 64 bytes were read of it to its end, and they aren't; or
--- it begins with 64 bytes, which are more than the longest has.
+-- 64 bytes were read of it, which are more than the longest has. Where the device tells the file's bytes, they are these, or begin with
+-- them.
 pub record HoldsNoSizes (its : Deeds) (before : its.State) (path : Text)
     (after : its.State) : Type 0 where
   pub reader : its.Reader
   pub opened : its.opens before path reader after
   pub bytes : List ℕ
   pub few : length bytes ≤ 64
-  pub holds : (WasRead its.opens its.reading.reads (its.tells before) before path bytes after
-      × HaveNoSizes bytes)
+  pub holds : (GaveAll its.Reader its.reading.reads reader bytes
+      × ForSome (its.tells before path) (λ all. all ≡ bytes) × HaveNoSizes bytes)
       ⊎ ((last : its.Reader) × Gave its.Reader its.reading.reads reader bytes last
       × (length bytes ≡ 64)
       × ForSome (its.tells before path) (λ all. (rest : List ℕ) × (all ≡ bytes ++ rest)))
@@ -235,10 +236,10 @@ IsStreamCause its before folder number streams fault after =
     × IsOpenCause its 1 next (drop 1 (stream_paths folder number streams)) fault after)
 
 -- why the streams of a round that were opened weren't checked: as of a run's, with a file for the next round's formula
-abbrev pub IsRoundStartCause : (its : Deeds) → Plan → ℕ → Cnf → Sizes → its.State → CommandFault
-    → its.State → Type 0
-IsRoundStartCause its plan number formula sizes opened fault after =
-    IsStartCause its plan.serial (run_params_by plan formula sizes).layout opened
+abbrev pub IsRoundStartCause : (its : Deeds) → Plan → ℕ → Cnf → Sizes → List its.Reader → its.State
+    → CommandFault → its.State → Type 0
+IsRoundStartCause its plan number formula sizes readers opened fault after =
+    IsStartCause its plan.serial formula (run_params_by plan formula sizes) readers opened
     (Some (formula_path plan.folder (number + 1))) fault after
 
 -- why the round after the one with this number, of this formula, has no report: of its sizes; or, once they were read, of the opening
@@ -252,7 +253,7 @@ IsRoundCause its plan number old formula before fault after =
     × (IsStreamCause its sized plan.folder (number + 1) sizes.streams fault after
     ⊎ ((readers : List its.Reader) × (opened : its.State)
     × StreamsOpened its sized (stream_paths plan.folder (number + 1) sizes.streams) readers opened
-    × IsRoundStartCause its plan (number + 1) formula sizes opened fault after)))
+    × IsRoundStartCause its plan (number + 1) formula sizes readers opened fault after)))
 
 -- why the round after the one with this number, which goes on, has no report, and the files then
 abbrev pub IsNextCause : {its : Deeds} {plan : Plan} → ℕ → Round its plan → CommandFault

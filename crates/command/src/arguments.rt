@@ -61,8 +61,8 @@ pub fn command_with_arguments<
     ensures saved_rounds { IfOk arguments (λ given. RoundsEntailed (⟦<F as Viewed>⟧.view files.old)
         (words_after_name given) files.new (change O.Sink out.old out.new)
         (change E.Sink err.old err.new) (exit_status result)) }
-    ensures none_saved { IfOk arguments (λ given. CheckpointLeftEmpty ⟦<F as Viewed>⟧.deeds
-        (words_after_name given) files.new (exit_status result)) }
+    ensures none_saved { IfOk arguments (λ given. CheckpointLeftEmpty
+        (⟦<F as Viewed>⟧.view files.old) (words_after_name given) files.new (exit_status result)) }
     ensures usage { IfOk arguments (λ given. HaveFault (words_after_name given)
         → (exit_status result ≡ 2) ⊎ (exit_status result ≡ 6)) }
     // If it gives none, the program says why.

@@ -156,8 +156,8 @@ pub(crate) fn check_streams<T: Threads + Wait + Sync, C: Clock + Sync, F: Machin
         checked.next ≡ None → (checked.found.verdict ≡ Verdict.Unsatisfiable)
         ⊎ ((fault : SaveFault) × (checked.found.unsaved ≡ Some fault))) }
     ensures cause { let run_params = run_params_on setup.now formula (length readers.items) in
-        IfErr result (λ fault. IsStartCause ⟦<F as Viewed>⟧.deeds setup.now.serial run_params.layout
-        files.old (path_of path.entry) fault files.new) }
+        IfErr result (λ fault. IsStartCause ⟦<F as Viewed>⟧.deeds setup.now.serial formula
+        run_params readers.items files.old (path_of path.entry) fault files.new) }
 {
     find_layout(setup, &formula, readers.len())?;
     let output = create_checkpoint(files, path)?;

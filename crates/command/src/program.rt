@@ -79,10 +79,10 @@ pub fn command<T: Threads + Wait + Sync, C: Clock + Sync, F: Machine, O: Sink, E
     // of a formula over the same variables, each clause of which follows from that of FORMULA. With status 3 or 8 so did the last one.
     ensures saved_rounds { RoundsEntailed (⟦<F as Viewed>⟧.view files.old) (texts words.now)
         files.new (change O.Sink out.old out.new) (change E.Sink err.old err.new) result }
-    // With status 0, where the words ask for a checkpoint, none was written: the last that was done to the files was that one was
-    // created there, and discarded before anything went to it.
-    ensures none_saved { CheckpointLeftEmpty ⟦<F as Viewed>⟧.deeds (texts words.now) files.new
-        result }
+    // With status 0, where the words ask for a checkpoint, none was written: once the streams were opened, its file was created, and
+    // discarded before anything went to it. That is the last that was done to the files.
+    ensures none_saved { CheckpointLeftEmpty (⟦<F as Viewed>⟧.view files.old) (texts words.now)
+        files.new result }
     // Words with a fault have a status of their own, unless memory ran out.
     ensures usage { HaveFault (texts words.now) → (result ≡ 2) ⊎ (result ≡ 6) }
     // So does a report that wasn't written.

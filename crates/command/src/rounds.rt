@@ -60,7 +60,8 @@ fn check_round<T: Threads + Wait + Sync, C: Clock + Sync, F: Machine>(
     ensures number { IfOk result (λ found. found.last.number ≡ round.number) }
     ensures sizes { IfOk result (λ found. found.last.sizes ≡ round.sizes) }
     ensures cause { IfErr result (λ fault. IsRoundStartCause ⟦<F as Viewed>⟧.deeds
-        (plan_of course.now) round.number round.formula round.sizes files.old fault files.new) }
+        (plan_of course.now) round.number round.formula round.sizes round.readers.items files.old
+        fault files.new) }
 {
     let OpenRound {
         number,
@@ -286,7 +287,7 @@ fn go_on<T: Threads + Wait + Sync, C: Clock + Sync, F: Machine>(
         (first : F) (paths : List Text)
         → StreamsOpened its first paths round.readers.items files.old
         → IfErr result (λ failed. FailsAt its (plan_of course.now) round.formula round.sizes first
-        paths files.old failed files.new) }
+        paths round.readers.items files.old failed files.new) }
 {
     let checked = match check_round(threads, clock, alloc, course, round, files) {
         Ok(checked) => checked,

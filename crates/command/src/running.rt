@@ -55,7 +55,8 @@ pub(crate) fn run_streams<T: Threads + Wait + Sync, C: Clock + Sync, F: Machine>
         run.dropped.items) }
     ensures ready { IfOk result (λ run. CanBeSaved run.clauses) }
     ensures cause { let run_params = run_params_on setup.now formula.now (length readers.items) in
-        IfErr result (IsRunCause setup.now.serial run_params.layout) }
+        IfErr result (IsRunCause (readers_view F.Input.Source) setup.now.serial formula.now
+        run_params readers.items) }
 {
     if setup.serial {
         run_by_turns(threads, clock, alloc, setup, formula, watched, readers)
@@ -80,7 +81,8 @@ fn run_by_turns<W: Wait, C: Clock + Sync, F: Machine>(
         run_params readers.items run.reports.items run.verdict run.clauses run.dropped.items) }
     ensures ready { IfOk result (λ run. CanBeSaved run.clauses) }
     ensures cause { let run_params = run_params_on setup.now formula.now (length readers.items) in
-        IfErr result (IsRunCause true run_params.layout) }
+        IfErr result (IsRunCause (readers_view F.Input.Source) true formula.now run_params
+        readers.items) }
 {
     let gates = turn_gates(alloc, clock, watched, readers.len())?;
     let outcome = run_serial(
@@ -123,7 +125,8 @@ fn run_in_threads<T: Threads + Wait + Sync, C: Clock + Sync, F: Machine>(
         run_params readers.items run.reports.items run.verdict run.clauses run.dropped.items) }
     ensures ready { IfOk result (λ run. CanBeSaved run.clauses) }
     ensures cause { let run_params = run_params_on setup.now formula.now (length readers.items) in
-        IfErr result (IsRunCause false run_params.layout) }
+        IfErr result (IsRunCause (readers_view F.Input.Source) false formula.now run_params
+        readers.items) }
 {
     let gates = thread_gates(alloc, clock, watched, readers.len())?;
     let outcome = run(

@@ -1,4 +1,4 @@
--- Cubes: sets of literals that are assumed (textbook). A cube is kept as a list, and what is said of it reads the list as a set.
+-- Cubes: sets of literals that are assumed (textbook). A cube is kept as a list.
 use Rattle.std.specs.Prelude.{◌↔◌, ℕ, ℤ, neg_ℤ, List}
 use Rattle.std.specs.List.{AllByRecursion}
 use Rattle.lrup_model.specs.Literal.{IsLiteral}

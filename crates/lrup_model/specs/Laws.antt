@@ -16,19 +16,20 @@ use Rattle.lrup_model.specs.Pass.{View, PassMoves, pass_caller_view}
 
 -- Entailment
 
--- if hints show a clause, and all hinted clauses follow from a formula, then the clause follows
+-- if hints show a clause, and all hinted clauses are over a formula's variables and follow from it, then the clause follows from it
 abbrev pub PropagationSound : Type 0
 PropagationSound = (formula : Cnf) (clause : Clause) (hinted : List Clause)
     → AllByRecursion (IsDerived formula) hinted → Accepts clause hinted → Follows formula clause
 
--- if a clause follows, and assumptions make it false, no assignment under them satisfies the formula
+-- if a clause over a formula's variables follows from it, and assumptions make the clause false, no assignment under them satisfies the
+-- formula
 abbrev pub WithinRefutes : Type 0
 WithinRefutes = (formula : Cnf) (clause : Clause) (cube : CubeValue) → IsDerived formula clause
     → Within clause cube → IsUnsatisfiableUnder formula cube
 
 -- What a history leaves at an identity
 
--- every clause that a legal history leaves, live or retired, follows from the formula
+-- every clause that a legal history of a formula leaves, live or retired, is over the formula's variables and follows from it
 abbrev pub ClausesFollow : Type 0
 ClausesFollow = (formula : Cnf) (layout : LayoutValue) (history : History) (id : ℕ)
     (clause : Clause) → IsCnf formula → LegalFrom formula layout (opening formula) history

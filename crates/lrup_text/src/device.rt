@@ -37,7 +37,7 @@ pub trait Source {
     ghost has_failed: { Self → Bool };
 
     /// What a read does: it relates the source before, the buffer's length, the bytes given, or none after a fault, and the source
-    /// after. `GivesLeft` is what is true of a source that tells its bytes.
+    /// after.
     ghost reads: { Self → ℕ → Option (List ℕ) → Self → Type 0 };
 
     /// Reads bytes into the front of a buffer, and returns how many. 0 bytes, if the buffer isn't empty, are the end.

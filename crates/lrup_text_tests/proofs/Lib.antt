@@ -1,1 +1,2 @@
 mod CubeLemmas
+mod DeviceLemmas

@@ -56,16 +56,16 @@ module _ (its : Deeds) (plan : Plan) (number : ℕ) (old : Sizes) (formula : Cnf
   none_so : (fault : CommandFault) → (IsSizesCause its before (sizes_path plan.folder (number + 1)) fault after → ⊥)
       → ((from : its.State) (path : Text) → IsFirstCause its from path fault after → ⊥)
       → ((next : its.State) (paths : List Text) → IsOpenCause its 1 next paths fault after → ⊥)
-      → ((sizes : Sizes) (sized : its.State) → Read sizes sized → (opened : its.State) (path : Option Text)
-      → IsStartCause its plan.serial (run_params_by plan formula sizes).layout opened path fault after → ⊥)
+      → ((sizes : Sizes) (sized : its.State) → Read sizes sized → (readers : List its.Reader) (opened : its.State) (path : Option Text)
+      → IsStartCause its plan.serial formula (run_params_by plan formula sizes) readers opened path fault after → ⊥)
       → IsRoundCause its plan number old formula before fault after → ⊥
   none_so fault sizes first opens starts (inl cause) = sizes cause
   none_so fault sizes first opens starts (inr (read, sized, are, inl (inl cause))) =
       first sized (stream_path plan.folder (number + 1) 1) cause
   none_so fault sizes first opens starts (inr (read, sized, are, inl (inr (one, next, opened, cause)))) =
       opens next (drop 1 (stream_paths plan.folder (number + 1) read.streams)) cause
-  none_so fault sizes first opens starts (inr (read, sized, are, inr (readers, opened, so, cause))) = starts read sized are opened (Some
-      (formula_path plan.folder (number + 1 + 1))) cause
+  none_so fault sizes first opens starts (inr (read, sized, are, inr (readers, opened, so, cause))) =
+      starts read sized are readers opened (Some (formula_path plan.folder (number + 1 + 1))) cause
 
   module _ (Before Last : RoundAsk) (last : ℕ)
       (provided : IsProvided Before Last last its plan.folder (number + 1) old formula before) where
@@ -74,30 +74,30 @@ module _ (its : Deeds) (plan : Plan) (number : ℕ) (old : Sizes) (formula : Cnf
 
     pub of_round : (fault : CommandFault) → Cause fault → IsOfMachineInRound fault
     of_round (faults.Usage text) cause =
-        absurd (none_so (faults.Usage text) (λ x. x) (λ b p x. x) (λ n p x. x) (λ z s a o p x. x) cause)
+        absurd (none_so (faults.Usage text) (λ x. x) (λ b p x. x) (λ n p x. x) (λ z s a r o p x. x) cause)
     of_round faults.Unread cause = inl tt
     of_round (faults.Refused fault) cause =
-        absurd (none_so (faults.Refused fault) (λ x. x) (λ b p x. x) (λ n p x. x) (λ z s a o p x. x) cause)
+        absurd (none_so (faults.Refused fault) (λ x. x) (λ b p x. x) (λ n p x. x) (λ z s a r o p x. x) cause)
     of_round faults.CubeUnread cause = inl tt
     of_round (faults.CubeRefused fault) cause =
-        absurd (none_so (faults.CubeRefused fault) (λ x. x) (λ b p x. x) (λ n p x. x) (λ z s a o p x. x) cause)
+        absurd (none_so (faults.CubeRefused fault) (λ x. x) (λ b p x. x) (λ n p x. x) (λ z s a r o p x. x) cause)
     of_round (faults.NotOpened stream) cause = inl tt
     of_round (faults.Layout fault) cause =
         absurd (none_so (faults.Layout fault) (λ x. x) (λ b p x. x) (λ n p x. x)
-        (λ sizes sized are opened path wrong. (provided.ready sizes sized are).layout fault wrong.0) cause)
+        (λ sizes sized are readers opened path wrong. (provided.ready sizes sized are).layout fault wrong.0) cause)
     of_round (faults.Spawn stream) cause = inl tt
     of_round (faults.Ring stream) cause = inl tt
     of_round faults.Memory cause = inl tt
     of_round faults.Unwritten cause =
-        absurd (none_so faults.Unwritten (λ x. x) (λ b p x. x) (λ n p x. x) (λ z s a o p x. x) cause)
+        absurd (none_so faults.Unwritten (λ x. x) (λ b p x. x) (λ n p x. x) (λ z s a r o p x. x) cause)
     of_round faults.NotCreated cause = inl tt
     of_round (faults.NotSaved fault) cause =
-        absurd (none_so (faults.NotSaved fault) (λ x. x) (λ b p x. x) (λ n p x. x) (λ z s a o p x. x) cause)
+        absurd (none_so (faults.NotSaved fault) (λ x. x) (λ b p x. x) (λ n p x. x) (λ z s a r o p x. x) cause)
     of_round faults.TwoCheckpoints cause =
-        absurd (none_so faults.TwoCheckpoints (λ x. x) (λ b p x. x) (λ n p x. x) (λ z s a o p x. x) cause)
+        absurd (none_so faults.TwoCheckpoints (λ x. x) (λ b p x. x) (λ n p x. x) (λ z s a r o p x. x) cause)
     of_round faults.SizesUnread cause = inr refl
     of_round faults.Sizes cause =
-        absurd (none_so faults.Sizes (λ none. provided.sizes after none) (λ b p x. x) (λ n p x. x) (λ z s a o p x. x) cause)
+        absurd (none_so faults.Sizes (λ none. provided.sizes after none) (λ b p x. x) (λ n p x. x) (λ z s a r o p x. x) cause)
 
 -- Rounds
 

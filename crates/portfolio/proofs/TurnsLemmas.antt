@@ -391,13 +391,13 @@ module _ {S : Type 0} (view : SourceView S) where
 
   -- the reports have an order of lines, by turns, whose events leave the map as it is
   pub ordered_over : (f : Cnf) (run_params : RunParamsValue) (firsts : List S) (m : Plain) (ws : List (WorkerValue S))
-      (reports : List Report)
+      (reports : List Report) → length firsts ≡ run_params.layout.streams
       → SerialInvariant view f run_params firsts 0 m ws → HaveReports ws reports
       → (streams : List Stream) × AllZip MatchesInput (observations view firsts (map (λ w. w.reader) ws)) streams
       × AreRead S view.reads firsts (map (λ w. w.reader) ws) streams × ((ordered : IsOrderedByTurns f run_params streams reports)
       × HaveDropped run_params 1 streams reports (map (λ w. w.checker.dropped) ws)
       × (plain_state m ≡ state f (events_in ordered.order.blocks)))
-  ordered_over f run_params firsts m ws reports runs have =
+  ordered_over f run_params firsts m ws reports count runs have =
       let streams = streams_over run_params runs.blocks m 1 firsts ws reports runs.workers_are have in (
         streams.0,
         streams.1,
@@ -405,6 +405,7 @@ module _ {S : Type 0} (view : SourceView S) where
         (
           record {
             order = record {
+              count = observed_count _ _ streams.1 ∙ observed_as_many view firsts _ streams.0 streams.2 ∙ count;
               blocks = runs.blocks;
               within = runs.map_is.within;
               legal = record { events = runs.map_is.legal; room = within_room f run_params.layout runs.blocks m runs.map_is };
@@ -423,7 +424,7 @@ pub run_ordered : {S : Type 0} (view : SourceView S) (f : Cnf) (run_params : Run
     → (n : Plain) (reports : List Report) (lasts : List S) (dropped : List DroppedIdsValue) → SerialEnd view m ws n reports lasts dropped
     → (ran : IsRunOf OnOneThread view f run_params firsts lasts reports dropped) × (plain_state n ≡ state f ran.run.history)
 run_ordered {S} view f run_params firsts m ws count begun n reports lasts dropped so =
-    let over = ordered_over view f run_params firsts n so.ended reports (so.goes f run_params firsts begun) so.reports_are in
+    let over = ordered_over view f run_params firsts n so.ended reports count (so.goes f run_params firsts begun) so.reports_are in
     let streams = over.0 in
     let order = over.3.0.order in
     let told = subst (λ (ls : List S). AllZip MatchesInput (observations view firsts ls) streams) (sym so.readers_are) over.1 in
@@ -432,7 +433,7 @@ run_ordered {S} view f run_params firsts m ws count begun n reports lasts droppe
         run = record {
           streams = streams;
           match_inputs = told;
-          count = observed_count _ _ told ∙ observed_as_many view firsts lasts streams read ∙ count;
+          count = order.count;
           history = events_in order.blocks;
           legal = order.legal;
           judged = ordered_judged run_params (λ s. true) (λ s. true) order.blocks 1 streams reports order.within order.judged;

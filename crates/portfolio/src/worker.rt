@@ -46,8 +46,8 @@ impl<R: Source + Drop, G: Gate + Drop> Model for Worker<R, G> {
 }
 
 impl<R: Source + Drop, G: Gate + Drop> Worker<R, G> {
-    /// Makes a worker of stream `stream`, from 1 on, before its first byte. All memory is taken here, except for the identities that the
-    /// stream drops.
+    /// Makes a worker of stream `stream`, from 1 on, before its first byte. By the code all memory is taken here, except for the identities
+    /// that the stream drops.
     pub fn new(
         alloc: Global,
         reader: R,

@@ -10,6 +10,10 @@ use Rattle.lrup_model.specs.declared.layout.Owner.TheVariants as owners
 use Rattle.lrup_text.specs.Writing.{space}
 use Rattle.lrup_text.specs.Lines.{StreamLine, Addition, Deletion, Import, Cut, HasNoLine, line_text}
 use Rattle.lrup_text.specs.Laws.{OneCut}
+use Rattle.stream_check.specs.DroppedIdsValue.{DroppedIdsValue}
+use Rattle.stream_check.specs.StreamParams.{StreamParams}
+use Rattle.stream_check.specs.declared.report.Ending.{Ending}
+use Rattle.stream_check.specs.declared.report.Ending.TheVariants as endings
 use Rattle.stream_check.specs.declared.report.Report.{Report}
 use Rattle.lrup_text.specs.declared.device.StreamEnd.TheVariants as stream_ends
 use Rattle.std.specs.List.{AllByRecursion, list_any}
@@ -19,13 +23,14 @@ use Rattle.lrup_model.specs.Formula.{Cnf}
 use Rattle.lrup_model.specs.Event.{History, published}
 use Rattle.portfolio.specs.declared.outcome.Verdict.{Verdict}
 use Rattle.portfolio.specs.declared.outcome.Verdict.TheVariants.{Unsatisfiable, UnsatisfiableUnder, Unknown}
+use Rattle.portfolio.specs.Dropping.{HasDropped, HasDroppedBy, HaveDropped}
 use Rattle.portfolio.specs.Outcomes.{OptionsValue, run_params_of, verdict_of}
 use Rattle.run_laws.specs.Serializable.{ComeToVerdict, IsSerializable}
 use Rattle.run_laws.specs.Premises.{FoundStays}
 use Rattle.runs.specs.lemmas.StreamLemmas.{same_at}
 use Rattle.lrup_text.specs.ReadOut.{SourceView}
 use Rattle.runs.specs.Readings.{AreRead}
-use Rattle.runs.specs.Streams.{Stream, InputObservation, RunParamsValue, observation_of, observations, IsOrdered, events_in}
+use Rattle.runs.specs.Streams.{Stream, InputObservation, RunParamsValue, observation_of, observations, IsOrdered, events_in, stream_params}
 use Rattle.runs.specs.Closed.{IsOfStream, IsOwnedWithin, CiteWithin}
 use Rattle.run_laws.specs.Groups.{one, AreIsolated, IsRun}
 use Rattle.run_laws.specs.lemmas.ReportLemmas.{only}
@@ -149,6 +154,26 @@ pub has_order : (told : List InputObservation) (reports : List Report) (h : Hist
     → verdict ≡ verdict_of reports → FoundStays four layout_of_two (λ s. true) h → HasOrder verdict
 has_order told reports h verdict (run, same, serializable) is stays =
     order_says run.streams reports verdict (serializable.all (subst (FoundStays four layout_of_two (λ s. true)) (sym same) stays)) is
+
+-- What a stream dropped that ran out of memory
+
+full_at : (params : StreamParams) (bytes : List ℕ) (report : Report) (dropped : DroppedIdsValue) (line : ℕ)
+    → report.ending ≡ endings.Memory line → HasDropped params bytes report dropped → dropped.spare ≡ 0
+full_at params bytes report dropped line is drops =
+    (subst (λ (e : Ending). HasDroppedBy e params bytes report dropped) is drops).1
+
+pub full_from : (run_params : RunParamsValue) (s : ℕ) (streams : List Stream) (reports : List Report) (all : List DroppedIdsValue)
+    → HaveDropped run_params s streams reports all → (k : ℕ) (report : Report) (dropped : DroppedIdsValue)
+    → slice_get reports k ≡ Some report → slice_get all k ≡ Some dropped → IsOfMemory report → dropped.spare ≡ 0
+full_from run_params s [] [] [] have k report dropped says at memory = absurd (let none : None ≡ Some report = says in cc)
+full_from run_params s (stream ∷ streams) (one ∷ reports) (d ∷ all) have zero report dropped says at memory =
+    let same : one ≡ report = let e : Some one ≡ Some report = says in cc in
+    let is : d ≡ dropped = let e : Some d ≡ Some dropped = at in cc in
+    subst (λ (x : DroppedIdsValue). x.spare ≡ 0) is
+    (full_at (stream_params run_params s) stream.bytes one d memory.0 (ap (λ (r : Report). r.ending) same ∙ memory.1) have.0)
+full_from run_params s (stream ∷ streams) (one ∷ reports) (d ∷ all) have (suc k) report dropped says at memory =
+    full_from run_params (s + 1) streams reports all have.1 k report dropped says at memory
+full_from run_params s _ _ _ have k report dropped says at memory = absurd have
 
 -- The lines of the first stream, and of one that imports alone
 

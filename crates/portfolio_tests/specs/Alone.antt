@@ -4,11 +4,14 @@ use Rattle.std.specs.List.{list_any}
 use Rattle.lrup_model.specs.Layout.{LayoutValue}
 use Rattle.lrup_model.specs.Event.{published}
 use Rattle.lrup_model.specs.History.{IsLegal}
+use Rattle.stream_check.specs.DroppedIdsValue.{DroppedIdsValue}
+use Rattle.stream_check.specs.Laws.{IsOfMemory}
 use Rattle.stream_check.specs.declared.report.Report.{Report}
 use Rattle.lrup_text.specs.declared.device.StreamEnd.TheVariants as stream_ends
 use Rattle.portfolio.specs.Outcomes.{OptionsValue, layout_of, run_params_of}
 use Rattle.portfolio.specs.declared.outcome.Verdict.{Verdict}
 use Rattle.portfolio.specs.declared.outcome.Verdict.TheVariants.{Unsatisfiable}
+use Rattle.runs.specs.Closed.{IsOfStream}
 use Rattle.runs.specs.Streams.{Block, RunParamsValue, events_in}
 use Rattle.run_laws.specs.Groups.{IsReportAlone}
 use Rattle.test_support.specs.Worked.{four}
@@ -33,6 +36,12 @@ pub record IsOnlyReport (bytes : List ℕ) (report : Report) : Type 0 where
   pub alone : IsReportAlone four two_terms 1 bytes stream_ends.Ended report
   pub only : (other : Report) → IsReportAlone four two_terms 1 bytes stream_ends.Ended other
       → other ≡ report
+
+-- where a report says that memory ran out, its stream has no room for one identity more among those that it dropped
+abbrev pub AreFullAtMemory : List Report → List DroppedIdsValue → Type 0
+AreFullAtMemory reports all = (s : ℕ) (report : Report) (dropped : DroppedIdsValue)
+    → IsOfStream reports s report → IsOfStream all s dropped → IsOfMemory report
+    → dropped.spare ≡ 0
 
 -- a legal history of whole lines publishes the empty clause exactly where this is the verdict 'unsatisfiable'
 pub record HasOrder (verdict : Verdict) : Type 0 where

@@ -32,7 +32,7 @@ impl Model for Trail {
 }
 
 impl Trail {
-    /// A trail on which no literal is false. All memory is taken here.
+    /// A trail on which no literal is false. By the code all memory is taken here.
     pub fn new(alloc: Global, vars: u32) -> Result<Trail, AllocError>
         ensures { IfOk result (λ t. t ≡ record { vars = vars; literals = [] }) }
     {

@@ -226,6 +226,7 @@ closed_ordered lines_ordered judged_blocks cited_fetched reduced_stream f run_pa
     judged_blocks (stream_params run_params s) one.stream.bytes way.0 (all.0 s) one.report way.1)
     (λ s is member. stays s is (streams_are p set s member).0) in
     record {
+      count = count;
       blocks = made.0;
       within = blocks_within p set made.0 made.1.within;
       legal = made.1.legal;

@@ -58,11 +58,16 @@ own_at run_params own s streams reports stream report judged at says =
 module _ (alike : BlocksGoAlike) (forks : LegalNeverFork) (one : OneReport) (f : Cnf) (run_params : RunParamsValue)
     (streams others : List Stream) (reports other_reports : List Report)
     (a : IsOrderedByTurns f run_params streams reports) (b : IsOrderedByTurns f run_params others other_reports)
-    (count : length streams ≡ run_params.layout.streams) (other_count : length others ≡ run_params.layout.streams)
     (both : (s : ℕ) (stream other : Stream) (report other_report : Report)
     → IsOfStream streams s stream → IsOfStream others s other → IsOfStream reports s report → IsOfStream other_reports s other_report
     → (j : JudgedTwice (stream_params run_params s) (blocks_of s a.order.blocks) (blocks_of s b.order.blocks)) × (j.report ≡ report)
     × (j.other ≡ other_report)) where
+  count : length streams ≡ run_params.layout.streams
+  count = a.order.count
+
+  other_count : length others ≡ run_params.layout.streams
+  other_count = b.order.count
+
   many : length reports ≡ length streams
   many = each_count _ 1 streams reports a.order.judged
 
@@ -93,7 +98,7 @@ module _ (alike : BlocksGoAlike) (forks : LegalNeverFork) (one : OneReport) (f :
       sym twice.1 ∙ same.1 ∙ twice.2)
 
 pub turns_decide : OverStays → OneReport → LegalNeverFork → BlocksGoAlike → TurnsDecide
-turns_decide stays one forks alike f run_params streams others reports other_reports count other_count readings a b memory none =
+turns_decide stays one forks alike f run_params streams others reports other_reports readings a b memory none =
     let both : (s : ℕ) (stream other : Stream) (report other_report : Report)
     → IsOfStream streams s stream → IsOfStream others s other → IsOfStream reports s report → IsOfStream other_reports s other_report
     → (j : JudgedTwice (stream_params run_params s) (blocks_of s a.order.blocks) (blocks_of s b.order.blocks)) × (j.report ≡ report)
@@ -116,8 +121,8 @@ turns_decide stays one forks alike f run_params streams others reports other_rep
       refl,
       refl,
     ) in (
-      orders_same alike forks one f run_params streams others reports other_reports a b count other_count both,
-      reports_same alike forks one f run_params streams others reports other_reports a b count other_count both,
+      orders_same alike forks one f run_params streams others reports other_reports a b both,
+      reports_same alike forks one f run_params streams others reports other_reports a b both,
     )
 
 pub bytes_decide : DecidedBeforeFailure → OneReport → LegalNeverFork → BlocksGoAlike → BytesDecide
@@ -129,7 +134,7 @@ bytes_decide decided one forks alike f run_params observed other_observed report
     let count : length observed ≡ run_params.layout.streams = sym (observed_count observed streams x.match_inputs) ∙ many in
     let other_count : length other_observed
     ≡ run_params.layout.streams = sym (observed_count other_observed others y.match_inputs) ∙ other_many in
-    reports_same alike forks one f run_params streams others reports other_reports a b many other_many
+    reports_same alike forks one f run_params streams others reports other_reports a b
     (λ s stream other report other_report at there says also.
     let first = at.0 in
     let c = stream_params run_params s in

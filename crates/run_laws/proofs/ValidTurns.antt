@@ -38,6 +38,7 @@ valid_order_by_turns : (f : Cnf) (run_params : RunParamsValue) (steps : List Ste
     (λ t. valid_report run_params t (lines_by t steps)))
 valid_order_by_turns f run_params steps order is turns = record {
   order = record {
+    count = each_count run_params.layout.streams 1 (text_stream steps);
     blocks = order;
     within = is.within;
     legal = is.legal;
@@ -62,8 +63,7 @@ valid_by_turns taken fresh ends empty_cut one_cut decided one forks alike f run_
     let many : length x.streams ≡ n = x.count in
     let count : length observed ≡ n = sym (observed_count observed x.streams x.match_inputs) ∙ many in
     let same : reports ≡ each_from n 1 said =
-    reports_same alike forks one f run_params x.streams (each_from n 1 (text_stream steps)) reports (each_from n 1 said) a b many
-    (each_count n 1 (text_stream steps))
+    reports_same alike forks one f run_params x.streams (each_from n 1 (text_stream steps)) reports (each_from n 1 said) a b
     (λ t stream other its other_report at there tells also.
     let first = at.0 in
     let c = stream_params run_params t in

@@ -1,5 +1,5 @@
 -- Laws of runs on one thread, whose order of lines is by turns. Each is the contract of a function of laws.
-use Rattle.std.specs.Prelude.{◌≡◌, ℕ, true, List, length, map, Some}
+use Rattle.std.specs.Prelude.{◌≡◌, ℕ, true, List, map, Some}
 use Rattle.std.specs.List.{flat_map}
 use Rattle.lrup_model.specs.Formula.{Cnf, IsCnf}
 use Rattle.lrup_model.specs.Layout.{Fits}
@@ -26,7 +26,6 @@ HaveSameReadings streams others = (s : ℕ) (stream other : Stream)
 abbrev pub TurnsDecide : Type 0
 TurnsDecide = (f : Cnf) (run_params : RunParamsValue) (streams others : List Stream)
     (reports other_reports : List Report)
-    → length streams ≡ run_params.layout.streams → length others ≡ run_params.layout.streams
     → HaveSameReadings streams others
     → (a : IsOrderedByTurns f run_params streams reports)
     → (b : IsOrderedByTurns f run_params others other_reports)

@@ -1,5 +1,5 @@
 -- What is observed of a run's streams, and in which order of lines their reports hold (this project's own).
-use Rattle.std.specs.Prelude.{◌≡◌, ◌++◌, ◌==◌, ℕ, Bool, false, IsTrue, List, [], ◌∷◌, Option, IsSome, IfSome, MatchOption, if◌then◌else◌}
+use Rattle.std.specs.Prelude.{◌≡◌, ◌++◌, ◌==◌, ℕ, Bool, false, IsTrue, List, [], ◌∷◌, Option, IsSome, IfSome, MatchOption, if◌then◌else◌, length}
 use Rattle.std.specs.Io.KnownBytes.{Consumes}
 use Rattle.std.specs.List.{AllByRecursion, flat_map}
 use Rattle.lrup_model.specs.Formula.{Cnf}
@@ -106,10 +106,11 @@ AreJudged run_params set AreOwn s streams reports =
     × JudgesStream (stream_params run_params t) stream blocks report) s streams reports
 
 -- The reports of a set of streams have an order of lines: a legal history of whole lines of these streams, each stream's in
--- its order, by which each stream is judged so.
+-- its order, by which each stream is judged so. There are as many streams as the layout has.
 pub record IsOrdered (formula : Cnf) (run_params : RunParamsValue) (set : ℕ → Bool)
     (streams : List Stream)
     (reports : List Report) : Type 0 where
+  pub count : length streams ≡ run_params.layout.streams
   pub blocks : List Block
   pub within : AllByRecursion (IsBlockWithin run_params.layout set) blocks
   pub legal : IsLegal formula run_params.layout (events_in blocks)

@@ -54,8 +54,8 @@ impl Checker {
     pub const MAX_TRIES: u64 = 1_000_000;
 
     /// Makes a checker of stream `stream`, from 1 on, before its first byte. A hint of another stream is fetched again while it is vacant,
-    /// up to `tries` times, at most 1,000,000. The report will say whether the cube, of assumed literals, makes an added clause false. All
-    /// memory is taken here, also for a copy of the cube, except for the identities that the stream drops.
+    /// up to `tries` times, at most 1,000,000. The report will say whether the cube, of assumed literals, makes an added clause false. By
+    /// the code all memory is taken here, also for a copy of the cube, except for the identities that the stream drops.
     pub fn new(
         alloc: Global,
         stream: u64,

@@ -39,6 +39,7 @@ fn delete_one<M: ClauseMap>(state: &mut StreamState, map: &mut M, id: Id) -> Res
     ensures deletes { (es : History) × M.moves map.old map.new es × AllByRecursion IsRetire es
         × DeletesOne state.old.params id state.old.dropped.ids state.new.dropped.ids es result }
     ensures full { IsErrOf result LineStop.Memory → state.new.dropped.spare ≡ 0 }
+    ensures unchanged { IsErrOf result LineStop.Memory → state.new.dropped ≡ state.old.dropped }
     ensures count { deleted_at state.new ≡ capped (deleted_at state.old + counted result) }
     ensures kept { KeepsLines state.old state.new }
 {

@@ -132,6 +132,7 @@ impl StreamState {
         ensures drops { DropsShared id self.old.dropped.ids self.new.dropped.ids result }
         ensures count { length self.new.dropped.ids ≡ length self.old.dropped.ids + counted result }
         ensures full { IsErrOf result LineStop.Memory → self.new.dropped.spare ≡ 0 }
+        ensures unchanged { IsErrOf result LineStop.Memory → self.new.dropped ≡ self.old.dropped }
         ensures kept { self.new ≡ record self.old { dropped = self.new.dropped } }
     {
         if self.dropped.has(id) {

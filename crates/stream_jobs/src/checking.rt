@@ -51,7 +51,8 @@ pub struct Checked {
 }
 
 impl<G: Gate + Drop> CheckingJob<G> {
-    /// The job of stream `stream`, from 1 on. All memory is taken here, except for the identities that the stream drops.
+    /// The job of stream `stream`, from 1 on. By the code all memory is taken here, except for the identities that the stream
+    /// drops.
     pub(crate) fn new(
         alloc: Global,
         receiver: Receiver,

@@ -24,8 +24,8 @@ use stream_ring::{halves_agree, ring};
 /// How many items a ring has room for, two bytes each: as many as one read gives bytes.
 const CAPACITY: usize = PIECE;
 
-/// Makes the two jobs of stream `stream`, from 1 on, with the two halves of one ring. All memory is taken here, except for the identities
-/// that the stream drops.
+/// Makes the two jobs of stream `stream`, from 1 on, with the two halves of one ring. By the code all memory is taken here, except for the
+/// identities that the stream drops.
 pub fn jobs<R: Source + Drop, G: Gate + Drop>(
     alloc: Global,
     reader: R,

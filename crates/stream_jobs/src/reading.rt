@@ -38,7 +38,7 @@ pub struct Sent<R: Source + Drop> {
 }
 
 impl<R: Source + Drop> ReadingJob<R> {
-    /// The job of a reader. All memory is taken here.
+    /// The job of a reader. By the code all memory is taken here.
     pub(crate) fn new(alloc: Global, reader: R, sender: Sender) -> Result<ReadingJob<R>, AllocError>
         requires running { R.has_failed reader ≡ false }
         requires nothing { sent sender.producer ≡ [] }

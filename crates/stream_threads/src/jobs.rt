@@ -52,8 +52,8 @@ impl<R: Source + Drop, G: Gate + Drop> Model for StreamJobs<R, G> {
 }
 
 impl<R: Source + Drop, G: Gate + Drop> StreamJobs<R, G> {
-    /// Makes the jobs of stream `stream`, from 1 on, whose calls go through this pass. All memory is taken here, except for the identities
-    /// that the stream drops.
+    /// Makes the jobs of stream `stream`, from 1 on, whose calls go through this pass. By the code all memory is taken here, except for the
+    /// identities that the stream drops.
     pub fn new(
         alloc: Global,
         reader: R,

@@ -111,10 +111,11 @@ pub record FailsAfter (its : Deeds) (plan : Plan) (formula : Cnf) (sizes : Sizes
   pub cause : IsNextCause (length (last ∷ before)) last failed.fault after
 
 -- The fault is one of round 1, after the opening of its streams; or one of a round after it.
-abbrev pub FailsAt : (its : Deeds) → Plan → Cnf → Sizes → its.State → List Text → its.State
-    → RoundFault → its.State → Type 0
-FailsAt its plan formula sizes first paths opened failed after =
-    ((failed.round ≡ 1) × IsRoundStartCause its plan 1 formula sizes opened failed.fault after)
+abbrev pub FailsAt : (its : Deeds) → Plan → Cnf → Sizes → its.State → List Text → List its.Reader
+    → its.State → RoundFault → its.State → Type 0
+FailsAt its plan formula sizes first paths readers opened failed after =
+    ((failed.round ≡ 1)
+    × IsRoundStartCause its plan 1 formula sizes readers opened failed.fault after)
     ⊎ FailsAfter its plan formula sizes first paths failed after
 
 -- The rounds of a command line ended with this one and left these files.

@@ -13,6 +13,7 @@ use Rattle.runs.specs.Streams.{RunParamsValue}
 use Rattle.stream_check.specs.DroppedIdsValue.{DroppedIdsValue}
 use Rattle.stream_check.specs.declared.report.Report.{Report}
 use Rattle.portfolio.specs.Outcomes.{run_params_of}
+use Rattle.portfolio.specs.RingStops.{StopsAtRing}
 use Rattle.portfolio.specs.Saving.{WereLeftBy, layout_left}
 use Rattle.portfolio.specs.declared.saving.Clauses.{Clauses}
 use Rattle.portfolio.specs.declared.outcome.Verdict.{Verdict}
@@ -35,15 +36,18 @@ abbrev pub IsLayoutCause : LayoutValue → CommandFault → Type 0
 IsLayoutCause layout (faults.Layout fault) = IsFault layout fault
 IsLayoutCause layout fault = ⊥
 
--- why streams weren't checked: there is no layout; or there is one, and a thread wasn't started, or what it sent had no end
-abbrev pub IsRunCause : Bool → LayoutValue → CommandFault → Type 0
-IsRunCause serial layout (faults.Layout fault) = IsFault layout fault
-IsRunCause serial layout (faults.Spawn stream) =
-    HasNoFault layout × (serial ≡ false) × IsStream layout stream
-IsRunCause serial layout (faults.Ring stream) =
-    HasNoFault layout × (serial ≡ false) × IsStream layout stream
-IsRunCause serial layout faults.Memory = Unit {0}
-IsRunCause serial layout fault = ⊥
+-- why the streams of a formula weren't checked: there is no layout; or there is one, and a thread wasn't started, or what it sent had no end
+abbrev pub IsRunCause : {R : Type 0} → SourceView R → Bool → Cnf → RunParamsValue → List R
+    → CommandFault → Type 0
+IsRunCause view serial formula run_params readers (faults.Layout fault) =
+    IsFault run_params.layout fault
+IsRunCause view serial formula run_params readers (faults.Spawn stream) =
+    HasNoFault run_params.layout × (serial ≡ false) × IsStream run_params.layout stream
+IsRunCause view serial formula run_params readers (faults.Ring stream) =
+    HasNoFault run_params.layout × (serial ≡ false)
+    × StopsAtRing view formula run_params readers stream
+IsRunCause view serial formula run_params readers faults.Memory = Unit {0}
+IsRunCause view serial formula run_params readers fault = ⊥
 
 -- what this many streams of a formula are checked by, with this setup
 abbrev pub run_params_on : Setup → Cnf → ℕ → RunParamsValue

@@ -1,5 +1,5 @@
 // Devices that fail at one of their calls.
-ghost use Rattle.std.specs.Prelude.{◌≡◌, false, IfOk};
+ghost use Rattle.std.specs.Prelude.{◌≡◌, ◌++◌, ℕ, List, false, take, IfOk};
 
 use crate::tests::{same, write_fails};
 use lrup_text::{Line, ReadFault, Reading, Sink, Source, WriteBuffer, WriteFault, Writing};
@@ -74,6 +74,23 @@ fn failed_reads_are_not_repeated(rt: HostRuntime) -> Result<(), Fail> {
         }
     }
     Ok(())
+}
+
+/// One read of known bytes. Which ones it gives follows from what `Reading` says of `reads` alone.
+fn read_once(bytes: &[u8], buffer: &mut [u8]) -> Result<usize, ReadFault>
+    ensures { IfOk result (λ count. (rest : List ℕ)
+        × (bytes.now ≡ take count buffer.new ++ rest)) }
+{
+    let mut source = Reading::new(bytes);
+    source.read(buffer)
+}
+
+#[test]
+fn a_read_gives_the_next_bytes(rt: HostRuntime) {
+    let mut buffer = [0u8; 4];
+    for room in 0..=4usize {
+        same(&rt, read_once(b"5 2", &mut buffer[..room]), Ok(room.min(3)));
+    }
 }
 
 /// Writes until the device fails, at this of its calls.

@@ -8,7 +8,7 @@ ghost use Rattle.runs.specs.SequentialConsistency.{seen_by};
 ghost use Rattle.clause_store.specs.Passes.{views};
 ghost use Rattle.run_laws.specs.Premises.{FoundStays};
 ghost use Rattle.test_support.specs.Worked.{four};
-ghost use Rattle.portfolio_tests.specs.Alone.{first_bytes, layout_of_two, usual, HasOrder, IsOnlyReport};
+ghost use Rattle.portfolio_tests.specs.Alone.{first_bytes, layout_of_two, usual, AreFullAtMemory, HasOrder, IsOnlyReport};
 
 use super::{BOTH, By, Open, bad_line, defaults, ended, readers_of, reports_of, same};
 use lrup_model::Cube;
@@ -116,15 +116,17 @@ fn said_by_turns<W: Wait>(
 }
 
 /// A run of two streams with threads. That its verdict is the one of an order of the lines, where no stream found live what is
-/// retired in the end, follows from its contract alone.
+/// retired in the end, and that a stream that ran out of memory had no room left, follows from its contract alone.
 fn run_in_threads<'a, T: Threads + Wait + Sync>(
     rt: &T,
     alloc: Global,
     first: &'a str,
     neighbour: &'a str,
 ) -> Result<Outcome<Pieces<'a>>, Fail>
-    ensures { IfOk result (λ outcome. let history = seen_by (views outcome.passes.items) in
+    ensures order { IfOk result (λ outcome. let history = seen_by (views outcome.passes.items) in
         FoundStays four layout_of_two (λ s. true) history → HasOrder outcome.verdict) }
+    ensures full { IfOk result (λ outcome.
+        AreFullAtMemory outcome.reports.items outcome.dropped.items) }
 {
     let formula = four_clauses(alloc)?;
     let readers = two_readers(alloc, first, neighbour)?;

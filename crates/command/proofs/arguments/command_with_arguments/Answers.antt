@@ -4,7 +4,7 @@ use Rattle.clap.specs.Walk.{texts}
 use Rattle.command_line.specs.CommandLine.{HaveFault}
 use Rattle.command.specs.Arguments.{words_after_name}
 use Rattle.command.specs.Commands.{CheckpointEntailed, CheckpointLeftEmpty, NameUnsatisfiable, NameUnsatisfiableUnder, Text, WasRead}
-use Rattle.command.specs.Commands.{WasSaved, change, deeds_of, files_view}
+use Rattle.command.specs.Commands.{WasSaved, change, files_view}
 use Rattle.command.specs.Rounds.{ProgramEnds, RoundsEntailed}
 use Rattle.command.proofs.ArgumentLemmas.{and_arguments, of_arguments, out_of_memory}
 use Rattle.command.proofs.WordLemmas.{read_all}
@@ -82,8 +82,8 @@ returns-clause-saved_rounds g c =
 
 pub returns-clause-none_saved : goal.returns-clause-none_saved
 returns-clause-none_saved g c =
-    let its = deeds_of g.F.Files g.F.Machine g.F.Input.Source g.F.Output.Sink in
-    carried g c (λ words status. CheckpointLeftEmpty its words c.command-status.new.files status) c.command-status.ensures.none_saved
+    let files = files_view g.F.Files g.F.Machine g.F.Input.Source g.F.Output.Sink c.args.files.now in
+    carried g c (λ words status. CheckpointLeftEmpty files words c.command-status.new.files status) c.command-status.ensures.none_saved
 
 pub returns-clause-usage : goal.returns-clause-usage
 returns-clause-usage g c = carried g c (λ words status. HaveFault words → (status ≡ 2) ⊎ (status ≡ 6)) c.command-status.ensures.usage

@@ -1,5 +1,5 @@
 use Rattle.std.proofs.Common.{◌∙◌, List, Option, length, sym, subst}
-use Rattle.portfolio.specs.Outcomes.{layout_of}
+use Rattle.portfolio.specs.Outcomes.{layout_of, run_params_of}
 use Rattle.command_line.specs.CommandLine.{IsCommandLineOf}
 use Rattle.command.specs.Commands.{FilesView, IsCause, IsFormulaAt, IsStartCause, LeavesBehind, Text, WasReadIn}
 use Rattle.command.specs.Commands.{SavesCheckpoint, created_at, files_view, from_first}
@@ -25,9 +25,9 @@ started : (g : given.Over) (c : After-unwrap-options g) (words : List Text) (fir
     → IsCommandLineOf words c.args.asked.line
     → WasReadIn (from_first (viewed g c) first) first c.args.asked.line.formula.now c.args.asked.formula.items c.args.files.now
     → (fault : CommandFault) (after : (viewed g c).its.State)
-    → IsStartCause (viewed g c).its c.args.asked.line.serial
-    (layout_of c.unwrap-options.result c.in_ok-begun.begun.formula (length c.in_ok-begun.begun.readers.items)) c.begin.new.files
-    (created_at c.args.asked.line) fault after
+    → IsStartCause (viewed g c).its c.args.asked.line.serial c.in_ok-begun.begun.formula
+    (run_params_of c.unwrap-options.result c.in_ok-begun.begun.cube c.in_ok-begun.begun.formula (length c.in_ok-begun.begun.readers.items))
+    c.in_ok-begun.begun.readers.items c.begin.new.files (created_at c.args.asked.line) fault after
     → IsCause (from_first (viewed g c) first) words fault after
 started g c words first good at fault after cause =
     let files = from_first (viewed g c) first in
@@ -48,8 +48,9 @@ returns-in_err-checked-clause-cause g c words first good at =
     let last = c.begin.new.files in
     let after = c.check_streams.new.files in
     let at_path = subst
-    (λ (o : Option Text). IsStartCause its line.serial (layout_of c.unwrap-options.result begun.formula (length begun.readers.items)) last o
-    fault after) (c.checkpoint-path.ensures ∙ created_once line.next c.requires.once) c.in_err-checked.ensures.cause in
+    (λ (o : Option Text). IsStartCause its line.serial begun.formula
+    (run_params_of c.unwrap-options.result begun.cube begun.formula (length begun.readers.items)) begun.readers.items last o fault after)
+    (c.checkpoint-path.ensures ∙ created_once line.next c.requires.once) c.in_err-checked.ensures.cause in
     let Cause : CommandFault → Type 0 = λ fault. IsCause (from_first (viewed g found) first) words fault after in
     let cause : Cause fault = started g found words first good at fault after at_path in
     err_given c.from_residual-in_err-checked.result _ Cause (λ other is. subst Cause (sym is) cause)

@@ -1,5 +1,5 @@
 use Rattle.std.proofs.Common.{◌∙◌, ℕ, length, subst, sym}
-use Rattle.lrup_model.specs.Layout.{LayoutValue}
+use Rattle.runs.specs.Streams.{RunParamsValue}
 use Rattle.command.specs.Commands.{HasNoFault, IsStartCause, SavesCheckpoint, deeds_of, path_of}
 use Rattle.command.specs.internal.Running.{IsLayoutCause, run_params_on}
 use Rattle.command.specs.internal.Saving.{ClosesCheckpoint, KeepsNext}
@@ -12,31 +12,35 @@ pub returns-in_err-find_layout-clause-cause : goal.returns-in_err-find_layout-cl
 returns-in_err-find_layout-clause-cause g c =
     let its = deeds_of g.F.Files g.F.Machine g.F.Input.Source g.F.Output.Sink in
     let setup = c.args.setup.now in
-    let layout : ℕ → LayoutValue = λ n. (run_params_on setup c.args.formula n).layout in
+    let run_params : ℕ → RunParamsValue = run_params_on setup c.args.formula in
+    let readers = c.args.readers.items in
     let before = c.args.files.now in
     let path = path_of c.args.path in
     let fault = c.in_err-find_layout.field-0.0 in
-    let refused = subst (λ (n : ℕ). IsLayoutCause (layout n) fault) (c.len.ensures ∙ c.args.readers.ok.0)
+    let refused = subst (λ (n : ℕ). IsLayoutCause (run_params n).layout fault) (c.len.ensures ∙ c.args.readers.ok.0)
     c.in_err-find_layout.ensures.cause in
-    let Cause : CommandFault → Type 0 = λ fault. IsStartCause its setup.serial (layout (length c.args.readers.items)) before path fault
-    before in
-    let cause : Cause fault = layout_start its setup.serial (layout (length c.args.readers.items)) before path fault refused in
+    let Cause : CommandFault → Type 0 = λ fault. IsStartCause its setup.serial c.args.formula (run_params (length readers)) readers before
+    path fault before in
+    let cause : Cause fault = layout_start its setup.serial c.args.formula (run_params (length readers)) readers before path fault
+    refused in
     err_given c.from_residual.result _ Cause (λ other is. subst Cause (sym is) cause) c.from_residual.ensures.1
 
 pub returns-in_err-output-clause-cause : goal.returns-in_err-output-clause-cause
 returns-in_err-output-clause-cause g c =
     let its = deeds_of g.F.Files g.F.Machine g.F.Input.Source g.F.Output.Sink in
     let setup = c.args.setup.now in
-    let layout : ℕ → LayoutValue = λ n. (run_params_on setup c.args.formula n).layout in
+    let run_params : ℕ → RunParamsValue = run_params_on setup c.args.formula in
+    let readers = c.args.readers.items in
     let before = c.args.files.now in
     let after = c.create_checkpoint.new.files in
     let path = path_of c.args.path in
     let fault = c.in_err-output.field-0.0 in
-    let none = subst (λ (n : ℕ). HasNoFault (layout n)) (c.len.ensures ∙ c.args.readers.ok.0) c.in_ok-find_layout.ensures.found in
-    let Cause : CommandFault → Type 0 = λ fault. IsStartCause its setup.serial (layout (length c.args.readers.items)) before path fault
-    after in
-    let cause : Cause fault = create_start its setup.serial (layout (length c.args.readers.items)) before path fault after none
-    c.in_err-output.ensures.cause in
+    let none = subst (λ (n : ℕ). HasNoFault (run_params n).layout) (c.len.ensures ∙ c.args.readers.ok.0)
+    c.in_ok-find_layout.ensures.found in
+    let Cause : CommandFault → Type 0 = λ fault. IsStartCause its setup.serial c.args.formula (run_params (length readers)) readers before
+    path fault after in
+    let cause : Cause fault = create_start its setup.serial c.args.formula (run_params (length readers)) readers before path fault after
+    none c.in_err-output.ensures.cause in
     err_given c.from_residual-in_err-output.result _ Cause (λ other is. subst Cause (sym is) cause)
     c.from_residual-in_err-output.ensures.1
 
@@ -44,14 +48,17 @@ pub returns-in-Err-clause-cause : goal.returns-in-Err-clause-cause
 returns-in-Err-clause-cause g c =
     let its = deeds_of g.F.Files g.F.Machine g.F.Input.Source g.F.Output.Sink in
     let setup = c.args.setup.now in
-    let layout : ℕ → LayoutValue = λ n. (run_params_on setup c.args.formula n).layout in
+    let run_params : ℕ → RunParamsValue = run_params_on setup c.args.formula in
+    let readers = c.args.readers.items in
     let before = c.args.files.now in
     let after = c.discard_it.new.files in
     let path = path_of c.args.path in
-    let none = subst (λ (n : ℕ). HasNoFault (layout n)) (c.len.ensures ∙ c.args.readers.ok.0) c.in_ok-find_layout.ensures.found in
+    let none = subst (λ (n : ℕ). HasNoFault (run_params n).layout) (c.len.ensures ∙ c.args.readers.ok.0)
+    c.in_ok-find_layout.ensures.found in
     let unused = left_unused its before c.create_checkpoint.new.files after path c.in_ok-output.output c.in_ok-output.ensures.created
     c.discard_it.ensures in
-    run_start its setup.serial (layout (length c.args.readers.items)) before path c.in-Err.fault after none c.in-Err.ensures.cause unused
+    run_start its setup.serial c.args.formula (run_params (length readers)) readers before path c.in-Err.fault after none
+    c.in-Err.ensures.cause unused
 
 pub returns-clause-ran : goal.returns-clause-ran
 returns-clause-ran g c =

@@ -126,8 +126,8 @@ returns-clause-cause g c words first good at =
     let is_formula : IsFormulaAt files line.formula.now begun.formula c.args.files.now =
     (c.args.asked.formula.items, at, c.in-Ok.ensures.formula) in
     let fails = subst
-    (λ (s : Sizes). IfErr c.go_on.result (λ failed. FailsAt its plan begun.formula s of.later line.streams c.begin.new.files failed
-    c.go_on.new.files))
+    (λ (s : Sizes). IfErr c.go_on.result (λ failed. FailsAt its plan begun.formula s of.later line.streams begun.readers.items
+    c.begin.new.files failed c.go_on.new.files))
     (sizes_are g c) (c.go_on.ensures.cause of.later line.streams (opened g c)) in
     if_err c.go_on.result _ (λ failed. IsRoundsFault files words line folder failed c.go_on.new.files)
     (λ failed fails. elim fails [
@@ -135,8 +135,8 @@ returns-clause-cause g c words first good at =
         one.0,
         start_cause files words line good begun.formula c.args.files.now is_formula begun.cube of.later of.assumed
             begun.readers.items c.begin.new.files of.opened failed.fault c.go_on.new.files
-            (first_start its plan line begun.cube folder begun.formula c.begin.new.files c.requires.folder failed.fault c.go_on.new.files
-            one.1),
+            (first_start its plan line begun.cube folder begun.formula begun.readers.items c.begin.new.files c.requires.folder
+            failed.fault c.go_on.new.files one.1),
       )
       | inr after ↦ inr (record {
         cube = begun.cube;

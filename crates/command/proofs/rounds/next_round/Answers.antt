@@ -42,7 +42,8 @@ returns-in-Err-check_round-clause-cause g c =
     let are : StreamsOpened its sized (stream_paths plan.folder c.args.number sizes.streams) readers opened =
     rw c.in-Ok-Some.field-0-is at c.in-Ok-Some.ensures.opened in
     let after = c.check_round.new.files in
-    let cause : IsRoundStartCause its plan c.args.number c.args.formula sizes opened fault after = c.in-Err-check_round.ensures.cause in
+    let cause : IsRoundStartCause its plan c.args.number c.args.formula sizes readers opened fault after =
+    c.in-Err-check_round.ensures.cause in
     inr (
       sizes,
       sized,
@@ -51,7 +52,7 @@ returns-in-Err-check_round-clause-cause g c =
         readers,
         opened,
         subst (λ (n : ℕ). StreamsOpened its sized (stream_paths plan.folder n sizes.streams) readers opened) number are,
-        subst (λ (n : ℕ). IsRoundStartCause its plan n c.args.formula sizes opened fault after) number cause,
+        subst (λ (n : ℕ). IsRoundStartCause its plan n c.args.formula sizes readers opened fault after) number cause,
       ),
     )
 

@@ -1,4 +1,5 @@
 use Rattle.std.proofs.Common.{length, refl, subst, sym, true}
+use Rattle.runs.specs.Readings.{readers_view}
 use Rattle.command.specs.internal.Running.{run_params_on, IsRunCause}
 use Rattle.command.proofs.CheckingLemmas.{err_given, has_layout, run_cause}
 use Rattle.command.proofs.running.run_by_turns.Goals as goal
@@ -24,9 +25,12 @@ returns-clause-stands g c =
 
 pub returns-in_err-outcome-clause-cause : goal.returns-in_err-outcome-clause-cause
 returns-in_err-outcome-clause-cause g c =
-    let p = (run_params_on c.args.setup.now c.args.formula.now (length c.args.readers.items)).layout in
-    err_given c.from_residual-in_err-outcome.result _ _ (λ fault same. subst (IsRunCause true p) (sym same)
-    (run_cause true p c.run_serial.result c.in_err-outcome.field-0.0 c.in_err-outcome.was c.run_serial.ensures.layout
+    let readers = c.args.readers.items in
+    let p = run_params_on c.args.setup.now c.args.formula.now (length readers) in
+    let view = readers_view g.F.Input.Source in
+    let f = c.args.formula.now in
+    err_given c.from_residual-in_err-outcome.result _ _ (λ fault same. subst (IsRunCause view true f p readers) (sym same)
+    (run_cause view true f p readers c.run_serial.result c.in_err-outcome.field-0.0 c.in_err-outcome.was c.run_serial.ensures.layout
     (λ stream e. absurd ((c.run_serial.ensures.no_threads stream).0 e))
     (λ stream e. absurd ((c.run_serial.ensures.no_threads stream).1 e))))
     c.from_residual-in_err-outcome.ensures.1

@@ -2,6 +2,7 @@ use Rattle.std.proofs.Common.{false, length, refl, subst, sym}
 use Rattle.clause_store.specs.Passes.{views}
 use Rattle.lrup_model.specs.Event.{History}
 use Rattle.lrup_model.specs.Layout.{LayoutValue}
+use Rattle.runs.specs.Readings.{readers_view}
 use Rattle.runs.specs.SequentialConsistency.{HaveOneHistory, seen_by}
 use Rattle.command.specs.internal.Running.{run_params_on, IsRunCause}
 use Rattle.command.proofs.CheckingLemmas.{err_given, has_layout, run_cause}
@@ -32,8 +33,11 @@ returns-clause-stands g c =
 
 pub returns-in_err-outcome-clause-cause : goal.returns-in_err-outcome-clause-cause
 returns-in_err-outcome-clause-cause g c =
-    let p = (run_params_on c.args.setup.now c.args.formula.now (length c.args.readers.items)).layout in
-    err_given c.from_residual-in_err-outcome.result _ _ (λ fault same. subst (IsRunCause false p) (sym same)
-    (run_cause false p c.run.result c.in_err-outcome.field-0.0 c.in_err-outcome.was c.run.ensures.layout
-    (λ stream e. (refl, c.run.ensures.spawn stream e)) (λ stream e. (refl, (c.run.ensures.ring stream e).is_stream))))
+    let readers = c.args.readers.items in
+    let p = run_params_on c.args.setup.now c.args.formula.now (length readers) in
+    let view = readers_view g.F.Input.Source in
+    let f = c.args.formula.now in
+    err_given c.from_residual-in_err-outcome.result _ _ (λ fault same. subst (IsRunCause view false f p readers) (sym same)
+    (run_cause view false f p readers c.run.result c.in_err-outcome.field-0.0 c.in_err-outcome.was c.run.ensures.layout
+    (λ stream e. (refl, c.run.ensures.spawn stream e)) (λ stream e. (refl, c.run.ensures.ring stream e))))
     c.from_residual-in_err-outcome.ensures.1
