@@ -77,8 +77,8 @@ returns-clause-ran g c =
       checked = stands.checked;
       leaves = leaves_behind its _ run.verdict before mid after path output closed.result.unsaved c.in_ok-output.ensures.created
           (left_moved stands (λ p dropped. ClosesCheckpoint its (SavesCheckpoint its f p h dropped) run.verdict mid output
-          closed.result.unsaved after) (closed.ensures.closes f h stands.has));
+          closed.result.unsaved after) (rw c.deref.ensures.value at (closed.ensures.closes f h stands.has)));
       saved = λ next is. saves_next its f _ h stands.checked.dropped before mid after path output next c.in_ok-output.ensures.created
           (left_moved stands (λ p dropped. KeepsNext its (SavesCheckpoint its f p h dropped) mid output after next)
-          (closed.ensures.next f h stands.has next is));
+          (rw c.deref.ensures.value at (closed.ensures.next f h stands.has next is)));
     }

@@ -1,4 +1,4 @@
-use Rattle.std.proofs.Common.{◌≡◌, ◌+◌, ◌∙◌, None, Some, inl, inr, length, refl, subst}
+use Rattle.std.proofs.Common.{◌≡◌, ◌<◌, ◌+◌, ◌∙◌, None, Some, arith, inl, inr, length, refl, subst}
 use Rattle.command.specs.Commands.{Text, deeds_of}
 use Rattle.command.specs.Paths.{formula_path}
 use Rattle.command.specs.Rounds.{HaveEnded, SavesNext, run_params_by}
@@ -6,7 +6,7 @@ use Rattle.command.specs.internal.RoundProgress.{RanAndLeft, plan_of}
 use Rattle.portfolio.specs.declared.outcome.Verdict.TheVariants.{Unknown}
 use Rattle.runs.specs.Streams.{RunParamsValue}
 use Rattle.command.proofs.CheckingLemmas.{some_given}
-use Rattle.command.proofs.RoundLemmas.{barred_by, run_params_same}
+use Rattle.command.proofs.RoundLemmas.{barred_by, run_params_same, some_streams}
 use Rattle.command.proofs.rounds.check_round.Given as given
 use Rattle.command.proofs.rounds.check_round.Goals as goal
 
@@ -65,3 +65,8 @@ returns-clause-found g c =
         checkpoint = left.leaves;
       };
     }
+
+pub invariant_of-result : goal.invariant_of-result
+invariant_of-result g c =
+    let some : 0 < length c.args.round.readers.items = some_streams _ c.in_ok-checked.ensures.ran.checked.layout in
+    record { some = omega (arith, some, c.requires.count) }
