@@ -1,6 +1,7 @@
 -- What the clauses of `command` say of files of which contracts know everything.
 use Rattle.std.proofs.Common.{◌≡◌, ◌∙◌, ◌++◌, ◌+◌, ◌⊎◌, ℕ, ℤ, Bool, true, false, List, [], ◌∷◌, Option, None, Some, Result, Ok, Err}
 use Rattle.std.proofs.Common.{inl, inr, ap, length, refl, sym, subst}
+use Rattle.std.proofs.lemmas.List.{append-nil}
 use Rattle.lrup_model.specs.Formula.{Cnf}
 use Rattle.lrup_model.specs.declared.layout.LayoutFault.TheVariants as layouts
 use Rattle.lrup_text.specs.ReadOut.{SourceView}
@@ -8,13 +9,16 @@ use Rattle.dimacs.specs.FormulaText.{IsFormulaText}
 use Rattle.stream_check.specs.declared.report.Report.{Report}
 use Rattle.portfolio.specs.declared.outcome.Verdict.{Verdict}
 use Rattle.portfolio.specs.declared.outcome.Verdict.TheVariants.{Unsatisfiable, UnsatisfiableUnder, Unknown}
-use Rattle.checkpoint.specs.Checkpoints.{IsCheckpoint}
+use Rattle.checkpoint.specs.Checkpoints.{IsCheckpoint, Saves}
+use Rattle.checkpoint.specs.Live.{Entry}
+use Rattle.checkpoint.specs.Printing.{formula_text}
 use Rattle.checkpoint.specs.declared.saving.SaveFault.{SaveFault}
+use Rattle.checkpoint.specs.declared.saving.SaveFault.TheVariants as saves
 use Rattle.command_line.specs.CommandLine.{AskToSave, IsCommandLineOf}
 use Rattle.command_line.specs.lemmas.NextLemmas.{asks_for_one}
 use Rattle.command_line.specs.declared.sizes.Sizes.{Sizes}
 use Rattle.command_line.specs.declared.words.CommandLine.{CommandLine}
-use Rattle.command.specs.Commands.{AreAssumed, AreOpened, CheckpointEntailed, CheckpointLeftEmpty, ClosesSink, Deeds}
+use Rattle.command.specs.Commands.{AreAssumed, AreOpened, CheckpointEntailed, CheckpointLeftEmpty, ClosesSink, ComesLast, Deeds}
 use Rattle.command.specs.Commands.{FilesView, IsAssumeCause, IsCause, IsOutcome, LeavesBehind, LeavesFile, SavesCheckpoint, SinkChange}
 use Rattle.command.specs.Commands.{Text}
 use Rattle.command.specs.Commands.{WasReadIn, WasSaved, assumed_at, checkpoint_at, layout_at, report_status}
@@ -24,7 +28,7 @@ use Rattle.command.specs.Rounds.{AreRounds, AreSized, Plan, ProgramEnds, Round, 
 use Rattle.command.specs.declared.fault.CommandFault.{CommandFault}
 use Rattle.command.specs.declared.fault.CommandFault.TheVariants as faults
 use Rattle.command_tests.specs.ExactFiles.{ExactValue, HasNoFile, FindsText, ClosesFile, IsCreated, IsEmptied, IsKept, IsKeptInRounds}
-use Rattle.command_tests.specs.ExactFiles.{RefusesNew, RefusesOpening, IsUnsure, CheckpointLies, text_at, text_or_none}
+use Rattle.command_tests.specs.ExactFiles.{RefusesNew, RefusesOpening, IsUnsure, BeginsCheckpoint, FileLies, text_at, text_or_none}
 use Rattle.command_tests.specs.declared.exact_files.Closing.{Closing}
 use Rattle.command_tests.specs.declared.exact_files.Closing.TheVariants as closings
 
@@ -173,13 +177,13 @@ module _ {R W : Type 0} (left : R → List ℕ) (content : W → List ℕ) (read
   saved_at before path bytes after saved =
       closed_at closings.Kept before saved.next path saved.first saved.last bytes after saved.created saved.wrote saved.kept.0
 
-  lies_at : (words : List Text) (first before : ExactValue) (path bytes : List ℕ) (closing : Closing) (after : ExactValue)
-      (given : CommandLine) (formula : Cnf) (text : List ℕ) (next : ExactValue)
+  lies_at : (Holds : Cnf → List ℕ → Type 0) (words : List Text) (first before : ExactValue) (path bytes : List ℕ) (closing : Closing)
+      (after : ExactValue) (given : CommandLine) (formula : Cnf) (text : List ℕ) (next : ExactValue)
       → IsCommandLineOf words given → WasReadIn (exact_view first) first given.formula.now text next → IsFormulaText text formula
-      → IsCheckpoint formula bytes → before ≡ first
+      → Holds formula bytes → before ≡ first
       → after ≡ record before { path = path; bytes = bytes; closing = closing }
-      → CheckpointLies words first path closing after
-  lies_at words first before path bytes closing after given formula text next line read is checkpoint stays closed = record {
+      → FileLies Holds words first path closing after
+  lies_at Holds words first before path bytes closing after given formula text next line read is holds stays closed = record {
     given = given;
     command_line = line;
     text = text;
@@ -187,60 +191,93 @@ module _ {R W : Type 0} (left : R → List ℕ) (content : W → List ℕ) (read
     is_there = (was_read first given.formula.now text next read).1;
     is_text = is;
     bytes = bytes;
-    checkpoint = checkpoint;
+    holds = holds;
     closed = closed ∙ ap (λ (files : ExactValue). record files { path = path; bytes = bytes; closing = closing }) stays;
   }
+
+  -- so of what was done last, after the streams were opened
+  last_lies : (Holds : Cnf → List ℕ → Type 0) (words : List Text) (first : ExactValue) (Came : Cnf → ExactValue → ExactValue → Type 0)
+      (after : ExactValue) (last : ComesLast exact_deeds.opens (WasReadIn (exact_view first)) Came first words after)
+      (path bytes : List ℕ) (closing : Closing) → Holds last.formula bytes
+      → after ≡ record last.before { path = path; bytes = bytes; closing = closing } → FileLies Holds words first path closing after
+  last_lies Holds words first Came after last path bytes closing holds closed =
+      let stays : last.before ≡ first = opened_stays last.later last.given.streams last.readers last.before last.opened
+      ∙ assumed_stays first last.formula.vars last.next (assumed_at last.given) last.cube last.later last.assumed ∙ last.read.opened.0 in
+      lies_at Holds words first last.before path bytes closing after last.given last.formula last.bytes last.next last.command_line
+      last.read last.is_text holds stays closed
 
   pub exactly_kept : (words : List Text) (first after : ExactValue) (status : ℕ)
       → CheckpointEntailed exact_deeds.opens (WasReadIn (exact_view first))
       (WasSaved exact_deeds.creates exact_deeds.written exact_deeds.keeps) first words after status
       → IsKept words first after status
-  exactly_kept words first after status entailed path ask three =
-      let all = entailed path ask (inl three) in
-      let stays : all.7 ≡ first = opened_stays all.6 all.0.streams all.8 all.7 all.13
-      ∙ assumed_stays first all.1.vars all.5 (assumed_at all.0) all.2 all.6 all.12 ∙ all.10.opened.0 in
-      lies_at words first all.7 path all.4 closings.Kept after all.0 all.1 all.3 all.5 all.9 all.10 all.11 all.15 stays
-      (saved_at all.7 path all.4 after all.14)
+  exactly_kept words first after status entailed path ask is =
+      let last = entailed path ask is in
+      let saved = last.came in
+      last_lies IsCheckpoint words first _ after last path saved.0 closings.Kept saved.2 (saved_at last.before path saved.0 after saved.1)
 
-  pub exactly_emptied : (words : List Text) (after : ExactValue) (status : ℕ) → CheckpointLeftEmpty exact_deeds words after status
-      → IsEmptied words after status
-  exactly_emptied words after status empty path ask zero =
-      let left_empty = (empty path ask zero).1 in
-      let closed = left_empty.discarded in
-      let created = left_empty.created in (
-        ap (λ (files : ExactValue). files.path) closed ∙ ap (λ (files : ExactValue). files.path) created.2,
-        ap (λ (files : ExactValue). files.bytes) closed ∙ created.1,
-        ap (λ (files : ExactValue). files.closing) closed,
-      )
+  pub exactly_emptied : (words : List Text) (first after : ExactValue) (status : ℕ)
+      → CheckpointLeftEmpty (exact_view first) words after status → IsEmptied words first after status
+  exactly_emptied words first after status empty path ask zero =
+      let last = empty path ask zero in
+      let left_empty = last.came in
+      let created = left_empty.created in
+      last_lies (λ formula bytes. bytes ≡ []) words first _ after last path [] closings.Discarded refl
+      (closed_at closings.Discarded last.before left_empty.next path left_empty.output left_empty.output [] after created
+      (sym (append-nil (content left_empty.output))) left_empty.discarded)
+
+  -- what went to a file that isn't saved is a beginning of the text
+  begun_by : (fault : SaveFault) (vars : ℕ) (entries : List Entry) (before after : List ℕ)
+      → Saves (Err fault) vars entries (Some before) (Some after)
+      → (bytes : List ℕ) × (after ≡ before ++ bytes) × ((more : List Entry) × (rest : List ℕ) × (formula_text vars more ≡ bytes ++ rest))
+  begun_by saves.Memory vars entries before after so = absurd so
+  begun_by saves.TooLarge vars entries before after so = ([], so.1, (entries, formula_text vars entries, refl))
+  begun_by saves.Unwritten vars entries before after so = (so.0, so.3, (entries, so.1, so.2))
 
   -- how a file is closed that isn't saved
   module _ (words : List Text) (first : ExactValue) (reports : List Report) (verdict : Verdict)
       (outcome : IsOutcome (exact_view first) words reports verdict) (path : List ℕ) where
+    stays : outcome.last ≡ first
+    stays = opened_stays outcome.later outcome.given.streams outcome.readers outcome.last outcome.opened
+        ∙ assumed_stays first outcome.formula.vars outcome.next (assumed_at outcome.given) outcome.cube outcome.later outcome.assumed
+        ∙ outcome.is_formula.1.opened.0
+
+    outcome_lies : (Holds : Cnf → List ℕ → Type 0) (bytes : List ℕ) (closing : Closing) (after : ExactValue) → Holds outcome.formula bytes
+        → after ≡ record outcome.last { path = path; bytes = bytes; closing = closing } → FileLies Holds words first path closing after
+    outcome_lies Holds bytes closing after holds closed =
+        let read = outcome.is_formula in
+        lies_at Holds words first outcome.last path bytes closing after outcome.given outcome.formula read.0 outcome.next
+        outcome.command_line read.1 read.2 holds stays closed
+
+    begins : (fault : SaveFault) (from to : W)
+        → SavesCheckpoint exact_deeds outcome.formula (layout_at outcome.given outcome.formula)
+        outcome.checked.ran.run.history outcome.checked.dropped (Err fault) from to
+        → (bytes : List ℕ) × (content to ≡ content from ++ bytes) × BeginsCheckpoint outcome.formula bytes
+    begins fault from to saving = elim saving.exactly.saves.1 [
+      | inl all ↦ begun_by fault outcome.formula.vars _ (content from) (content to) all.1
+      | inr none ↦
+          ([], ap content none.1 ∙ sym (append-nil (content from)), ([], formula_text outcome.formula.vars [], refl))
+    ]
+
     unsure_by : (why : SaveFault) (from to : W) (next after : ExactValue) (result : Result (Option Cnf) SaveFault)
         → IsCreated outcome.last path (content from) next
         → SavesCheckpoint exact_deeds outcome.formula (layout_at outcome.given outcome.formula)
         outcome.checked.ran.run.history outcome.checked.dropped result from to
         → ClosesSink exact_deeds result next to (Some why) after
-        → (CheckpointLies words first path closings.Lost after × (first.is_lossy ≡ true))
-        ⊎ ((after.path ≡ path) × (after.closing ≡ closings.Discarded))
+        → (FileLies IsCheckpoint words first path closings.Lost after × (first.is_lossy ≡ true))
+        ⊎ FileLies BeginsCheckpoint words first path closings.Discarded after
     unsure_by why from to next after (Ok done) created saving closed =
         let wrote = saving.checkpoint in
-        let read = outcome.is_formula in
-        let stays : outcome.last ≡ first = opened_stays outcome.later outcome.given.streams outcome.readers outcome.last outcome.opened
-        ∙ assumed_stays first outcome.formula.vars outcome.next (assumed_at outcome.given) outcome.cube outcome.later outcome.assumed
-        ∙ read.1.opened.0 in
         inl (
-          lies_at words first outcome.last path wrote.bytes closings.Lost after outcome.given outcome.formula read.0 outcome.next
-              outcome.command_line read.1 read.2 wrote.checkpoint stays
+          outcome_lies IsCheckpoint wrote.bytes closings.Lost after wrote.checkpoint
               (closed_at closings.Lost outcome.last next path from to wrote.bytes after created wrote.written closed.1.0),
           ap (λ (files : ExactValue). files.is_lossy) (sym stays)
               ∙ ap (λ (files : ExactValue). files.is_lossy) (sym created.2)
               ∙ closed.1.1,
         )
-    unsure_by why from to next after (Err fault) created saving closed = inr (
-      ap (λ (files : ExactValue). files.path) closed.1 ∙ ap (λ (files : ExactValue). files.path) created.2,
-      ap (λ (files : ExactValue). files.closing) closed.1,
-    )
+    unsure_by why from to next after (Err fault) created saving closed =
+        let begun = begins fault from to saving in
+        inr (outcome_lies BeginsCheckpoint begun.0 closings.Discarded after begun.2
+        (closed_at closings.Discarded outcome.last next path from to begun.0 after created begun.1 closed.1))
 
   pub exactly_unsure : (words : List Text) (first after : ExactValue) (out err : SinkChange) (status : ℕ)
       → ProgramEnds (exact_view first) words after out err status → IsUnsure words first after status
@@ -293,12 +330,12 @@ module _ {R W : Type 0} (left : R → List ℕ) (content : W → List ℕ) (read
 
   pub exactly_in_rounds : (words : List Text) (first after : ExactValue) (out err : SinkChange) (status : ℕ)
       → RoundsEntailed (exact_view first) words after out err status → IsKeptInRounds words first after status
-  exactly_in_rounds words first after out err status entailed folder ask three =
-      let report = entailed folder ask (inr (inl three)) in
+  exactly_in_rounds words first after out err status entailed folder ask is =
+      let report = entailed folder ask (elim is [ inl three ↦ inr (inl three) | inr eight ↦ inr (inr (inl eight)) ]) in
       let ending = report.ending in
       let were = ending.were in
       let number = length (ending.last ∷ ending.before) in
-      let saved = report.last_saved (inl three) in
+      let saved = report.last_saved is in
       let read = were.is_formula in
       let path = formula_path folder (number + 1) in
       let stays : were.later ≡ first =
@@ -308,6 +345,6 @@ module _ {R W : Type 0} (left : R → List ℕ) (content : W → List ℕ) (read
       ∙ round_saved _ number ending.last saved.0 saved.1
       ∙ rounds_stay _ were.formula _ were.later report.given.streams ending.last ending.before path saved.0 were.rounds in (
         number + 1,
-        lies_at words first were.later path saved.0 closings.Kept after report.given were.formula read.0 were.next report.command_line
-            read.1 read.2 saved.2 stays closed,
+        lies_at IsCheckpoint words first were.later path saved.0 closings.Kept after report.given were.formula read.0 were.next
+            report.command_line read.1 read.2 saved.2 stays closed,
       )

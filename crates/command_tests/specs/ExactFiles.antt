@@ -1,8 +1,10 @@
 -- Files in memory, of which contracts know everything: a formula and a stream from the beginning, and the file that was created last.
-use Rattle.std.specs.Prelude.{◌≡◌, ◌≢◌, ◌⊎◌, ℕ, Bool, true, List, [], Option, None, Some, if◌then◌else◌, length, nat_eq}
+use Rattle.std.specs.Prelude.{◌≡◌, ◌≢◌, ◌++◌, ◌⊎◌, ℕ, Bool, true, List, [], Option, None, Some, if◌then◌else◌, length, nat_eq}
 use Rattle.lrup_model.specs.Formula.{Cnf}
 use Rattle.dimacs.specs.FormulaText.{IsFormulaText}
 use Rattle.checkpoint.specs.Checkpoints.{IsCheckpoint}
+use Rattle.checkpoint.specs.Live.{Entry}
+use Rattle.checkpoint.specs.Printing.{formula_text}
 use Rattle.command_line.specs.CommandLine.{AskForRounds, AskToSave, IsCommandLineOf}
 use Rattle.command_line.specs.declared.words.CommandLine.{CommandLine}
 use Rattle.command.specs.Paths.{formula_path}
@@ -59,9 +61,9 @@ abbrev pub ClosesFile : Closing → ExactValue → List ℕ → ExactValue → T
 ClosesFile closing before bytes after =
     after ≡ record before { bytes = bytes; closing = closing }
 
--- A checkpoint lies at the path, closed in this way: of the formula whose text is at FORMULA. Nothing else has changed.
-pub record CheckpointLies (words : List (List ℕ)) (before : ExactValue) (path : List ℕ)
-    (closing : Closing) (after : ExactValue) : Type 0 where
+-- A file lies at the path, closed in this way, whose bytes hold this of the formula whose text is at FORMULA. Nothing else has changed.
+pub record FileLies (Holds : Cnf → List ℕ → Type 0) (words : List (List ℕ)) (before : ExactValue)
+    (path : List ℕ) (closing : Closing) (after : ExactValue) : Type 0 where
   pub given : CommandLine
   pub command_line : IsCommandLineOf words given
   pub text : List ℕ
@@ -69,28 +71,36 @@ pub record CheckpointLies (words : List (List ℕ)) (before : ExactValue) (path 
   pub is_there : text_at before given.formula.now ≡ Some text
   pub is_text : IsFormulaText text formula
   pub bytes : List ℕ
-  pub checkpoint : IsCheckpoint formula bytes
+  pub holds : Holds formula bytes
   pub closed : after
       ≡ record before { path = path; bytes = bytes; closing = closing }
 
--- With status 3, if the words ask for a checkpoint, it lies at its path, and was kept.
+-- With status 3 or 8, if the words ask for a checkpoint, it lies at its path, and was kept.
 abbrev pub IsKept : List (List ℕ) → ExactValue → ExactValue → ℕ → Type 0
-IsKept words before after status = (path : List ℕ) → AskToSave words path → status ≡ 3
-    → CheckpointLies words before path closings.Kept after
+IsKept words before after status = (path : List ℕ) → AskToSave words path
+    → (status ≡ 3) ⊎ (status ≡ 8)
+    → FileLies IsCheckpoint words before path closings.Kept after
 
 -- With status 0 an empty file lies there, which was discarded.
-abbrev pub IsEmptied : List (List ℕ) → ExactValue → ℕ → Type 0
-IsEmptied words after status = (path : List ℕ) → AskToSave words path → status ≡ 0
-    → (after.path ≡ path) × (after.bytes ≡ []) × (after.closing ≡ closings.Discarded)
+abbrev pub IsEmptied : List (List ℕ) → ExactValue → ExactValue → ℕ → Type 0
+IsEmptied words before after status = (path : List ℕ) → AskToSave words path → status ≡ 0
+    → FileLies (λ formula bytes. bytes ≡ []) words before path closings.Discarded after
+
+-- the bytes are a beginning of a text that is printed of clauses over the formula's variables
+abbrev pub BeginsCheckpoint : Cnf → List ℕ → Type 0
+BeginsCheckpoint formula bytes =
+    (entries : List Entry) × (rest : List ℕ)
+    × (formula_text formula.vars entries ≡ bytes ++ rest)
 
 -- With status 9 a file lies there that isn't sure: a whole checkpoint that didn't get to the disk, or what was written until a fault.
 abbrev pub IsUnsure : List (List ℕ) → ExactValue → ExactValue → ℕ → Type 0
 IsUnsure words before after status = (path : List ℕ) → AskToSave words path → status ≡ 9
-    → (CheckpointLies words before path closings.Lost after × (before.is_lossy ≡ true))
-    ⊎ ((after.path ≡ path) × (after.closing ≡ closings.Discarded))
+    → (FileLies IsCheckpoint words before path closings.Lost after × (before.is_lossy ≡ true))
+    ⊎ FileLies BeginsCheckpoint words before path closings.Discarded after
 
--- With status 3, if the words ask for rounds, the last file is the formula of a round, which follows from FORMULA's, and was kept.
+-- With status 3 or 8, if the words ask for rounds, the last file is the formula of a round, which follows from FORMULA's, and was kept.
 abbrev pub IsKeptInRounds : List (List ℕ) → ExactValue → ExactValue → ℕ → Type 0
 IsKeptInRounds words before after status = (folder : List ℕ) → AskForRounds words folder
-    → status ≡ 3
-    → (number : ℕ) × CheckpointLies words before (formula_path folder number) closings.Kept after
+    → (status ≡ 3) ⊎ (status ≡ 8)
+    → (number : ℕ)
+    × FileLies IsCheckpoint words before (formula_path folder number) closings.Kept after

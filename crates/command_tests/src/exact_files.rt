@@ -1,5 +1,5 @@
-//! Files in memory that say exactly what each call does to them, and what the clauses of `command` say of such files: what lies at the
-//! path of a checkpoint when the program has ended.
+//! Files in memory that say exactly what each call does to them, and what follows for such files from the clauses of `command`: what lies
+//! at the path of a checkpoint after the statuses 0, 3, 8 and 9, and which file a round kept last after 3 and 8.
 ghost use Rattle.std.specs.Prelude.{◌≡◌, ℕ, Some, option_map, string_bytes, true, false};
 ghost use Rattle.clap.specs.Walk.{texts};
 ghost use Rattle.command_tests.specs.ExactFiles.{ExactValue, text_at, text_or_none, FindsText, HasNoFile, RefusesOpening, IsCreated, RefusesNew, ClosesFile};
@@ -184,7 +184,7 @@ pub fn run_exactly<T: Threads + Wait + Sync + Clock>(
     // From `saved`.
     ensures kept { IsKept (texts words.now) files.old files.new result }
     // From `none_saved`.
-    ensures emptied { IsEmptied (texts words.now) files.new result }
+    ensures emptied { IsEmptied (texts words.now) files.old files.new result }
     // From `ends`.
     ensures unsure { IsUnsure (texts words.now) files.old files.new result }
     // From `saved_rounds`.

@@ -23,7 +23,7 @@ pub returns-clause-kept : goal.returns-clause-kept
 returns-clause-kept g c = exactly_kept left content reading has_failed _ _ _ _ c.command.ensures.saved
 
 pub returns-clause-emptied : goal.returns-clause-emptied
-returns-clause-emptied g c = exactly_emptied left content reading has_failed _ _ _ c.command.ensures.none_saved
+returns-clause-emptied g c = exactly_emptied left content reading has_failed _ _ _ _ c.command.ensures.none_saved
 
 pub returns-clause-unsure : goal.returns-clause-unsure
 returns-clause-unsure g c = exactly_unsure left content reading has_failed _ _ _ _ _ _ c.command.ensures.ends
