@@ -360,11 +360,7 @@ pub(crate) fn open_streams<F: Machine>(
 }
 
 /// Refuses streams that have no layout, before a file is created that would be left empty.
-fn find_layout(
-    setup: &Setup<'_>,
-    formula: &Formula,
-    streams: usize,
-) -> Result<(), CommandFault>
+fn find_layout(setup: &Setup<'_>, formula: &Formula, streams: usize) -> Result<(), CommandFault>
     ensures found { let run_params = run_params_on setup.now formula.now streams in
         IfOk result (λ _. HasNoFault run_params.layout) }
     ensures cause { let run_params = run_params_on setup.now formula.now streams in

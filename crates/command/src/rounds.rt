@@ -80,11 +80,7 @@ fn check_round<T: Threads + Wait + Sync, C: Clock + Sync, F: Machine>(
     let checked = check_streams(
         threads, clock, alloc, &setup, formula, readers, path, true, files,
     )?;
-    let CheckedStreams {
-        found,
-        next,
-        ended,
-    } = checked;
+    let CheckedStreams { found, next, ended } = checked;
     let next = next_of(&found.reports, found.verdict, found.unsaved, next);
     Ok(CheckedRound {
         last: LastRound {

@@ -20,8 +20,8 @@ use test_support::{Paper, Pieces, four_clauses};
 
 mod alone;
 mod assumptions;
-mod going_on;
 mod ends;
+mod going_on;
 mod interleavings;
 mod isolation;
 mod line_orders;
