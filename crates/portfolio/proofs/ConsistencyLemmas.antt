@@ -371,7 +371,8 @@ module _ {S : Type 0} (view : SourceView S) where
     pub told : AllZip MatchesInput (observations view firsts (map (λ x. x.reader) fs)) streams
     pub judged : AreJudgedBy run_params s streams vs (map (λ x. x.report) fs)
     pub read : AreRead S view.reads firsts (map (λ x. x.reader) fs) streams
-    pub dropped : HaveDropped run_params s streams (map (λ x. x.report) fs) (map (λ x. x.dropped) fs)
+    pub dropped : (h : History) → ((k : ℕ) (v : View) → slice_get vs k ≡ Some v → v.mine ≡ own h (s + k))
+        → HaveDropped run_params (λ t blocks. own h t ≡ joined blocks) s streams (map (λ x. x.report) fs) (map (λ x. x.dropped) fs)
 
   pub judged_by : (f : Cnf) (run_params : RunParamsValue) (store : StoreValue) → store.layout ≡ run_params.layout
       → (s : ℕ) (firsts : List S) (js : List (StreamJobsValue S)) (fs : List (StreamResultValue S)) (vs : List View)
@@ -383,7 +384,7 @@ module _ {S : Type 0} (view : SourceView S) where
     told = tt;
     judged = tt;
     read = tt;
-    dropped = tt;
+    dropped = λ h at. tt;
   }
   judged_by f run_params store same s [] [] [] (v ∷ vs) ready all synced = absurd synced
   judged_by f run_params store same s [] [] (x ∷ fs) vs ready all synced = absurd all
@@ -399,7 +400,7 @@ module _ {S : Type 0} (view : SourceView S) where
       let of = subst (λ (r : S). IsStreamOf view r x.reader one.0) here.reader_is one.2 in
       let calls = (ends f run_params.layout store s j x v same here.opened all.0 synced.0 synced.1).mine in
       let judged = subst (λ (c : StreamParams). JudgesStream c one.0 all.0.blocks x.report) here.checker.params one.3 in
-      let dropped = subst (λ (c : StreamParams). HasDropped c one.0.bytes x.report x.dropped) here.checker.params
+      let dropped = subst (λ (c : StreamParams). HasDropped c one.0.bytes all.0.blocks x.report x.dropped) here.checker.params
       (job_drops j.checker (pass_caller_view j.pass.view).room one.0.bytes all.0.blocks x.report x.dropped fresh one.4) in
       let more = judged_by f run_params store same (s + 1) es js fs vs ready.1 all.1 synced.2 in
       record {
@@ -408,7 +409,14 @@ module _ {S : Type 0} (view : SourceView S) where
         told = (of.0, more.told);
         judged = ((all.0.blocks, calls, judged), more.judged);
         read = (of.1, more.read);
-        dropped = (dropped, more.dropped);
+        dropped = λ h at.
+            let now : s + 0 ≡ s = omega arith in
+            let mine : v.mine ≡ own h s = subst (λ (n : ℕ). v.mine ≡ own h n) now (at 0 v refl) in (
+              (all.0.blocks, sym mine ∙ calls, dropped),
+              more.dropped h (λ k w is.
+              let next : s + suc k ≡ s + 1 + k = omega arith in
+              subst (λ (n : ℕ). w.mine ≡ own h n) next (at (suc k) w is)),
+            );
       }
 
   -- By a legal history that has their calls, it is a run as far as these streams go.
@@ -431,7 +439,7 @@ module _ {S : Type 0} (view : SourceView S) where
           };
           way = j.out;
           read = j.read;
-          have_dropped = j.dropped;
+          have_dropped = j.dropped h calls;
         },
         refl,
       )

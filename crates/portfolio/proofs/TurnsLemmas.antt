@@ -37,7 +37,8 @@ use Rattle.runs.specs.Streams.{RunParamsValue}
 use Rattle.runs.specs.lemmas.EachLemmas.{each_count, each_push, each_second, each_set, each_within}
 use Rattle.runs.specs.lemmas.StreamLemmas.{observed_as_many, observed_count}
 use Rattle.runs.specs.Turns.{IsOrderedByTurns, streams_of}
-use Rattle.run_laws.specs.lemmas.OwnLemmas.{ordered_judged}
+use Rattle.run_laws.specs.lemmas.OwnLemmas.{ordered_judged, own-blocks}
+use Rattle.portfolio.proofs.DroppingLemmas.{dropped_more}
 use Rattle.portfolio.specs.Histories.{IsRunOf, OnOneThread}
 use Rattle.portfolio.specs.internal.Working.{AreBlocksOfTurn, WorkerValue, WorkerInvariantBy, WorkerInvariant, WorkerStep, IsStarted}
 use Rattle.portfolio.specs.internal.Turns.{HasRun, IsWorking, AreWorking, SerialInvariant, IsInSerialRun, SerialStep, IsOver, AreOver}
@@ -355,7 +356,7 @@ module _ {S : Type 0} (view : SourceView S) where
       → WorkerInvariantBy view o first w free blocks
       → (stream : Stream) × IsStreamOf view first w.reader stream
       × JudgesStream w.checker.params stream blocks (report_of_tally w.checker.tally ending)
-      × HasDropped w.checker.params stream.bytes (report_of_tally w.checker.tally ending) w.checker.dropped
+      × HasDropped w.checker.params stream.bytes blocks (report_of_tally w.checker.tally ending) w.checker.dropped
   told_over o ending first w free blocks is holds =
       let at : WorkerInvariantBy view (Some ending) first w free blocks = subst (λ e. WorkerInvariantBy view e first w free blocks)
       is holds in at
@@ -367,7 +368,7 @@ module _ {S : Type 0} (view : SourceView S) where
       → (streams : List Stream) × AllZip MatchesInput (observations view firsts (map (λ w. w.reader) ws)) streams
       × AreRead S view.reads firsts
       (map (λ w. w.reader) ws) streams × AreJudged run_params (λ s. true) (λ s events. events ≡ blocks_of s blocks) k streams reports
-      × HaveDropped run_params k streams reports (map (λ w. w.checker.dropped) ws)
+      × HaveDropped run_params (λ s events. events ≡ blocks_of s blocks) k streams reports (map (λ w. w.checker.dropped) ws)
   streams_over run_params blocks m k [] [] [] working have = ([], tt, tt, tt, tt)
   streams_over run_params blocks m k [] [] (r ∷ reports) working have = absurd have
   streams_over run_params blocks m k [] (w ∷ ws) reports working have = absurd working
@@ -379,14 +380,14 @@ module _ {S : Type 0} (view : SourceView S) where
       let judged : JudgesStream (stream_params run_params k) told.0 (blocks_of k blocks) r =
       subst (λ (c : StreamParams). JudgesStream c told.0 (blocks_of k blocks) r) working.0.params
       (subst (λ (x : Report). JudgesStream w.checker.params told.0 (blocks_of k blocks) x) (sym have.0.2) told.2) in
-      let dropped : HasDropped (stream_params run_params k) told.0.bytes r w.checker.dropped =
-      subst (λ (c : StreamParams). HasDropped c told.0.bytes r w.checker.dropped) working.0.params
-      (subst (λ (x : Report). HasDropped w.checker.params told.0.bytes x w.checker.dropped) (sym have.0.2) told.3) in (
+      let dropped : HasDropped (stream_params run_params k) told.0.bytes (blocks_of k blocks) r w.checker.dropped =
+      subst (λ (c : StreamParams). HasDropped c told.0.bytes (blocks_of k blocks) r w.checker.dropped) working.0.params
+      (subst (λ (x : Report). HasDropped w.checker.params told.0.bytes (blocks_of k blocks) x w.checker.dropped) (sym have.0.2) told.3) in (
         told.0 ∷ others.0,
         (told.1.0, others.1),
         (told.1.1, others.2),
         (λ all. (blocks_of k blocks, refl, judged), others.3),
-        (dropped, others.4),
+        ((blocks_of k blocks, refl, dropped), others.4),
       )
 
   -- the reports have an order of lines, by turns, whose events leave the map as it is
@@ -395,7 +396,7 @@ module _ {S : Type 0} (view : SourceView S) where
       → SerialInvariant view f run_params firsts 0 m ws → HaveReports ws reports
       → (streams : List Stream) × AllZip MatchesInput (observations view firsts (map (λ w. w.reader) ws)) streams
       × AreRead S view.reads firsts (map (λ w. w.reader) ws) streams × ((ordered : IsOrderedByTurns f run_params streams reports)
-      × HaveDropped run_params 1 streams reports (map (λ w. w.checker.dropped) ws)
+      × HaveDropped run_params (λ s events. events ≡ blocks_of s ordered.order.blocks) 1 streams reports (map (λ w. w.checker.dropped) ws)
       × (plain_state m ≡ state f (events_in ordered.order.blocks)))
   ordered_over f run_params firsts m ws reports count runs have =
       let streams = streams_over run_params runs.blocks m 1 firsts ws reports runs.workers_are have in (
@@ -440,7 +441,10 @@ run_ordered {S} view f run_params firsts m ws count begun n reports lasts droppe
         };
         way = (over.3.0, refl);
         read = read;
-        have_dropped = subst (HaveDropped run_params 1 streams reports) (sym so.dropped_are) over.3.1;
+        have_dropped = dropped_more run_params (λ s events. events ≡ blocks_of s order.blocks) _
+            (λ s events is. own-blocks run_params.layout (λ t. true) s order.blocks order.within ∙ ap joined (sym is)) 1 streams
+            reports dropped (subst (HaveDropped run_params (λ s events. events ≡ blocks_of s order.blocks) 1 streams reports)
+            (sym so.dropped_are) over.3.1);
       },
       over.3.2,
     )

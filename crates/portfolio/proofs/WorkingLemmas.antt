@@ -65,16 +65,16 @@ over_without (Some ending) over = omega arith
 -- what a checker that isn't over dropped, it has dropped at its end
 end_drops : (end : StreamEnd) (v u : CheckerValue) (room : ℕ) (bytes : List ℕ) (blocks : List History) (ending : Ending)
     → v.ending ≡ None → ReachesState v.params bytes blocks (checker_state v room) → EndsBy None end v u → u.ending ≡ Some ending
-    → HasDropped u.params bytes (report_of_tally u.tally ending) u.dropped
+    → HasDropped u.params bytes blocks (report_of_tally u.tally ending) u.dropped
 end_drops end v u room bytes blocks ending going reaches ended is =
     let its = ending_at end v.pending v.line in
     let same : its ≡ ending = let e : Some its ≡ Some ending = sym ended.2 ∙ is in cc in
-    let drops : HasDropped v.params bytes (report_of_tally v.tally its) v.dropped =
+    let drops : HasDropped v.params bytes blocks (report_of_tally v.tally its) v.dropped =
     going_drops v.params v room bytes blocks end going reaches in
-    subst (λ (c : StreamParams). HasDropped c bytes (report_of_tally u.tally ending) u.dropped) (sym ended.0)
-    (subst (HasDropped v.params bytes (report_of_tally u.tally ending)) (sym ended.4)
-    (subst (λ (e : Ending). HasDropped v.params bytes (report_of_tally u.tally e) v.dropped) same
-    (subst (λ (t : Tally). HasDropped v.params bytes (report_of_tally t its) v.dropped) (sym ended.1) drops)))
+    subst (λ (c : StreamParams). HasDropped c bytes blocks (report_of_tally u.tally ending) u.dropped) (sym ended.0)
+    (subst (HasDropped v.params bytes blocks (report_of_tally u.tally ending)) (sym ended.4)
+    (subst (λ (e : Ending). HasDropped v.params bytes blocks (report_of_tally u.tally e) v.dropped) same
+    (subst (λ (t : Tally). HasDropped v.params bytes blocks (report_of_tally t its) v.dropped) (sym ended.1) drops)))
 
 -- ---- a worker's steps
 
@@ -157,7 +157,7 @@ module _ {S : Type 0} (view : SourceView S) where
     record { bytes = bytes; unneeded = rest; end = None },
     (record { consumes = given; ends = running; needed = λ out. absurd (let no : false ≡ true = out in cc) }, gave),
     λ end may. either_end v.params bytes blocks (report_of_tally v.tally ending) end reaches.0.0 reaches.0.1,
-    stopped_drops ending v.params bytes v.tally v.dropped reaches.1 full,
+    stopped_drops ending v.params bytes blocks v.tally v.dropped reaches.1 full,
   )
 
   -- what the checker took of the bytes that were read

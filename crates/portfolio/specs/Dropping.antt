@@ -1,5 +1,6 @@
 -- Which identities the streams of a run dropped (this project's own).
-use Rattle.std.specs.Prelude.{◌≡◌, ℕ, List}
+use Rattle.std.specs.Prelude.{◌≡◌, ℕ, List, []}
+use Rattle.lrup_model.specs.Event.{History}
 use Rattle.lrup_text.specs.Lines.{StreamLine, Cut}
 use Rattle.stream_check.specs.declared.report.Ending.{Ending}
 use Rattle.stream_check.specs.declared.report.Ending.TheVariants as endings
@@ -7,37 +8,44 @@ use Rattle.stream_check.specs.declared.report.Report.{Report}
 use Rattle.stream_check.specs.DroppedIdsValue.{DroppedIdsValue}
 use Rattle.stream_check.specs.StreamParams.{StreamParams}
 use Rattle.stream_check.specs.StreamContext.{is_among, context_of}
+use Rattle.stream_check.specs.Judging.{AreGood}
 use Rattle.stream_check.specs.Stopping.{DropsUntilStop}
 use Rattle.runs.specs.Each.{EachOfThree}
 use Rattle.runs.specs.Streams.{Stream, RunParamsValue, stream_params}
 
--- These are the identities that the lines of the bytes drop: of those that a deletion among them names, the formula's and other
--- streams'.
-pub record AreDroppedBy (params : StreamParams) (bytes ids : List ℕ) : Type 0 where
+-- These are the identities that the lines of the bytes, which are good by these blocks of events, drop: of those that a deletion among them
+-- names, the formula's and other streams'.
+pub record AreDroppedBy (params : StreamParams) (bytes : List ℕ) (blocks : List History)
+    (ids : List ℕ) : Type 0 where
   pub lines : List StreamLine
   pub rest : List ℕ
   pub cut : Cut bytes lines rest
+  pub good : AreGood params [] lines blocks
   pub are : (id : ℕ) → is_among ids id ≡ (context_of params lines).is_dropped id
 
 -- what a stream dropped that ended so
-abbrev pub HasDroppedBy : Ending → StreamParams → List ℕ → Report → DroppedIdsValue → Type 0
-HasDroppedBy endings.Ended params bytes report dropped = AreDroppedBy params bytes dropped.ids
-HasDroppedBy (endings.Bad line fault) params bytes report dropped =
-    DropsUntilStop params bytes report (is_among dropped.ids)
-HasDroppedBy (endings.ReadFailed line) params bytes report dropped =
-    AreDroppedBy params bytes dropped.ids
-HasDroppedBy (endings.Memory line) params bytes report dropped =
-    DropsUntilStop params bytes report (is_among dropped.ids) × (dropped.spare ≡ 0)
+abbrev pub HasDroppedBy : Ending → StreamParams → List ℕ → List History → Report → DroppedIdsValue
+    → Type 0
+HasDroppedBy endings.Ended params bytes blocks report dropped =
+    AreDroppedBy params bytes blocks dropped.ids
+HasDroppedBy (endings.Bad line fault) params bytes blocks report dropped =
+    DropsUntilStop params bytes blocks report (is_among dropped.ids)
+HasDroppedBy (endings.ReadFailed line) params bytes blocks report dropped =
+    AreDroppedBy params bytes blocks dropped.ids
+HasDroppedBy (endings.Memory line) params bytes blocks report dropped =
+    DropsUntilStop params bytes blocks report (is_among dropped.ids) × (dropped.spare ≡ 0)
 
 -- Where the report says that the stream ended, or that a read failed, so that all its lines were good, these are the identities that
 -- they drop. Where it says that a line is bad, or that memory ran out in it, these are the identities that the lines before it drop,
 -- and that the line itself does, up to where it stopped. Where memory ran out, there is no room for one more.
-abbrev pub HasDropped : StreamParams → List ℕ → Report → DroppedIdsValue → Type 0
-HasDropped params bytes report dropped =
-    HasDroppedBy report.ending params bytes report dropped
+abbrev pub HasDropped : StreamParams → List ℕ → List History → Report → DroppedIdsValue → Type 0
+HasDropped params bytes blocks report dropped =
+    HasDroppedBy report.ending params bytes blocks report dropped
 
--- so it is with each stream, counted on from s
-abbrev pub HaveDropped : RunParamsValue → ℕ → List Stream → List Report → List DroppedIdsValue
-    → Type 0
-HaveDropped run_params s streams reports all = EachOfThree (λ t stream report dropped.
-    HasDropped (stream_params run_params t) stream.bytes report dropped) s streams reports all
+-- so it is with each stream, counted on from s, by blocks of events of which `AreOwn` holds
+abbrev pub HaveDropped : RunParamsValue → (ℕ → List History → Type 0) → ℕ → List Stream
+    → List Report → List DroppedIdsValue → Type 0
+HaveDropped run_params AreOwn s streams reports all = EachOfThree (λ t stream report dropped.
+    (blocks : List History) × AreOwn t blocks
+    × HasDropped (stream_params run_params t) stream.bytes blocks report dropped)
+    s streams reports all

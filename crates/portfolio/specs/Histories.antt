@@ -1,10 +1,11 @@
 -- What a run promises of its streams, on one thread or with two threads for each (this project's own).
 use Rattle.std.specs.Prelude.{◌≡◌, ℕ, Bool, true, false, List, IsSome}
 use Rattle.std.specs.List.{AllByRecursion}
-use Rattle.lrup_model.specs.Event.{History}
+use Rattle.lrup_model.specs.Event.{History, own}
 use Rattle.lrup_model.specs.Formula.{Cnf}
 use Rattle.lrup_text.specs.ReadOut.{SourceView}
 use Rattle.stream_check.specs.DroppedIdsValue.{DroppedIdsValue}
+use Rattle.stream_check.specs.Judging.{joined}
 use Rattle.stream_check.specs.declared.report.Report.{Report}
 use Rattle.runs.specs.Readings.{AreRead}
 use Rattle.runs.specs.Streams.{Stream, RunParamsValue, events_in, observations}
@@ -41,7 +42,8 @@ pub record IsRunOfSome {S : Type 0} (many : ℕ) (Checked : Way) (view : SourceV
   pub run : IsRunOfFirst many formula run_params (observations view firsts lasts) reports
   pub way : Checked formula run_params run.history run.streams reports
   pub read : AreRead S view.reads firsts lasts run.streams
-  pub have_dropped : HaveDropped run_params 1 run.streams reports dropped
+  pub have_dropped : HaveDropped run_params (λ t blocks. own run.history t ≡ joined blocks) 1
+      run.streams reports dropped
 
 -- so it is with all streams of the layout
 abbrev pub IsRunOf : {S : Type 0} → Way → SourceView S → Cnf → RunParamsValue

@@ -157,23 +157,24 @@ has_order told reports h verdict (run, same, serializable) is stays =
 
 -- What a stream dropped that ran out of memory
 
-full_at : (params : StreamParams) (bytes : List ℕ) (report : Report) (dropped : DroppedIdsValue) (line : ℕ)
-    → report.ending ≡ endings.Memory line → HasDropped params bytes report dropped → dropped.spare ≡ 0
-full_at params bytes report dropped line is drops =
-    (subst (λ (e : Ending). HasDroppedBy e params bytes report dropped) is drops).1
+full_at : (params : StreamParams) (bytes : List ℕ) (blocks : List History) (report : Report) (dropped : DroppedIdsValue) (line : ℕ)
+    → report.ending ≡ endings.Memory line → HasDropped params bytes blocks report dropped → dropped.spare ≡ 0
+full_at params bytes blocks report dropped line is drops =
+    (subst (λ (e : Ending). HasDroppedBy e params bytes blocks report dropped) is drops).1
 
-pub full_from : (run_params : RunParamsValue) (s : ℕ) (streams : List Stream) (reports : List Report) (all : List DroppedIdsValue)
-    → HaveDropped run_params s streams reports all → (k : ℕ) (report : Report) (dropped : DroppedIdsValue)
+pub full_from : (run_params : RunParamsValue) (AreOwn : ℕ → List History → Type 0) (s : ℕ) (streams : List Stream) (reports : List Report)
+    (all : List DroppedIdsValue)
+    → HaveDropped run_params AreOwn s streams reports all → (k : ℕ) (report : Report) (dropped : DroppedIdsValue)
     → slice_get reports k ≡ Some report → slice_get all k ≡ Some dropped → IsOfMemory report → dropped.spare ≡ 0
-full_from run_params s [] [] [] have k report dropped says at memory = absurd (let none : None ≡ Some report = says in cc)
-full_from run_params s (stream ∷ streams) (one ∷ reports) (d ∷ all) have zero report dropped says at memory =
+full_from run_params AreOwn s [] [] [] have k report dropped says at memory = absurd (let none : None ≡ Some report = says in cc)
+full_from run_params AreOwn s (stream ∷ streams) (one ∷ reports) (d ∷ all) have zero report dropped says at memory =
     let same : one ≡ report = let e : Some one ≡ Some report = says in cc in
     let is : d ≡ dropped = let e : Some d ≡ Some dropped = at in cc in
     subst (λ (x : DroppedIdsValue). x.spare ≡ 0) is
-    (full_at (stream_params run_params s) stream.bytes one d memory.0 (ap (λ (r : Report). r.ending) same ∙ memory.1) have.0)
-full_from run_params s (stream ∷ streams) (one ∷ reports) (d ∷ all) have (suc k) report dropped says at memory =
-    full_from run_params (s + 1) streams reports all have.1 k report dropped says at memory
-full_from run_params s _ _ _ have k report dropped says at memory = absurd have
+    (full_at (stream_params run_params s) stream.bytes have.0.0 one d memory.0 (ap (λ (r : Report). r.ending) same ∙ memory.1) have.0.2)
+full_from run_params AreOwn s (stream ∷ streams) (one ∷ reports) (d ∷ all) have (suc k) report dropped says at memory =
+    full_from run_params AreOwn (s + 1) streams reports all have.1 k report dropped says at memory
+full_from run_params AreOwn s _ _ _ have k report dropped says at memory = absurd have
 
 -- The lines of the first stream, and of one that imports alone
 

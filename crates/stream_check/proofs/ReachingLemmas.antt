@@ -182,15 +182,19 @@ held_more c bytes blocks old deleted ending before =
     ∙ ap (λ n. report_of c before.lines deleted (ending n)) before.line
 
 -- and what was dropped until then
-held_drops : (c : StreamParams) (bytes piece : List ℕ) (blocks : List History) (old : GoingState) (ids : List ℕ) (is_dropped : ℕ → Bool)
-    (report : Report)
+held_drops : (c : StreamParams) (bytes piece : List ℕ) (blocks back all : List History) (old : GoingState) (ids : List ℕ)
+    (is_dropped : ℕ → Bool) (report : Report) → all ≡ blocks ++ back
     → (before : ReachesGoing c bytes blocks old) → StopsAtLine report.ending (capped (length before.lines + 1))
     → AreDeletedFirst ids (old.pending ++ piece)
     → report.deleted ≡ (report_of c before.lines (length ids) endings.Ended).deleted → DropsMore c old.context.is_dropped ids is_dropped
-    → DropsUntilStop c (bytes ++ piece) report is_dropped
-held_drops c bytes piece blocks old ids is_dropped report before number first count drops = record {
+    → DropsUntilStop c (bytes ++ piece) all report is_dropped
+held_drops c bytes piece blocks back all old ids is_dropped report split before number first count drops = record {
   lines = before.lines;
   rest = old.pending ++ piece;
+  front = blocks;
+  back = back;
+  split = split;
+  good = before.good;
   text = text_grows (flat_map line_text before.lines) bytes old.pending piece before.cut.bytes;
   fits = before.cut.each;
   number = number;
@@ -224,8 +228,8 @@ bad_line_taken c bytes piece blocks block old line ids later fault is_dropped be
     (at_bad_line line [] whole text.0 block refl deleted fault
     (by_lines c old before.lines (λ st. JudgesLine c st line block (Bad deleted fault)) before.context judged) says) in (
       (judges stream_ends.Ended, judges stream_ends.Failed),
-      held_drops c bytes piece blocks old ids is_dropped report before before.line (inr (line, text.0, later, [], whole, deletes))
-          (ap (λ (r : Report). r.deleted) says) drops,
+      held_drops c bytes piece blocks (block ∷ []) (blocks ++ block ∷ []) old ids is_dropped report refl before before.line
+          (inr (line, text.0, later, [], whole, deletes)) (ap (λ (r : Report). r.deleted) says) drops,
     )
 
 -- a deletion that ran out of memory, after these identities
@@ -247,7 +251,7 @@ memory_wanted c bytes piece blocks block old lead ids earlier is_dropped before 
     (at_memory lead ids [] whole text.0 block refl earlier
     (by_lines c old before.lines (λ st. StopsDeletion c st.is_dropped ids block earlier) before.context stops) says) in (
       (judges stream_ends.Ended, judges stream_ends.Failed),
-      held_drops c bytes piece blocks old earlier is_dropped report before before.line
+      held_drops c bytes piece blocks (block ∷ []) (blocks ++ block ∷ []) old earlier is_dropped report refl before before.line
           (inr (Deletion lead ids, text.0, stops.id ∷ stops.later, [], whole, stops.identities)) (ap (λ (r : Report). r.deleted) says)
           drops,
     )
@@ -270,8 +274,8 @@ bad_text_read c bytes piece blocks old fault before refused =
     (ends_behind c bytes piece blocks [] old end report before
     (at_bad_text fault (refused_alone (old.pending ++ piece) fault refused) refl says)) in (
       (judges stream_ends.Ended, judges stream_ends.Failed),
-      held_drops c bytes piece blocks old [] old.context.is_dropped report before before.line (inl refl)
-          (ap (λ (r : Report). r.deleted) says)
+      held_drops c bytes piece blocks [] blocks old [] old.context.is_dropped report (sym (append-nil blocks)) before before.line
+          (inl refl) (ap (λ (r : Report). r.deleted) says)
           (drops_none c old.context.is_dropped),
     )
 

@@ -54,7 +54,7 @@ number_once (endings.ReadFailed line) m n a b = absurd a
 number_once (endings.Memory line) m n a b = sym a ∙ b
 
 pub dropped_once : OneFirstLine → DroppedOnce
-dropped_once law c bytes report is_dropped other line stops small few a b id =
+dropped_once law c bytes blocks others report is_dropped other line stops small few a b id =
     let deletes : List StreamLine → ℕ = λ lines. sum_by (λ l. length (deleted_by l)) lines in
     let many : length a.lines ≡ length b.lines =
     omega (arith, number_once report.ending _ _ stops a.number, number_once report.ending _ _ stops b.number, small) in

@@ -72,9 +72,10 @@ DecidedBeforeFailure =
 -- if its numbers are below 2^64 - 1, a report decides what a stream dropped that a line stopped
 abbrev pub DroppedOnce : Type 0
 DroppedOnce =
-    (c : StreamParams) (bytes : List ℕ) (report : Report) (is_dropped other : ℕ → Bool) (line : ℕ)
+    (c : StreamParams) (bytes : List ℕ) (blocks others : List History) (report : Report)
+    (is_dropped other : ℕ → Bool) (line : ℕ)
     → StopsAtLine report.ending line → line < 2 ^ 64 - 1 → report.deleted < 2 ^ 64 - 1
-    → DropsUntilStop c bytes report is_dropped → DropsUntilStop c bytes report other
+    → DropsUntilStop c bytes blocks report is_dropped → DropsUntilStop c bytes others report other
     → (id : ℕ) → is_dropped id ≡ other id
 
 -- Where a checker may be fed

@@ -54,7 +54,8 @@ JudgesBothEnds params bytes blocks report =
 abbrev pub ReachesState : StreamParams → List ℕ → List History → CheckerState → Type 0
 ReachesState params bytes blocks (Going now) = ReachesGoing params bytes blocks now
 ReachesState params bytes blocks (Over report is_dropped) =
-    JudgesBothEnds params bytes blocks report × DropsUntilStop params bytes report is_dropped
+    JudgesBothEnds params bytes blocks report
+    × DropsUntilStop params bytes blocks report is_dropped
 
 -- One good line more
 

@@ -1,6 +1,7 @@
 -- What a stream dropped that a line of it stopped (this project's own).
 use Rattle.std.specs.Prelude.{◌≡◌, ◌⊎◌, ◌+◌, ◌++◌, ◌||◌, ◌&&◌, ℕ, Bool, List, [], length}
 use Rattle.std.specs.List.{AllByRecursion, flat_map, sum_by}
+use Rattle.lrup_model.specs.Event.{History}
 use Rattle.lrup_text.specs.Lines.{StreamLine, IsWithinLimits, line_text}
 use Rattle.stream_check.specs.declared.report.Ending.{Ending}
 use Rattle.stream_check.specs.declared.report.Ending.TheVariants as endings
@@ -8,6 +9,7 @@ use Rattle.stream_check.specs.declared.report.Report.{Report}
 use Rattle.stream_check.specs.DroppedIdsValue.{DroppedIdsValue}
 use Rattle.stream_check.specs.StreamParams.{StreamParams, ownership_of, is_shared}
 use Rattle.stream_check.specs.StreamContext.{context_of, is_among, deleted_by, capped}
+use Rattle.stream_check.specs.Judging.{AreGood}
 
 -- the line of this number is bad, or memory ran out in it
 abbrev pub StopsAtLine : Ending → ℕ → Type 0
@@ -35,13 +37,18 @@ AreDeletedFirst ids bytes =
 -- What a stream dropped whose report says that a line is bad, or that memory ran out in it: of the identities that the lines before it
 -- delete, and of the first ones that it deletes itself, those of the formula and of other streams. The report tells both, up to
 -- 2^64 - 1: by its number how many lines are before it, and by its count how many of the identities that the line names come before the
--- one at which it stopped. If no line begins there, or one that deletes nothing, these are none.
-pub record DropsUntilStop (params : StreamParams) (bytes : List ℕ) (report : Report)
-    (is_dropped : ℕ → Bool) : Type 0 where
+-- one at which it stopped. If no line begins there, or one that deletes nothing, these are none. The lines before are good by the first of
+-- the blocks of events by which the stream is judged.
+pub record DropsUntilStop (params : StreamParams) (bytes : List ℕ) (blocks : List History)
+    (report : Report) (is_dropped : ℕ → Bool) : Type 0 where
   pub lines : List StreamLine
   pub rest : List ℕ
+  pub front : List History
+  pub back : List History
+  pub split : blocks ≡ front ++ back
   pub text : bytes ≡ flat_map line_text lines ++ rest
   pub fits : AllByRecursion IsWithinLimits lines
+  pub good : AreGood params [] lines front
   pub number : StopsAtLine report.ending (capped (length lines + 1))
   pub ids : List ℕ
   pub are_first : AreDeletedFirst ids rest

@@ -38,7 +38,7 @@ over_takes stays c old used rest blocks v free ending is reaches bytes before le
     let taken = subst (ReachesState c (bytes ++ used) (before ++ blocks)) over (reaches bytes before left) in
     let all = subst (λ (t : List ℕ). ReachesState c t (before ++ blocks) (Over report is_dropped)) (append_assoc bytes used rest) (
       stays c (bytes ++ used) rest (before ++ blocks) report taken.0,
-      drops_longer c (bytes ++ used) rest report is_dropped taken.1,
+      drops_longer c (bytes ++ used) rest (before ++ blocks) report is_dropped taken.1,
     ) in
     subst (ReachesState c (bytes ++ (used ++ rest)) (before ++ blocks)) (sym over) all
 

@@ -28,7 +28,7 @@ WorkerInvariantBy {S} view (Some ending) first worker free blocks =
     (stream : Stream) × IsStreamOf view first worker.reader stream
     × JudgesStream worker.checker.params stream blocks
     (report_of_tally worker.checker.tally ending)
-    × HasDropped worker.checker.params stream.bytes
+    × HasDropped worker.checker.params stream.bytes blocks
     (report_of_tally worker.checker.tally ending) worker.checker.dropped
 
 -- Invariant of a worker: its checked bytes and their events lead to its current state, where its reader was the first before any read and

@@ -25,7 +25,7 @@ own_all P (e ∷ h) s all = elim (cases_eq (stream_of e) s) [
 ]
 
 -- a stream's own events are those of its blocks
-own-blocks : (p : LayoutValue) (set : ℕ → Bool) (s : ℕ) (bs : List Block)
+pub own-blocks : (p : LayoutValue) (set : ℕ → Bool) (s : ℕ) (bs : List Block)
     → AllByRecursion (IsBlockWithin p set) bs
     → own (events_in bs) s ≡ joined (blocks_of s bs)
 own-blocks p set s [] all = refl

@@ -1,6 +1,7 @@
 -- Lemmas on what a stream dropped that a line of it stopped.
 use Rattle.std.proofs.Common.{◌≡◌, ◌||◌, ◌&&◌, ◌∙◌, ℕ, Bool, true, false, List, [], ◌++◌, inl, inr, refl, sym, ap, append_assoc}
 use Rattle.std.specs.List.{flat_map}
+use Rattle.lrup_model.specs.Event.{History}
 use Rattle.lrup_text.specs.Lines.{line_text}
 use Rattle.stream_check.specs.declared.report.Report.{Report}
 use Rattle.stream_check.specs.StreamParams.{StreamParams, ownership_of, is_shared}
@@ -22,11 +23,16 @@ first_longer ids bytes more (inr (line, fits, later, rest, text, deletes)) =
     inr (line, fits, later, rest ++ more, ap (λ (b : List ℕ). b ++ more) text ∙ append_assoc (line_text line) rest more, deletes)
 
 -- whatever follows
-pub drops_longer : (c : StreamParams) (bytes more : List ℕ) (report : Report) (is_dropped : ℕ
-    → Bool)
-    → DropsUntilStop c bytes report is_dropped → DropsUntilStop c (bytes ++ more) report is_dropped
-drops_longer c bytes more report is_dropped d = record {
+pub drops_longer : (c : StreamParams) (bytes more : List ℕ) (blocks : List History)
+    (report : Report) (is_dropped : ℕ → Bool)
+    → DropsUntilStop c bytes blocks report is_dropped
+    → DropsUntilStop c (bytes ++ more) blocks report is_dropped
+drops_longer c bytes more blocks report is_dropped d = record {
   lines = d.lines;
+  front = d.front;
+  back = d.back;
+  split = d.split;
+  good = d.good;
   rest = d.rest ++ more;
   text = ap (λ (b : List ℕ). b ++ more) d.text ∙ append_assoc (flat_map line_text d.lines) d.rest more;
   fits = d.fits;

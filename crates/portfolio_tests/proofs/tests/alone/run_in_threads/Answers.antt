@@ -9,5 +9,5 @@ returns g c =
       order = has_order _ _ _ _ (two_ordered _ _ _ _ _ _ _ c.usual_options.ensures c.empty.ensures c.in_ok-formula.ensures
           c.in_ok-readers.ensures.two (ran.reports.0.run, ran.reports.1.0, ran.reports.1.2)) ran.verdict;
       full = λ s report dropped says at memory.
-          full_from _ 1 _ _ _ ran.reports.0.have_dropped (s - 1) report dropped says.1 at.1 memory;
+          full_from _ _ 1 _ _ _ ran.reports.0.have_dropped (s - 1) report dropped says.1 at.1 memory;
     }
