@@ -407,12 +407,12 @@ ROUNDS_ROWS: Rows = [
     ("Its streams are the files of its number.", """[[ComesNext: opened : StreamsOpened its sized (stream_paths plan.folder
      (number + 1) round.sizes.streams) round.readers round.opened]]."""),
     ("A round carries on just the live clauses that some stream didn't drop.", """[[SavesNext: exactly : SavesState
-     its.written (Ok (Some next))]] fetches each identity once, and saves what is live and [[is_wanted]]: by the state that the history of the
-     round's run leaves, [[SavesRound: round.checked.ran.run.history]]."""),
+     its.written (Ok (Some next))]] fetches each identity once, and saves what is live and [[is_wanted]]. The state is the one that the history of
+     the round's run leaves, [[SavesNext: (state formula history)]], [[SavesRound: round.checked.ran.run.history]]."""),
     ("They follow from the round's formula, and their text was saved for the next round, once the round's streams were "
      "opened.",
-     """[[SavesNext: checkpoint : IsCheckpoint formula bytes]], [[IsCheckpoint: entails : Entails original
-     formula]], [[SavesNext: next_is : next ≡ checkpoint.formula]]; [[SavesNext: saved : WasSavedBy its before path bytes after]], [[SavesRound: (formula_path plan.folder (number + 1)) next round.after]]."""),
+     """[[SavesRound: SavesNext its round.formula]]; [[SavesNext: checkpoint : IsCheckpoint formula bytes]], [[IsCheckpoint: entails : Entails original
+     formula]], [[SavesNext: next_is : next ≡ checkpoint.formula]]; [[SavesNext: saved : WasSavedBy its before path bytes after]], [[SavesRound: round.opened (formula_path plan.folder (number + 1)) next round.after]]."""),
     ("If the report was written, what each round but the last saved follows from the first formula. With status 3 or 8, so does "
      "what the last one saved.",
      """[[fn command.saved_rounds]]: [[RoundsEntailed: (status ≡ 0) ⊎ ((status ≡ 3) ⊎ ((status ≡ 8) ⊎ (status ≡ 9)))]], [[ReportsEntailed: saved :

@@ -199,20 +199,21 @@ module _ (files : FilesView) (words : List Text) (given : CommandLine) (line : I
       open_cause fault after cause = absurd cause
 
       pub start_cause : (readers : List files.its.Reader) (last : files.its.State)
-          → AreOpened files.its.opens later given.streams readers last → (fault : CommandFault) (after : files.its.State)
+          → AreOpened files.its.opens later given.streams readers last
+          → map files.its.reading.left readers ≡ map files.tells given.streams → (fault : CommandFault) (after : files.its.State)
           → IsStartCause files.its given.serial f (run_params_given given cube f) readers last (created_at given) fault after
           → IsCause files words fault after
-      start_cause readers last opened (faults.Layout fault) after cause =
-          (given, line, inr (f, next, at, inr (cube, later, assumed, inr (readers, last, opened, cause))))
-      start_cause readers last opened faults.NotCreated after cause =
-          (given, line, inr (f, next, at, inr (cube, later, assumed, inr (readers, last, opened, cause))))
-      start_cause readers last opened (faults.Spawn stream) after cause =
-          (given, line, inr (f, next, at, inr (cube, later, assumed, inr (readers, last, opened, cause))))
-      start_cause readers last opened (faults.Ring stream) after cause =
-          (given, line, inr (f, next, at, inr (cube, later, assumed, inr (readers, last, opened, cause))))
-      start_cause readers last opened faults.Memory after cause =
-          inr (given, line, inr (f, next, at, inr (cube, later, assumed, inr (readers, last, opened, cause))))
-      start_cause readers last opened fault after cause = absurd cause
+      start_cause readers last opened left (faults.Layout fault) after cause =
+          (given, line, inr (f, next, at, inr (cube, later, assumed, inr (readers, last, opened, left, cause))))
+      start_cause readers last opened left faults.NotCreated after cause =
+          (given, line, inr (f, next, at, inr (cube, later, assumed, inr (readers, last, opened, left, cause))))
+      start_cause readers last opened left (faults.Spawn stream) after cause =
+          (given, line, inr (f, next, at, inr (cube, later, assumed, inr (readers, last, opened, left, cause))))
+      start_cause readers last opened left (faults.Ring stream) after cause =
+          (given, line, inr (f, next, at, inr (cube, later, assumed, inr (readers, last, opened, left, cause))))
+      start_cause readers last opened left faults.Memory after cause =
+          inr (given, line, inr (f, next, at, inr (cube, later, assumed, inr (readers, last, opened, left, cause))))
+      start_cause readers last opened left fault after cause = absurd cause
 
 -- without rounds the path that is created is the checkpoint's
 pub created_once : (next : Next) → rounds_of next ≡ None → checkpoint_of next ≡ created_path next
@@ -258,6 +259,6 @@ pub begun_cause : (files : FilesView) (words : List Text) (given : CommandLine) 
     → IsCause files words fault after
 begun_cause files words given f cube options readers next later last line at assumed options_are opened entries_are fault after cause =
     let count = same_count _ _ readers given.streams entries_are in
-    start_cause files words given line f next at cube later assumed readers last opened fault after
+    start_cause files words given line f next at cube later assumed readers last opened entries_are fault after
     (subst (λ (p : RunParamsValue). IsStartCause files.its given.serial f p readers last (created_at given) fault after)
     (same_params options cube f given (length readers) options_are count) cause)

@@ -111,7 +111,7 @@ never_unsaved files words unsaved after cause = elim cause.2 [
   | inl read ↦ read
   | inr later ↦ elim later.3 [
     | inl assume ↦ never_assumed files later.0.vars later.1 (assumed_at cause.0) unsaved after assume
-    | inr last ↦ elim last.3 [ inl opens ↦ opens | inr start ↦ start.3 ]
+    | inr last ↦ elim last.3 [ inl opens ↦ opens | inr start ↦ start.4 ]
   ]
 ]
 

@@ -470,7 +470,8 @@ abbrev pub HasNoFault : LayoutValue → Type 0
 HasNoFault layout = (fault : LayoutFault) → IsFault layout fault → ⊥
 
 -- why the streams of a formula, which were opened as these readers, weren't checked: there is no layout; or there is one, and the file at
--- the path wasn't created, if there is to be one; or it was, and a thread wasn't started, or what it sent had no end
+-- the path wasn't created, if there is to be one; or it was, and a thread wasn't started, or a ring lost the end of a stream, which was read
+-- out, as the streams before it were, which were judged
 abbrev pub IsStartCause : (its : Deeds) → Bool → Cnf → RunParamsValue → List its.Reader → its.State
     → Option Text → CommandFault → its.State → Type 0
 IsStartCause its serial formula run_params readers before path (faults.Layout fault) after =
@@ -503,6 +504,7 @@ IsCauseAt files given fault after =
     × (IsOpenCause files.its 0 later given.streams fault after
     ⊎ ((readers : List files.its.Reader) × (last : files.its.State)
     × AreOpened files.its.opens later given.streams readers last
+    × (map files.its.reading.left readers ≡ map files.tells given.streams)
     × IsStartCause files.its given.serial formula (run_params_given given cube formula) readers last
     (created_at given) fault after)))))
 

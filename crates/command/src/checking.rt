@@ -127,7 +127,8 @@ pub fn check_asked<T: Threads + Wait + Sync, C: Clock + Sync, F: Machine>(
     Ok(checked.found)
 }
 
-/// What was found of streams, the formula that the run goes on with, if it does, and when the streams were over, if that is watched.
+/// What was found of streams. If the run may go on: the formula that was saved, if it was, and when the streams were over, if that is
+/// watched.
 #[derive(Drop)]
 pub(crate) struct CheckedStreams {
     pub(crate) found: RunResult,

@@ -62,7 +62,7 @@ pub(crate) fn discard_it<F: Machine>(files: &mut F, output: Option<F::Output>)
     }
 }
 
-/// What became of a checkpoint: why it wasn't saved, if it wasn't; and its formula, if it was, and the run goes on with it.
+/// What became of a checkpoint: why it wasn't saved, if it wasn't; and its formula, if it was, and the run may go on with it.
 #[derive(Drop)]
 pub(crate) struct Closed {
     pub(crate) unsaved: Option<SaveFault>,

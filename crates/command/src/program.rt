@@ -42,7 +42,7 @@ use std::time::Clock;
 /// | status | where |
 /// |---|---|
 /// | 0 | the report says `s UNSATISFIABLE` |
-/// | 2 | the words have a mistake or ask for help; too many streams; the row would be too long; the sizes of a round have a mistake |
+/// | 2 | the words have a mistake, ask for help, or ask for a checkpoint and for rounds; too many streams; the row would be too long; the sizes of a round have a mistake |
 /// | 3 | the report says `s UNKNOWN` |
 /// | 4 | the formula or the assumptions were refused for another cause than memory |
 /// | 5 | the file of the formula, of the assumptions or of a round's sizes wasn't opened or read; a stream's wasn't opened; the checkpoint's wasn't created |

@@ -80,7 +80,7 @@ module _ (files : FilesView) where
     | inl read ↦ read
     | inr later ↦ elim later.3 [
       | inl assume ↦ never_assumed later.0.vars later.1 (assumed_at cause.0) why after assume
-      | inr last ↦ elim last.3 [ inl opens ↦ opens | inr start ↦ start.3 ]
+      | inr last ↦ elim last.3 [ inl opens ↦ opens | inr start ↦ start.4 ]
     ]
   ]
 

@@ -86,7 +86,7 @@ abbrev pub IsEmptied : List (List ℕ) → ExactValue → ExactValue → ℕ →
 IsEmptied words before after status = (path : List ℕ) → AskToSave words path → status ≡ 0
     → FileLies (λ formula bytes. bytes ≡ []) words before path closings.Discarded after
 
--- the bytes are a beginning of a text that is printed of clauses over the formula's variables
+-- the bytes are a beginning of a text that is printed of some clauses, whose header has the formula's number of variables
 abbrev pub BeginsCheckpoint : Cnf → List ℕ → Type 0
 BeginsCheckpoint formula bytes =
     (entries : List Entry) × (rest : List ℕ)

@@ -284,7 +284,7 @@ module _ (one_formula : OneFormula) (no_fault : NoFormulaFault) (alike : SameWor
         | inl read ↦ not_refused cause.0 ask.text ask.formula fault after (ap files.tells same.2 ∙ ask.told) ask.is_text read
         | inr later ↦ elim later.3 [
           | inl assume ↦ no_usage later.1 (assumed_at cause.0) later.0.vars fault after assume
-          | inr last ↦ elim last.3 [ inl opens ↦ opens | inr start ↦ start.3 ]
+          | inr last ↦ elim last.3 [ inl opens ↦ opens | inr start ↦ start.4 ]
         ]
       ]
   of_machine words ask after (faults.CubeRefused fault) cause =
@@ -298,7 +298,7 @@ module _ (one_formula : OneFormula) (no_fault : NoFormulaFault) (alike : SameWor
               (subst (λ (p : Option Text). IsAssumeCause files ask.formula.vars later.1 p (faults.CubeRefused fault) after) assumed
               (subst (λ (f : Cnf). IsAssumeCause files f.vars later.1 (assumed_at cause.0) (faults.CubeRefused fault) after) formulas
               assume))
-          | inr last ↦ elim last.3 [ inl opens ↦ opens | inr start ↦ start.3 ]
+          | inr last ↦ elim last.3 [ inl opens ↦ opens | inr start ↦ start.4 ]
         ]
       ]
   of_machine words ask after (faults.Layout fault) cause =
@@ -315,7 +315,7 @@ module _ (one_formula : OneFormula) (no_fault : NoFormulaFault) (alike : SameWor
                 ap (λ (x : OptionsValue). layout_of x later.0 (length cause.0.streams)) same.0
                 ∙ ap (λ (x : Cnf). layout_of (options_of ask.given) x (length cause.0.streams)) formulas
                 ∙ ap (λ (x : List Text). layout_of (options_of ask.given) ask.formula (length x)) same.1 in
-                ask.layout fault (subst (λ (p : LayoutValue). IsFault p fault) layouts start.3.0)
+                ask.layout fault (subst (λ (p : LayoutValue). IsFault p fault) layouts start.4.0)
           ]
         ]
       ]
@@ -324,7 +324,7 @@ module _ (one_formula : OneFormula) (no_fault : NoFormulaFault) (alike : SameWor
         | inl read ↦ read
         | inr later ↦ elim later.3 [
           | inl assume ↦ never_unwritten later.1 (assumed_at cause.0) later.0.vars after assume
-          | inr last ↦ elim last.3 [ inl opens ↦ opens | inr start ↦ start.3 ]
+          | inr last ↦ elim last.3 [ inl opens ↦ opens | inr start ↦ start.4 ]
         ]
       ]
   of_machine words ask after faults.NotCreated cause = tt
@@ -334,7 +334,7 @@ module _ (one_formula : OneFormula) (no_fault : NoFormulaFault) (alike : SameWor
         | inl read ↦ read
         | inr later ↦ elim later.3 [
           | inl assume ↦ no_sizes later.1 (assumed_at cause.0) later.0.vars after assume
-          | inr last ↦ elim last.3 [ inl opens ↦ opens | inr start ↦ start.3 ]
+          | inr last ↦ elim last.3 [ inl opens ↦ opens | inr start ↦ start.4 ]
         ]
       ]
   of_machine words ask after faults.SizesUnread cause =
@@ -342,7 +342,7 @@ module _ (one_formula : OneFormula) (no_fault : NoFormulaFault) (alike : SameWor
         | inl read ↦ read
         | inr later ↦ elim later.3 [
           | inl assume ↦ no_sizes_unread later.1 (assumed_at cause.0) later.0.vars after assume
-          | inr last ↦ elim last.3 [ inl opens ↦ opens | inr start ↦ start.3 ]
+          | inr last ↦ elim last.3 [ inl opens ↦ opens | inr start ↦ start.4 ]
         ]
       ]
   of_machine words ask after (faults.NotSaved fault) cause =
@@ -350,7 +350,7 @@ module _ (one_formula : OneFormula) (no_fault : NoFormulaFault) (alike : SameWor
         | inl read ↦ read
         | inr later ↦ elim later.3 [
           | inl assume ↦ never_unsaved later.1 (assumed_at cause.0) later.0.vars fault after assume
-          | inr last ↦ elim last.3 [ inl opens ↦ opens | inr start ↦ start.3 ]
+          | inr last ↦ elim last.3 [ inl opens ↦ opens | inr start ↦ start.4 ]
         ]
       ]
 

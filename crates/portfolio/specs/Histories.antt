@@ -33,9 +33,9 @@ abbrev pub way_of : Bool → Way
 way_of true = OnOneThread
 way_of false = InThreads
 
--- What a run promises of its first streams, so many, which were checked in this way. `firsts` are their readers before the first read,
--- and `lasts` those in the end. It is a run of what these told; reads of them gave its streams; and each stream dropped just what its
--- lines drop, or where one stopped it what was dropped until then.
+-- What a run promises of its first `many` streams, checked in this way. `firsts` are their readers before the first read, and `lasts`
+-- those in the end. It is a run of what these gave; reads of them gave its streams; and each stream dropped just what its lines drop, or,
+-- if a line stopped it, what was dropped until then. These lines are good by the stream's own calls in the run's history.
 pub record IsRunOfSome {S : Type 0} (many : ℕ) (Checked : Way) (view : SourceView S) (formula : Cnf)
     (run_params : RunParamsValue) (firsts lasts : List S) (reports : List Report)
     (dropped : List DroppedIdsValue) : Type 0 where

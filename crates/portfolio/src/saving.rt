@@ -21,7 +21,7 @@ use stream_check::DroppedIds;
 /// The clauses that a run left.
 #[derive(Drop)]
 pub enum Clauses {
-    /// They lie in the store of a run with threads, whose passes have met.
+    /// They lie in the store of a run with threads, and these are its passes.
     Shared(Store, Vec<Pass>),
     /// They lie in the map of a run on one thread.
     Plain(PlainMap),

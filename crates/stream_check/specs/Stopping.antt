@@ -38,7 +38,7 @@ AreDeletedFirst ids bytes =
 -- delete, and of the first ones that it deletes itself, those of the formula and of other streams. The report tells both, up to
 -- 2^64 - 1: by its number how many lines are before it, and by its count how many of the identities that the line names come before the
 -- one at which it stopped. If no line begins there, or one that deletes nothing, these are none. The lines before are good by the first of
--- the blocks of events by which the stream is judged.
+-- these blocks of events.
 pub record DropsUntilStop (params : StreamParams) (bytes : List ℕ) (blocks : List History)
     (report : Report) (is_dropped : ℕ → Bool) : Type 0 where
   pub lines : List StreamLine

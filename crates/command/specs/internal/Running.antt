@@ -36,7 +36,8 @@ abbrev pub IsLayoutCause : LayoutValue → CommandFault → Type 0
 IsLayoutCause layout (faults.Layout fault) = IsFault layout fault
 IsLayoutCause layout fault = ⊥
 
--- why the streams of a formula weren't checked: there is no layout; or there is one, and a thread wasn't started, or what it sent had no end
+-- why the streams of a formula weren't checked: there is no layout; or there is one, and a thread wasn't started, or a ring lost the end of a
+-- stream, which was read out, as the streams before it were, which were judged
 abbrev pub IsRunCause : {R : Type 0} → SourceView R → Bool → Cnf → RunParamsValue → List R
     → CommandFault → Type 0
 IsRunCause view serial formula run_params readers (faults.Layout fault) =

@@ -134,7 +134,7 @@ returns-clause-cause g c words first good at =
       | inl one ↦ inl (
         one.0,
         start_cause files words line good begun.formula c.args.files.now is_formula begun.cube of.later of.assumed
-            begun.readers.items c.begin.new.files of.opened failed.fault c.go_on.new.files
+            begun.readers.items c.begin.new.files of.opened of.left failed.fault c.go_on.new.files
             (first_start its plan line begun.cube folder begun.formula begun.readers.items c.begin.new.files c.requires.folder
             failed.fault c.go_on.new.files one.1),
       )
