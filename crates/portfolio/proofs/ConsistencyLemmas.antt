@@ -414,8 +414,8 @@ module _ {S : Type 0} (view : SourceView S) where
             let mine : v.mine ≡ own h s = subst (λ (n : ℕ). v.mine ≡ own h n) now (at 0 v refl) in (
               (all.0.blocks, sym mine ∙ calls, dropped),
               more.dropped h (λ k w is.
-              let next : s + suc k ≡ s + 1 + k = omega arith in
-              subst (λ (n : ℕ). w.mine ≡ own h n) next (at (suc k) w is)),
+                  let next : s + suc k ≡ s + 1 + k = omega arith in
+                  subst (λ (n : ℕ). w.mine ≡ own h n) next (at (suc k) w is)),
             );
       }
 
