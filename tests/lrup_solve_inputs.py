@@ -212,10 +212,13 @@ def replaced(work: Path) -> None:
         else:
             want((answer.out, answer.said, answer.status), ("", said, 1), "what is said of a record with a proof")
             want({path.name: path.read_bytes() for path in kept.iterdir()}, files, "the record")
-    stream = (kept / "round-1.stream-1").rename(kept / "round-1.stream-1.xz")
+    other = written(b"", kept, "round-9.stream-1.xz")
     answer = solve([*words, "--replace", sat])
-    own = f"lrup-solve: {stream} is there, and isn't of an earlier run: another --proofs\n"
-    want((answer.out, answer.said, answer.status, stream.exists()), ("", own, 1, True), "what is said of a stream that somebody has packed")
+    own = f"lrup-solve: {other} is there, and isn't of an earlier run: another --proofs\n"
+    want((answer.out, answer.said, answer.status), ("", own, 1), "what is said of another packed stream")
+    other.unlink()
+    stream = (kept / "round-1.stream-1").rename(kept / "round-1.stream-1.xz")
+    want((solve([*words, "--replace", sat]).status, stream.exists()), (10, False), "of a stream that somebody has packed")
 
 
 LISTS = ["link", "hard link", "pipe", "", "\n", "files", "report\n", "files\n../mine\n", "files\n\nreport\n", "files\nround-1.cnf\n",
