@@ -66,6 +66,7 @@ install: $(if $(shell command -v $(RT)),build,built) exact trim explain install-
 	install -d "$(PLACE)/bin" "$(PLACE)/share/man/man1" "$(COMPLETIONS)"
 	install -m 755 $(PROGRAM) "$(PLACE)/bin/lrupd"
 	install -m 755 tools/lrup-chain "$(PLACE)/bin"
+	sed -i "s/^version=.*/version=$(VERSION)/" "$(PLACE)/bin/lrup-chain"
 	install -m 755 $(EXACT) "$(PLACE)/bin/lrup-exact"
 	install -m 755 $(TRIM) $(EXPLAIN) "$(PLACE)/bin"
 	install -m 644 $(addprefix docs/,lrupd.1 lrup-chain.1 lrup-exact.1 lrup-trim.1 lrup-explain.1) "$(PLACE)/share/man/man1"
@@ -169,6 +170,12 @@ $(SOLVE_OBJECTS)/tools/solve/mpi_%.o: tools/solve/mpi_%.cpp $(SOLVE_OBJECTS)/fla
 	@mkdir -p $(dir $@) && OMPI_CXX="$(CXX)" mpicxx $(COMPILE_CXX) -MMD -MP -c -o $@ $<
 $(SOLVE_OBJECTS)/%.o: %.cpp $(SOLVE_OBJECTS)/flags | libcadical
 	@mkdir -p $(dir $@) && $(CXX) $(COMPILE_CXX) -MMD -MP -c -o $@ $<
+
+# What both scripts have that check a record.
+$(SOLVE_OBJECTS)/packed.sh.h: tools/lrup-chain
+	@mkdir -p $(dir $@) && { echo 'R"sh('; sed -n '/^stream() {/,/^}/p; /^unpack() {/,/^}/p' $<; echo ')sh"'; } > $@
+$(SOLVE_OBJECTS)/tools/solve/rounds.o: $(SOLVE_OBJECTS)/packed.sh.h
+$(SOLVE_OBJECTS)/tools/solve/rounds.o: COMPILE_CXX += -I $(SOLVE_OBJECTS)
 
 # How all is compiled, written where that isn't what it was.
 $(OBJECTS)/flags $(SOLVE_OBJECTS)/flags: FORCE | c-and-python

@@ -118,6 +118,8 @@ def installed(work: Path) -> None:
     want(files - {"usr/libexec/lrupd/lrup-engines"}, wanted, "the files")
     text = (work / "a place" / "usr/share/bash-completion/completions/lrupd").read_text()
     want('-W "--help --lines"' in text, True, f"the options that are completed: {text}")
+    done = run([work / "a place" / "usr/bin/lrup-chain", "--version"])
+    want((done.err, done.status), (f"lrup-chain {(ROOT / 'VERSION').read_text().strip()}\n", 2), "what lrup-chain --version says")
     want((make("uninstall").err, [path for path in (work / "a place").rglob("*") if path.is_file()]), ("", []), "what is left")
     done = make("install", f"PROGRAM={work}/none")
     want((done.status, f"there is no {work}/none, which make build leaves there" in done.out), (2, True), f"what is said: {done.out}")

@@ -19,7 +19,7 @@ from pathlib import Path
 from typing import Dict, Iterator, List, Mapping, Optional, Sequence, Tuple
 
 sys.dont_write_bytecode = True
-from harness import (FOUR, LIMIT, LRUP_CHAIN, ROOT, Failure, Ran, Row, Wanted, answers, held, outcome, piped, report, run,
+from harness import (FOUR, LIMIT, LRUP_CHAIN, ROOT, Failure, Ran, Row, Wanted, answers, held, needs, outcome, piped, report, run,
                      run_all, started, until, want, within, words_given, written)
 from rounds import ONE, fault, last, round_files, saved_name
 
@@ -31,7 +31,7 @@ BAD, BAD_SAID = "5 1 0 0\n", "0 added, 0 deleted, bad line 1 (no conflict)"
 OTHER = "p cnf 1 2\n1 0\n-1 0\n"        # with another formula behind it, streams refute it
 REFUTING = "5 2 0 1 2 0\n7 0 5 3 4 0\n"
 USAGE = ("usage: lrup-chain [--keep] [--lrupd PATH] [--tries N] [--lines N] [--room N] [--assume FILE] [--serial] [--watch] "
-         "FORMULA DIR\n")
+         "FORMULA DIR\n       lrup-chain --help | --version\n")
 NO_SIZES = "lrup-chain: not STREAMS LINES ROOM: d/round-1.sizes\n"
 Named = Tuple[str, Wanted]
 
@@ -149,17 +149,68 @@ def torn(shell: str, script: Path, work: Path) -> None:
     want(done, Ran(wanted, fault(2, "checkpoint not written"), 9), "the answer")
 
 
+# Packed streams.
+
+PACKERS = {"xz": "xz", "gz": "gzip", "zst": "zstd"}
+
+
+def lay_packed(forms: Sequence[str], work: Path) -> List[str]:
+    """Three rounds, of which each stream is packed in the form of its place; the names in their folder."""
+    lay(work)
+    for number, form in enumerate(forms, 1):
+        needs(PACKERS[form])
+        rm = ["--rm"] if form == "zst" else []
+        want(run([PACKERS[form], "-q", *rm, work / "d" / f"round-{number}.stream-1"]).status, 0, "the packer's status")
+    return sorted(os.listdir(work / "d"))
+
+
+def packed(forms: Sequence[str], shell: str, script: Path, work: Path) -> None:
+    """A pipe has the place of each stream until the end, and the formula may be standard input."""
+    names = lay_packed(forms, work)
+    for formula in "formula", "/dev/stdin":
+        done = run([shell, script, "--lrupd", PROGRAM, formula, "d"], given=FOUR, cwd=work)
+        want((done, sorted(os.listdir(work / "d"))), (Ran(REFUTED, "", 0), names), "the answer, and what is left")
+
+
+def not_unpacked(shell: str, script: Path, work: Path) -> None:
+    """A cut stream ends where it is cut; without the program nothing is checked."""
+    names = lay_packed(["xz"], work)
+    path = work / "d" / names[0]
+    path.write_bytes(path.read_bytes()[:40])
+    done = run([shell, script, "--lrupd", PROGRAM, "formula", "d"], cwd=work)
+    left_names = sorted(name for name in os.listdir(work / "d") if not name.endswith(".cnf"))
+    want((done.out.splitlines()[-1:], done.status, done.err.startswith("xz: "), left_names), (["s UNKNOWN"], 3, True, names),
+         "the answer, and what is left")
+    for path in (work / "d").glob("*.cnf"):
+        path.unlink()
+    done = run([shutil.which(shell), script, "--lrupd", PROGRAM, "formula", "d"], cwd=work, env={"PATH": f"{work}"})
+    want(done, Ran("", f"lrup-chain: no xz on the PATH for d/{names[0]}\n", 1), "what is said without xz")
+
+
+def packed_and_ended(shell: str, script: Path, work: Path) -> None:
+    """By a signal, while lrupd waits: no pipe and no process is left."""
+    names = lay_packed(["xz", "gz"], work)
+    slow = written("#!/bin/sh\ntouch begun\nexec sleep 1000\n", work, "slow")
+    slow.chmod(0o755)
+    with started([shell, script, "--lrupd", slow, "formula", "d"], cwd=work, stdout=subprocess.DEVNULL) as running:
+        until("lrupd runs", lambda: (work / "begun").exists())
+        running.terminate()
+        want((running.wait(LIMIT), sorted(os.listdir(work / "d"))), (143, names), "the status, and what is left")
+
+
 # Words and names.
 
 
 def words() -> Iterator[Named]:
     other = files(["3 0 1 2 0\n", ""], {"other": OTHER})
-    for given in (["formula"], ["--help"], ["-h"], ["--version"], ["--help", "formula", "d"], ["--version", "formula", "d"],
+    for given in (["formula"], ["--help"], ["-h"], ["--help", "formula", "d"],
                   ["-x", "formula", "d"], ["--tries", "formula", "d"], ["--lrupd", "formula", "d"],
                   ["--checkpoint", "x", "formula", "d"], ["--rounds=x", "formula", "d"], ["formula", "--keep", "d", "d"],
                   ["--", "formula", "d"], ["--keep=1", "formula", "d"], ["", "formula", "d"],
                   ["other", "formula", "d"], ["other", "--serial", "formula", "d"], ["--tries", "1", "other", "formula", "d"]):
         yield f"words {given}", Wanted(given, 2, err=USAGE, files=other, left=left())
+    for given in (["--version"], ["--version", "formula", "d"], ["--keep", "--version", "formula", "d"]):
+        yield f"words {given}", Wanted(given, 2, err="lrup-chain of the sources\n", files=other, left=left())
     names = {"-f*o\n r": FOUR, **{f"-d\n *x/round-{number}.stream-1": text for number, text in enumerate(ROUNDS, 1)}}
     yield "names", Wanted(["-f*o\n r", "-d\n *x"], 0, REFUTED, files=names)
     yield "names kept", Wanted(["--keep", "-f*o\n r", "-d\n *x"], 0, REFUTED, files=names, left={"-d\n *x/round-2.cnf": SAVED[0]})
@@ -352,7 +403,8 @@ WRONG = [("exec \"$lrupd\" \"$@\"", 'exec "$lrupd" "$@" 2> /dev/null', "another 
          ('[ -z "$keep" ] &&', "", "two rounds kept"),
          ('[ -z "$keep" ] &&', "false &&", "two rounds"),
          ("last=1 ;;", "last=3 ;;", "round-3.cnf is there"),
-         ("exit 2; }       #", "exit 0; }       #", "words ['--help']"),
+         ('"$words" >&2; exit 2', '"$words" >&2; exit 0', "words ['--help']"),
+         ("exit 2; }; done", "exit 0; }; done", "words ['--version']"),
          ("*) left=0 ;;", '*) set -- "$@" "$1" ;;', "words ['other', 'formula', 'd']"),
          ("[ \"$left\" -eq 2 ]", '[ "$left" -ge 0 ]', "words ['formula']"),
          ("--serial | --watch)", "--serial | --watch | --rounds=*)", "words ['--rounds=x', 'formula', 'd']"),
@@ -376,7 +428,8 @@ def in_manual(work: Path) -> None:
     page, given = (ROOT / "docs" / "lrup-chain.1").read_text(), set(re.findall(r"--[a-z]+", USAGE))
     tagged = {"-" + word for line in re.findall(r"^\.It (Fl .*)$", page, re.M) for word in re.findall(r"Fl (-[a-z]+)", line)}
     listed = {"-" + word for word in re.findall(r"^\.Op Fl (-[a-z]+)", page, re.M)}
-    want((tagged, listed), (given, given), "the options of the manual page")
+    shown = {"--help", "--version"}
+    want((tagged, listed | shown), (given, given), "the options of the manual page")
     want(given - {"--keep", "--lrupd"} - set(re.findall(r"--[a-z]+", run([PROGRAM, "--help"]).err)), set(), "others than lrupd's")
 
 
@@ -397,6 +450,8 @@ def rows_of(shell: str) -> List[Row]:
     found += [("a full disk in round 2", torn), ("where lrupd is", where), ("another lrupd", impostor), ("pipes", live)]
     found += [(f"no verdict: {body}", no_verdict, body, out) for body, out in (("", ""), ("echo s UNKNOWN", "s UNKNOWN\n"))]
     found += [(f"sizes of {source}", endless_sizes, source) for source in ("/dev/zero", "yes 1 | tr -d '\\n'", "yes '1 ' | tr -d '\\n'")]
+    found += [(f"packed by {' and '.join(forms)}", packed, forms) for forms in (["xz"], ["gz", "zst"], ["xz", "gz", "xz"])]
+    found += [("packed, and not unpacked", not_unpacked), ("packed, and ended", packed_and_ended)]
     return [(*row, shell, LRUP_CHAIN) for row in found]
 
 

@@ -235,8 +235,12 @@ ROWS: List[Row] = [
     ("no proof that is there", misused, ["%formula", "%none"], "%none: No such file or directory"),
     ("a folder", misused, ["%formula", "%folder"], "%folder is a folder"),
     ("standard input twice", misused, ["-", "-"], "standard input is read once"),
-    ("engines", misused, ["-j", "2", "%formula", "%proof"], "-j and --mpi are lrup-solve's: no engine is started"),
-    ("a solver", misused, ["--solver", "x %formula %proof", "%formula", "%proof"], "--solver is lrup-solve's: no solver is started"),
+    *((f"an option of engines, {words[0]}", misused, [*words, "%formula", "%proof"], f"{words[0]} is lrup-solve's: lrup-check starts no engine")
+      for words in (["-j", "2"], ["--mpi", "mpirun"], ["--solver", "x %formula %proof"], ["--seed", "1"], ["--share-size", "4"],
+                    ["--no-share"])),
+    ("such an option after the proof", misused, ["%formula", "%proof", "--seed=1"], "--seed is lrup-solve's: lrup-check starts no engine"),
+    ("an answer that no proof has", misused, ["--expect", "sat", "%formula", "%proof"],
+     "--expect takes unsat or unsat-under-assumptions, not sat"),
     ("--help", help_of), ("anywhere", anywhere), ("no writer", no_writer), ("a late writer", late_writer),
     ("by substitution", by_substitution),
 ]

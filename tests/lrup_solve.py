@@ -415,7 +415,7 @@ def large_formula(words: List[str], work: Path) -> None:
         lasts = time.monotonic() - begun
     why = "time is up, and the formula isn't read" if words else "ended by a signal: Terminated"
     want((out, running.returncode), (f"c {why}\ns UNKNOWN\n", 0 if words else -signal.SIGTERM), "the end")
-    want(lasts < (10 if words else 4), True, f"whether {lasts} seconds are soon")
+    want(lasts < 4, True, f"whether {lasts} seconds are soon")
     seen.extend(read_terminal(leader))
     os.close(leader)
     want(bytes(seen).endswith(b"\r\x1b[K"), True, f"whether the line is taken away: {bytes(seen)[-100:]!r}")

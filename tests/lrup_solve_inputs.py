@@ -212,10 +212,13 @@ def replaced(work: Path) -> None:
         else:
             want((answer.out, answer.said, answer.status), ("", said, 1), "what is said of a record with a proof")
             want({path.name: path.read_bytes() for path in kept.iterdir()}, files, "the record")
-    stream = (kept / "round-1.stream-1").rename(kept / "round-1.stream-1.xz")
+    other = written(b"", kept, "round-9.stream-1.xz")
     answer = solve([*words, "--replace", sat])
-    own = f"lrup-solve: {stream} is there, and isn't of an earlier run: another --proofs\n"
-    want((answer.out, answer.said, answer.status, stream.exists()), ("", own, 1, True), "what is said of a stream that somebody has packed")
+    own = f"lrup-solve: {other} is there, and isn't of an earlier run: another --proofs\n"
+    want((answer.out, answer.said, answer.status), ("", own, 1), "what is said of another packed stream")
+    other.unlink()
+    stream = (kept / "round-1.stream-1").rename(kept / "round-1.stream-1.xz")
+    want((solve([*words, "--replace", sat]).status, stream.exists()), (10, False), "of a stream that somebody has packed")
 
 
 LISTS = ["link", "hard link", "pipe", "", "\n", "files", "report\n", "files\n../mine\n", "files\n\nreport\n", "files\nround-1.cnf\n",
@@ -490,15 +493,27 @@ def refused_folder(work: Path) -> None:
          ("", f"lrupd: cannot read formula ({work}/folder: Is a directory)\n", 1), "what is said")
 
 
-def refused_late(words: List[str], text: str, work: Path) -> None:
-    """lrupd takes long to refuse it, and the solving has ended before, or its time is up; a signal ends the waiting."""
+def read_late(text: str, said: str, work: Path) -> None:
+    """lrupd doesn't come to the end of the formula: --time ends the waiting at once."""
+    path = in_place_of_lrupd("case \"$*\" in *' /dev/null') exec sleep 100;; esac\nexec " + shlex.quote(PROGRAM) + ' "$@"', work)
+    begun, formula = time.monotonic(), written(text, work)
+    answer = solve(["--lrupd", path, "-j", "1", "--time", "1", formula])
+    lasts = time.monotonic() - begun
+    want((answer.answers, answer.status), ([], 1) if said else (["s UNKNOWN"], 0), f"the answer of\n{answer.out}{answer.said}")
+    want(answer.said, said and f"lrup-solve: {formula}, {said}\n", "standard error")
+    want(1 <= lasts < 5, True, f"whether {lasts} seconds are the time")
+
+
+def refused_late(text: str, work: Path) -> None:
+    """lrupd takes long to refuse it, and the solving has ended before; a signal ends the waiting."""
     path = in_place_of_lrupd("case \"$*\" in *' /dev/null') touch read; sleep 2; echo 'lrupd: formula refused: limit' >&2; exit 4;; esac\n"
                              "exit 4", work)
-    words, formula = ["--lrupd", str(path), "-j", "1", *words], written(text, work)
-    answer = solve([*words, formula], cwd=work)
+    formula = written(text, work)
+    words = ["--lrupd", str(path), "-j", "1", formula]
+    answer = solve(words, cwd=work)
     want((answer.out, answer.said, answer.status), ("", f"lrupd: formula refused: limit ({formula})\n", 1), "what is said")
     (work / "read").unlink()
-    with started([SOLVE, *words, formula], cwd=work, stdout=subprocess.PIPE, text=True) as running:
+    with started([SOLVE, *words], cwd=work, stdout=subprocess.PIPE, text=True) as running:
         until("the formula is read", lambda: (work / "read").exists())
         time.sleep(0.5)
         running.terminate()
@@ -650,10 +665,11 @@ def refusals() -> List[Row]:
                         ("less", ": " + beyond.format(str(-(1 << 64) - 1)[:20])), ("long", ": " + beyond.format("1" * 20)),
                         ("", ": no line of literals that ends with 0")):
         runs.append((f"refused --assume {name}", refused_by_lrupd, FOUR, ["--assume", "{work}/" + name], "{work}/" + name + known))
-    return runs + [("refused, a folder", refused_folder), ("refused late", refused_late, [], FOUR),
-                   ("refused late, satisfiable", refused_late, [], "p cnf 1 0\n"),
-                   ("its reading killed", reading_killed, "p cnf 1 0\n"),
-                   ("refused when time is up", refused_late, ["--time", "0.1"], dimacs(1, [[1]]))]
+    return runs + [("refused, a folder", refused_folder), ("refused late", refused_late, FOUR),
+                   ("refused late, satisfiable", refused_late, "p cnf 1 0\n"),
+                   ("its reading killed", reading_killed, "p cnf 1 0\n"), ("read late", read_late, dimacs(1, [[1]]), ""),
+                   ("read late, what engines refuse", read_late, "p cnf 1 1\n2 0\n",
+                    "line 2: variable 2, above the 1 of the header, which has to be 'p cnf 2 1'")]
 
 
 def main() -> int:

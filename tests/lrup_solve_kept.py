@@ -21,7 +21,7 @@ from pathlib import Path
 from typing import Dict, List, Optional, Sequence, Tuple
 
 sys.dont_write_bytecode = True
-from harness import (EXPLAIN, FILTER, FOUR, ROOT, TRIM, Ran, Row, Skipped, by_another, example, generated, needs, run, started, until, want,
+from harness import (EXPLAIN, FILTER, FOUR, LRUP_CHAIN, ROOT, TRIM, Ran, Row, Skipped, by_another, example, generated, needs, run, started, until, want,
                      words_given, written)
 from lrat import lrat_fault
 from proof_forms import Clause, read_formula
@@ -301,6 +301,7 @@ def packed(forms: Sequence[str], tested: Optional[Dict[str, object]], work: Path
     check_again(work / "d", {"TMPDIR": str(files)})
     want(os.listdir(files), [], "what is left")
     none_left(mark)
+    read_by_tools(formula, work)
     first = streams[0].with_name(f"{streams[0].name}.{forms[0]}")
     said = f"no {PACKERS[forms[0]]} on the PATH for {first}\n"
     found = run(["sh", "d/command"], cwd=work, env=only_with(["sha256sum"], work))
@@ -309,6 +310,21 @@ def packed(forms: Sequence[str], tested: Optional[Dict[str, object]], work: Path
     found = run(["sh", "d/command"], cwd=work, env={**os.environ, "TMPDIR": str(files)})
     want((found.err != "", os.listdir(files)), (True, []), f"whether it is said that one is cut, in {found.out}")
     none_left(mark)
+    for tool in ([TRIM, "--core", "another"], [EXPLAIN]):
+        found = run([*tool, formula, "d"], cwd=work)
+        said = f"{tool[0].name}: d/{first.name}: {PACKERS[forms[0]]} can't unpack it\n"
+        want((found.err.endswith(said), found.status, (work / "another").exists()), (True, 1, False), f"what is said: {found.err}")
+
+
+def read_by_tools(formula: Path, work: Path) -> None:
+    """The record in d, as if it weren't packed."""
+    names = sorted(os.listdir(work / "d"))
+    want(run([TRIM, "--lrat", "unpacked.lrat", formula, "d"], cwd=work).status, 0, "the status of lrup-trim")
+    want(lrat_fault(read_formula(formula), (work / "unpacked.lrat").read_text()), "", "what the LRAT checker says")
+    want(run([EXPLAIN, formula, "d"], cwd=work), Ran("no line is bad\n", "", 0), "what lrup-explain says")
+    done = run([LRUP_CHAIN, "--lrupd", PROGRAM, "--tries", 1000000, formula, "d"], cwd=work)
+    want((done.out.splitlines()[-1:], done.err, done.status), ([PROVED], "", 0), "what lrup-chain says")
+    want(sorted(os.listdir(work / "d")), names, "what is there")
 
 
 def packed_and_interrupted(number: int, work: Path) -> None:

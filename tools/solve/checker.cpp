@@ -126,10 +126,10 @@ void Front::read_on(Checker *checker) {
     }
 }
 
-std::string Front::await_refusal() {
-    while (probe.child.running && stopped.empty()) {
+std::string Front::await_refusal(double deadline) {
+    while (probe.child.running && stopped.empty() && now() < deadline) {
         pollfd list = says();
-        poll(&list, 1, -1);
+        poll(&list, 1, milliseconds_to(deadline));
         read_on(nullptr);
     }
     return has_refused() ? probe.last_line() : "";

@@ -94,7 +94,7 @@ struct Front {
     void read_on(Checker *checker);                     // what it says
     bool has_refused() const;                           // its lrupd, the formula
     double checking() const;                            // seconds of processor time, of each lrupd
-    std::string await_refusal();                        // the words for it; none where it doesn't come
+    std::string await_refusal(double deadline);         // the words for it; none if it doesn't come
 
 private:
     int pid = 0, told = -1, hears = -1;                 // numbers of its files

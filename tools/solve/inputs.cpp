@@ -1,6 +1,7 @@
 // Unverified, as all of this solver. The formula and the assumptions are read.
 #include <algorithm>
 #include <cerrno>
+#include <cmath>
 #include <cstdio>
 #include <cstdlib>
 #include <cstring>
@@ -138,6 +139,8 @@ std::string Inputs::fault_of_assumptions() const {
     return is_spaced ? ": more than the single spaces between its words" : "";
 }
 
+double Inputs::deadline() const { return options.seconds > 0 ? started + options.seconds : INFINITY; }
+
 // No clause shows it, so no proof does.
 std::string Inputs::contradiction() const {
     for (size_t k = 1; k < assumed.size(); k++)
@@ -165,7 +168,7 @@ std::string Inputs::named(const std::string &cause) const {
 
 // What is known here is told, too.
 void Inputs::refuse_formula(const std::string &cause) const {
-    std::string said = front.await_refusal();
+    std::string said = front.await_refusal(deadline());
     if (said.empty()) refuse(named(cause));
     end_children();
     fprintf(stderr, "%s (%s)\n", one_line(said).c_str(), one_line(named(cause)).c_str());

@@ -20,12 +20,15 @@ public:
     using Meanwhile = std::function<void(int file)>;    // until that file can be read
     void read(const Meanwhile &meanwhile);
     void read_formula();
+    double deadline() const;                    // by --time; INFINITY without
     std::string contradiction() const;          // of the assumptions; none
     bool is_model(const signed char *values) const;
     std::string fault_of_assumptions() const;   // how they are spelled; empty if that isn't known
     [[noreturn]] void refuse_formula(const std::string &cause) const;   // in lrupd's words, where it refuses it, too
 
 private:
+    double started = now();
+
     void read_in_thread(const Meanwhile &meanwhile);
     std::string again(const std::string &path, const std::string &fronts, const char *kept_as) const;
     void read_assumptions();

@@ -141,32 +141,40 @@ const char *name_of_file(const char *name, const char *what, const char *value) 
     exit(0);
 }
 
-const char *answer_of(const char *value) {
-    for (const char *one : { "sat", "unsat", "unsat-under-assumptions" })
-        if (strcmp(value, one) == 0) return value;
-    bad_value("--expect", "sat, unsat or unsat-under-assumptions", value);
+const char *answer_of(const Options &options, const char *value) {
+    for (const char *one : { "unsat", "unsat-under-assumptions", "sat" })
+        if (strcmp(value, one) == 0 && !(options.check && one[0] == 's')) return value;
+    bad_value("--expect", options.check ? "unsat or unsat-under-assumptions" : "sat, unsat or unsat-under-assumptions", value);
 }
 
-const char *solver_of(const Options &options, const char *value) {
-    if (options.check) refuse("--solver is lrup-solve's: no solver is started");
+const char *solver_of(const char *value) {
     if (!strstr(value, "%formula") || !strstr(value, "%proof")) bad_value("--solver", "a command with both %formula and %proof", value);
     return value;
 }
 
+// Those that lrup-check refuses, since it starts no engine and no solver.
+bool read_of_engines(Options &options, Words &words, const char *word) {
+    const char *value, *name;
+    if (strcmp(word, name = "--no-share") == 0) options.share = false;
+    else if (words.option(word, name = "-j", value)) options.engines = int(number(name, value, 1, MOST_ENGINES));
+    else if (words.option(word, name = "--mpi", value)) options.mpi = name_of_file(name, "a command", value);
+    else if (words.option(word, name = "--solver", value)) options.solvers.push_back(solver_of(value));
+    else if (words.option(word, name = "--share-size", value)) options.share_size = int(number(name, value, 0, 1000));
+    else if (words.option(word, name = "--seed", value)) options.seed = int(number(name, value, 0, 1000000000));
+    else return false;
+    if (options.check) refuse(std::string(name) + " is lrup-solve's: lrup-check starts no engine");
+    return true;
+}
+
 bool read_valued(Options &options, Words &words, const char *word) {
     const char *value;
-    if (words.option(word, "-j", value)) options.engines = int(number("-j", value, 1, MOST_ENGINES));
-    else if (words.option(word, "--mpi", value)) options.mpi = name_of_file("--mpi", "a command", value);
-    else if (words.option(word, "--solver", value)) options.solvers.push_back(solver_of(options, value));
-    else if (words.option(word, "--time", value)) options.seconds = seconds("--time", value);
+    if (words.option(word, "--time", value)) options.seconds = seconds("--time", value);
     else if (words.option(word, "--memory", value)) options.memory = bytes("--memory", value);
-    else if (words.option(word, "--share-size", value)) options.share_size = int(number("--share-size", value, 0, 1000));
-    else if (words.option(word, "--seed", value)) options.seed = int(number("--seed", value, 0, 1000000000));
     else if (words.option(word, "--proofs", value)) options.proofs = name_of_file("--proofs", "a folder", value);
     else if (words.option(word, "--core", value)) options.core = name_of_file("--core", "a file", value);
     else if (words.option(word, "--lrat", value)) options.lrat = name_of_file("--lrat", "a file", value);
     else if (words.option(word, "--assume", value)) options.assume = name_of_file("--assume", "a file", value);
-    else if (words.option(word, "--expect", value)) answer_of(value);
+    else if (words.option(word, "--expect", value)) answer_of(options, value);
     else if (words.option(word, "--lrupd", value)) name_of_file("--lrupd", "a program", value);
     else if (words.option(word, "--engines", value)) name_of_file("--engines", "a program", value);
     else return false;
@@ -194,7 +202,6 @@ void check_proofs(const Options &options) {
     auto is_standard_input = [](const char *word) { return strcmp(word, "-") == 0; };
     auto count = std::count_if(options.solvers.begin(), options.solvers.end(), is_standard_input);
     if (options.solvers.empty()) refuse("no proof: lrup-check FORMULA PROOF");
-    if (options.engines > 0 || options.mpi) refuse("-j and --mpi are lrup-solve's: no engine is started");
     if (count + is_standard_input(options.formula) > 1) refuse("standard input is read once");
 }
 
@@ -220,7 +227,6 @@ Options read_words(int count, char **list) {
         if (strcmp(word, "--version") == 0) show((version() + "\n").c_str());
         if (strcmp(word, "--") == 0) only_words = true;
         else if (strcmp(word, "--check") == 0) begin_check(options);
-        else if (strcmp(word, "--no-share") == 0) options.share = false;
         else if (strcmp(word, "--re-hint") == 0) options.rehint = true;
         else if (strcmp(word, "--replace") == 0) options.replace = true;
         else if (strcmp(word, "--verbose") == 0) options.verbose = true;
@@ -229,7 +235,7 @@ Options read_words(int count, char **list) {
             options.verbose |= strchr(word, 'v') != nullptr;
             options.quiet |= strchr(word, 'q') != nullptr;
         }
-        else if (read_valued(options, words, word)) continue;
+        else if (read_of_engines(options, words, word) || read_valued(options, words, word)) continue;
         else if (word[0] == '-' && word[1] != 0) refuse(std::string("no such option: ") + word + " (--help lists them)");
         else take_file(options, word);
     }

@@ -15,6 +15,7 @@
 
 #include "../exact/digest.h"
 #include "../exact/folder.h"
+#include "../exact/packed.h"
 #include "solve.h"
 
 namespace {
@@ -44,6 +45,15 @@ const char LIST[] = "files";
 int list_file = -1;
 std::set<std::string> listed;
 
+// As it was before somebody packed it.
+std::string without_ending(const std::string &name) {
+    for (const auto &form : PACKED) {
+        size_t length = name.size() - std::min(name.size(), strlen(form.ending));
+        if (name.substr(length) == form.ending) return name.substr(0, length);
+    }
+    return name;
+}
+
 // round-R.stream-K, which somebody may have packed, or round-R.sizes.
 bool is_of_a_round(const std::string &name) {
     auto is_number = [](const std::string &word) {
@@ -51,13 +61,8 @@ bool is_of_a_round(const std::string &name) {
     };
     size_t dot = name.find('.');
     if (name.rfind("round-", 0) != 0 || dot == std::string::npos || !is_number(name.substr(6, dot - 6))) return false;
-    std::string rest = name.substr(dot + 1), number = rest.substr(std::min<size_t>(7, rest.size()));
-    const std::string forms[] = { ".xz", ".gz", ".zst" };
-    for (const std::string &form : forms) {
-        size_t length = number.size() - std::min(number.size(), form.size());
-        if (number.substr(length) == form) number.resize(length);
-    }
-    return rest == "sizes" || (rest.rfind("stream-", 0) == 0 && is_number(number));
+    std::string rest = name.substr(dot + 1);
+    return rest == "sizes" || (rest.rfind("stream-", 0) == 0 && is_number(without_ending(rest).substr(7)));
 }
 
 // A name that a run gives a file, also while that is written.
@@ -264,7 +269,7 @@ static void hold_folder(const std::string &folder) {
     record_name = absolute(folder) + "/";
 }
 
-// A file with a name of a record's that no list names is somebody's own.
+// A file with a name of a record's that no list names is somebody's own, but a packed stream isn't.
 void open_record(const std::string &folder, const std::vector<std::string> &inputs, bool replaces) {
     struct stat input, found;
     std::string list = folder + "/" + LIST;
@@ -279,7 +284,7 @@ void open_record(const std::string &folder, const std::vector<std::string> &inpu
     if (!replaces && has_proof())
         refuse(folder + " has the proof of an earlier run: --replace, or another --proofs");
     for (const std::string &path : paths)
-        if (listed.count(path.substr(folder.size() + 1)) == 0) refuse_own(path);
+        if (listed.count(without_ending(path.substr(folder.size() + 1))) == 0) refuse_own(path);
     if (list_file < 0) {
         const int how = O_RDWR | O_APPEND | O_CREAT | O_EXCL | O_CLOEXEC;
         list_file = openat(record_folder, LIST, how, 0666);
@@ -297,9 +302,13 @@ bool claim(const Place &place) {
     return false;
 }
 
+// Of a stream also what somebody has packed.
 void clear_record(const std::string &folder, const std::vector<std::string> &kept) {
-    std::set<std::string> left;
-    for (const std::string &name : listed) {
+    std::set<std::string> left, names = listed;
+    for (const auto &form : PACKED)
+        for (const std::string &name : listed)
+            if (is_of_a_round(name + form.ending)) names.insert(name + form.ending);
+    for (const std::string &name : names) {
         std::string path = folder + "/" + name;
         if (std::find(kept.begin(), kept.end(), path) != kept.end()) left.insert(name);
         else if (name != LIST && !remove_file(path))

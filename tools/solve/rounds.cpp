@@ -115,30 +115,9 @@ checked() {
     [ "$found" = "${2#\\}" ] || refuse "$file isn't the $3 of this record, or was changed since"
     checks="c $3 $(clean "$file"), SHA-256 $found"
 }
-stream() {
-    file=$record/round-$1.stream-$2 unpacks=''
-    [ ! -e "$file" ] || return 0
-    for form in xz.xz gzip.gz zstd.zst; do
-        [ -e "$file.${form#*.}" ] || continue
-        file=$file.${form#*.} unpacks=${form%.*}
-        return 0
-    done
-}
-unpack() {
-    child=''
-    trap '[ -z "$child" ] || kill "$child" 2> /dev/null; exit 1' TERM
-    round=1
-    while [ "$round" -le "$rounds" ]; do
-        stream "$round" "$1"
-        if [ -n "$unpacks" ]; then
-            "$unpacks" -dcq < "$file" > "round-$round.stream-$1" &
-            child=$!
-            wait "$child"
-        fi
-        round=$((round + 1))
-    done
-}
-[ "$#" -le 1 ] || refuse "usage: sh command [FORMULA]"
+)sh"
+#include "packed.sh.h"      // stream and unpack, of tools/lrup-chain
+R"sh([ "$#" -le 1 ] || refuse "usage: sh command [FORMULA]"
 if [ "$#" -eq 1 ]; then
     beside=''
     case $1 in /*) formula=$1 ;; *) formula=$PWD/$1 ;; esac

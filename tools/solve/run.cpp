@@ -42,7 +42,7 @@ void Run::prepare() {
 
 // Until it is read. A signal, and the time, end the run.
 void Run::await_formula(int file) {
-    double limit = inputs.options.seconds > 0 ? started + inputs.options.seconds : INFINITY;
+    double limit = inputs.deadline();
     std::string why;
     for (bool is_read = false; !is_read && why.empty(); display.show_reading()) {
         pollfd files[] = { front.says(), { file, POLLIN, 0 } };
@@ -62,10 +62,9 @@ void Run::await_formula(int file) {
 // Events.
 
 double Run::next_look() const {
-    if (phase == DONE) return INFINITY;
-    double time = display.next_show();
+    if (phase == DONE) return inputs.deadline();
+    double time = std::min(display.next_show(), inputs.deadline());
     if (others) time = std::min(time, others->next_look());
-    if (inputs.options.seconds > 0) time = std::min(time, started + inputs.options.seconds);
     if (phase == SOLVING && rounds.state == Rounds::OPEN) time = std::min(time, teams.next_start());
     if (phase == ENDING_STREAMS) time = std::min(time, ending);
     return time;
@@ -95,7 +94,7 @@ std::string Run::why_it_ends() {
     if (loop.ended_by) return std::string("ended by a signal: ") + strsignal(loop.ended_by);
     if (!front.stopped.empty()) return front.stopped;
     if (front.probe.child.ended() && WIFSIGNALED(front.probe.child.status)) return "lrupd " + front.probe.child.end();
-    if (inputs.options.seconds > 0 && now() >= started + inputs.options.seconds) return "time is up";
+    if (now() >= inputs.deadline()) return "time is up";
     return opener.ended() ? "the process that opens lrupd's pipes " + opener.end() : "";
 }
 
@@ -270,16 +269,16 @@ void Run::finish(Answer found, const std::string &why) {
     phase = DONE;
 }
 
-// However early the solving has ended, a formula that lrupd refuses is told as that. A signal ends the waiting.
+// However early the solving has ended, a formula that lrupd refuses is told as that. A signal and the time end the waiting.
 void Run::await_reading() {
     for (Child *child : children()) child->signal(SIGKILL);
-    while (answer == UNKNOWN_ANSWER && front.probe.child.running && !is_ended()) wait();
+    while (answer == UNKNOWN_ANSWER && front.probe.child.running && !is_ended() && now() < inputs.deadline()) wait();
     if (answer == UNKNOWN_ANSWER && !is_ended()) look_at_reading();
 }
 
 // Of a tool that is called in the end. False where the run is to end before.
 bool Run::await_end(Child &child) {
-    double time = inputs.options.seconds > 0 ? started + inputs.options.seconds : INFINITY;
+    double time = inputs.deadline();
     bool goes_on = true;
     while (child.running) {
         std::vector<pollfd> files = { front.says() };

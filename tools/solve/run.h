@@ -42,7 +42,7 @@ private:
     Loop loop;
     Keeping keeping{ inputs, display };
     const Elsewhere *others = nullptr;
-    double started = now(), ending = 0;
+    double ending = 0;
 
     void prepare();
     void await_formula(int file);

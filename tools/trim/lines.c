@@ -6,13 +6,16 @@
 #include <fcntl.h>
 #include <signal.h>
 #include <stdio.h>
+#include <stdlib.h>
 #include <string.h>
 #include <sys/mman.h>
 #include <sys/stat.h>
+#include <sys/wait.h>
 #include <unistd.h>
 
 #include "../exact/digest.h"
 #include "../exact/errors.h"
+#include "../exact/packed.h"
 #include "../exact/stream.h"
 #include "../exact/words.h"
 #include "lines.h"
@@ -43,6 +46,42 @@ void file_check(const char *path) {
     close(file_open(path, &length));
 }
 
+// Of a name that ends so; or NULL.
+static const char *packer_of(const char *path) {
+    size_t length = strlen(path);
+    for (size_t k = 0; k < PACKED_FORMS; k++) {
+        size_t ending = strlen(PACKED[k].ending);
+        if (length > ending && strcmp(path + length - ending, PACKED[k].ending) == 0) return PACKED[k].program;
+    }
+    return NULL;
+}
+
+static int file_without_name(void) {
+    char name[LONGEST_PATH];
+    const char *folder = getenv("TMPDIR");
+    int length = snprintf(name, sizeof name, "%s/lrup-XXXXXX", folder && *folder ? folder : "/tmp");
+    int file = length < LONGEST_PATH ? mkostemp(name, O_CLOEXEC) : -1;
+    if (file < 0) stop("cannot make a file in %s: %s", folder && *folder ? folder : "/tmp", strerror(errno));
+    unlink(name);
+    return file;
+}
+
+// What is packed there, in a file of its own. The program says why it can't unpack it.
+static int unpacked(int packed, const char *program, const char *path) {
+    int file = file_without_name(), status;
+    fflush(NULL);
+    pid_t child = fork();
+    if (child == 0) {
+        if (dup2(packed, 0) == 0 && dup2(file, 1) == 1) execlp(program, program, "-dcq", (char *)NULL);
+        _exit(errno == ENOENT ? 127 : 126);
+    }
+    if (child < 0 || waitpid(child, &status, 0) != child) stop("cannot start %s: %s", program, strerror(errno));
+    if (WIFEXITED(status) && WEXITSTATUS(status) == 127) stop("no %s on the PATH for %s", program, path);
+    if (status != 0) stop("%s: %s can't unpack it", path, program);
+    close(packed);
+    return file;
+}
+
 // SIGBUS, where bytes are read that the file doesn't have any more.
 static void file_was_cut(int number) {
     (void)number;
@@ -53,6 +92,13 @@ static void file_was_cut(int number) {
 // Over a page of zeros, so that there is memory for an empty file, too.
 unsigned char *file_map(const char *path, size_t *length) {
     int file = file_open(path, length);
+    const char *program = packer_of(path);
+    if (program) {
+        struct stat found;
+        file = unpacked(file, program, path);
+        if (fstat(file, &found) != 0) stop("cannot open %s: %s", path, strerror(errno));
+        *length = (size_t)found.st_size;
+    }
     signal(SIGBUS, file_was_cut);
     unsigned char *start = mmap(NULL, *length + BEYOND, PROT_READ, MAP_PRIVATE | MAP_ANONYMOUS, -1, 0);
     if (start != MAP_FAILED && *length > 0) start = mmap(start, *length, PROT_READ, MAP_PRIVATE | MAP_FIXED, file, 0);
@@ -139,15 +185,22 @@ void lines_free(void) {
 
 // A record.
 
+static bool is_there(const char *path) { return access(path, F_OK) == 0; }
+
+// Streams have a number, and may be packed.
 const char *record_file(const char *folder, size_t round, const char *kind, uint32_t number) {
     static char path[LONGEST_PATH];
-    int length = snprintf(path, sizeof path, "%s/round-%zu.%s", folder, round, kind);
-    if (number > 0 && length < LONGEST_PATH) length += snprintf(path + length, sizeof path - (size_t)length, "%u", number);
-    if (length >= LONGEST_PATH) stop("too long a name: %s", folder);
+    const int most = LONGEST_PATH - LONGEST_ENDING;
+    int length = snprintf(path, LONGEST_PATH, "%s/round-%zu.%s", folder, round, kind);
+    if (number > 0 && length < most) length += snprintf(path + length, (size_t)(LONGEST_PATH - length), "%u", number);
+    if (length >= most) stop("too long a name: %s", folder);
+    for (size_t k = 0; k < PACKED_FORMS && number > 0 && !is_there(path); k++) {
+        strcpy(path + length, PACKED[k].ending);
+        if (is_there(path)) return path;
+        path[length] = 0;
+    }
     return path;
 }
-
-static bool is_there(const char *path) { return access(path, F_OK) == 0; }
 
 // As sha256sum writes it, which puts \ before what has a strange name behind it.
 void record_check(const char *folder, const char *formula) {

@@ -15,7 +15,7 @@ typedef struct {
     const char *text, *hints;           // a copy of the line; where an addition's hints begin in it
 } Reading;
 
-unsigned char *file_map(const char *path, size_t *length);      // with eight bytes more
+unsigned char *file_map(const char *path, size_t *length);      // with eight bytes more; unpacked, if its name says that it is packed
 void file_unmap(unsigned char *start, size_t length);
 void file_check(const char *path);                              // that it can be read more than once
 const int64_t *numbers_read(const char *path, size_t *count);   // of a file of one line; NULL where it is anything else
@@ -26,7 +26,7 @@ void lines_free(void);                  // the memory, which is as much as a lin
 
 // Of a record of rounds.
 void record_check(const char *folder, const char *formula);     // that it is of this formula, if its digest is there
-const char *record_file(const char *folder, size_t round, const char *kind, uint32_t number);   // until it is called again
+const char *record_file(const char *folder, size_t round, const char *kind, uint32_t number);   // until it is called again; of a stream also a packed one
 uint32_t record_streams(const char *folder, size_t round, uint32_t before, Row *row);   // 0: there is no such round
 
 #endif

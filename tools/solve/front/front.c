@@ -454,7 +454,8 @@ int main(int count, char **words) {
                               children[LRUPD].output, formula, assume ? assume : "-", lrupd), 1);
     double seconds = options.seconds ? strtod(options.seconds, NULL) : 0;
     bool is_limited = seconds > 0 && seconds < 1e9;
-    until = latest = is_limited ? now() + (long)(1000 * seconds) + GRACE : 1L << 60;
+    latest = is_limited ? now() + (long)(1000 * seconds) : 1L << 60;
+    until = latest + GRACE;     // lrup-engines ends by itself before
     start(SUPERVISOR, (const char *const *)words, STDIN_FILENO, null, STDERR_FILENO);
     start_lrupd(PROBE, &(struct request){ .streams = 0 });
     while ((state = next()) != OVER) await_event();
