@@ -125,8 +125,8 @@ def tidied(steps: Sequence[Step]) -> List[Step]:
     return found
 
 
-RECORDED = [("four-clause.cnf", "four-clause.lrup", "1K", 1, 1), ("pigeonhole.cnf", "pigeonhole.lrup", "3K", 5, 15),
-            ("pigeonhole.cnf", "pigeonhole.lrup", "4K", 3, 10), ("bmc.cnf", "bmc.lrup", "48K", 10, 50)]
+RECORDED = [("four-clause.cnf", "four-clause.lrup", "1K", 1, 1), ("pigeonhole.cnf", "pigeonhole.lrup", "3K", 3, 15),
+            ("pigeonhole.cnf", "pigeonhole.lrup", "4K", 3, 10), ("bmc.cnf", "bmc.lrup", "48K", 5, 50)]
 
 
 def proof_of(formula: str, stream: str, form: str) -> Tuple[bytes, str, int]:
@@ -540,8 +540,8 @@ def rows_sanitized() -> Iterator[Row]:
         return
     sanitized_filter()
     for form in FORMS:
-        yield f"{form}, sanitized", recorded, "pigeonhole.cnf", "pigeonhole.lrup", "3K", 5, 15, form, True, SANITIZED
-    yield "bmc.lrup, sanitized", recorded, "bmc.cnf", "bmc.lrup", "48K", 10, 50, "binary DRAT", True, SANITIZED
+        yield f"{form}, sanitized", recorded, "pigeonhole.cnf", "pigeonhole.lrup", "3K", 3, 15, form, True, SANITIZED
+    yield "bmc.lrup, sanitized", recorded, "bmc.cnf", "bmc.lrup", "48K", 5, 50, "binary DRAT", True, SANITIZED
 
 
 EMPTY = "p cnf 2 2\n1 2 0\n0\n"

@@ -145,12 +145,12 @@ def cores(processes: int, words: str, tested: Optional[Dict[str, object]], work:
 
 def engines_go(work: Path) -> None:
     """Where a row has no room for the clauses of all, those of another process go, too; the last engine stays."""
-    formula, kept = generated("pigeons 9", work), work / "kept"
-    answer = solve(3, ["-v", "-j", "1", "--memory", "100K,200K", "--proofs", kept, formula], {"SLICE": 200})
+    formula, kept = generated("pigeons 8", work), work / "kept"
+    answer = solve(3, ["-v", "-j", "1", "--memory", "20K,100K", "--proofs", kept, formula])
     want_answer(answer, 20)
     check_again(kept)
     causes = [line.split(" is lost: ")[1] for line in answer.lost()]
-    want((len(causes) in (1, 2), set(causes)), (True, {"the clauses of all leave no room in a row of 200,000 bytes"}),
+    want((len(causes) in (1, 2), set(causes)), (True, {"the clauses of all leave no room in a row of 100,000 bytes"}),
          f"engines that are lost in\n{answer.out}")
 
 

@@ -150,18 +150,17 @@ def small_rows(memory: str, words: str, engines: int, work: Path) -> None:
 def engines_go(engines: int, options: List[str], work: Path) -> None:
     """Where no row may be larger, one engine after the other ends, and never the last one, whose row may."""
     kept = work / "kept"
-    answer = solve(["-v", "-j", engines, "--memory", "100K,500K", "--proofs", kept, *options, generated("pigeons 9", work)],
-                   tested={"SLICE": 200})
+    answer = solve(["-v", "-j", engines, "--memory", "20K,100K", "--proofs", kept, *options, generated("pigeons 8", work)])
     want_answer(answer, 20)
     check_again(kept)
     lost = answer.lost()
-    wanted = re.compile(r"engine \d+ is lost: the clauses of all leave no room in a row of 500,000 bytes")
+    wanted = re.compile(r"engine \d+ is lost: the clauses of all leave no room in a row of 100,000 bytes")
     want((1 <= len(lost) < engines, [line for line in lost if not wanted.fullmatch(line)]), (True, []), f"engines that are lost: {lost}")
     want(f", {engines - len(lost)} of {engines} engines, " in answer.comments[-1], True, "the last line")
     sizes = [[int(word) for word in (kept / f"round-{k}.sizes").read_text().split()] for k in range(1, rounds_of(answer) + 1)]
     streams = [count for count, _, _ in sizes]
     want((streams[0], streams[-1], sorted(streams, reverse=True)), (engines, engines - len(lost), streams), "streams of the rounds")
-    want([words for words in sizes if words[0] > 1 and words[0] * (words[1] + words[2]) > 62500], [], "rows that are too large")
+    want([words for words in sizes if words[0] > 1 and words[0] * (words[1] + words[2]) > 12500], [], "rows that are too large")
 
 
 def largest_row(engines: int, work: Path) -> None:
@@ -173,7 +172,7 @@ def largest_row(engines: int, work: Path) -> None:
 
 
 def largest_formula(work: Path) -> None:
-    formula = generated("pigeons 9", work)
+    formula = generated("pigeons 8", work)
     answer = solve(["-j", "2", formula], tested={"LARGEST": 500})
     want((answer.answers, answer.status, answer.said), ([], 1, "lrup-solve: the formula leaves no room in a row of 4,000 bytes\n"), "the end")
     want_answer(solve(["-j", "2", "--memory", "1K,1K", formula]), 20)

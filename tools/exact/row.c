@@ -12,7 +12,7 @@
 #define FIRST_OF_EACH (UINT64_C(1) << 18)
 
 enum { LEAST_WORDS = 64 };                      // of a stream
-enum { LEAST_SHARE = 32 };                      // a 32nd of the row, that streams have at least
+enum { LEAST_SHARE = 8 };                       // an eighth of the largest row, that several streams have at least
 enum { GROWTH = 2 };                            // from round to round
 
 static const double USUAL_LENGTH = 16, LEAST_LENGTH = 2, MOST_LENGTH = 200;
@@ -47,10 +47,7 @@ void rows_open(Rows *rows, uint64_t memory, uint64_t most, uint64_t streams) {
                     .words = greater(FIRST_WORDS, FIRST_OF_EACH * streams) };
 }
 
-void rows_grow(Rows *rows) {
-    rows->words = lesser(GROWTH * rows->words, MOST_WORDS);
-    rows->least = rows->usual / LEAST_SHARE;
-}
+void rows_grow(Rows *rows) { rows->words = lesser(GROWTH * rows->words, MOST_WORDS); }
 
 static double length_of(Row used) {
     double length = used.lines > 0 ? (double)used.room / (double)used.lines : USUAL_LENGTH;
@@ -66,10 +63,10 @@ static Row split(uint64_t words, double length) {
 
 bool rows_size(Rows *rows, uint64_t streams, uint64_t clauses, uint64_t literals, Row used, uint64_t wanted) {
     uint64_t most = streams > 1 ? rows->most : rows->largest, formula = 1 + clauses + literals;
-    uint64_t words = streams * (2 * wanted + LEAST_WORDS), needed = greater(words, rows->least);
-    uint64_t all = lesser(most, greater(rows->usual, formula + greater(formula, needed)));
+    uint64_t words = streams * (2 * wanted + LEAST_WORDS);
+    uint64_t all = lesser(most, greater(rows->usual, formula + greater(formula, words)));
     uint64_t left = all > formula ? all - formula : 0;
     rows->formula = formula;
     rows->row = split(lesser(left, greater(rows->words, words)) / streams, length_of(used));
-    return left >= needed;
+    return formula + greater(words, streams > 1 ? most / LEAST_SHARE : 0) <= most;
 }

@@ -15,7 +15,6 @@ typedef struct {
     uint64_t usual, most;       // words of a row, where several streams share it
     uint64_t largest;           // of one stream's
     uint64_t words;             // for all streams together, as far as there are so many
-    uint64_t least;             // that have to be left for them
     uint64_t formula;           // words that the round's formula takes
     Row row;                    // of the round
 } Rows;

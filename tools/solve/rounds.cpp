@@ -48,7 +48,7 @@ void Rounds::begin(const std::string &program) {
     rows_open(&rows, inputs.options.memory, inputs.options.most_memory, teams.size());
     rows.words = std::min(hooked(test_hooks.first_words, rows.words), MOST_WORDS);
     rows.largest = hooked(test_hooks.largest, rows.largest);
-    rows.most = std::max(rows.most, std::min(rows.largest, 2 * (1 + clauses + literals)));
+    rows.most = std::min(rows.largest, std::max(rows.most, 2 * (1 + clauses + literals)));
     if (!size(clauses, literals)) refuse("the formula leaves no room" + in_a_row_of(rows.largest));
 }
 
