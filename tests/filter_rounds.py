@@ -25,16 +25,16 @@ from pathlib import Path
 from typing import IO, Dict, Iterator, List, NamedTuple, Optional, Sequence, Set, Tuple, Union
 
 sys.dont_write_bytecode = True
-from harness import (FILTER, FOUR, LIMIT, LRUP_CHAIN, SANITIZE, SANITIZED, SANITIZING, Failure, Row, added, dimacs, example, generated,
-                     missing, needs, piped, report, run, run_all, sanitized_filter, sanitizer, started, until, unwatched, waiting,
-                     want, watched_ends, words_given, written)
+from harness import (EXACT, FILTER, FOUR, LIMIT, LRUP_CHAIN, SANITIZE, SANITIZED, SANITIZING, Failure, Row, added, dimacs, example,
+                     for_tests, generated, missing, needs, piped, report, run, run_all, sanitized_filter, sanitizer, started, until,
+                     unwatched, waiting, want, watched_ends, words_given, written)
 from proof_forms import FORMS, Step, read_formula, read_steps
 from rounds import last
 from solving import in_place_of_lrupd, of_process
 
 PROGRAM, = words_given(__doc__)
 Text = Union[str, bytes]
-NO_ROOM = "the clauses that the solver has leave no room in a row of {} bytes: --memory says how large it is"
+LARGEST, WORDS = FILTER.parent / "exact-largest-row", 4000      # a build in which lrupd's largest row has so many words
 GONE = "the reader of standard output, which runs lrupd, has ended before it read "
 
 
@@ -125,8 +125,8 @@ def tidied(steps: Sequence[Step]) -> List[Step]:
     return found
 
 
-RECORDED = [("four-clause.cnf", "four-clause.lrup", "1K", 1, 1), ("pigeonhole.cnf", "pigeonhole.lrup", "3K", 5, 15),
-            ("pigeonhole.cnf", "pigeonhole.lrup", "4K", 3, 10), ("bmc.cnf", "bmc.lrup", "48K", 10, 50)]
+RECORDED = [("four-clause.cnf", "four-clause.lrup", "1K", 1, 1), ("pigeonhole.cnf", "pigeonhole.lrup", "3K", 3, 15),
+            ("pigeonhole.cnf", "pigeonhole.lrup", "4K", 3, 10), ("bmc.cnf", "bmc.lrup", "48K", 5, 50)]
 
 
 def proof_of(formula: str, stream: str, form: str) -> Tuple[bytes, str, int]:
@@ -238,26 +238,29 @@ def wrong(form: str, at: int, work: Path) -> None:
         raise Failure(f"wanted a word on {place}, and not\n{checked.filter_said}")
 
 
+def largest_row() -> None:
+    for_tests(LARGEST, EXACT.glob("*.c"), f"-DMOST_WORDS={WORDS}")
+
+
 def no_room(work: Path) -> None:
-    """At the beginning, for what is carried over, and for one clause."""
-    checked = check(example("bmc.cnf"), "", ["--memory", "2K"], work)
-    said = "lrup-exact: the formula leaves no room in a row of 2000 bytes: --memory says how large it is\n"
-    want((checked, left(work)), (Checked([], "", "", None, said, 1), []), "the end")
+    """At the beginning, and for what is carried over: only where lrupd makes no larger row."""
+    said = "leave{} no room in a row of " + f"{8 * WORDS} bytes\n"
+    checked = check(generated("random 400 1", work), "", [], work, LARGEST)
+    want((checked, left(work)), (Checked([], "", "", None, f"lrup-exact: the formula {said.format('s')}", 1), []), "the end")
     proof = "".join(line for line in example("bmc.lrup").read_text().splitlines(True) if " d " not in line)
-    checked = check(example("bmc.cnf"), proof, ["--memory", "32K"], work)
-    found = re.fullmatch(r"lrup-exact: line (\d+): " + NO_ROOM.format(32000) + "\n", checked.filter_said)
+    checked = check(example("bmc.cnf"), proof, ["--memory", "20K"], work, LARGEST)
+    found = re.fullmatch(r"lrup-exact: line (\d+): the clauses that the solver has " + said.format(""), checked.filter_said)
     want((checked.status, checked.filter_status, found and int(found[1])), (3, 1, checked.added() + 1), checked.filter_said)
+    (work / "d" / f"round-{len(checked.rounds) + 1}.cnf").unlink()
+    want_refuted(check(example("bmc.cnf"), proof, ["--memory", "20K"], work), 3, 20, work)
 
 
-def no_room_for_one(work: Path) -> None:
+def room_for_one(work: Path) -> None:
+    """Whatever --memory says there is room for the formula, and for one clause."""
     literals = " ".join(map(str, range(1, 201)))
     formula = written(f"p cnf 201 2\n{literals} 201 0\n-201 0\n", work)
-    checked = check(formula, f"{literals} 0\n", ["--memory", "3K"], work)
-    said = "lrup-exact: line 1: a clause of 200 literals has no room in the row: --memory says how large it is\n"
-    want((checked.status, checked.filter_status, checked.filter_said), (3, 1, said), "the end")
-    shutil.rmtree(work / "d")
-    fits = check(formula, f"{literals} 0\n", ["--memory", "5K"], work)
-    want((fits.added(), fits[2:]), (1, ("", 3, "", 0)), "with more memory")
+    checked = check(formula, f"{literals} 0\n", ["--memory", "1"], work)
+    want((checked.added(), checked[2:]), (1, ("", 3, "", 0)), "the end")
 
 
 def imported(work: Path) -> None:
@@ -537,8 +540,8 @@ def rows_sanitized() -> Iterator[Row]:
         return
     sanitized_filter()
     for form in FORMS:
-        yield f"{form}, sanitized", recorded, "pigeonhole.cnf", "pigeonhole.lrup", "3K", 5, 15, form, True, SANITIZED
-    yield "bmc.lrup, sanitized", recorded, "bmc.cnf", "bmc.lrup", "48K", 10, 50, "binary DRAT", True, SANITIZED
+        yield f"{form}, sanitized", recorded, "pigeonhole.cnf", "pigeonhole.lrup", "3K", 3, 15, form, True, SANITIZED
+    yield "bmc.lrup, sanitized", recorded, "bmc.cnf", "bmc.lrup", "48K", 5, 50, "binary DRAT", True, SANITIZED
 
 
 EMPTY = "p cnf 2 2\n1 2 0\n0\n"
@@ -550,6 +553,7 @@ FEW = [("no clauses", "p cnf 0 0\n", "", 3, ""), ("no clauses, and a step", "p c
 
 
 def rows() -> List[Row]:
+    largest_row()
     found: List[Row] = [*rows_of_recorded(), *rows_sanitized()]
     for command, form, words, *rest in SOLVED:
         for live in (False, True):
@@ -558,7 +562,7 @@ def rows() -> List[Row]:
     found += [(f"{parts} tenths, {form}", cut, parts, form) for parts in (4, 8) for form in ("LRAT text", "DRAT text", "binary DRAT")]
     found += [(f"a wrong step, {form}", wrong, form, 2500) for form in ("LRAT text", "DRAT text", "binary DRAT")]
     found += [("rows grow", rows_grow), ("behind the empty clause", behind), ("no room", no_room),
-              ("no room for one clause", no_room_for_one), ("an import", imported), ("other files", beside_others),
+              ("room for one clause", room_for_one), ("an import", imported), ("other files", beside_others),
               ("no folder", no_folder), ("a folder of another run", locked), ("another folder", another_folder),
               *((f"files that are closed: {closing}", without_errors, closing) for closing in ("2>&-", "<&- 2>&-")),
               ("a folder that is made", made_where_all_may_write)]

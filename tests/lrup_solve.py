@@ -310,14 +310,6 @@ def time_is_up(work: Path) -> None:
     want(("time is up" in answer.comments, 0.7 <= time.monotonic() - begin < SOON), (True, True), f"what is said\n{answer.out}")
 
 
-def row_is_full(work: Path) -> None:
-    """The clauses that the engines have come to more than a row holds."""
-    answer = solve(["-j", "2", "--memory", "200K", generated("pigeons 9", work)])
-    want_answer(answer, 0)
-    want(answer.comments[0], "the clauses that the engines have leave no room in a row of 200,000 bytes: --memory says how large it is",
-         "why the run doesn't go on")
-
-
 def full(words: List[str], out: str, most: int, cause: str, work: Path) -> None:
     """A disk that is full, for the answer; for the streams, files of so many bytes at most."""
     if not os.path.exists("/dev/full"):
@@ -538,7 +530,7 @@ def what_happens() -> List[Row]:
             ("the front killed", left_alone), ("stopped", stopped), ("ended while it stands", ended_while_it_stands),
             ("a terminal that stops", terminal_that_stops), ("a large formula", large_formula, []),
             ("a large formula, and the time", large_formula, ["--time", "0.3"]),
-            ("who gives way", gives_way), ("time", time_is_up), ("a full row", row_is_full),
+            ("who gives way", gives_way), ("time", time_is_up),
             ("a full disk for streams", full, ["-j", "1", "--proofs", "{work}"], os.devnull, 4096, "round-1.stream-1: File too large"),
             ("a full disk for the answer", full, [], "/dev/full", 0, "cannot write the answer"),
             ("a closed output", closed, "bmc.cnf"), ("a closed output, satisfiable", closed, "assumed.cnf"),

@@ -143,10 +143,15 @@ def cores(processes: int, words: str, tested: Optional[Dict[str, object]], work:
     until("its files are removed", lambda: not list(files.glob("lrup-solve-*")))
 
 
-def full_row(work: Path) -> None:
-    answer = solve(2, ["-j", "1", "--memory", "100K", generated("pigeons 11", work)])
-    want((answer.answers, answer.status), (["s UNKNOWN"], 0), f"the answer of\n{answer.out}{answer.said}")
-    want("leave no room in a row of 100,000 bytes" in answer.out, True, f"the cause in\n{answer.out}")
+def engines_go(work: Path) -> None:
+    """Where a row has no room for the clauses of all, those of another process go, too; the last engine stays."""
+    formula, kept = generated("pigeons 8", work), work / "kept"
+    answer = solve(3, ["-v", "-j", "1", "--memory", "20K,100K", "--proofs", kept, formula])
+    want_answer(answer, 20)
+    check_again(kept)
+    causes = [line.split(" is lost: ")[1] for line in answer.lost()]
+    want((len(causes) in (1, 2), set(causes)), (True, {"the clauses of all leave no room in a row of 100,000 bytes"}),
+         f"engines that are lost in\n{answer.out}")
 
 
 def time_is_up(work: Path) -> None:
@@ -325,7 +330,7 @@ def known() -> List[Row]:
     rows += [row for processes, engines in ((1, 1), (2, 1), (2, 2), (4, 1), (8, 1))
              for row in answering(processes, engines, [("pigeons 9", 20)])]
     return rows + [("nothing shared", answers, 2, "pigeons 8", ["-j", "1", "--no-share"], 20), ("exchanges", exchanges),
-                   ("a full row", full_row), ("time is up", time_is_up), ("cubes", cubes, 20, "pigeons 9")]
+                   ("engines go", engines_go), ("time is up", time_is_up), ("cubes", cubes, 20, "pigeons 9")]
 
 
 def rounds() -> List[Row]:

@@ -136,13 +136,46 @@ def doubled_literals(work: Path) -> None:
         want_answer(solve(["-j", engines, "--memory", "12K", formula]), 20)
 
 
-def no_room_for_one_clause(work: Path) -> None:
-    """And where none has, the engine is lost."""
-    formula = generated("pigeons 9", work)
-    answer = solve(["-j", "1", "--memory", "12K", formula], tested={**SMALL, "FIRST_WORDS": 64})
+def small_rows(memory: str, words: str, engines: int, work: Path) -> None:
+    """However little --memory says, a row has room for what is live, and as much again. What is larger is told."""
+    answer = solve(["-v", "-j", engines, "--memory", memory, generated(words, work)])
+    want_answer(answer, 20)
+    want(answer.lost(), [], "engines that are lost")
+    rows = re.findall(r"^c round \d+: .* in a row of ([\d,]+) words(, more than --memory)?;", answer.out, re.M)
+    usual = int(memory[:-1]) * {"K": 125, "M": 125000}[memory[-1]]
+    want([(row, told) for row, told in rows if (int(row.replace(",", "")) > usual) != bool(told)], [], "rows, and what is told of them")
+    want((len(rows) > 0, any(told for _, told in rows)), (True, True), f"the rows of\n{answer.out}")
+
+
+def engines_go(engines: int, options: List[str], work: Path) -> None:
+    """Where no row may be larger, one engine after the other ends, and never the last one, whose row may."""
+    kept = work / "kept"
+    answer = solve(["-v", "-j", engines, "--memory", "20K,100K", "--proofs", kept, *options, generated("pigeons 8", work)])
+    want_answer(answer, 20)
+    check_again(kept)
+    lost = answer.lost()
+    wanted = re.compile(r"engine \d+ is lost: the clauses of all leave no room in a row of 100,000 bytes")
+    want((1 <= len(lost) < engines, [line for line in lost if not wanted.fullmatch(line)]), (True, []), f"engines that are lost: {lost}")
+    want(f", {engines - len(lost)} of {engines} engines, " in answer.comments[-1], True, "the last line")
+    sizes = [[int(word) for word in (kept / f"round-{k}.sizes").read_text().split()] for k in range(1, rounds_of(answer) + 1)]
+    streams = [count for count, _, _ in sizes]
+    want((streams[0], streams[-1], sorted(streams, reverse=True)), (engines, engines - len(lost), streams), "streams of the rounds")
+    want([words for words in sizes if words[0] > 1 and words[0] * (words[1] + words[2]) > 12500], [], "rows that are too large")
+
+
+def largest_row(engines: int, work: Path) -> None:
+    """Where lrupd makes no larger row, and one engine is left, there is no answer."""
+    answer = solve(["-j", engines, "--memory", "16K,16K", generated("pigeons 10", work)], tested={"LARGEST": 10000, "SLICE": 40})
     want_answer(answer, 0)
-    wanted = r"engines have leave no room in a row of 12,000 bytes|a clause of \d+ literals has no room in the row"
-    want(any(re.search(wanted, line) for line in answer.comments), True, f"why there is no answer:\n{answer.out}")
+    want(len(answer.lost()), engines - 1, f"engines that are lost in\n{answer.out}")
+    want_cause(answer, "^the clauses that are left leave no room in a row of 80,000 bytes$")
+
+
+def largest_formula(work: Path) -> None:
+    formula = generated("pigeons 8", work)
+    answer = solve(["-j", "2", formula], tested={"LARGEST": 500})
+    want((answer.answers, answer.status, answer.said), ([], 1, "lrup-solve: the formula leaves no room in a row of 4,000 bytes\n"), "the end")
+    want_answer(solve(["-j", "2", "--memory", "1K,1K", formula]), 20)
 
 
 # What happens in a round, and between two.
@@ -440,7 +473,12 @@ def known() -> List[Row]:
     rows += [(f"under assumptions, {engines}", assuming, engines) for engines in (1, 2, 4)]
     return rows + [("rows that grow", rows_grow), ("rows that stay large", rows_stay_large),
                    ("a row without room for one clause", one_clause), ("doubled literals", doubled_literals),
-                   ("no row with room for one clause", no_room_for_one_clause)]
+                   *((f"rows of {memory}, {words}, {engines}", small_rows, memory, words, engines)
+                     for memory, words, engines in (("4M", "pigeons 9", 2), ("12K", "pigeons 8", 1), ("20K", "pigeons 8", 3))),
+                   *((f"{engines} engines go {options}", engines_go, engines, options)
+                     for engines, options in ((2, []), (4, []), (4, ["--no-share"]))),
+                   *((f"the largest row, {engines}", largest_row, engines) for engines in (1, 3)),
+                   ("the largest formula", largest_formula)]
 
 
 def what_happens() -> List[Row]:

@@ -148,7 +148,7 @@ static void take_checkpoint(void) {
 
 static void size_round(uint64_t clauses, uint64_t literals, uint64_t wanted, const char *holds) {
     if (!rows_size(&rows, 1, clauses, literals, used, wanted))
-        stop("%s no room in a row of %llu bytes: --memory says how large it is", holds, (unsigned long long)rows.memory);
+        stop("%s no room in a row of %llu bytes", holds, (unsigned long long)MOST_MEMORY);
     used = (Row){0};
     if (++round_number == 1 && rows.row.lines > USUAL_LINES) rows.row.lines = USUAL_LINES;
     make_files();
@@ -157,7 +157,7 @@ static void size_round(uint64_t clauses, uint64_t literals, uint64_t wanted, con
 static void next_round(uint64_t wanted) {
     static const Identities none;
     uint64_t literals;
-    round_delete(filter, &none);
+    round_delete(filter, &none, true);
     uint64_t clauses = round_clauses(filter, &literals);
     rows_grow(&rows);
     size_round(clauses, literals, wanted, "the clauses that the solver has leave");
@@ -185,7 +185,7 @@ void chain_begin(Filter *one, uint64_t memory) {
     filter->keeps_clauses = true;
     write_to(to_stream);
     take_signals();
-    rows_open(&rows, memory, 1);
+    rows_open(&rows, memory, 0, 1);
     size_round(filter->formula.clauses, filter->formula.literals.length, 0, "the formula leaves");
     if (!write_whole(STDOUT_FILENO, stream, strlen(stream)) || !write_whole(STDOUT_FILENO, "\n", 1)) {
         remove_files();

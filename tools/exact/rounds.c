@@ -19,12 +19,13 @@ static void mark(const Filter *filter, unsigned char *marks, uint64_t identity) 
     else if (identity <= filter->last && is_own(filter, identity)) marks[formula + (identity - formula - 1) / filter->streams] = 1;
 }
 
-// All clauses of the formula and of the stream that the filter doesn't hold, but for these. The stream has deleted none so far.
-void round_delete(Filter *filter, const Identities *kept) {
+// All clauses of the formula and of the stream that the filter doesn't hold, or all where it doesn't go on, but for these. The stream
+// has deleted none so far.
+void round_delete(Filter *filter, const Identities *kept, bool goes_on) {
     uint64_t formula = filter->formula.clauses, first = formula + filter->stream;
     uint64_t own = filter->last ? (filter->last - first) / filter->streams + 1 : 0;
     unsigned char *marks = zeroed(formula + own, 1);
-    for (ClauseRef ref = 0; (ref = clauses_after(&filter->clauses, ref)) != 0;)
+    for (ClauseRef ref = 0; goes_on && (ref = clauses_after(&filter->clauses, ref)) != 0;)
         mark(filter, marks, clause_at(&filter->clauses, ref)->identity);
     for (size_t k = 0; k < kept->length; k++) mark(filter, marks, kept->items[k]);
     filter->chain.length = 0;
@@ -43,13 +44,11 @@ uint64_t round_clauses(const Filter *filter, uint64_t *literals) {
     return count;
 }
 
-// Before a line: the row has room for it, or the stream ends here, since lrupd would refuse the line.
+// Before a line: the row has room for it, or the stream ends here, since lrupd would refuse the line. Who sizes rows makes room, or
+// ends the run.
 void round_make_room(const Filter *filter, bool (*has_room)(uint64_t literals), void (*next_round)(uint64_t literals)) {
     size_t length = filter->literals.length;
-    for (int tries = 0; !has_room(length); tries++) {
-        if (tries == 2) stop("a clause of %zu literals has no room in the row: --memory says how large it is", length);
-        next_round(length);
-    }
+    while (!has_room(length)) next_round(length);
 }
 
 // Goes on with what was saved, as another stream. Names of the proof that were identities aren't any more.

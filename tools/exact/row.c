@@ -1,5 +1,6 @@
 // Unverified, as all of this filter. The sizes of lrupd's rows in a chain of runs. A row is made before a line is read, and doesn't
-// grow. So each one is twice the one before, up to what --memory says: a short run gets a small one.
+// grow. So each one is twice the one before, up to what --memory says: a short run gets a small one. Live clauses are never too
+// many for that: where they take more than half of a row the next one has twice their size.
 #include <string.h>
 #include <unistd.h>
 
@@ -11,7 +12,7 @@
 #define FIRST_OF_EACH (UINT64_C(1) << 18)
 
 enum { LEAST_WORDS = 64 };                      // of a stream
-enum { LEAST_SHARE = 32 };                      // a 32nd of the row, that streams have at least
+enum { LEAST_SHARE = 8 };                       // an eighth of the largest row, that several streams have at least
 enum { GROWTH = 2 };                            // from round to round
 
 static const double USUAL_LENGTH = 16, LEAST_LENGTH = 2, MOST_LENGTH = 200;
@@ -32,21 +33,21 @@ uint64_t memory_read(const char *word) {
     return bytes;
 }
 
-// An eighth of the machine's, up to half a gigabyte: at its start lrupd takes twice the row.
-static uint64_t default_memory(void) {
+static uint64_t bytes_of_machine(void) {
     long pages = sysconf(_SC_PHYS_PAGES), bytes = sysconf(_SC_PAGESIZE);
-    uint64_t all = pages > 0 && bytes > 0 ? (uint64_t)pages * (uint64_t)bytes : 0;
-    return lesser(USUAL_MEMORY, greater(all / 8, LEAST_MEMORY));
+    return pages > 0 && bytes > 0 ? (uint64_t)pages * (uint64_t)bytes : 0;
 }
 
-void rows_open(Rows *rows, uint64_t memory, uint64_t streams) {
-    *rows = (Rows){ .memory = memory ? memory : default_memory(), .words = greater(FIRST_WORDS, FIRST_OF_EACH * streams) };
+// An eighth of the machine's, up to half a gigabyte, and at most a quarter: at its start lrupd takes twice the row.
+void rows_open(Rows *rows, uint64_t memory, uint64_t most, uint64_t streams) {
+    uint64_t all = bytes_of_machine();
+    if (!memory) memory = lesser(USUAL_MEMORY, greater(all / 8, LEAST_MEMORY));
+    if (!most) most = lesser(MOST_MEMORY, all / 4);
+    *rows = (Rows){ .usual = memory / 8, .most = greater(memory, most) / 8, .largest = MOST_WORDS,
+                    .words = greater(FIRST_WORDS, FIRST_OF_EACH * streams) };
 }
 
-void rows_grow(Rows *rows) {
-    rows->words = lesser(GROWTH * rows->words, MOST_WORDS);
-    rows->least = rows->memory / 8 / LEAST_SHARE;
-}
+void rows_grow(Rows *rows) { rows->words = lesser(GROWTH * rows->words, MOST_WORDS); }
 
 static double length_of(Row used) {
     double length = used.lines > 0 ? (double)used.room / (double)used.lines : USUAL_LENGTH;
@@ -56,15 +57,16 @@ static double length_of(Row used) {
 // A clause takes a word, and each of its literals one. Clauses are cheap, so there is room for many that are only half as long.
 static Row split(uint64_t words, double length) {
     uint64_t lines = (uint64_t)((double)words / (1 + length / 2));
+    lines = greater(lines, words > 0);
     return (Row){ lines, words - lines };
 }
 
 bool rows_size(Rows *rows, uint64_t streams, uint64_t clauses, uint64_t literals, Row used, uint64_t wanted) {
-    uint64_t all = rows->memory / 8;
-    rows->formula = 1 + clauses + literals;
-    uint64_t left = all > rows->formula ? all - rows->formula : 0;
-    uint64_t words = lesser(left, greater(rows->words, streams * (2 * wanted + LEAST_WORDS))) / streams;
-    if (words < LEAST_WORDS || left < rows->least) return false;
-    rows->row = split(words, length_of(used));
-    return true;
+    uint64_t most = streams > 1 ? rows->most : rows->largest, formula = 1 + clauses + literals;
+    uint64_t words = streams * (2 * wanted + LEAST_WORDS);
+    uint64_t all = lesser(most, greater(rows->usual, formula + greater(formula, words)));
+    uint64_t left = all > formula ? all - formula : 0;
+    rows->formula = formula;
+    rows->row = split(lesser(left, greater(rows->words, words)) / streams, length_of(used));
+    return formula + greater(words, streams > 1 ? most / LEAST_SHARE : 0) <= most;
 }

@@ -76,7 +76,7 @@ private:
     // Literals of the cube don't count for the length.
     void learn(int literal) override {
         const std::vector<int> &cube = cubes.cube();
-        if (literal == 0 && learned <= engine.options->share_size) putc_unlocked('x', proof);
+        if (literal == 0 && learned <= engine.options->share_size && !LOAD(engine.shared->crowded)) putc_unlocked('x', proof);
         if (literal != 0 && cubes.looks()) cubes.count_literal(literal);
         learned -= literal != 0 && std::find(cube.begin(), cube.end(), -literal) != cube.end();
     }

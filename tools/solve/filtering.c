@@ -142,14 +142,22 @@ static void open_stream(void) {
     close(file);
 }
 
-// Ends the stream, waits until lrupd has saved, and goes on from there. A clause that was given away isn't deleted, since others
-// may cite it; in the next round it is one of the formula's.
-static void next_round(void) {
-    Checkpoint checkpoint;
-    keep_for_imports();
-    round_delete(&filter, &kept);
+// Ends the stream. A clause that was given away isn't deleted, since others may cite it; in the next round it is one of the
+// formula's. A filter that ends with its stream keeps nothing else.
+static void end_stream(bool goes_on) {
+    uint64_t literals, clauses = round_clauses(&filter, &literals);
+    STORE(engine_status->held, clauses + literals);
+    if (goes_on) keep_for_imports();
+    round_delete(&filter, &kept, goes_on);
     write_flush();
     tell(&engine_status->ended_round, round_number);
+    if (!goes_on) leave(NULL);
+}
+
+// Waits until lrupd has saved, and goes on from there.
+static void next_round(void) {
+    Checkpoint checkpoint;
+    end_stream(LOAD(own->shared->leaving) != (uint64_t)own->engine);
     await_round(&own->shared->saved_round, round_number);
     checkpoint_read(&checkpoint, own->shared->checkpoint);
     round_begin(&filter, &checkpoint, engine_status->stream, own->shared->streams);

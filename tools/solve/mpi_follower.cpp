@@ -123,6 +123,8 @@ private:
         STORE(shared->streams, control.streams);
         STORE(shared->most_lines, control.most_lines);
         STORE(shared->most_literals, control.most_literals);
+        STORE(shared->leaving, control.leaving);
+        STORE(shared->crowded, control.crowded != 0);
         for (size_t k = 0; k < teams.size(); k++) {
             STORE(teams.engine_status(k).stream, control.of_engines[k].stream);
             STORE(teams.engine_status(k).fed, control.of_engines[k].fed);

@@ -155,6 +155,8 @@ private:
         words.streams = LOAD(shared->streams);
         words.most_lines = LOAD(shared->most_lines);
         words.most_literals = LOAD(shared->most_literals);
+        words.leaving = LOAD(shared->leaving);
+        words.crowded = uint64_t(LOAD(shared->crowded));
         for (size_t k = 0; k < run.teams.size(); k++) {
             words.of_engines[k].stream = LOAD(shared->engine_statuses[k].stream);
             words.of_engines[k].fed = LOAD(shared->engine_statuses[k].fed);

@@ -9,7 +9,7 @@ uint64_t EngineStatus::*const COUNTED[COUNTS] = {
     &EngineStatus::conflicts, &EngineStatus::slices, &EngineStatus::taken, &EngineStatus::refused, &EngineStatus::satisfied,
     &EngineStatus::lines, &EngineStatus::literals, &EngineStatus::hints, &EngineStatus::given, &EngineStatus::citing_others,
     &EngineStatus::citing_elsewhere, &EngineStatus::round_lines, &EngineStatus::round_literals, &EngineStatus::behind,
-    &EngineStatus::wanted, &EngineStatus::ended_round, &EngineStatus::mapped_round,
+    &EngineStatus::wanted, &EngineStatus::held, &EngineStatus::ended_round, &EngineStatus::mapped_round,
 };
 
 namespace {

@@ -127,7 +127,7 @@ private:
 // What is told of an engine and its filter.
 struct Ended { int32_t ended, status; double seconds; };
 
-enum { ENDED_ROUND = 15, MAPPED_ROUND, COUNTS };        // places of two of them
+enum { ENDED_ROUND = 16, MAPPED_ROUND, COUNTS };        // places of two of them
 
 struct Facts {
     int32_t engine, answer, refuted, unwritten;         // from 0
@@ -138,7 +138,7 @@ struct Facts {
 
 struct Control {
     uint64_t over;
-    uint64_t round, ending_round, saved_round, streams, most_lines, most_literals;
+    uint64_t round, ending_round, saved_round, streams, most_lines, most_literals, leaving, crowded;
     struct { uint64_t stream, fed; } of_engines[MOST_ENGINES];
 };
 

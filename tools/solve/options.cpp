@@ -20,7 +20,7 @@ const char check_summary[] =
     "each other. 's UNSATISFIABLE' is proved by lrupd. A step that isn't RUP is refused.\n"
     "\n"
     "  --time SECONDS     by the clock; then the answer is 's UNKNOWN'\n"
-    "  --memory BYTES     the most that lrupd may take for the clauses it keeps, as 500000000, 500M or 2G\n"
+    "  --memory BYTES     what lrupd usually takes for the clauses it keeps, as 500000000, 500M or 2G\n"
     "  --proofs DIR       keep the streams that lrupd has checked there, and the command that checks them again;\n"
     "                     --replace removes those of an earlier run\n"
     "  --expect ANSWER    unsat or unsat-under-assumptions: the status is 0 if that is the answer, and else 1\n"
@@ -46,9 +46,9 @@ const char summary[] =
     "  --solver COMMAND   a solver of yours, as 'cadical -q %formula %proof', that shares nothing; more than once for\n"
     "                     several. Then there are no engines beside them but those of -j\n"
     "  --time SECONDS     by the clock; then the answer is 's UNKNOWN'\n"
-    "  --memory BYTES     the most that lrupd may take for the clauses it keeps, as 500000000, 500M or 2G, at most\n"
-    "                     2147483648; an eighth of the machine's if not said, at most 536870912. At its start lrupd takes\n"
-    "                     twice that. A run that needs more goes on in rounds\n"
+    "  --memory BYTES     what lrupd usually takes for the clauses it keeps, as 500000000, 500M or 2G, at most 2147483648;\n"
+    "                     an eighth of the machine's if not said, at most 536870912. At its start lrupd takes twice that.\n"
+    "                     A run that needs more goes on in rounds. With 500M,1G it takes up to 1G where engines keep much\n"
     "  --share-size N     learned clauses of at most N literals are given away, 0 to 1000; 4 if not said. Units always are\n"
     "  --no-share         engines that share nothing\n"
     "  --seed N           other runs of the engines\n"
@@ -123,11 +123,19 @@ double seconds(const char *name, const char *value) {
     return found;
 }
 
-uint64_t bytes(const char *name, const char *value) {
-    uint64_t found = memory_read(value);
-    if (found == 0) bad_value(name, "bytes, as 2000000000, 2000M or 2G", value);
-    if (found > MOST_MEMORY) bad_value(name, "at most 2147483648 bytes", value);
+uint64_t bytes(const char *name, const std::string &value, uint64_t least) {
+    uint64_t found = memory_read(value.c_str());
+    if (found == 0) bad_value(name, "bytes, as 2000000000, 2000M or 2G", value.c_str());
+    if (found > MOST_MEMORY) bad_value(name, "at most 2147483648 bytes", value.c_str());
+    if (found < least) bad_value(name, "a second number that isn't below the first", value.c_str());
     return found;
+}
+
+// SIZE, or SIZE,MOST.
+void read_memory(Options &options, const char *name, const std::string &value) {
+    size_t comma = value.find(',');
+    options.memory = bytes(name, value.substr(0, comma), 0);
+    options.most_memory = comma == std::string::npos ? 0 : bytes(name, value.substr(comma + 1), options.memory);
 }
 
 const char *name_of_file(const char *name, const char *what, const char *value) {
@@ -169,7 +177,7 @@ bool read_of_engines(Options &options, Words &words, const char *word) {
 bool read_valued(Options &options, Words &words, const char *word) {
     const char *value;
     if (words.option(word, "--time", value)) options.seconds = seconds("--time", value);
-    else if (words.option(word, "--memory", value)) options.memory = bytes("--memory", value);
+    else if (words.option(word, "--memory", value)) read_memory(options, "--memory", value);
     else if (words.option(word, "--proofs", value)) options.proofs = name_of_file("--proofs", "a folder", value);
     else if (words.option(word, "--core", value)) options.core = name_of_file("--core", "a file", value);
     else if (words.option(word, "--lrat", value)) options.lrat = name_of_file("--lrat", "a file", value);

@@ -8,6 +8,9 @@
 namespace {
 
 const uint64_t SHORT_STREAMS = UINT64_C(1) << 20;   // bytes of all streams, that don't want lrupd yet
+const double CROWDED = 0.75;        // of the largest row, that live clauses take
+
+std::string in_a_row_of(uint64_t words) { return " in a row of " + counted(8 * words, "byte"); }
 
 // Each once in a clause, as a row has them.
 uint64_t literals_of(const Formula &formula) {
@@ -26,25 +29,40 @@ uint64_t literals_of(const Formula &formula) {
 
 // Sizes.
 
-std::string Rounds::bytes_of_row() const { return counted(rows.memory, "byte") + ": --memory says how large it is"; }
-
 // The row of the round that comes next. A filter that has no room for one clause gets some.
 bool Rounds::size(uint64_t clauses, uint64_t literals) {
     Shared *shared = teams.shared;
     uint64_t streams = std::max<uint64_t>(1, shared->streams), wanted = 0;
     for (size_t k = 0; k < teams.size(); k++) wanted = std::max(wanted, LOAD(teams.engine_status(k).wanted));
     Row used = { teams.all(&EngineStatus::lines) - lines_before, teams.all(&EngineStatus::literals) - literals_before };
-    if (!rows_size(&rows, streams, clauses, literals, used, wanted)) return false;
+    bool fits = rows_size(&rows, streams, clauses, literals, used, wanted);
     STORE(shared->most_lines, rows.row.lines);
     STORE(shared->most_literals, rows.row.room);
-    return true;
+    return fits;
 }
 
+// The formula has room for as much again, whatever --memory says.
 void Rounds::begin(const std::string &program) {
+    uint64_t clauses = inputs.formula.clauses, literals = literals_of(inputs.formula);
     checker_program = program;
-    rows_open(&rows, inputs.options.memory, teams.size());
+    rows_open(&rows, inputs.options.memory, inputs.options.most_memory, teams.size());
     rows.words = std::min(hooked(test_hooks.first_words, rows.words), MOST_WORDS);
-    if (!size(inputs.formula.clauses, literals_of(inputs.formula))) refuse("the formula leaves no room in a row of " + bytes_of_row());
+    rows.largest = hooked(test_hooks.largest, rows.largest);
+    rows.most = std::min(rows.largest, std::max(rows.most, 2 * (1 + clauses + literals)));
+    if (!size(clauses, literals)) refuse("the formula leaves no room" + in_a_row_of(rows.largest));
+}
+
+// For the clauses of all, in the largest row. First no engine gives away what others can do without. Where that isn't enough one
+// ends with the round that comes, and all that it alone has is gone then; but never the last one.
+bool Rounds::make_room(bool fits) {
+    Shared *shared = teams.shared;
+    bool is_alone = shared->streams <= 1, was_crowded = shared->crowded;
+    STORE(shared->crowded, !is_alone && (!fits || double(rows.formula) > CROWDED * double(rows.most)));
+    if (fits || is_alone) return fits;
+    if (!was_crowded) return true;
+    std::string lost = teams.choose_leaving("the clauses of all leave no room" + in_a_row_of(rows.most));
+    if (!lost.empty()) display.tell_more(lost);
+    return true;
 }
 
 // For what there is.
@@ -304,18 +322,21 @@ void Rounds::end_round() {
 
 // lrupd has saved: the filters take the new identities, and meanwhile it begins the next round.
 std::string Rounds::map_round() {
+    uint64_t streams = teams.shared->streams;
     teams.cut_streams();
+    teams.end_leaving();
     teams.number_streams();
     copy_name(teams.shared->checkpoint, Folder::name() + "/" + name_of_round(number + 1) + ".cnf");
     STORE(teams.shared->saved_round, number);
     teams.tell_filters();
     state = MAPPING;
     checkpoint_read(&saved, teams.shared->checkpoint);
-    said = words();
+    said = words(streams);
     uint64_t before = rows.words;
     rows_grow(&rows);
     if (test_hooks.same_words) rows.words = before;
-    if (!size(saved.old.length, saved.literals)) return "the clauses that the engines have leave no room in a row of " + bytes_of_row();
+    if (!make_room(size(saved.old.length, saved.literals)))
+        return "the clauses that are left leave no room" + in_a_row_of(rows.largest);
     begin_round();
     return "";
 }
@@ -342,10 +363,10 @@ void Rounds::go_on() {
 }
 
 // Of the round that lrupd has saved.
-std::string Rounds::words() const {
+std::string Rounds::words(uint64_t streams) const {
     uint64_t lines = teams.all(&EngineStatus::lines) - lines_before, literals = teams.all(&EngineStatus::literals) - literals_before;
-    uint64_t taken = rows.formula + teams.shared->streams * (rows.row.lines + rows.row.room);
-    return format("round %llu: %s with %s, in a row of %s; %s carried over", (unsigned long long)number,
+    uint64_t taken = rows.formula + streams * (rows.row.lines + rows.row.room);
+    return format("round %llu: %s with %s, in a row of %s%s; %s carried over", (unsigned long long)number,
                   counted(lines, "clause").c_str(), counted(literals, "literal").c_str(), counted(taken, "word").c_str(),
-                  grouped(saved.old.length).c_str());
+                  taken > rows.usual ? ", more than --memory" : "", grouped(saved.old.length).c_str());
 }

@@ -40,14 +40,14 @@ private:
     bool has_told_loss = false;
 
     bool size(uint64_t clauses, uint64_t literals);
-    std::string bytes_of_row() const;
+    bool make_room(bool fits);
     Row needed_row() const;
     void start_checker(Row wanted);
     void end_round();
     std::string map_round();
     void begin_round();
     void go_on();
-    std::string words() const;
+    std::string words(uint64_t streams) const;
     std::string command_of(Row sizes, const std::string &folder) const;
     std::string from_record(const std::string &path) const;
     std::string command_again() const;

@@ -131,6 +131,7 @@ void Run::look_at_solving() {
 
 void Run::look_at_teams() {
     bool any_left = false, any_has_begun = false;
+    teams.keep_last();
     for (size_t k = 0; k < teams.size() && phase == SOLVING; k++) {
         look_at_team(k);
         any_left |= !teams.is_lost(k);

@@ -49,6 +49,7 @@ typedef struct {
     uint64_t outbox_used;       // positions of its outbox that others may read
     uint64_t floors[MOST_ENGINES];  // by engine, from 0: what it gave away before that position isn't asked for any more
     uint64_t wanted;            // literals of a clause for which a whole stream has no room
+    uint64_t held;              // words of the clauses that it held as its last round ended
     uint64_t ended_round;       // its stream of this round is whole
     uint64_t mapped_round;      // what it holds has the identities of the next one
     int refuted;                // the line is in the stream that shows what is asked
@@ -77,6 +78,8 @@ typedef struct {
     uint64_t ending_round;              // all streams of this one end after a whole line
     uint64_t saved_round;               // lrupd has saved this one's checkpoint: the two names below and the streams are the next one's
     uint64_t streams;
+    uint64_t leaving;                   // the engine that ends with the round that is on; 0: none
+    int crowded;                        // engines give away nothing but units and refuted cubes
     uint64_t memory_round;              // from this one on the record has no stream; 0: there is none
     uint64_t most_lines, most_literals; // of a stream
     uint64_t variable_count;            // by which cubes are made; 0: it isn't known yet

@@ -20,7 +20,7 @@ struct Options {
     bool check = false;         // solvers have ended, and left these proofs
     std::vector<const char *> solvers;      // commands, or paths of proofs; they are the last engines, and share nothing
     double seconds = 0;         // for all; 0: as many as it takes
-    uint64_t memory = 0;        // bytes of lrupd's row; 0: by the machine's
+    uint64_t memory = 0, most_memory = 0;   // bytes of lrupd's row, as it is usual and at most; 0: by the machine's
     int share_size = 4;         // literals of a clause that is given away; units always are
     bool share = true;
     int seed = 0;

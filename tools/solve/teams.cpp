@@ -258,6 +258,35 @@ void Teams::go_on() {
     }
 }
 
+// The one whose clauses take most. One that has refuted the formula comes last.
+std::string Teams::choose_leaving(const std::string &cause) {
+    size_t found = list.size();
+    auto weight = [this](size_t k) { return has_refuted(k) ? 0 : 1 + LOAD(engine_status(k).held); };
+    for (size_t k = 0; k < list.size(); k++) {
+        bool is_left = list[k].filter.running && !list[k].told;
+        if (is_left && (found == list.size() || weight(k) >= weight(found))) found = k;
+    }
+    if (found == list.size()) return "";
+    list[found].told = true;
+    list[found].cause = cause;
+    STORE(shared->leaving, found + 1);
+    return why_lost(found);
+}
+
+// Or where it has refuted the formula meanwhile.
+void Teams::keep_last() {
+    uint64_t leaving = shared->leaving;
+    if (leaving == 0) return;
+    for (size_t k = 0; k < list.size() && !has_refuted(leaving - 1); k++)
+        if (list[k].filter.running && !list[k].told) return;
+    list[leaving - 1].told = false;
+    STORE(shared->leaving, 0);
+}
+
+void Teams::end_leaving() {
+    if (shared->leaving > 0) list[shared->leaving - 1].engine.signal(SIGKILL);
+}
+
 // Engines have nothing to leave behind.
 bool Teams::end_streams(bool is_late) {
     STORE(shared->over, 1);
@@ -297,8 +326,12 @@ std::vector<int> Teams::stream_files() const {
 // Engines that were lost are left out.
 void Teams::number_streams() {
     uint64_t count = 0;
-    for (size_t k = 0; k < list.size(); k++) STORE(engine_status(k).stream, list[k].filter.running ? ++count : 0);
+    for (size_t k = 0; k < list.size(); k++) {
+        bool goes_on = list[k].filter.running && k + 1 != shared->leaving;
+        STORE(engine_status(k).stream, goes_on ? ++count : 0);
+    }
     STORE(shared->streams, count);
+    STORE(shared->leaving, 0);
 }
 
 void Teams::open_streams(uint64_t round) {

@@ -52,6 +52,9 @@ public:
     void look();                        // at what is to be done while they solve
     void go_on();                       // those that stood still
     bool end_streams(bool is_late);     // after a whole line; true once all filters have ended
+    std::string choose_leaving(const std::string &cause);   // one that ends with the round that comes; why it does
+    void keep_last();                   // that one, where no other is left
+    void end_leaving();                 // its round has ended
     void tell_filters() const;          // of what is stored by now
     void tell_fed(size_t k, uint64_t bytes) const;
 

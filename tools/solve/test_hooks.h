@@ -11,6 +11,7 @@
     NUMBER(at_once)             /* all engines start with the first one */                                                              \
     NUMBER(first_words)         /* of the first row; and lrupd starts with the first line */                                            \
     NUMBER(same_words)          /* rows don't grow */                                                                                   \
+    NUMBER(largest)             /* words of the largest row of one stream */                                                            \
     NUMBER(slice)               /* conflicts after which an engine looks for what others gave away */                                   \
     NUMBER(outbox)              /* words of an outbox */                                                                                \
     NUMBER(ahead)               /* bytes of a stream that lrupd hasn't got, after which its filter waits */                             \
