@@ -32,7 +32,7 @@ STREAMS ?= $(addprefix examples/bmc-four.,1 2 3 4)
 OPTIONS ?= --tries 1000000
 
 .PHONY: run build install built install-solve no-solve uninstall examples live checkpoints rounds demo solver exact trim explain solve solver-test filter-test trim-test
-.PHONY: explain-test solve-test neighbours sweep leaks instructions audit definitions promises tables pages test toolchain c-and-python
+.PHONY: peers hol explain-test solve-test neighbours sweep leaks instructions audit definitions promises tables pages test toolchain c-and-python
 .PHONY: libcadical beside-it mpicxx help try deb dist quick edits packages warnings builds shown
 
 help:
@@ -239,6 +239,13 @@ leaks: $(BUILT) c-and-python ## measure: memory that isn't given back, by valgri
 
 instructions: $(BUILT) c-and-python ## measure: how many instructions lines take, by valgrind, beside what they took
 	@python3 gate/instructions.py $(PROGRAM)
+
+# With packages that the gate doesn't have: acl2, acl2-books and acl2-books-certs; hol-light and libnum-ocaml-dev.
+peers: $(BUILT) solve ## measure: ACL2's verified checkers beside lrupd, in about ten minutes; wants ACL2, which is large
+	@python3 bench/peers/peers.py $(PROGRAM) $(TRIM) $(SOLVE)
+
+hol: $(BUILT) solve ## check: HOL Light proves 61 tautologies by lrup-solve, in some minutes; wants HOL Light
+	@PATH="$(abspath $(dir $(SOLVE))):$$PATH" examples/hol/taut.sh
 
 # These pages have what you must read to believe status 0 and 8, and the theorems on whole runs.
 audit: ## check: write docs/AUDIT.md and docs/THEOREMS.md anew from the sources

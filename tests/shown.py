@@ -150,6 +150,12 @@ def scripts() -> Iterator[Row]:
     for given in (b"s UNKNOWN\nv 1 2 -3 -4 -5 6 -7 0\n", b"s SATISFIABLE\nv 1 -1 2 -2 3 -3 4 -4 5 -5 6 -6 7 -7 0\n"):
         yield (f"lemma.py, {given!r}", refused, lemma, ["--show", "1", "a <= b"], given,
                "lemma.py: no counterexample: the answer isn't s SATISFIABLE with an assignment of this formula", 1)
+    for words in ([], ["--stobj", "f"], ["f"], ["f", "p", "x"]):
+        yield f"acl2.py {words}", refused, "acl2.py", words, b"", "usage: acl2.py [--stobj] FORMULA PROOF", 2
+    for formula, cause in (("none", "[Errno 2] No such file or directory: 'none'"), ("/dev/null", "no header")):
+        yield f"acl2.py {formula}", refused, "acl2.py", [formula, "none"], b"", f"acl2.py: FORMULA or PROOF can't be read: {cause}", 1
+    for words in ([], ["x.v"]):
+        yield f"miter.sh {words}", refused, "miter/miter.sh", words, b"", "usage: miter.sh FILE.v FORMULA", 2
     for words in ([], ["--show"], [domain, problem], [domain, problem, "x"], [domain, problem, "-1"], [domain, problem, "1", "2"]):
         yield f"plan.py {words}", refused, plan, words, b"", "usage: plan.py [--show] DOMAIN PROBLEM STEPS", 2
     for words, given, cause in (

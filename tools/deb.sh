@@ -20,7 +20,7 @@ documents=$root/usr/share/doc/lrupd
 mkdir -p "$documents/examples" "$root/DEBIAN"
 cp "$top/README.md" "$top"/docs/USING.md "$top"/docs/FORMAT.md "$top"/docs/EMITTING.md "$top"/docs/TRUST.md "$documents"
 cp "$top"/examples/README.md "$top"/examples/*.cnf "$top"/examples/*.cube "$top"/examples/*.lrup "$top"/examples/*.[1-4] \
-    "$top"/examples/*.out "$top"/examples/chain.py "$top"/examples/*.awk "$documents/examples"
+    "$top"/examples/*.out "$top"/examples/chain.py "$top"/examples/acl2.py "$top"/examples/*.awk "$documents/examples"
 gzip -9nc "$top/CHANGELOG.md" > "$documents/changelog.gz"
 # Pages lie in one folder here, and a link to a file that isn't in the package becomes its text.
 sed -i -e 's#](\(\.\./\)*docs/#](#g' -e 's#](\.\./#](#g' "$documents"/*.md
