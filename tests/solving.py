@@ -227,7 +227,8 @@ def kill_children(children: Mapping[str, int], names: Sequence[str], number: int
 
 def is_built(path: Path) -> bool:
     """Whether it is younger than what it is made of."""
-    sources = [ROOT / "Makefile", ROOT / "VERSION", *ROOT.glob("tools/solve/**/*.[ch]*"), *ROOT.glob("tools/exact/*.*")]
+    sources = [ROOT / "Makefile", ROOT / "VERSION", ROOT / "tools" / "lrup-chain", *ROOT.glob("tools/solve/**/*.[ch]*"),
+               *ROOT.glob("tools/exact/*.*")]
     return path.exists() and path.stat().st_mtime > max(file.stat().st_mtime for file in sources)
 
 

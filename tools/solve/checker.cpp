@@ -115,7 +115,7 @@ double Front::checking() const {
 // Where it has ended this process is ended, too, within a moment.
 void Front::read_on(Checker *checker) {
     char bytes[4096];
-    ssize_t count;
+    ssize_t count = -1;
     while (file >= 0 && (count = read(file, bytes, sizeof bytes)) > 0) unread.append(bytes, size_t(count));
     if (file >= 0 && count == 0) end_children(), _exit(1);      // it is gone
     for (size_t end; (end = unread.find('\n')) != std::string::npos; unread.erase(0, end + 1)) {

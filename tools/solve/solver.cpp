@@ -82,7 +82,7 @@ class LastLine {
 public:
     void read_from(int &file) {
         char bytes[4096];
-        ssize_t count;
+        ssize_t count = -1;
         while (file >= 0 && (count = read(file, bytes, sizeof bytes)) > 0)
             for (ssize_t k = 0; k < count; k++) take(bytes[k]);
         if (file >= 0 && count == 0) close_file(file);
