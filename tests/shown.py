@@ -33,6 +33,7 @@ PAGES: List[Tuple[str, Sequence[str], Sequence[str]]] = [
     ("examples/planning/README.md", [], []),
     ("examples/lemma/README.md", [], []),
     ("examples/smt/README.md", [], ["python3-z3"]),
+    ("examples/cubes/README.md", [], []),
     ("examples/fifo/README.md", [], ["yosys"]),
 ]
 
@@ -150,6 +151,10 @@ def scripts() -> Iterator[Row]:
     for given in (b"s UNKNOWN\nv 1 2 -3 -4 -5 6 -7 0\n", b"s SATISFIABLE\nv 1 -1 2 -2 3 -3 4 -4 5 -5 6 -6 7 -7 0\n"):
         yield (f"lemma.py, {given!r}", refused, lemma, ["--show", "1", "a <= b"], given,
                "lemma.py: no counterexample: the answer isn't s SATISFIABLE with an assignment of this formula", 1)
+    for words in ([], ["3", "3"], ["3", "1", "9"], ["3", "x", "9"]):
+        yield f"waerden.py {words}", refused, "cubes/waerden.py", words, b"", "usage: waerden.py K L N, with 2 or more for K and L", 2
+    for words in ([], ["5"], ["x", "formula.cnf"], ["5", "a", "b"]):
+        yield f"split.py {words}", refused, "cubes/split.py", words, b"", "usage: split.py COUNT FORMULA", 2
     for words in ([], ["--show"], [domain, problem], [domain, problem, "x"], [domain, problem, "-1"], [domain, problem, "1", "2"]):
         yield f"plan.py {words}", refused, plan, words, b"", "usage: plan.py [--show] DOMAIN PROBLEM STEPS", 2
     for words, given, cause in (

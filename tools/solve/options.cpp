@@ -60,6 +60,7 @@ const char summary[] =
     "  --re-hint          find hints anew for both, which are smaller then; it takes longer\n"
     "  --expect ANSWER    sat, unsat or unsat-under-assumptions: the status is 0 for that answer, and else 1\n"
     "  --assume FILE      literals that are assumed, in one line that ends with 0, as for lrupd\n"
+    "  --cubes FILE       cubes in lines 'a LITERALS 0': engines refute one after the other, and then what is left\n"
     "  --lrupd PATH       the checker; if not said it is looked for beside this program, and then on the PATH\n"
     "  --engines PATH     the program that solves, of which nothing is believed; lrup-engines beside this one if not said\n"
     "  -v, --verbose      say what goes on, in lines that begin with c\n"
@@ -174,6 +175,7 @@ bool read_valued(Options &options, Words &words, const char *word) {
     else if (words.option(word, "--core", value)) options.core = name_of_file("--core", "a file", value);
     else if (words.option(word, "--lrat", value)) options.lrat = name_of_file("--lrat", "a file", value);
     else if (words.option(word, "--assume", value)) options.assume = name_of_file("--assume", "a file", value);
+    else if (words.option(word, "--cubes", value)) options.cubes = name_of_file("--cubes", "a file", value);
     else if (words.option(word, "--expect", value)) answer_of(value);
     else if (words.option(word, "--lrupd", value)) name_of_file("--lrupd", "a program", value);
     else if (words.option(word, "--engines", value)) name_of_file("--engines", "a program", value);
@@ -247,6 +249,8 @@ Options read_words(int count, char **list) {
     if (options.rehint && !options.core && !options.lrat) refuse("--re-hint without --core or --lrat");
     if (options.replace && !options.proofs) refuse("--replace without --proofs");
     if (options.solvers.size() + size_t(options.engines) > MOST_ENGINES) refuse("more than 64 engines, with those of --solver");
+    if (options.cubes && options.engines == 0 && !options.solvers.empty()) refuse("--cubes without engines: -j says how many");
+    if (options.cubes && !options.share && options.engines != 1) refuse("--cubes and --no-share: refuted cubes are shared");
     if (!options.solvers.empty() && options.mpi) refuse("--solver and --mpi: a solver shares nothing with engines elsewhere");
     if (!options.solvers.empty() && options.assume && !options.check) refuse("--assume and --solver: a solver isn't told of assumptions");
     return options;
