@@ -43,7 +43,7 @@ struct Process {
         std::vector<Literal> items(length);
         Literals literals = { items.data(), length, length };
         uint64_t &end = staged[engine - 1];
-        for (; count > 0; count--) outbox_put(shared.get(), words[engine - 1].data(), engine, &end, 7, &literals);
+        for (; count > 0; count--) outbox_put(shared.get(), words[engine - 1].data(), engine, &end, 7, &literals, 0);
         STORE(shared->engine_statuses[engine - 1].outbox_used, end);
     }
 

@@ -7,6 +7,7 @@ Each answer, with and without sharing, rows so small that a run goes on for many
 process killed or stopped, in process 0 and in another one, and mpirun, and the front. The flags, and what is shown, are as of lrup_solve.py;
 with `small` only what takes seconds is run, and it says what is left out. Without MPI, or mpirun, nothing is run.
 """
+import itertools
 import os
 import random
 import re
@@ -92,6 +93,19 @@ def cubes(status: int, words: str, work: Path) -> None:
     answer = solve(2, ["-v", "-j", "3", formula], {"SLICE": 20})
     want_answer(answer, status, formula)
     want((answer.lost(), "engines take cubes" in answer.comments), ([], True), f"whether cubes were dealt out\n{answer.out}")
+
+
+def cubes_of_a_file(processes: int, engines: int, work: Path) -> None:
+    """Engines of all processes take them, and process 0 knows of those that are refuted."""
+    formula, kept = generated("random 200 3 4.6", work), work / "kept"
+    signs = itertools.product(*((-one, one) for one in range(1, 7)))
+    file = written("".join(f"a {' '.join(map(str, cube))} 0\n" for cube in signs), work, "cubes")
+    answer = solve(processes, ["-v", "-j", str(engines), "--proofs", kept, "--cubes", file, formula], {"SLICE": 20, "EXCHANGING": 10})
+    want_answer(answer, 20)
+    check_again(kept)
+    refuted, dealt = (int(re.findall(pattern, answer.out, re.M)[0]) for pattern in (r"^c (\d+) of 64 cubes refuted$", r"^c cubes: (\d+) "))
+    found = answer.lost(), 0 < dealt < 64, refuted >= 64 - processes * engines
+    want(found, ([], True, True), f"what is lost, and cubes of process 0 and of all in\n{answer.out}")
 
 
 def exchanges(work: Path) -> None:
@@ -330,7 +344,9 @@ def known() -> List[Row]:
     rows += [row for processes, engines in ((1, 1), (2, 1), (2, 2), (4, 1), (8, 1))
              for row in answering(processes, engines, [("pigeons 9", 20)])]
     return rows + [("nothing shared", answers, 2, "pigeons 8", ["-j", "1", "--no-share"], 20), ("exchanges", exchanges),
-                   ("engines go", engines_go), ("time is up", time_is_up), ("cubes", cubes, 20, "pigeons 9")]
+                   ("engines go", engines_go), ("time is up", time_is_up), ("cubes", cubes, 20, "pigeons 9"),
+                   *((f"cubes of a file, {processes} of {engines}", cubes_of_a_file, processes, engines) for processes, engines in
+                     ((2, 1), (3, 1), (2, 3)))]
 
 
 def rounds() -> List[Row]:

@@ -33,6 +33,7 @@ PAGES: List[Tuple[str, Sequence[str], Sequence[str]]] = [
     ("examples/planning/README.md", [], []),
     ("examples/lemma/README.md", [], []),
     ("examples/smt/README.md", [], ["python3-z3"]),
+    ("examples/cubes/README.md", [], []),
     ("examples/fifo/README.md", [], ["yosys"]),
 ]
 
@@ -156,6 +157,10 @@ def scripts() -> Iterator[Row]:
         yield f"acl2.py {formula}", refused, "acl2.py", [formula, "none"], b"", f"acl2.py: FORMULA or PROOF can't be read: {cause}", 1
     for words in ([], ["x.v"]):
         yield f"miter.sh {words}", refused, "miter/miter.sh", words, b"", "usage: miter.sh FILE.v FORMULA", 2
+    for words in ([], ["3", "3"], ["3", "1", "9"], ["3", "x", "9"]):
+        yield f"waerden.py {words}", refused, "cubes/waerden.py", words, b"", "usage: waerden.py K L N, with 2 or more for K and L", 2
+    for words in ([], ["5"], ["x", "formula.cnf"], ["5", "a", "b"]):
+        yield f"split.py {words}", refused, "cubes/split.py", words, b"", "usage: split.py COUNT FORMULA", 2
     for words in ([], ["--show"], [domain, problem], [domain, problem, "x"], [domain, problem, "-1"], [domain, problem, "1", "2"]):
         yield f"plan.py {words}", refused, plan, words, b"", "usage: plan.py [--show] DOMAIN PROBLEM STEPS", 2
     for words, given, cause in (

@@ -8,7 +8,7 @@
 //
 //     i engine position literals     it took over the clause that this engine gave away there
 //     r engine position              it takes over none that was given away before
-//     x                              a mark before the addition of a clause that may be given away
+//     x                              a mark before the addition of a clause that may be given away; two: it refutes a cube
 #include "errors.h"
 #include "readers.h"
 #include "stream.h"
@@ -111,7 +111,7 @@ void binary_run(Filter *filter, Input *input, Form form) {
         int letter = filter_ends(filter) ? -1 : input_byte(input);
         if (letter < 0) break;
         list.length = 0;
-        if (form == SHARING_DRAT && letter == 'x') filter->marked = true;
+        if (form == SHARING_DRAT && letter == 'x') filter->marked++;
         else if (form == SHARING_DRAT && (letter == 'i' || letter == 'r')) sharing_step(filter, input, letter, &list);
         else if (letter != 'a' && letter != 'd') stop("no step of a binary proof, which begins with a or d");
         else if (form == BINARY_LRAT) lrat_step(filter, input, letter, &list, &coding);

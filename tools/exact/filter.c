@@ -289,7 +289,7 @@ void filter_add(Filter *filter, const Addition *addition) {
     if (addition->named && clauses_named(&filter->clauses, (uint64_t)addition->name) != 0)
         stop("the identity %lld a second time", (long long)addition->name);
     if (!tautology && !filter->refuted) derive(filter, addition);
-    filter->marked = false;
+    filter->marked = 0;
     unmark_literals(filter);
     CHECK(filter_check(filter));
 }

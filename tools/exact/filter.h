@@ -38,7 +38,7 @@ struct Filter {
     bool frat;                      // names aren't identities, not even the formula's
     bool keeps_clauses;             // deletions aren't written, so what others were given stays
     bool ignores_deletions;         // those of the proof
-    bool marked;                    // the proof has marked the addition that comes next
+    int marked;                     // how often the proof has marked the addition that comes next
     bool refuted;                   // the empty clause is in the stream: nothing more has to be
     bool busy;                      // a chain is looked for: no clause moves
     const Hooks *hooks;             // NULL: nobody asks

@@ -20,10 +20,11 @@ typedef struct { size_t position, hints, open, met, marked; } Cut;
 static ClauseRef write_lemma(Filter *filter, ClauseRef ref) {
     Propagation *propagation = &filter->propagation;
     Literals literals = filter->literals;
-    bool marked = filter->marked;
+    int marked = filter->marked;
     filter->literals = filter->spare;
     filter->literals.length = propagation->needed.length = 0;
-    filter->marked = filter->keeps_identities = false;
+    filter->marked = 0;
+    filter->keeps_identities = false;
     propagation_need(propagation, ref, &filter->literals);
     propagation_need_all(propagation, &filter->literals);
     if (propagation->needed.length > MOST_NEEDED || filter->literals.length > LITERALS_OF_A_LINE) stop("longer than a line may be");

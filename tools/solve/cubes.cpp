@@ -19,8 +19,13 @@ bool has_cube(const EngineStatus &engine_status) {
     return engine_status.cube_number != 0 && LOAD(engine_status.refuted_cube) != engine_status.cube_number;
 }
 
-std::vector<int> cube_of(const EngineStatus &engine_status) {
+// But for those of the user's cube.
+Cube literals_of(const EngineStatus &engine_status) {
     return { engine_status.cube, engine_status.cube + engine_status.cube_length };
+}
+
+bool has_variable(const Cube &cube, int variable) {
+    return std::any_of(cube.begin(), cube.end(), [&](int literal) { return std::abs(literal) == variable; });
 }
 
 }
@@ -33,8 +38,17 @@ bool has_cubes(const Shared &shared, const Options &options) {
 
 Cubes::Cubes(const Engine &given, CaDiCaL::Solver &its_solver)
     : engine(given), solver(its_solver), engine_status(given.shared->engine_statuses[given.number - 1]),
-      takes(has_cubes(*given.shared, *given.options)) {
+      takes(has_cubes(*given.shared, *given.options) || !given.cubes->empty()), idle(!given.cubes->empty()) {
     if (takes && is_first()) scores.assign(size_t(engine.formula->variables) + 1, 0);
+}
+
+void Cubes::keep_variables() {
+    std::vector<bool> are_kept(size_t(engine.formula->variables) + 1);
+    for (const Cube &one : *engine.cubes)
+        for (int literal : one) {
+            if (!are_kept[size_t(std::abs(literal))]) solver.freeze(std::abs(literal));
+            are_kept[size_t(std::abs(literal))] = true;
+        }
 }
 
 bool Cubes::looks() const { return takes && is_first() && LOAD(engine.shared->variable_count) == 0; }
@@ -44,11 +58,12 @@ void Cubes::count_conflict() { bump *= BUMP; }
 void Cubes::look(const std::vector<unsigned char> &gone) {
     if (!takes) return;
     if (looks() && (engine_status.conflicts >= LEARNING || test_hooks.slice)) tell_variables(gone);
-    if (LOAD(engine.shared->variable_count) == 0) return;
-    if (!engine_status.ready) get_ready(gone);
-    tell_usable();
-    events_advance(&engine.shared->events);
-    if (!is_first()) take();
+    if (LOAD(engine.shared->variable_count) != 0) {
+        if (!engine_status.ready) get_ready(gone);
+        tell_usable();
+        events_advance(&engine.shared->events);
+    }
+    take();
 }
 
 // None that is assumed: a cube that contradicts it would be refuted by no clause.
@@ -84,9 +99,11 @@ void Cubes::tell_usable() {
 // Where the first process writes another one meanwhile that is taken after the next slice.
 void Cubes::take() {
     uint64_t found = LOAD(engine_status.cube_number);
-    idle = found == number ? std::max(0, idle - 1) : 0;
+    bool may_come = literals.empty() && LOAD(engine.shared->cubes_left) > 0;
+    idle = found == number ? std::max(int(may_come), idle - 1) : 0;
     if (found == number) return;
     literals.clear();
+    if (int of_file = LOAD(engine_status.cube_of_file)) literals = (*engine.cubes)[size_t(of_file) - 1];
     for (int k = 0, length = LOAD(engine_status.cube_length); k < length; k++) literals.push_back(LOAD(engine_status.cube[k]));
     number = LOAD(engine_status.cube_number) == found ? found : 0;
     if (number == 0) literals.clear();
@@ -106,57 +123,89 @@ void Cubes::tell_refuted() {
 
 // The first process's part.
 
-// Once all engines that are left keep the variables.
+void Dealer::open(const std::vector<Cube> &all) {
+    cubes = &all;
+    parts.assign(all.size(), 1);
+}
+
+// Halves once all engines that are left keep the variables.
 void Dealer::deal(Shared &shared, const Options &options) {
-    if (!has_cubes(shared, options) || LOAD(shared.variable_count) == 0) return;
     int end = end_of_engines(shared, options);
     uint64_t usable = ~uint64_t(0);
+    bool halves = has_cubes(shared, options) && LOAD(shared.variable_count) != 0;
     for (int k = shared.first_here; k < end; k++) {
         if (LOAD(shared.engine_statuses[k].gone)) continue;
-        if (!LOAD(shared.engine_statuses[k].ready)) return;
+        halves &= LOAD(shared.engine_statuses[k].ready) != 0;
         usable &= LOAD(shared.engine_statuses[k].usable);
     }
-    for (int k = shared.first_here + 1; k < end; k++)
-        if (!LOAD(shared.engine_statuses[k].gone) && !has_cube(shared.engine_statuses[k]))
-            deal_to(shared, end, shared.engine_statuses[k], usable);
+    for (int k = shared.first_here; k < end; k++) {
+        EngineStatus &engine_status = shared.engine_statuses[k];
+        bool stays = k == shared.first_here && queue.empty();
+        if (!is_idle(shared, k) || stays || hand_on(shared, end, engine_status)) continue;
+        if (!queue.empty()) {
+            give(engine_status, int(queue.front()) + 1, {});
+            queue.pop_front();
+            taken++;
+        } else if (halves && elsewhere == 0) share_out(shared, end, engine_status, usable);
+    }
+    STORE(shared.cubes_left, queue.size() + elsewhere);
+}
+
+// Where it has none, or has refuted it, which is counted once.
+bool Dealer::is_idle(const Shared &shared, int k) {
+    const EngineStatus &engine_status = shared.engine_statuses[k];
+    if (LOAD(engine_status.gone) || has_cube(engine_status)) return false;
+    if (engine_status.cube_number == counted[k]) return true;
+    counted[k] = engine_status.cube_number;
+    if (int of_file = engine_status.cube_of_file) refuted += --parts[size_t(of_file) - 1] == 0;
+    return true;
+}
+
+bool Dealer::hand_on(Shared &shared, int end, EngineStatus &idle) {
+    for (int k = shared.first_here; k < end; k++) {
+        EngineStatus &other = shared.engine_statuses[k];
+        if (!has_cube(other) || !LOAD(other.gone)) continue;
+        give(idle, other.cube_of_file, literals_of(other));
+        STORE(other.cube_number, 0);
+        handed_on++;
+        return true;
+    }
+    return false;
 }
 
 // At first one has the whole.
-void Dealer::deal_to(Shared &shared, int end, EngineStatus &idle, uint64_t usable) {
+void Dealer::share_out(Shared &shared, int end, EngineStatus &idle, uint64_t usable) {
     EngineStatus *oldest = nullptr;
-    if (dealt == 0) return give(idle, {});
     for (int k = shared.first_here + 1; k < end; k++) {
         EngineStatus &other = shared.engine_statuses[k];
-        if (!has_cube(other)) continue;
-        if (LOAD(other.gone)) {
-            give(idle, cube_of(other));
-            STORE(other.cube_number, 0);
-            handed_on++;
-            return;
-        }
-        bool is_short = other.cube_length < MOST_OF_A_CUBE;
+        bool is_short = has_cube(other) && other.cube_length < MOST_OF_A_CUBE;
         if (is_short && (!oldest || other.cube_number < oldest->cube_number)) oldest = &other;
     }
-    if (oldest) halve(shared, *oldest, idle, usable);
+    if (oldest) return halve(shared, *oldest, idle, usable);
+    if (!has_whole) give(idle, 0, {});
+    has_whole = true;
 }
 
 void Dealer::halve(const Shared &shared, EngineStatus &oldest, EngineStatus &idle, uint64_t usable) {
-    std::vector<int> cube = cube_of(oldest);
+    int of_file = oldest.cube_of_file;
+    Cube cube = literals_of(oldest);
     for (uint64_t k = 0; k < shared.variable_count; k++) {
         int variable = shared.variables[k];
-        bool is_there = std::any_of(cube.begin(), cube.end(), [&](int literal) { return std::abs(literal) == variable; });
+        bool is_there = has_variable(cube, variable) || (of_file && has_variable((*cubes)[size_t(of_file) - 1], variable));
         if (!(usable >> k & 1) || is_there) continue;
+        if (of_file) parts[size_t(of_file) - 1]++;
         cube.push_back(-variable);
-        give(oldest, cube);
+        give(oldest, of_file, cube);
         cube.back() = variable;
-        return give(idle, cube);
+        return give(idle, of_file, cube);
     }
 }
 
 // Its number says that it is whole.
-void Dealer::give(EngineStatus &engine_status, const std::vector<int> &cube) {
+void Dealer::give(EngineStatus &engine_status, int of_file, const Cube &more) {
     STORE(engine_status.cube_number, 0);
-    for (size_t k = 0; k < cube.size(); k++) STORE(engine_status.cube[k], cube[k]);
-    STORE(engine_status.cube_length, int(cube.size()));
+    STORE(engine_status.cube_of_file, of_file);
+    for (size_t k = 0; k < more.size(); k++) STORE(engine_status.cube[k], more[k]);
+    STORE(engine_status.cube_length, int(more.size()));
     STORE(engine_status.cube_number, ++dealt);
 }

@@ -5,10 +5,13 @@
 // some a cube is as hard as that. It learns for a while, and then tells by which variables cubes are made; all engines keep these. The
 // first process deals cubes out: an engine that has none gets that of one that was lost, or half of the cube that another has been at
 // for the longest time. Until it has one it is at the whole formula, too.
+//
+// Where the user has cubes all engines take these first, one after the other, and no engine eliminates their variables.
 #ifndef CUBES_H
 #define CUBES_H
 
 #include <cstdlib>
+#include <deque>
 
 #include "solve.h"
 
@@ -21,7 +24,8 @@ class Cubes {
 public:
     Cubes(const Engine &engine, CaDiCaL::Solver &solver);
 
-    const std::vector<int> &cube() const { return literals; }
+    void keep_variables();              // of the user's cubes, before anything is solved
+    const Cube &cube() const { return literals; }
     bool looks() const;                 // at what is learned
     void count_conflict();
     void count_literal(int literal) { scores[size_t(std::abs(literal))] += bump; }
@@ -35,8 +39,8 @@ private:
     CaDiCaL::Solver &solver;
     EngineStatus &engine_status;
     const bool takes;
-    int idle = 0;                       // looks until it isn't idle any more
-    std::vector<int> literals;
+    int idle;                           // looks until it isn't idle any more
+    Cube literals;
     uint64_t number = 0, kept = 0;      // of the cube; variables that cubes are made by and aren't eliminated here: bits
     std::vector<double> scores;         // by variable, from 1: how often, and how late, it was in what was learned
     double bump = 1;
@@ -52,13 +56,25 @@ private:
 class Dealer {
 public:
     uint64_t dealt = 0, handed_on = 0;
+    uint64_t taken = 0, refuted = 0;    // of the user's cubes
+    std::deque<size_t> queue;           // those that come next, from 0
+    uint64_t elsewhere = 0;             // how many others may still come
+    uint64_t refuted_elsewhere = 0;     // in other processes
 
+    void open(const std::vector<Cube> &all);
     void deal(Shared &shared, const Options &options);
 
 private:
-    void deal_to(Shared &shared, int end, EngineStatus &idle, uint64_t usable);
+    const std::vector<Cube> *cubes = nullptr;
+    std::vector<unsigned> parts;        // by cube: how many of its parts are open
+    bool has_whole = false;             // an engine has had the whole formula
+    uint64_t counted[MOST_ENGINES] = {};    // by engine: the number of the last cube that is counted
+
+    bool is_idle(const Shared &shared, int k);
+    bool hand_on(Shared &shared, int end, EngineStatus &idle);
+    void share_out(Shared &shared, int end, EngineStatus &idle, uint64_t usable);
     void halve(const Shared &shared, EngineStatus &oldest, EngineStatus &idle, uint64_t usable);
-    void give(EngineStatus &engine_status, const std::vector<int> &cube);
+    void give(EngineStatus &engine_status, int of_file, const Cube &more);
 };
 
 #endif

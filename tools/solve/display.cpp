@@ -119,8 +119,21 @@ std::string Display::progress() const {
     uint64_t conflicts = uint64_t(double(teams.all(&EngineStatus::conflicts)) / time);
     std::string work = inputs.options.check ? proofs_read() : grouped(conflicts) + " conflicts/s";
     std::string room = inputs.options.proofs ? ", " + sizes_of_record() : "";
-    return format("%.1f s, %s, %s checked, %s kB behind, round %llu at %.0f %%", time, work.c_str(), grouped(checked).c_str(),
-                  grouped(teams.all(&EngineStatus::behind) / 1000).c_str(), (unsigned long long)rounds.number, 100 * fullness()) + room;
+    return format("%.1f s, %s, %s checked, %s kB behind, round %llu at %.0f %%", time, (cubes_to_come() + work).c_str(),
+                  grouped(checked).c_str(), grouped(teams.all(&EngineStatus::behind) / 1000).c_str(),
+                  (unsigned long long)rounds.number, 100 * fullness()) + room;
+}
+
+// Of the user's file.
+std::string Display::cubes_refuted() const {
+    return grouped(teams.dealer.refuted + teams.dealer.refuted_elsewhere) + " of " + counted(inputs.cubes.size(), "cube");
+}
+
+std::string Display::cubes_to_come() const {
+    if (inputs.cubes.empty()) return "";
+    double refuted = double(teams.dealer.refuted + teams.dealer.refuted_elsewhere), rate = refuted / (now() - started);
+    std::string rest = format(", %.1f/s, %.0f s for the rest", rate, (double(inputs.cubes.size()) - refuted) / rate);
+    return cubes_refuted() + (refuted > 0 ? rest : "") + ", ";
 }
 
 // The size of a pipe isn't known.
@@ -186,6 +199,7 @@ void Display::summary() const {
     std::string left_of = left < teams.size() && inputs.contradiction().empty() ? std::to_string(left) + " of " : "";
     std::string of_rounds = format("%llu rounds with %.1f %% of pauses, ", (unsigned long long)rounds.number, 100 * rounds.paused / wall);
     const char *what = inputs.options.check ? "proof" : "engine", *ran = inputs.options.check ? "reading" : "engines";
+    if (inputs.options.cubes) tell(cubes_refuted() + " refuted");
     tell(format("%.2f s, %s%s, %s%s checked; %.2f s of processor time: %s %.2f, filters %.2f, lrupd %.2f", wall, left_of.c_str(),
                 counted(uint64_t(inputs.options.engines), what).c_str(), rounds.number > 1 ? of_rounds.c_str() : "",
                 counted(teams.all(&EngineStatus::lines), "clause").c_str(), engines + filters + lrupd, ran, engines, filters, lrupd));

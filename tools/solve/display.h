@@ -44,6 +44,8 @@ private:
     bool shows_lines() const;
     std::string progress() const;
     std::string proofs_read() const;
+    std::string cubes_refuted() const;
+    std::string cubes_to_come() const;
     double fullness() const;
 };
 

@@ -63,6 +63,7 @@ private:
     std::vector<int> clause;
 
     bool shares() const { return engine.options->shares(); }
+    bool goes_on() const { return shares() || !engine.cubes->empty(); }
 
     // CaDiCaL asks right before it traces a clause that conflict analysis learned. Its literals aren't kept: a mark in the proof
     // says that the next line may be given away, and the filter, which names that line, does so.
@@ -115,7 +116,7 @@ private:
         solver.set("quiet", 1);
         solver.set("seed", engine.options->seed + engine.number - 1);
         if (engine.number > 1) solver.set("lucky", 0);
-        if (shares() && !has_cubes(*engine.shared, *engine.options)) solver.set("rephase", 0);
+        if (shares() && !has_cubes(*engine.shared, *engine.options) && engine.cubes->empty()) solver.set("rephase", 0);
         if (size_t(engine.options->engines) > engine.options->solvers.size() + 1) differ();
         if (test_hooks.set) {
             std::istringstream list(test_hooks.set);
@@ -143,6 +144,7 @@ private:
             solver.add(0);
         }
         for (Literal literal : *engine.assumed) solver.freeze(as_written(literal));
+        cubes.keep_variables();
     }
 
     // Each call of `solve` would look for lucky assignments anew, unless something is assumed: a variable that no clause has.
@@ -158,8 +160,7 @@ private:
         collect_failed();
         for (int literal : cubes.cube())
             if (solver.failed(literal)) clause.push_back(-literal);
-        putc_unlocked('x', proof);
-        putc_unlocked('a', proof);
+        for (char letter : { 'x', 'x', 'a' }) putc_unlocked(letter, proof);
         put_clause();
         add_clause();
         cubes.tell_refuted();
@@ -175,10 +176,11 @@ private:
         for (;;) {
             assume();
             bool is_whole = !cubes.is_idle() && !test_hooks.slice;
-            if (shares()) solver.limit("conflicts", is_whole ? int(conflicts) : int(hooked(test_hooks.slice, LEAST_CONFLICTS)));
+            if (shares() || cubes.is_idle())
+                solver.limit("conflicts", is_whole ? int(conflicts) : int(hooked(test_hooks.slice, LEAST_CONFLICTS)));
             double begin = now();
             int status = solver.solve();
-            if ((status != 0 && !(status == 20 && refutes_cube())) || !shares()) return status;
+            if ((status != 0 && !(status == 20 && refutes_cube())) || !goes_on()) return status;
             double factor = SLICE / std::max(now() - begin, 1e-6);
             if (is_whole && status == 0) conflicts = within_limits(conflicts * std::min(2.0, std::max(0.5, factor)));
             STORE(engine_status.slices, engine_status.slices + 1);
@@ -250,9 +252,9 @@ private:
         for (int other = 0; other < engine.options->engines; other++) {
             uint64_t end = LOAD(engine.shared->engine_statuses[other].outbox_used), at = read[size_t(other)];
             while (const uint32_t *gift = next_gift(engine.shared, engine.outboxes[other], &at, end)) {
-                size_t length = gift[0];
+                size_t length = length_of(gift);
                 if (other + 1 == engine.number) is_new(literals_of(gift), length);
-                else if (length <= 2 || left-- > 0) take(other, at - HEAD_OF_A_GIFT - length, literals_of(gift), length);
+                else if (length <= 2 || gift[0] & OF_A_CUBE || left-- > 0) take(other, at - HEAD_OF_A_GIFT - length, literals_of(gift), length);
             }
             if (at > read[size_t(other)]) put_step('r', other, at);
             read[size_t(other)] = at;

@@ -205,8 +205,9 @@ static void derives(const Filter *one) { round_make_room(one, has_room, next_rou
 // Giving away.
 
 // Where there is no room in the outbox others don't get it.
-static void give(void) {
-    if (!outbox_put(own->shared, own->outboxes[own->engine - 1], own->engine, &staged, filter.last, &filter.literals)) return;
+static void give(uint32_t mark) {
+    uint32_t *outbox = own->outboxes[own->engine - 1];
+    if (!outbox_put(own->shared, outbox, own->engine, &staged, filter.last, &filter.literals, mark)) return;
     PUSH(&kept, filter.last);
     STORE(engine_status->given, engine_status->given + 1);
     if (test_hooks.without_flush) STORE(engine_status->outbox_used, staged);
@@ -250,7 +251,7 @@ static bool is_wanted(void) {
 static void derived(const Filter *one) {
     size_t length = one->literals.length;
     count();
-    if (own->shares && length > 0 && (length == 1 || one->marked)) give();
+    if (own->shares && length > 0 && (length == 1 || one->marked)) give(one->marked > 1 ? OF_A_CUBE : 0);
     refuted |= is_wanted();
 }
 

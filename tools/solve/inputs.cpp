@@ -8,6 +8,8 @@
 #include <fstream>
 #include <iomanip>
 #include <iterator>
+#include <set>
+#include <sstream>
 
 #include <pthread.h>
 #include <unistd.h>
@@ -64,6 +66,7 @@ std::string Inputs::again(const std::string &path, const std::string &fronts, co
 void Inputs::find() {
     std::vector<std::string> inputs = { options.formula };
     if (options.assume) inputs.push_back(options.assume);
+    if (options.cubes) inputs.push_back(options.cubes);
     if (options.check) inputs.insert(inputs.end(), options.solvers.begin(), options.solvers.end());
     for (const std::string &path : inputs) check_input(path);
     if (options.proofs) open_record(options.proofs, inputs, options.replace);
@@ -79,6 +82,7 @@ void Inputs::read(const Meanwhile &meanwhile) {
     read_in_thread(meanwhile);
     reading = now() - begun;
     if (options.assume) read_assumptions();
+    if (options.cubes) read_cubes();
     if (!options.proofs) return;
     std::string unwritten = write_file(std::string(options.proofs) + "/formula.sha256", digests);
     if (!unwritten.empty()) refuse(unwritten);
@@ -124,6 +128,38 @@ void Inputs::read_assumptions() {
     if (word != "0") refuse_formula(name + ": no line of literals that ends with 0");
     if (assumed.empty()) return;
     assumed.resize(literals_sort(assumed.data(), assumed.size()));
+}
+
+// Of iCNF: a header, comments and clauses are left out. Nobody believes a cube, so it is read as well as it can be.
+void Inputs::read_cubes() {
+    std::string name = title(options.cubes), line;
+    check_plain(options.cubes, name);
+    std::ifstream file(options.cubes);
+    for (uint64_t number = 1; std::getline(file, line); number++)
+        if (!read_cube(line)) refuse(name + ", line " + std::to_string(number) + ": no cube of the formula's literals, as 'a 1 -2 0'");
+    if (file.bad()) refuse("cannot read " + name);
+}
+
+// False where it is no line of such a file.
+bool Inputs::read_cube(const std::string &line) {
+    static const std::string others = "cp-0123456789";
+    std::istringstream words(line);
+    std::string word;
+    std::set<Literal> found;
+    if (!(words >> word)) return true;
+    if (word != "a") return others.find(word[0]) != std::string::npos;
+    bool is_open = true;
+    for (int literal = 0; words >> word && word != "0";) {
+        if (!number_read(word.c_str(), &literal) || std::abs(literal) > formula.variables || literal == 0) return false;
+        Literal one = literal > 0 ? 2 * (literal - 1) : 2 * (-literal - 1) + 1;
+        is_open &= !found.count(complement_of(one)) && !std::binary_search(assumed.begin(), assumed.end(), complement_of(one));
+        if (!std::binary_search(assumed.begin(), assumed.end(), one)) found.insert(one);
+    }
+    bool is_ended = word == "0" && !(words >> word);
+    Cube cube;
+    for (Literal literal : found) cube.push_back(as_written(literal));
+    if (is_open && is_ended) cubes.push_back(cube);
+    return is_ended;
 }
 
 // lrupd takes one line, with single spaces and LF.

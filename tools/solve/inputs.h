@@ -11,6 +11,7 @@ public:
     Options options;
     Formula formula = {};
     std::vector<Literal> assumed;
+    std::vector<Cube> cubes;                    // but those that contradict themselves, or what is assumed
     std::string formula_path, assume_path;      // by which they are read again
     double reading = 0;                         // seconds, of the formula
     std::string digests;                        // of both files, a line each, for the record
@@ -32,6 +33,8 @@ private:
     void read_in_thread(const Meanwhile &meanwhile);
     std::string again(const std::string &path, const std::string &fronts, const char *kept_as) const;
     void read_assumptions();
+    void read_cubes();
+    bool read_cube(const std::string &line);
     std::string named(const std::string &cause) const;
 };
 

@@ -1,5 +1,6 @@
-// Unverified, as all of this solver. What engines give away to those of other processes. Of each exchange a process has a budget of
-// literals; the shortest clauses go first, and what finds no room isn't sent later: newer ones come.
+// Unverified, as all of this solver. What engines give away to those of other processes. All clauses that refute cubes are sent. For
+// others a process has a budget of literals in each exchange; the shortest ones go first, and what finds no room isn't sent later:
+// newer ones come.
 //
 // Only clauses of the round that is on are sent, and taken. Their lines are on their way before they are, and lrupd saves them at
 // the round's end, since no stream deletes what it gave away in it. What comes after that is dropped.
@@ -41,14 +42,15 @@ std::string Exchange::collect() {
     if (LOAD(shared->saved_round) >= round && !test_hooks.without_passing) pass_over();
     for (size_t k = size_t(first); k < size_t(end); k++)
         while (const uint32_t *gift = next_gift(shared, outboxes[k], &read[k], cleared[k])) all.push_back({ int(k), gift });
-    std::stable_sort(all.begin(), all.end(), [](const Found &one, const Found &other) { return one.gift[0] < other.gift[0]; });
+    auto cost = [](const uint32_t *gift) { return gift[0] & OF_A_CUBE ? 0 : length_of(gift); };
+    std::stable_sort(all.begin(), all.end(), [&](const Found &one, const Found &other) { return cost(one.gift) < cost(other.gift); });
     message.put(round);
     size_t left = LITERALS_OF_AN_ENGINE * size_t(end - first), sent = 0;
-    for (; sent < all.size() && all[sent].gift[0] <= left; sent++) {
+    for (; sent < all.size() && cost(all[sent].gift) <= left; sent++) {
         const uint32_t *gift = all[sent].gift;
         message.put(Sent{ uint32_t(all[sent].engine), gift_identity(gift), gift[0] });
-        message.bytes.append(reinterpret_cast<const char *>(literals_of(gift)), gift[0] * sizeof(Literal));
-        left -= gift[0];
+        message.bytes.append(reinterpret_cast<const char *>(literals_of(gift)), length_of(gift) * sizeof(Literal));
+        left -= cost(gift);
     }
     for (int k = first; k < end; k++) pass(k, read[size_t(k)]);
     traffic.out += sent;
@@ -66,12 +68,12 @@ void Exchange::place(Message &message) {
     message.take(of_round);
     bool late = of_round != LOAD(shared->round) || LOAD(shared->saved_round) >= of_round;
     while (message.take(sent) && sent.engine < outboxes.size() && !is_here(int(sent.engine))) {
-        literals.resize(sent.length);
+        literals.resize(length_of(&sent.length));
         for (Literal &literal : literals) message.take(literal);
         Literals list = { literals.data(), literals.size(), literals.size() };
         uint64_t &place = staged[sent.engine];
         bool placed = (!late || test_hooks.without_lateness) &&
-                      outbox_put(shared, outboxes[sent.engine], int(sent.engine) + 1, &place, sent.identity, &list);
+                      outbox_put(shared, outboxes[sent.engine], int(sent.engine) + 1, &place, sent.identity, &list, sent.length & OF_A_CUBE);
         ++(placed ? traffic.in : traffic.dropped);
         STORE(shared->engine_statuses[sent.engine].outbox_used, place);
     }

@@ -36,7 +36,7 @@ public:
             look_here();
             for (size_t k = 0; k < teams.size(); k++)
                 if (teams.is_here(k)) say(k);
-            if (now() - traffic_at >= PULSE) say_traffic();
+            if (now() - traffic_at >= PULSE || teams.dealer.taken != peer.exchange.traffic.cubes_taken) say_traffic();
         }
         for (Child *child : teams.children()) child->signal(SIGKILL), wait_for(*child);
         for (size_t k = 0; k < teams.size(); k++)
@@ -111,9 +111,18 @@ private:
             char kind = 0;
             message.take(kind);
             for (Literal literal; kind == 'a' && message.take(literal);) inputs.assumed.push_back(literal);
+            if (kind == 'c') receive_cubes(message);
             if (kind == 'f') keep(file, message.rest(), message.left());
         }
         inputs.formula_path = OPEN_FILES + std::to_string(file);
+    }
+
+    void receive_cubes(Message &message) {
+        Cube cube;
+        for (int literal; message.take(literal);) {
+            if (literal != 0) cube.push_back(literal);
+            else inputs.cubes.push_back(cube), cube.clear();
+        }
     }
 
     // What process 0 says.
@@ -125,6 +134,7 @@ private:
         STORE(shared->most_literals, control.most_literals);
         STORE(shared->leaving, control.leaving);
         STORE(shared->crowded, control.crowded != 0);
+        teams.dealer.elsewhere = control.cubes_left;
         for (size_t k = 0; k < teams.size(); k++) {
             STORE(teams.engine_status(k).stream, control.of_engines[k].stream);
             STORE(teams.engine_status(k).fed, control.of_engines[k].fed);
@@ -188,7 +198,12 @@ private:
         Control control;
         if (message.head.word == CONTROL && message.take(control)) take_control(control);
         if (message.head.word == SAVED) saved_bytes += message.bytes;
+        if (message.head.word == CUBES) take_cubes(message);
         if (message.head.word == END) ended = true;
+    }
+
+    void take_cubes(Message &message) {
+        for (uint64_t cube; message.take(cube) && cube < inputs.cubes.size();) teams.dealer.queue.push_back(size_t(cube));
     }
 
     // What is here.
@@ -252,6 +267,8 @@ private:
 
     void say_traffic() {
         Message message;
+        peer.exchange.traffic.cubes_taken = teams.dealer.taken;
+        peer.exchange.traffic.cubes_refuted = teams.dealer.refuted;
         message.put(peer.exchange.traffic);
         link.send(TRAFFIC, 0, message.bytes);
         traffic_at = now();

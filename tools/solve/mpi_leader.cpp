@@ -35,6 +35,7 @@ private:
     Control told = {};
     double told_at = 0;
     uint64_t told_saved = 0;
+    std::vector<uint64_t> sent;         // by process, how many of the user's cubes
 
     int processes() const { return int(link.engines.size()); }
 
@@ -58,8 +59,10 @@ private:
         const Inputs &inputs = run.inputs;
         peer.open();
         traffic.resize(link.engines.size());
+        sent.resize(link.engines.size());
         std::vector<char> piece(PIECE_OF_INPUT);
         broadcast('a', inputs.assumed.data(), inputs.assumed.size() * sizeof(Literal));
+        broadcast_cubes();
         int file = open_input(inputs.formula_path);
         for (ssize_t count; (count = read(file, piece.data(), piece.size())) != 0;) {
             if (count < 0 && errno != EINTR) refuse("cannot read the formula again: " + error_text());
@@ -67,6 +70,34 @@ private:
         }
         close(file);
         link.send(INPUT, 0, "");
+    }
+
+    void broadcast_cubes() {
+        std::vector<int> literals;
+        for (const Cube &cube : run.inputs.cubes) {
+            literals.insert(literals.end(), cube.begin(), cube.end());
+            literals.push_back(0);
+            if (literals.size() < PIECE_OF_INPUT / sizeof(int)) continue;
+            broadcast('c', literals.data(), literals.size() * sizeof(int));
+            literals.clear();
+        }
+        broadcast('c', literals.data(), literals.size() * sizeof(int));
+    }
+
+    // Each process has one for each of its engines before they ask for it.
+    void share_cubes() {
+        Dealer &dealer = run.teams.dealer;
+        dealer.refuted_elsewhere = 0;
+        for (int k = 1; k < processes(); k++) {
+            const Traffic &theirs = traffic[size_t(k)];
+            dealer.refuted_elsewhere += theirs.cubes_refuted;
+            Message message;
+            for (; !dealer.queue.empty() && sent[size_t(k)] < theirs.cubes_taken + uint64_t(link.engines[size_t(k)]); sent[size_t(k)]++) {
+                message.put(uint64_t(dealer.queue.front()));
+                dealer.queue.pop_front();
+            }
+            if (!message.bytes.empty()) link.send(CUBES, k, message.bytes);
+        }
     }
 
     // What the others say.
@@ -157,6 +188,7 @@ private:
         words.most_literals = LOAD(shared->most_literals);
         words.leaving = LOAD(shared->leaving);
         words.crowded = uint64_t(LOAD(shared->crowded));
+        words.cubes_left = run.teams.dealer.queue.size();
         for (size_t k = 0; k < run.teams.size(); k++) {
             words.of_engines[k].stream = LOAD(shared->engine_statuses[k].stream);
             words.of_engines[k].fed = LOAD(shared->engine_statuses[k].fed);
@@ -189,6 +221,7 @@ private:
             if (run.teams.is_here(k)) peer.exchange.clear(int(k), LOAD(run.teams.engine_status(k).outbox_used));
         if (link.carrier.ended()) return "MPI's process here " + link.carrier.end();
         if (peer.silent_process() >= 0) return format("process %d has said nothing for %.0f seconds", peer.silent_process(), SILENCE);
+        share_cubes();
         say();
         return "";
     }

@@ -23,6 +23,7 @@ enum Word : uint32_t {
     EXCHANGED,      // of the carrier: it is over, in so many nanoseconds
     CONTROL,        // of process 0: what it writes in `Shared`
     SAVED,          // of process 0, before it says that a round is saved: identities of the checkpoint
+    CUBES,          // of process 0: which ones of the user's the process gets next
     END,            // of process 0
     FACTS,          // of an engine and its filter
     STREAM,         // of a filter
@@ -99,6 +100,7 @@ struct Traffic {
     uint64_t bytes_out, bytes_in;               // of these
     uint64_t exchanges, nanoseconds;
     uint64_t bytes_of_streams;
+    uint64_t cubes_taken, cubes_refuted;        // of the user's
 };
 
 class Exchange {
@@ -138,7 +140,8 @@ struct Facts {
 
 struct Control {
     uint64_t over;
-    uint64_t round, ending_round, saved_round, streams, most_lines, most_literals, leaving, crowded;
+    uint64_t round, ending_round, saved_round, streams, most_lines, most_literals, leaving, crowded,
+        cubes_left;
     struct { uint64_t stream, fed; } of_engines[MOST_ENGINES];
 };
 

@@ -60,6 +60,7 @@ const char summary[] =
     "  --re-hint          find hints anew for both, which are smaller then; it takes longer\n"
     "  --expect ANSWER    sat, unsat or unsat-under-assumptions: the status is 0 for that answer, and else 1\n"
     "  --assume FILE      literals that are assumed, in one line that ends with 0, as for lrupd\n"
+    "  --cubes FILE       cubes in lines 'a LITERALS 0': engines refute one after the other, and then what is left\n"
     "  --lrupd PATH       the checker; if not said it is looked for beside this program, and then on the PATH\n"
     "  --engines PATH     the program that solves, of which nothing is believed; lrup-engines beside this one if not said\n"
     "  -v, --verbose      say what goes on, in lines that begin with c\n"
@@ -169,6 +170,7 @@ bool read_of_engines(Options &options, Words &words, const char *word) {
     else if (words.option(word, name = "--solver", value)) options.solvers.push_back(solver_of(value));
     else if (words.option(word, name = "--share-size", value)) options.share_size = int(number(name, value, 0, 1000));
     else if (words.option(word, name = "--seed", value)) options.seed = int(number(name, value, 0, 1000000000));
+    else if (words.option(word, name = "--cubes", value)) options.cubes = name_of_file(name, "a file", value);
     else return false;
     if (options.check) refuse(std::string(name) + " is lrup-solve's: lrup-check starts no engine");
     return true;
@@ -253,6 +255,8 @@ Options read_words(int count, char **list) {
     if (options.rehint && !options.core && !options.lrat) refuse("--re-hint without --core or --lrat");
     if (options.replace && !options.proofs) refuse("--replace without --proofs");
     if (options.solvers.size() + size_t(options.engines) > MOST_ENGINES) refuse("more than 64 engines, with those of --solver");
+    if (options.cubes && options.engines == 0 && !options.solvers.empty()) refuse("--cubes without engines: -j says how many");
+    if (options.cubes && !options.share && options.engines != 1) refuse("--cubes and --no-share: refuted cubes are shared");
     if (!options.solvers.empty() && options.mpi) refuse("--solver and --mpi: a solver shares nothing with engines elsewhere");
     if (!options.solvers.empty() && options.assume && !options.check) refuse("--assume and --solver: a solver isn't told of assumptions");
     return options;

@@ -21,7 +21,8 @@ static uint32_t with_round(uint64_t identity, uint64_t round) {
 uint32_t gift_identity(const uint32_t *gift) { return LOAD(gift[1]) & ~OF_AN_ODD_ROUND; }
 
 // After what is staged. False where there is no room: nothing is written over that others may still read, or ask for.
-bool outbox_put(const Shared *shared, uint32_t *outbox, int engine, uint64_t *staged, uint64_t identity, const Literals *literals) {
+bool outbox_put(const Shared *shared, uint32_t *outbox, int engine, uint64_t *staged, uint64_t identity, const Literals *literals,
+                uint32_t mark) {
     uint64_t size = shared->outbox_words, words = HEAD_OF_A_GIFT + literals->length, begin = *staged;
     if (begin % size + words > size) begin += size - begin % size;
     uint64_t end = begin + words, floor = least_floor(shared, engine, *staged, true);
@@ -29,7 +30,7 @@ bool outbox_put(const Shared *shared, uint32_t *outbox, int engine, uint64_t *st
     if (begin > *staged) outbox[*staged % size] = TO_THE_BEGINNING;
     uint32_t *gift = outbox + begin % size;
     assert(begin % size + words <= size && begin >= floor);
-    gift[0] = (uint32_t)literals->length;
+    gift[0] = (uint32_t)literals->length | mark;
     STORE(gift[1], with_round(identity, LOAD(shared->round)));
     memcpy(gift + HEAD_OF_A_GIFT, literals->items, literals->length * sizeof *literals->items);
     *staged = end;

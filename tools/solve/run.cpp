@@ -34,6 +34,7 @@ void Run::prepare() {
     teams.open_models();
     rounds.begin(program);
     loop.begin();
+    for (size_t k = 0; k < inputs.cubes.size(); k++) teams.dealer.queue.push_back(k);
     if (others) others->begin();
     teams.start(!others);
     for (size_t k = 0; k < teams.size(); k++)

@@ -65,6 +65,7 @@ typedef struct {
     int gone;                   // the filter has ended
     EventCount events;          // for the filter, of what the first process writes here and below
     uint64_t cube_number;       // that it has, or has had; 0: none, or another one is being written
+    int cube_of_file;           // one of the user's, from 1, and these literals more; 0: these alone
     int cube_length, cube[MOST_OF_A_CUBE];
 } EngineStatus;
 
@@ -84,6 +85,7 @@ typedef struct {
     uint64_t most_lines, most_literals; // of a stream
     uint64_t variable_count;            // by which cubes are made; 0: it isn't known yet
     int variables[VARIABLES_OF_CUBES];
+    uint64_t cubes_left;                // of the user's, that no engine has had
     char checkpoint[LONGEST_PATH];
     EventCount events;                  // for the first process, of what engines and filters write
     EngineStatus engine_statuses[MOST_ENGINES];
@@ -92,11 +94,15 @@ typedef struct {
 #define LOAD(field) __atomic_load_n(&(field), __ATOMIC_ACQUIRE)
 #define STORE(field, value) __atomic_store_n(&(field), (value), __ATOMIC_RELEASE)
 
-// An outbox has the clauses that a filter gives away, one after the other: how many literals, the identity, and the literals.
+// An outbox has the clauses that a filter gives away, one after the other: how many literals, with a mark where the clause refutes
+// a cube, the identity, and the literals.
 // It is a ring: positions count on, and a gift lies whole at its position modulo the ring's size. One that would cross the end
 // begins behind it, and a word says so. From round to round the identity changes; the position is the gift's name.
 enum { OUTBOX_WORDS = 1 << 20, HEAD_OF_A_GIFT = 2 };
 #define TO_THE_BEGINNING UINT32_MAX
+#define OF_A_CUBE (UINT32_C(1) << 31)
+
+static inline uint32_t length_of(const uint32_t *gift) { return gift[0] & ~OF_A_CUBE; }
 
 // The gift at that position, which goes on to the one behind it; NULL at the end.
 static inline uint32_t *next_gift(const Shared *shared, uint32_t *outbox, uint64_t *at, uint64_t end) {
@@ -104,7 +110,7 @@ static inline uint32_t *next_gift(const Shared *shared, uint32_t *outbox, uint64
     if (*at < end && outbox[*at % size] == TO_THE_BEGINNING) *at += size - *at % size;
     if (*at >= end) return NULL;
     uint32_t *gift = outbox + *at % size;
-    *at += HEAD_OF_A_GIFT + gift[0];
+    *at += HEAD_OF_A_GIFT + length_of(gift);
     return gift;
 }
 
@@ -139,7 +145,8 @@ void events_end_wait(EventCount *events, bool is_readable);     // its file
 bool events_await(EventCount *events, uint64_t seen, int file); // until something has come, or the file can be read: then true. -1: none
 
 // outbox.c: of the engine that is counted from 1.
-bool outbox_put(const Shared *shared, uint32_t *outbox, int engine, uint64_t *staged, uint64_t identity, const Literals *literals);
+bool outbox_put(const Shared *shared, uint32_t *outbox, int engine, uint64_t *staged, uint64_t identity, const Literals *literals,
+                uint32_t mark);
 uint32_t gift_identity(const uint32_t *gift);
 void outbox_renew(const Shared *shared, uint32_t *outbox, int engine, const Checkpoint *checkpoint);
 

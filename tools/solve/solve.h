@@ -24,7 +24,7 @@ struct Options {
     int share_size = 4;         // literals of a clause that is given away; units always are
     bool share = true;
     int seed = 0;
-    const char *proofs = nullptr, *assume = nullptr, *mpi = nullptr, *formula = nullptr;
+    const char *proofs = nullptr, *assume = nullptr, *cubes = nullptr, *mpi = nullptr, *formula = nullptr;
     const char *record = nullptr;       // the folder of --proofs, where the user names one
     std::string words;          // all of them, for a shell
     const char *core = nullptr, *lrat = nullptr;     // to be written
@@ -131,11 +131,14 @@ std::string digests_of_record(const std::vector<std::string> &known);   // of al
 uint64_t bytes_of_record();
 uint64_t free_bytes();                                  // where the record is
 
+using Cube = std::vector<int>;                          // literals, as they are written
+
 // engine.cpp: an engine's process. Doesn't return.
 struct Engine {
     const Options *options;
     const Formula *formula;
     const std::vector<Literal> *assumed;
+    const std::vector<Cube> *cubes;     // of the user's file
     Shared *shared;
     uint32_t *const *outboxes;          // by engine, from 0
     signed char *model;                 // by variable, from 0: 1 true, -1 false

@@ -133,6 +133,8 @@ void Teams::find_streams() {
 // What is easy takes no more cores than it needs.
 void Teams::start(bool is_first_alone) {
     find_streams();
+    dealer.open(inputs.cubes);
+    STORE(shared->cubes_left, inputs.cubes.size());
     is_first_alone &= !test_hooks.at_once && !list.empty() && !is_solver(0);
     for (size_t k = 0; k < list.size(); k++)
         if (k == 0 || !is_first_alone || is_solver(k)) start_team(k);
@@ -208,7 +210,8 @@ void Teams::look_at_proof(size_t k) {
 void Teams::start_engine(size_t k) {
     Team &team = list[k];
     int number = int(k) + 1, renamed = -1;
-    Engine engine = { &inputs.options, &inputs.formula, &inputs.assumed, shared, outboxes.data(), team.model, number, team.proof.write };
+    Engine engine = { &inputs.options, &inputs.formula, &inputs.assumed, &inputs.cubes, shared,
+                      outboxes.data(), team.model, number, team.proof.write };
     std::vector<int> files = { team.proof.write };
     bool is_proof = inputs.options.check;
     if (is_proof) look_at_proof(k);

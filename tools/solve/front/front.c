@@ -89,6 +89,7 @@ static char *text(const char *format, ...) {
 static bool read_words(int count, char **words) {
     static const struct option list[] = {       // 1: a value follows
         { "assume", 1, NULL, 'a' },   { "check", 0, NULL, 'p' },    { "core", 1, NULL, 'c' },
+        { "cubes", 1, NULL, 'o' },
         { "engines", 1, NULL, 'e' },  { "expect", 1, NULL, 'x' },   { "help", 0, NULL, 'h' },
         { "lrat", 1, NULL, 'c' },     { "lrupd", 1, NULL, 'l' },    { "memory", 1, NULL, 'o' },
         { "mpi", 1, NULL, 'm' },      { "no-share", 0, NULL, 'o' }, { "proofs", 1, NULL, 'o' },
