@@ -7,6 +7,7 @@ Each answer, with and without sharing, rows so small that a run goes on for many
 process killed or stopped, in process 0 and in another one, and mpirun, and the front. The flags, and what is shown, are as of lrup_solve.py;
 with `small` only what takes seconds is run, and it says what is left out. Without MPI, or mpirun, nothing is run.
 """
+import contextlib
 import itertools
 import os
 import random
@@ -264,6 +265,10 @@ class Running:
         names = [{"carrier", f"engine {number}", f"filter {number}"} for number in range(1, processes + 1)]
         return len(self.ids) == processes and all(map(set.issubset, names, self.ids)) and "lrupd" in self.ids[0]
 
+    def segments(self) -> int:
+        """Open MPI's files for shared memory, in the folders of the processes."""
+        return len(list(self.folder.glob("lrup-solve-*/vader_segment*")))
+
     def end(self) -> Ran:
         """No process is left, and no folder of the front."""
         began = time.monotonic()
@@ -292,6 +297,16 @@ def ends(process: int, name: str, number: int, cause: str, work: Path) -> None:
         return want((answer.answers, answer.status), ([], -number), "the answer")
     want((answer.answers, answer.status), (["s UNKNOWN"], -number if name == "front" else 0), f"the end of\n{answer.out}{answer.said}")
     want(any(re.search(cause, line) for line in answer.comments), True, f"the cause in\n{answer.out}")
+
+
+def files_of_mpi(work: Path) -> None:
+    """They go with the processes, also where all but those that clean up are killed at once."""
+    running = Running(generated("pigeons 11", work), 2)
+    until("each process has its file", lambda: running.segments() == 2)
+    for pid in {pid for one in running.ids for name, pid in one.items() if name != "cleaner"}:
+        with contextlib.suppress(ProcessLookupError):
+            os.kill(pid, signal.SIGKILL)
+    running.end()
 
 
 def goes_on(processes: int, process: int, name: str, lost: str, work: Path) -> None:
@@ -409,7 +424,7 @@ def small_rows() -> List[Row]:
             ending(1, "run", "killed", signal.SIGKILL, "Terminated"),
             ending(0, "run", "killed", signal.SIGKILL, "MPI's command ended with status "),
             ending(0, "mpirun", "killed", signal.SIGKILL, "MPI's command ended by a signal: Killed"),
-            ending(0, "front", "killed", signal.SIGKILL, "")]
+            ending(0, "front", "killed", signal.SIGKILL, ""), ("all killed at once", files_of_mpi)]
 
 
 def main() -> int:

@@ -81,29 +81,47 @@ void start_cleaner() {
     close_file(life.read);
 }
 
+void end_cleaner() {
+    kill(cleaner, SIGKILL);
+    while (waitpid(cleaner, nullptr, 0) < 0 && errno == EINTR) {}
+    close_file(life.write);
+    cleaner = 0;
 }
 
-void Folder::make() {
+}
+
+// The cause, where it can't be made.
+std::string Folder::make_if_possible() {
+    if (cleaner > 0) return "";
     const char *given = getenv("TMPDIR");
     const std::string within = given && *given ? given : "/tmp";
     uint64_t number;
     struct stat made;
     place = kept_open(open(within.c_str(), O_PATH | O_DIRECTORY | O_CLOEXEC));
-    if (place >= 0 && others_may_write(place))
-        refuse(within + ": others may write there: another TMPDIR");
+    if (place >= 0 && others_may_write(place)) return within + ": others may write there: another TMPDIR";
     if (place < 0 || getrandom(&number, sizeof number, 0) != sizeof number)
-        refuse("cannot make a folder " + within + "/lrup-solve-XXXXXX: " + error_text());
+        return "cannot make a folder " + within + "/lrup-solve-XXXXXX: " + error_text();
     last_name = "lrup-solve-" + std::to_string(number);
     path = within + "/" + last_name;
     start_cleaner();
-    if (mkdirat(place, last_name.c_str(), 0700) != 0)
-        refuse("cannot make a folder " + path + ": " + error_text());
+    if (mkdirat(place, last_name.c_str(), 0700) != 0) {
+        std::string cause = error_text();
+        end_cleaner();
+        return "cannot make a folder " + path + ": " + cause;
+    }
     folder_file = kept_open(open_folder());
     signal(SIGPIPE, SIG_IGN);       // the cleaner may have been killed
     bool is_kept = fstat(folder_file, &made) == 0 && write(life.write, &made, sizeof made) == sizeof made;
     std::string cause = error_text();
-    if (!is_kept) unlinkat(place, last_name.c_str(), AT_REMOVEDIR);
-    if (!is_kept) refuse("cannot open " + path + ": " + cause);
+    if (is_kept) return "";
+    unlinkat(place, last_name.c_str(), AT_REMOVEDIR);
+    end_cleaner();
+    return "cannot open " + path + ": " + cause;
+}
+
+void Folder::make() {
+    std::string cause = make_if_possible();
+    if (!cause.empty()) refuse(cause);
 }
 
 const std::string &Folder::name() { return path; }
@@ -123,8 +141,5 @@ std::string Folder::room() {
 void Folder::remove() {
     if (cleaner <= 0) return;
     remove_folder();
-    kill(cleaner, SIGKILL);
-    while (waitpid(cleaner, nullptr, 0) < 0 && errno == EINTR) {}
-    close_file(life.write);
-    cleaner = 0;
+    end_cleaner();
 }

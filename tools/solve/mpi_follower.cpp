@@ -44,6 +44,7 @@ public:
         say_traffic();
         peer.leave(LEAVING);
         end_children();
+        Folder::remove();
         return 0;
     }
 

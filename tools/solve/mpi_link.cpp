@@ -1,6 +1,7 @@
 // Unverified, as all of this solver. Messages between a Run and its carrier, by two pipes.
 #include <cerrno>
 #include <csignal>
+#include <cstdlib>
 
 #include <fcntl.h>
 #include <unistd.h>
@@ -52,7 +53,10 @@ size_t write_some(int file, const std::string &bytes, size_t from) {
     return from;
 }
 
+// Open MPI's files for shared memory stay where a carrier is killed, but for those in this process's folder. Where that can't be
+// made process 0 says so later.
 void Link::open(int engines_here) {
+    if (Folder::make_if_possible().empty()) setenv("OMPI_MCA_btl_vader_backing_directory", Folder::name().c_str(), 0);
     out = make_pipe(MESSAGE_PIPE);
     in = make_pipe(MESSAGE_PIPE);
     if (begin(carrier, "carrier", { out.read, in.write })) carrier_process(out.read, in.write, engines_here);

@@ -96,7 +96,8 @@ void give_way();                                        // this process ends bef
 
 // folder.cpp: a folder of this run. It is removed as this process ends, however that comes, or before.
 namespace Folder {
-    void make();
+    void make();                    // where it isn't there
+    std::string make_if_possible();
     const std::string &name();
     std::string numbers();          // of this process, and of the folder among its open files, as the front wants it
     std::string open_name();        // by which others find it, in UTF-8
