@@ -34,7 +34,7 @@ from solving import in_place_of_lrupd, of_process
 
 PROGRAM, = words_given(__doc__)
 Text = Union[str, bytes]
-LARGEST, WORDS = FILTER.parent / "exact-largest-row", 4000      # a build in which lrupd's largest row has so many words
+LARGEST, WORDS = FILTER.parent / "exact-largest-row", 4000      # a build for which lrupd's largest row has WORDS words
 GONE = "the reader of standard output, which runs lrupd, has ended before it read "
 
 

@@ -137,14 +137,14 @@ def doubled_literals(work: Path) -> None:
 
 
 def small_rows(memory: str, words: str, engines: int, work: Path) -> None:
-    """However little --memory says, a row has room for what is live, and as much again. What is larger is told."""
+    """However little --memory says, a row has room for what is live, and as much again. A comment says if it is larger."""
     answer = solve(["-v", "-j", engines, "--memory", memory, generated(words, work)])
     want_answer(answer, 20)
     want(answer.lost(), [], "engines that are lost")
     rows = re.findall(r"^c round \d+: .* in a row of ([\d,]+) words(, more than --memory)?;", answer.out, re.M)
     usual = int(memory[:-1]) * {"K": 125, "M": 125000}[memory[-1]]
-    want([(row, told) for row, told in rows if (int(row.replace(",", "")) > usual) != bool(told)], [], "rows, and what is told of them")
-    want((len(rows) > 0, any(told for _, told in rows)), (True, True), f"the rows of\n{answer.out}")
+    want([(row, larger) for row, larger in rows if (int(row.replace(",", "")) > usual) != bool(larger)], [], "rows with a wrong comment")
+    want((len(rows) > 0, any(larger for _, larger in rows)), (True, True), f"the rows of\n{answer.out}")
 
 
 def engines_go(engines: int, options: List[str], work: Path) -> None:

@@ -43,7 +43,7 @@ ITS_PROOF = "3 0 1 2 0\n"
 # Proofs.
 
 
-def told(words):
+def output_of(words):
     """What a tool says; it has to end well."""
     done = subprocess.run(words, stdout=subprocess.PIPE, text=True)
     if done.returncode not in (0, 20):
@@ -55,7 +55,7 @@ def trimmed(given, formula, streams, proof):
     """The words for lrupd that lrup-trim names."""
     if os.path.exists(proof):
         os.unlink(proof)
-    said = told([given.trim, "--lrat", proof, formula, *streams])
+    said = output_of([given.trim, "--lrat", proof, formula, *streams])
     return [given.program, *shlex.split(re.search(r": lrupd (.*)", said)[1])]
 
 
@@ -66,7 +66,7 @@ def solved(given, words, work):
     with open(formula, "w") as out:
         subprocess.run([sys.executable, os.path.join(HERE, "..", "solve", "formulas.py"), *words.split()], stdout=out, check=True)
     if not os.path.exists(os.path.join(kept, "command")):
-        said = told([given.solve, "--lrupd", given.program, "-q", "-j", "2", "--proofs", kept, formula])
+        said = output_of([given.solve, "--lrupd", given.program, "-q", "-j", "2", "--proofs", kept, formula])
         if said != "s UNSATISFIABLE\n":
             sys.exit(f"lrup-solve on {words}: {said}")
     return formula, name + ".lrat", trimmed(given, formula, [kept], name + ".lrat")

@@ -29,7 +29,7 @@ void rows_open(Rows *rows, uint64_t memory, uint64_t most, uint64_t streams);   
 void rows_grow(Rows *rows);                     // from a round to the next one
 
 // The row of a round whose formula has these clauses and literals. Clauses will have the length of those that all streams used in
-// the round before; one had so many literals that a stream had no room for it, or 0. Where the formula leaves too little in the
+// the round before; `wanted` is the length of one for which a stream had no room, or 0. Where the formula leaves too little in the
 // largest row the streams get what is left, perhaps nothing, and it is false.
 bool rows_size(Rows *rows, uint64_t streams, uint64_t clauses, uint64_t literals, Row used, uint64_t wanted);
 

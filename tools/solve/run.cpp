@@ -271,7 +271,7 @@ void Run::finish(Answer found, const std::string &why) {
     phase = DONE;
 }
 
-// However early the solving has ended, a formula that lrupd refuses is told as that. A signal and the time end the waiting.
+// If lrupd refuses the formula, the run says that, however early the solving has ended. A signal and the time end the waiting.
 void Run::await_reading() {
     for (Child *child : children()) child->signal(SIGKILL);
     while (answer == UNKNOWN_ANSWER && front.probe.child.running && !is_ended() && now() < inputs.deadline()) wait();

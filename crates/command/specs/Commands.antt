@@ -52,7 +52,7 @@ abbrev pub Text : Type 0
 Text = List ℕ
 
 -- The opening of the path led from the files before to those after, and reads of its file gave these
--- bytes, up to its first end. Where the device tells the file's bytes, they are these.
+-- bytes, up to its first end. Where the device gives the file's bytes, they are these.
 pub record WasRead {F R : Type 0} (opens : F → Text → R → F → Type 0) (reads : ReadsOf R)
     (tells : Text → Option (List ℕ)) (before : F) (path : Text) (bytes : List ℕ)
     (after : F) : Type 0 where

@@ -180,7 +180,7 @@ RoundsEnd {its} {plan} number last after =
 -- Causes.
 
 -- The file at the path was opened, and what it holds is no text of sizes: at most 64 bytes were read of it to its end, and they aren't; or
--- 64 bytes were read of it, which are more than the longest has. Where the device tells the file's bytes, they are these, or begin with
+-- 64 bytes were read of it, which are more than the longest has. Where the device gives the file's bytes, they are these, or begin with
 -- them.
 pub record HoldsNoSizes (its : Deeds) (before : its.State) (path : Text)
     (after : its.State) : Type 0 where

@@ -1,4 +1,4 @@
-//! The check of streams, in threads or by turns.
+//! The check of streams: a thread for each, or one thread for all.
 ghost use Rattle.std.specs.Prelude.{◌≡◌, true, false, IfErr, IfOk, length, vec_len};
 ghost use Rattle.std.specs.List.{AllByRecursion};
 ghost use Rattle.portfolio.specs.Saving.{CanBeSaved};
