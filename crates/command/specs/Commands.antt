@@ -22,8 +22,7 @@ use Rattle.lrup_text.specs.Cubes.{IsCubeFault, IsCubeText}
 use Rattle.lrup_text.specs.declared.cube.CubeFault.TheVariants as cubes
 use Rattle.stream_check.specs.declared.report.Report.{Report}
 use Rattle.portfolio.specs.Histories.{IsRunOf, way_of}
-use Rattle.portfolio.specs.Outcomes.{OptionsValue, layout_of, run_params_of, verdict_of}
-use Rattle.portfolio.specs.ReportText.{report_text}
+use Rattle.portfolio.specs.Outcomes.{OptionsValue, run_params_of, verdict_of}
 use Rattle.portfolio.specs.RingStops.{StopsAtRing}
 use Rattle.portfolio.specs.Saving.{SavesState, is_wanted}
 use Rattle.runs.specs.Readings.{readers_view}
@@ -34,7 +33,8 @@ use Rattle.portfolio.specs.declared.outcome.Verdict.TheVariants.{Unsatisfiable, 
 use Rattle.checkpoint.specs.Checkpoints.{IsCheckpoint, WritesCheckpoint}
 use Rattle.checkpoint.specs.declared.saving.SaveFault.{SaveFault}
 use Rattle.checkpoint.specs.declared.saving.SaveFault.TheVariants as saves
-use Rattle.command_line.specs.CommandLine.{AskFor, AskForBoth, AskToSave, HaveFault, IsCommandLineOf, checkpoint_of, rounds_of}
+use Rattle.command_line.specs.CommandLine.{AskFor, AskForBoth, AskToSave, HaveFault, IsCommandLineOf}
+use Rattle.command_line.specs.declared.sizes.Sizes.{Sizes}
 use Rattle.command_line.specs.declared.words.CommandLine.{CommandLine}
 use Rattle.command_line.specs.declared.words.Next.{Next}
 use Rattle.command_line.specs.declared.words.Next.TheVariants.{Checkpoint, Nothing, Rounds}
@@ -168,18 +168,19 @@ CheckpointEntailed opens Read Save first words last status =
     → ComesLast opens Read (λ formula before after. (saved : List ℕ)
     × Save before path saved after × IsCheckpoint formula saved) first words last
 
--- the options of a command line
-abbrev pub options_of : CommandLine → OptionsValue
-options_of given = record { tries = given.tries; lines = given.lines; room = given.room }
+-- the sizes of round 1, by a command line
+abbrev pub sizes_of : CommandLine → Sizes
+sizes_of given =
+    record { streams = length given.streams; lines = given.lines; room = given.room }
 
--- the layout of a command line and a formula
-abbrev pub layout_at : CommandLine → Cnf → LayoutValue
-layout_at given formula = layout_of (options_of given) formula (length given.streams)
+-- the options of a round of these sizes
+abbrev pub options_by : ℕ → Sizes → OptionsValue
+options_by tries sizes = record { tries = tries; lines = sizes.lines; room = sizes.room }
 
--- what a run of a command line and a formula is checked by, under a cube
-abbrev pub run_params_given : CommandLine → CubeValue → Cnf → RunParamsValue
-run_params_given given cube formula =
-    run_params_of (options_of given) cube formula (length given.streams)
+-- what the streams of a round of this formula and of these sizes are checked by, under a cube
+abbrev pub run_params_by : CommandLine → CubeValue → Cnf → Sizes → RunParamsValue
+run_params_by given cube formula sizes =
+    run_params_of (options_by given.tries sizes) cube formula sizes.streams
 
 -- The reports and the verdict of a formula's streams are those of a run. `firsts` are the readers of the streams as they were opened,
 -- and `lasts` those in the end.
@@ -277,43 +278,12 @@ abbrev pub IsFormulaAt : (files : FilesView) → Text → Cnf → files.its.Stat
 IsFormulaAt files path formula after =
     (bytes : List ℕ) × WasReadIn files files.first path bytes after × IsFormulaText bytes formula
 
--- the folder of the rounds that they ask for, if any
-abbrev pub rounds_at : CommandLine → Option Text
-rounds_at given = rounds_of given.next
-
--- the path of the checkpoint that they ask for, if any
-abbrev pub checkpoint_at : CommandLine → Option Text
-checkpoint_at given = checkpoint_of given.next
-
--- the path of the checkpoint that is created before the streams are checked, if any: the one that the words ask for, or the formula
--- of round 2
-abbrev pub created_path : Next → Option Text
-created_path Nothing = None
-created_path (Checkpoint path) = Some path.now
-created_path (Rounds folder) = Some (round_paths.formula_path folder.now 2)
-
-abbrev pub created_at : CommandLine → Option Text
-created_at given = created_path given.next
-
--- The reports and the verdict that the words and the files come to. The first opening is the formula's, the next is that of the
--- assumed literals, if any, and then come those of the streams, in order. `readers` are their files as they were opened.
-pub record IsOutcome (files : FilesView) (words : List Text) (reports : List Report)
-    (verdict : Verdict) : Type 0 where
-  pub given : CommandLine
-  pub command_line : IsCommandLineOf words given
-  pub formula : Cnf
-  pub next : files.its.State
-  pub is_formula : IsFormulaAt files given.formula.now formula next
-  pub cube : CubeValue
-  pub later : files.its.State
-  pub assumed : AreAssumed (WasReadIn files) formula.vars next (assumed_at given) cube later
-  pub readers : List files.its.Reader
-  pub last : files.its.State
-  pub opened : AreOpened files.its.opens later given.streams readers last
-  pub left : map files.its.reading.left readers ≡ map files.tells given.streams
-  pub checked : AreChecked files.its.reading given.serial formula
-      (run_params_given given cube formula)
-      readers reports verdict
+-- the path of the file that the round with this number creates for what comes after it, if any: the checkpoint that the words ask for,
+-- or the formula of the next round
+abbrev pub created_path : Next → ℕ → Option Text
+created_path Nothing number = None
+created_path (Checkpoint path) number = Some path.now
+created_path (Rounds folder) number = Some (round_paths.formula_path folder.now (number + 1))
 
 -- What is saved.
 
@@ -330,50 +300,43 @@ pub record SavesCheckpoint (its : Deeds) (formula : Cnf) (layout : LayoutValue) 
       first last
   pub failed : IsTrue (its.has_failed last) ↔ (result ≡ Err saves.Unwritten)
 
--- How a sink was closed, to which something was saved with this result, and why that isn't saved, if it isn't: what was saved was kept,
--- or that failed; else the sink was discarded.
+-- How a sink was closed, to which something was saved with this result; why that isn't saved, if it isn't; and the next formula, if there
+-- is one. What was saved was kept, or that failed; else the sink was discarded.
 abbrev pub ClosesSink : (its : Deeds) → Result (Option Cnf) SaveFault → its.State → its.Output
-    → Option SaveFault → its.State → Type 0
-ClosesSink its (Ok _) before last None after = its.keeps before last after
-ClosesSink its (Ok _) before last (Some fault) after =
-    (fault ≡ saves.Unwritten) × its.loses before last after
-ClosesSink its (Err fault) before last unsaved after =
-    (unsaved ≡ Some fault) × its.discards before last after
+    → Option SaveFault → Option Cnf → its.State → Type 0
+ClosesSink its (Ok made) before last None next after = (next ≡ made) × its.keeps before last after
+ClosesSink its (Ok made) before last (Some fault) next after =
+    (fault ≡ saves.Unwritten) × (next ≡ None) × its.loses before last after
+ClosesSink its (Err fault) before last unsaved next after =
+    (unsaved ≡ Some fault) × (next ≡ None) × its.discards before last after
 
 -- A file was created at the path, from the files before. Where its device tells its bytes, it was empty. Something was saved to it, and it
 -- was closed.
 pub record LeavesFile (its : Deeds)
     (Saves : Result (Option Cnf) SaveFault → its.Output → its.Output → Type 0) (before : its.State)
-    (path : Text) (unsaved : Option SaveFault) (after : its.State) : Type 0 where
-  pub first : its.Output
-  pub next : its.State
-  pub created : its.creates before path first next
-  pub empty : ForSome (its.written first) (λ all. all ≡ [])
-  pub result : Result (Option Cnf) SaveFault
-  pub last : its.Output
-  pub saving : Saves result first last
-  pub closed : ClosesSink its result next last unsaved after
+    (path : Text) (unsaved : Option SaveFault) (next : Option Cnf) (after : its.State) : Type 0
+  where
+    pub first : its.Output
+    pub opened : its.State
+    pub created : its.creates before path first opened
+    pub empty : ForSome (its.written first) (λ all. all ≡ [])
+    pub result : Result (Option Cnf) SaveFault
+    pub last : its.Output
+    pub saving : Saves result first last
+    pub closed : ClosesSink its result opened last unsaved next after
 
--- What a run with this verdict leaves as its checkpoint, and why that wasn't saved, if it wasn't. Without a path: nothing. With
--- 'unsatisfiable': a file to which nothing went. Else a file to which the checkpoint was saved.
+-- What a round with this verdict leaves at the path, why that wasn't saved, if it wasn't, and the next formula, if there is one. Without a
+-- path: nothing. With 'unsatisfiable': a file to which nothing went. Else a file to which the checkpoint was saved.
 abbrev pub LeavesBehind : (its : Deeds)
     → (Result (Option Cnf) SaveFault → its.Output → its.Output → Type 0) → Verdict → its.State
-    → Option Text → Option SaveFault → its.State → Type 0
-LeavesBehind its Saves verdict before None unsaved after = (unsaved ≡ None) × (after ≡ before)
-LeavesBehind its Saves Unsatisfiable before (Some path) unsaved after =
-    (unsaved ≡ None) × IsLeftEmpty its.creates its.written its.discards before path after
-LeavesBehind its Saves verdict before (Some path) unsaved after =
-    LeavesFile its Saves before path unsaved after
-
--- the same, of what the words and the files come to
-abbrev pub LeavesCheckpoint : (files : FilesView) (words : List Text) (reports : List Report)
-    (verdict : Verdict) → IsOutcome files words reports verdict → Option SaveFault
-    → files.its.State → Type 0
-LeavesCheckpoint files words reports verdict outcome unsaved after =
-    LeavesBehind files.its
-    (SavesCheckpoint files.its outcome.formula (layout_at outcome.given outcome.formula)
-    outcome.checked.ran.run.history outcome.checked.dropped)
-    verdict outcome.last (checkpoint_at outcome.given) unsaved after
+    → Option Text → Option SaveFault → Option Cnf → its.State → Type 0
+LeavesBehind its Saves verdict before None unsaved next after =
+    (unsaved ≡ None) × (next ≡ None) × (after ≡ before)
+LeavesBehind its Saves Unsatisfiable before (Some path) unsaved next after =
+    (unsaved ≡ None) × (next ≡ None)
+    × IsLeftEmpty its.creates its.written its.discards before path after
+LeavesBehind its Saves verdict before (Some path) unsaved next after =
+    LeavesFile its Saves before path unsaved next after
 
 -- Causes, and the files then: what was opened and created of them by then, in order, and nothing more. Nothing shows afterwards that
 -- memory ran out or that a thread wasn't started, so these are taken as causes whatever the files hold.
@@ -491,6 +454,13 @@ IsStartCause its serial formula run_params readers before path faults.Memory aft
     ⊎ IsLeftUnused its before path after))
 IsStartCause its serial formula run_params readers before path fault after = ⊥
 
+-- so of the round with this number, with the file that it creates for what comes after it
+abbrev pub IsRoundStartCause : (its : Deeds) → CommandLine → CubeValue → ℕ → Cnf → Sizes
+    → List its.Reader → its.State → CommandFault → its.State → Type 0
+IsRoundStartCause its given cube number formula sizes readers opened fault after =
+    IsStartCause its given.serial formula (run_params_by given cube formula sizes) readers opened
+    (created_path given.next number) fault after
+
 -- the cause of a fault of the formula; or, of a formula that was read, of a fault of the assumed literals; or, of both that were read,
 -- of a fault of the opening of the streams; or, of streams that were opened, of their check
 abbrev pub IsCauseAt : (files : FilesView) → CommandLine → CommandFault → files.its.State → Type 0
@@ -505,10 +475,9 @@ IsCauseAt files given fault after =
     ⊎ ((readers : List files.its.Reader) × (last : files.its.State)
     × AreOpened files.its.opens later given.streams readers last
     × (map files.its.reading.left readers ≡ map files.tells given.streams)
-    × IsStartCause files.its given.serial formula (run_params_given given cube formula) readers last
-    (created_at given) fault after)))))
+    × IsRoundStartCause files.its given cube 1 formula (sizes_of given) readers last fault after)))))
 
--- Why there is no outcome, by the words and the files, and the files then. Words with a fault, words that ask for a checkpoint and for
+-- Why round 1 has no report, by the words and the files, and the files then. Words with a fault, words that ask for a checkpoint and for
 -- rounds, or the want of memory for them, leave the files as they were.
 abbrev pub IsCause : (files : FilesView) → List Text → CommandFault → files.its.State → Type 0
 IsCause files words (faults.Usage text) after = HaveFault words × (after ≡ files.first)
@@ -569,28 +538,3 @@ SaysOfRound round true None err = SinkTook err (error_text faults.Unwritten)
 SaysOfRound round false (Some fault) err =
     SinkTook err (round_error_text round (faults.NotSaved fault))
 SaysOfRound round false None err = IsUntouched err
-
--- so of a single run, as of round 1: no number is said
-abbrev pub SaysOfReport : Bool → Option SaveFault → SinkChange → Type 0
-SaysOfReport = SaysOfRound 1
-
--- The program ends with a report, and leaves these files.
-pub record EndsWithReport (files : FilesView) (words : List Text) (after : files.its.State)
-    (out err : SinkChange) (status : ℕ) : Type 0 where
-  pub reports : List Report
-  pub verdict : Verdict
-  pub outcome : IsOutcome files words reports verdict
-  pub unsaved : Option SaveFault
-  pub checkpoint : LeavesCheckpoint files words reports verdict outcome unsaved after
-  pub printed : SinkTook out (report_text reports verdict)
-  pub said : SaysOfReport out.failed unsaved err
-  pub status_is : status ≡ report_status out.failed unsaved verdict
-
--- The program ends without one, says why, and leaves these files.
-pub record EndsWithFault (files : FilesView) (words : List Text) (after : files.its.State)
-    (out err : SinkChange) (status : ℕ) : Type 0 where
-  pub fault : CommandFault
-  pub cause : IsCause files words fault after
-  pub untouched : IsUntouched out
-  pub said : SinkTook err (error_text fault)
-  pub status_is : status ≡ status_of fault

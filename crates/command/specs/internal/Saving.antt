@@ -1,5 +1,5 @@
 -- A checkpoint's file, from its creation to its end: what private functions say of it (this project's own).
-use Rattle.std.specs.Prelude.{◌≡◌, [], Option, None, Some, Result, Ok}
+use Rattle.std.specs.Prelude.{◌≡◌, [], Option, None, Some, Result}
 use Rattle.std.specs.Option.{ForSome}
 use Rattle.lrup_model.specs.Formula.{Cnf}
 use Rattle.portfolio.specs.declared.outcome.Verdict.{Verdict}
@@ -32,30 +32,24 @@ abbrev pub DiscardsIt : (its : Deeds) → its.State → Option its.Output → it
 DiscardsIt its before None after = after ≡ before
 DiscardsIt its before (Some output) after = its.discards before output after
 
--- Something was saved to the file, and it was closed: what was saved was kept, or that failed; else the file was discarded.
+-- Something was saved to the file, and it was closed: what was saved was kept, or that failed; else the file was discarded. The next formula
+-- is what was saved, if there is one.
 pub record SavesAndCloses (its : Deeds)
     (Saves : Result (Option Cnf) SaveFault → its.Output → its.Output → Type 0) (before : its.State)
-    (first : its.Output) (unsaved : Option SaveFault) (after : its.State) : Type 0 where
+    (first : its.Output) (unsaved : Option SaveFault) (next : Option Cnf)
+    (after : its.State) : Type 0 where
   pub result : Result (Option Cnf) SaveFault
   pub last : its.Output
   pub saving : Saves result first last
-  pub closed : ClosesSink its result before last unsaved after
+  pub closed : ClosesSink its result before last unsaved next after
 
 -- What became of the file, if there is one, by the verdict: with 'unsatisfiable' it was discarded.
 abbrev pub ClosesCheckpoint : (its : Deeds)
     → (Result (Option Cnf) SaveFault → its.Output → its.Output → Type 0) → Verdict → its.State
-    → Option its.Output → Option SaveFault → its.State → Type 0
-ClosesCheckpoint its Saves verdict before None unsaved after =
-    (unsaved ≡ None) × (after ≡ before)
-ClosesCheckpoint its Saves Unsatisfiable before (Some first) unsaved after =
-    (unsaved ≡ None) × its.discards before first after
-ClosesCheckpoint its Saves verdict before (Some first) unsaved after =
-    SavesAndCloses its Saves before first unsaved after
-
--- what was saved was this next formula, and it was kept
-abbrev pub KeepsNext : (its : Deeds)
-    → (Result (Option Cnf) SaveFault → its.Output → its.Output → Type 0) → its.State
-    → Option its.Output → its.State → Cnf → Type 0
-KeepsNext its Saves before None after next = ⊥
-KeepsNext its Saves before (Some first) after next =
-    (last : its.Output) × Saves (Ok (Some next)) first last × its.keeps before last after
+    → Option its.Output → Option SaveFault → Option Cnf → its.State → Type 0
+ClosesCheckpoint its Saves verdict before None unsaved next after =
+    (unsaved ≡ None) × (next ≡ None) × (after ≡ before)
+ClosesCheckpoint its Saves Unsatisfiable before (Some first) unsaved next after =
+    (unsaved ≡ None) × (next ≡ None) × its.discards before first after
+ClosesCheckpoint its Saves verdict before (Some first) unsaved next after =
+    SavesAndCloses its Saves before first unsaved next after
