@@ -30,7 +30,14 @@ module _ {E : Type 0} (arguments : Result (IntoIter (String Global) Global) E) (
 pub out_of_memory : (files : FilesView) (words : List Text) (out err : SinkChange) (status : ℕ) → IsUntouched out
     → SinkTook err (error_text faults.Memory) → status ≡ status_of faults.Memory → ProgramEnds files words files.first out err status
 out_of_memory files words out err status untouched said is =
-    inr (inl (record { fault = faults.Memory; cause = inl refl; untouched = untouched; said = said; status_is = is }))
+    inr (record {
+      number = 1;
+      fault = faults.Memory;
+      cause = inl (refl, inl refl);
+      untouched = untouched;
+      said = said;
+      status_is = is;
+    })
 
 -- ---- all errors of the system but one
 

@@ -1,31 +1,23 @@
 -- From what is read and run to what the words and the files come to.
-use Rattle.std.proofs.Common.{◌≡◌, ◌∙◌, ℕ, Bool, false, List, map, length, Option, None, Some, IfSome, Result, Ok, Err, IfOk, IfErr, inl}
-use Rattle.std.proofs.Common.{inr, refl, sym, ap, subst, rules}
-use Rattle.std.proofs.lemmas.List.{length-map}
+use Rattle.std.proofs.Common.{◌≡◌, ◌∙◌, ℕ, Bool, false, List, map, Option, None, Some, IfSome, Result, Ok, Err, IfOk, IfErr, inl}
+use Rattle.std.proofs.Common.{inr, refl, sym, subst, rules}
 use Rattle.std.specs.Prelude.{◌↔◌, IsErrAnd}
 use Rattle.lrup_model.specs.Cube.{CubeValue}
 use Rattle.lrup_model.specs.Formula.{Cnf}
 use Rattle.lrup_model.specs.Layout.{LayoutValue, IsFault, IsStream}
 use Rattle.lrup_model.specs.declared.layout.LayoutFault.{LayoutFault}
 use Rattle.lrup_text.specs.ReadOut.{SourceView}
-use Rattle.portfolio.specs.Outcomes.{OptionsValue, layout_of, run_params_of}
 use Rattle.portfolio.specs.RingStops.{StopsAtRing}
 use Rattle.runs.specs.Streams.{RunParamsValue}
 use Rattle.portfolio.specs.declared.outcome.RunFault.{RunFault}
 use Rattle.portfolio.specs.declared.outcome.RunFault.TheVariants as runs
-use Rattle.portfolio.specs.declared.outcome.Verdict.{Verdict}
-use Rattle.stream_check.specs.declared.report.Report.{Report}
 use Rattle.checkpoint.specs.Checkpoints.{IsUnsatisfiableText}
-use Rattle.checkpoint.specs.declared.saving.SaveFault.{SaveFault}
-use Rattle.command_line.specs.CommandLine.{AskFor, IsCommandLineOf, checkpoint_of, rounds_of}
+use Rattle.command_line.specs.CommandLine.{AskFor, IsCommandLineOf}
 use Rattle.command_line.specs.declared.words.CommandLine.{CommandLine}
-use Rattle.command_line.specs.declared.words.Next.{Next}
-use Rattle.command_line.specs.declared.words.Next.TheVariants.{Checkpoint, Nothing, Rounds}
-use Rattle.command.specs.Commands.{AreAssumed, AreChecked, AreOpened, Deeds, FilesView, HasNoFault, IsAssumeCause, IsCause}
-use Rattle.command.specs.Commands.{IsFormulaAt, IsLeftUnused, IsOpenCause, IsOutcome, IsReadCause, IsStartCause, IsUnsatisfiableTextWith}
-use Rattle.command.specs.Commands.{LeavesBehind, LeavesCheckpoint, NameUnsatisfiable, NameUnsatisfiableUnder, SavesCheckpoint, Text}
-use Rattle.command.specs.Commands.{WasRead, WasReadIn}
-use Rattle.command.specs.Commands.{assumed_at, checkpoint_at, created_at, created_path, options_of, run_params_given}
+use Rattle.command.specs.Commands.{AreAssumed, AreOpened, Deeds, FilesView, HasNoFault, IsAssumeCause, IsCause}
+use Rattle.command.specs.Commands.{IsFormulaAt, IsLeftUnused, IsOpenCause, IsReadCause, IsRoundStartCause, IsStartCause}
+use Rattle.command.specs.Commands.{IsUnsatisfiableTextWith, NameUnsatisfiable, NameUnsatisfiableUnder, Text, WasRead, WasReadIn}
+use Rattle.command.specs.Commands.{assumed_at, sizes_of}
 use Rattle.command.specs.internal.Running.{IsLayoutCause, IsRunCause}
 use Rattle.command.specs.internal.Saving.{IsNotCreated}
 use Rattle.command.specs.internal.FaultSources.{of_run}
@@ -80,15 +72,6 @@ has_layout p result outcome is layout fault refused =
     let both : Ok outcome ≡ Err (runs.Layout fault) = sym is ∙ (layout fault).1 refused in
     search (both, rules)
 
--- the parameters are those of the command line
-same_params : (options : OptionsValue) (cube : CubeValue) (f : Cnf) (given : CommandLine) (count : ℕ) → options ≡ options_of given
-    → count ≡ length given.streams → run_params_of options cube f count ≡ run_params_given given cube f
-same_params options cube f given count options_are count_is =
-    ap (λ o. run_params_of o cube f count) options_are ∙ ap (run_params_of (options_of given) cube f) count_is
-
-same_count : {A B C : Type 0} (f : A → C) (g : B → C) (xs : List A) (ys : List B) → map f xs ≡ map g ys → length xs ≡ length ys
-same_count f g xs ys same = sym (length-map xs f) ∙ ap length same ∙ length-map ys g
-
 -- what words ask for that are a command line
 pub ask_for : (words : List Text) (given : CommandLine) → IsCommandLineOf words given → AskFor words given.formula.now (assumed_at given)
 ask_for words given line = record { good = line.good; formula_is = line.said.formula; assume_is = sym line.said.assume }
@@ -113,43 +96,6 @@ names_unsatisfiable_under files words given bytes next tells told line read (f, 
     cube after)
     told assumed in
     (given.formula.now, assumed_at given, bytes, f, cube, next, after, ask_for words given line, read, text, same, refuted)
-
--- what is checked is the outcome of the words and the files, and it leaves the checkpoint that they ask for
-pub is_outcome : (files : FilesView) (words : List Text) (given : CommandLine) (f : Cnf) (cube : CubeValue) (options : OptionsValue)
-    (readers : List files.its.Reader) (next later last : files.its.State)
-    → IsCommandLineOf words given → IsFormulaAt files given.formula.now f next
-    → AreAssumed (WasReadIn files) f.vars next (assumed_at given) cube later
-    → options ≡ options_of given → AreOpened files.its.opens later given.streams readers last
-    → map files.its.reading.left readers ≡ map files.tells given.streams
-    → (reports : List Report) (verdict : Verdict) (unsaved : Option SaveFault) (after : files.its.State)
-    → (checked : AreChecked files.its.reading given.serial f (run_params_of options cube f (length readers)) readers reports verdict)
-    × LeavesBehind files.its
-    (SavesCheckpoint files.its f (layout_of options f (length readers)) checked.ran.run.history checked.dropped) verdict last
-    (checkpoint_at given) unsaved after
-    → (outcome : IsOutcome files words reports verdict) × LeavesCheckpoint files words reports verdict outcome unsaved after
-is_outcome files words given f cube options readers next later last line at assumed options_are opened entries_are reports verdict unsaved
-    after left =
-    let run_params : run_params_of options cube f (length readers) ≡ run_params_given given cube f =
-    same_params options cube f given (length readers) options_are (same_count _ _ readers given.streams entries_are) in
-    let moved = subst (λ (t : RunParamsValue). (checked : AreChecked files.its.reading given.serial f t readers reports verdict)
-    × LeavesBehind files.its (SavesCheckpoint files.its f t.layout checked.ran.run.history checked.dropped) verdict last
-    (checkpoint_at given) unsaved after) run_params left in
-    let outcome : IsOutcome files words reports verdict = record {
-      given = given;
-      command_line = line;
-      formula = f;
-      next = next;
-      is_formula = at;
-      cube = cube;
-      later = later;
-      assumed = assumed;
-      readers = readers;
-      last = last;
-      opened = opened;
-      left = entries_are;
-      checked = moved.0;
-    } in
-    (outcome, moved.1)
 
 module _ (files : FilesView) (words : List Text) (given : CommandLine) (line : IsCommandLineOf words given) where
   -- The causes are those of the words and the files.
@@ -201,7 +147,7 @@ module _ (files : FilesView) (words : List Text) (given : CommandLine) (line : I
       pub start_cause : (readers : List files.its.Reader) (last : files.its.State)
           → AreOpened files.its.opens later given.streams readers last
           → map files.its.reading.left readers ≡ map files.tells given.streams → (fault : CommandFault) (after : files.its.State)
-          → IsStartCause files.its given.serial f (run_params_given given cube f) readers last (created_at given) fault after
+          → IsRoundStartCause files.its given cube 1 f (sizes_of given) readers last fault after
           → IsCause files words fault after
       start_cause readers last opened left (faults.Layout fault) after cause =
           (given, line, inr (f, next, at, inr (cube, later, assumed, inr (readers, last, opened, left, cause))))
@@ -214,12 +160,6 @@ module _ (files : FilesView) (words : List Text) (given : CommandLine) (line : I
       start_cause readers last opened left faults.Memory after cause =
           inr (given, line, inr (f, next, at, inr (cube, later, assumed, inr (readers, last, opened, left, cause))))
       start_cause readers last opened left fault after cause = absurd cause
-
--- without rounds the path that is created is the checkpoint's
-pub created_once : (next : Next) → rounds_of next ≡ None → checkpoint_of next ≡ created_path next
-created_once Nothing once = refl
-created_once (Checkpoint path) once = refl
-created_once (Rounds folder) once = absurd (let no : Some folder.now ≡ None = once in cc)
 
 -- why streams that were opened weren't checked: there is no layout
 module _ (its : Deeds) (serial : Bool) (f : Cnf) (run_params : RunParamsValue) (readers : List its.Reader) (before : its.State)
@@ -246,19 +186,3 @@ module _ (its : Deeds) (serial : Bool) (f : Cnf) (run_params : RunParamsValue) (
   run_start (faults.Ring stream) after none cause unused = (cause.0, cause.1, cause.2, unused)
   run_start faults.Memory after none cause unused = inr (none, inr unused)
   run_start fault after none cause unused = absurd cause
-
--- so of the words and the files
-pub begun_cause : (files : FilesView) (words : List Text) (given : CommandLine) (f : Cnf) (cube : CubeValue) (options : OptionsValue)
-    (readers : List files.its.Reader) (next later last : files.its.State)
-    → IsCommandLineOf words given → IsFormulaAt files given.formula.now f next
-    → AreAssumed (WasReadIn files) f.vars next (assumed_at given) cube later
-    → options ≡ options_of given → AreOpened files.its.opens later given.streams readers last
-    → map files.its.reading.left readers ≡ map files.tells given.streams
-    → (fault : CommandFault) (after : files.its.State)
-    → IsStartCause files.its given.serial f (run_params_of options cube f (length readers)) readers last (created_at given) fault after
-    → IsCause files words fault after
-begun_cause files words given f cube options readers next later last line at assumed options_are opened entries_are fault after cause =
-    let count = same_count _ _ readers given.streams entries_are in
-    start_cause files words given line f next at cube later assumed readers last opened entries_are fault after
-    (subst (λ (p : RunParamsValue). IsStartCause files.its given.serial f p readers last (created_at given) fault after)
-    (same_params options cube f given (length readers) options_are count) cause)

@@ -9,3 +9,4 @@ mod StatusLemmas
 mod SavingLemmas
 mod RoundLemmas
 mod EntailedLemmas
+mod SavedLemmas

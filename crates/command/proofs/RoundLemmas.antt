@@ -2,8 +2,7 @@
 use Rattle.std.proofs.Common.{arith, ◌≡◌, ◌<◌, ◌^◌, ◌∙◌, ◌+◌, ◌++◌, add-one, inl, inr, length, length-append, suc, zero, ℕ}
 use Rattle.std.proofs.Common.{List, [], ◌∷◌}
 use Rattle.std.proofs.Common.{ap₂, Option, None, Some, refl, sym, ap, subst, ◌⊎◌, drop, map, take}
-use Rattle.std.proofs.Common.{◌-◌, false, get_or, true}
-use Rattle.std.specs.Prelude.{option_map}
+use Rattle.std.proofs.Common.{◌-◌, false, get_or, is_some, true}
 use Rattle.std.proofs.lemmas.Bool.{cases_lt}
 use Rattle.std.proofs.lemmas.List.{take_all}
 use Rattle.std.specs.Borrow.{Bor}
@@ -19,25 +18,22 @@ use Rattle.lrup_model.specs.declared.layout.LayoutFault.TheVariants as layouts
 use Rattle.portfolio.specs.Outcomes.{OptionsValue, run_params_of}
 use Rattle.portfolio.specs.declared.outcome.Verdict.{Verdict}
 use Rattle.portfolio.specs.declared.outcome.Verdict.TheVariants.{Unsatisfiable, UnsatisfiableUnder, Unknown}
-use Rattle.checkpoint.specs.Entails.{Entails, RefutesBack, RefutesBackUnder}
+use Rattle.checkpoint.specs.Entails.{RefutesBack, RefutesBackUnder}
 use Rattle.checkpoint.specs.declared.saving.SaveFault.{SaveFault}
 use Rattle.command_line.specs.declared.sizes.Sizes.{Sizes}
 use Rattle.command_line.specs.CommandLine.{rounds_of}
 use Rattle.command_line.specs.declared.words.CommandLine.{CommandLine}
 use Rattle.command_line.specs.declared.words.Next.{Next}
 use Rattle.command_line.specs.declared.words.Next.TheVariants.{Checkpoint, Nothing, Rounds}
-use Rattle.command.specs.Commands.{AreOpened, Deeds, IsStartCause, Text, created_at, created_path}
-use Rattle.command.specs.Commands.{rounds_at, run_params_given}
+use Rattle.command.specs.Commands.{AreOpened, Deeds, Text, created_path, options_by, path_of, run_params_by, sizes_of}
 use Rattle.command.specs.Paths.{formula_path, sizes_path, stream_path, stream_paths}
-use Rattle.command.specs.Rounds.{AreRounds, AreSized, CarriesOn, SavesAfter, IsBarred, IsRoundCause, IsRoundStartCause, IsSizesCause}
-use Rattle.command.specs.Rounds.{Plan, Round, RoundsEnd, SavesRound, StreamsOpened, options_by, plan_at, sizes_of}
-use Rattle.command.specs.Rounds.{run_params_by}
-use Rattle.command.specs.internal.Saving.{CreatesCheckpoint, KeepsNext}
-use Rattle.command.specs.internal.RoundProgress.{EndsAt, FailsAfter, IsAlone, IsUnchecked, IsUnsized, RoundsStand, WasFound, round_of}
+use Rattle.command.specs.Rounds.{AreRounds, AreSized, IsRoundCause, IsSizesCause, Round, RoundsEnd, StreamsOpened}
+use Rattle.command.specs.internal.RoundProgress.{EndsAt, FailsAfter, IsAlone, IsUnsized, RoundsStand, WasFound, round_of}
 use Rattle.command.specs.declared.course.LastRound.{LastRound}
 use Rattle.command.specs.declared.course.RoundFault.{RoundFault}
 use Rattle.command.specs.declared.fault.CommandFault.{CommandFault}
 use Rattle.command.specs.declared.fault.CommandFault.TheVariants as faults
+use Rattle.command.proofs.SavedLemmas.{carried_entails, created_in}
 
 -- the paths of one more stream
 pub paths_next : (folder : Text) (number k : ℕ)
@@ -84,11 +80,6 @@ path_and_rest folder number (suc count) some =
 pub for_some : {A : Type 0} (P : A → Type 0) (x : A) → P x → ForSome (Some x) P
 for_some P x is other same = let told : x ≡ other = cc in subst P told is
 
--- what a round goes on with follows from its formula
-pub saved_entails : {its : Deeds} {plan : Plan} (number : ℕ) (round : Round its plan) (next : Cnf) → SavesRound number round next
-    → Entails round.formula next
-saved_entails number round next saving = subst (Entails round.formula) (sym saving.next_is) saving.checkpoint.entails
-
 -- streams that have a layout are some
 pub some_streams : (layout : LayoutValue) → ((fault : LayoutFault) → IsFault layout fault → ⊥) → 0 < layout.streams
 some_streams layout none = elim (cases_lt 0 layout.streams) [
@@ -102,151 +93,138 @@ some_streams layout none = elim (cases_lt 0 layout.streams) [
   ]
 ]
 
-module _ (its : Deeds) (plan : Plan) (formula : Cnf) (sizes : Sizes) (first : its.State) (paths : List Text) where
+module _ (its : Deeds) (given : CommandLine) (cube : CubeValue) (formula : Cnf) (first : its.State) where
+  -- how rounds stand
+  abbrev Stand : LastRound → Option Cnf → its.State → Type 0
+  Stand last next after = RoundsStand its given cube formula first last next after
+
   -- round 1
   pub stands_first : (last : LastRound) (next : Option Cnf) (opened after : its.State) (readers : List its.Reader) → last.number ≡ 1
-      → StreamsOpened its first paths readers opened → WasFound its plan formula readers opened last next after
-      → last.sizes ≡ sizes → RoundsStand its plan formula sizes first paths last next after
-  stands_first last next opened after readers one are found sizes_are =
-      let round = round_of formula readers opened last after found.was in
-      let count : 1 ≡ length (round ∷ []) = omega arith in
-      record {
-        current = formula;
-        readers = readers;
-        opened = opened;
-        is_found = found;
-        before = [];
-        rounds = record { formula_is = refl; sizes_are = sizes_are; opened = are };
-        number = one ∙ count;
-      }
+      → StreamsOpened its first given.streams readers opened → WasFound its given cube formula readers opened last next after
+      → last.sizes ≡ sizes_of given → Stand last next after
+  stands_first last next opened after readers one are found sizes_are = record {
+    current = formula;
+    readers = readers;
+    opened = opened;
+    is_found = found;
+    before = [];
+    rounds = record { number = one; formula_is = refl; sizes_are = sizes_are; opened = are };
+  }
 
-  -- the last of the rounds, and the others
-  abbrev now : {last : LastRound} {next : Option Cnf} {after : its.State} → RoundsStand its plan formula sizes first paths last next after
-      → Round its plan
-  now {last} {next} {after} stands = round_of stands.current stands.readers stands.opened last after stands.is_found.was
-
-  abbrev all : {last : LastRound} {next : Option Cnf} {after : its.State} → RoundsStand its plan formula sizes first paths last next after
-      → List (Round its plan)
-  all stands = now stands ∷ stands.before
+  -- the last of the rounds
+  abbrev now : {last : LastRound} {next : Option Cnf} {after : its.State} → Stand last next after → Round its given cube
+  now {last} {next} {after} stands =
+      round_of stands.current stands.readers stands.opened last stands.is_found.saved after stands.is_found.was
 
   -- a round after another
   pub stands_next : (last found : LastRound) (formula_now : Cnf) (next : Option Cnf) (before sized opened after : its.State)
-      (readers : List its.Reader)
-      → found.number ≡ last.number + 1 → RoundsStand its plan formula sizes first paths last (Some formula_now) before
-      → AreSized its (sizes_path plan.folder found.number) last.sizes before found.sizes sized
-      → StreamsOpened its sized (stream_paths plan.folder found.number found.sizes.streams) readers opened
-      → WasFound its plan formula_now readers opened found next after
-      → RoundsStand its plan formula sizes first paths found next after
-  stands_next last found formula_now next before sized opened after readers is stands are_sized are was_found =
-      let round = round_of formula_now readers opened found after was_found.was in
-      let k : ℕ = length (all stands) in
-      let number_is : found.number ≡ k + 1 = is ∙ ap (λ n. n + 1) stands.number in
-      let count : k + 1 ≡ length (round ∷ all stands) = omega arith in
+      (readers : List its.Reader) (folder : Text) → rounds_of given.next ≡ Some folder
+      → found.number ≡ last.number + 1 → Stand last (Some formula_now) before
+      → AreSized its (sizes_path folder found.number) last.sizes before found.sizes sized
+      → StreamsOpened its sized (stream_paths folder found.number found.sizes.streams) readers opened
+      → WasFound its given cube formula_now readers opened found next after → Stand found next after
+  stands_next last found formula_now next before sized opened after readers folder asked is stands are_sized are was_found =
+      let on = stands.is_found.goes_on formula_now refl in
+      let both : Some folder ≡ Some on.folder = sym asked ∙ on.asked in
+      let same : folder ≡ on.folder = cc in
       record {
         current = formula_now;
         readers = readers;
         opened = opened;
         is_found = was_found;
-        before = all stands;
+        before = now stands ∷ stands.before;
         rounds = (
           record {
-            goes_on = subst (λ (n : ℕ). CarriesOn n (now stands) formula_now) stands.number (stands.is_found.goes_on formula_now refl);
+            number = is;
+            goes_on = on;
             sized = sized;
-            sizes = subst (λ (n : ℕ). AreSized its (sizes_path plan.folder n) last.sizes before found.sizes sized) number_is are_sized;
-            opened = subst (λ (n : ℕ). StreamsOpened its sized (stream_paths plan.folder n found.sizes.streams) readers opened)
-                number_is are;
+            sizes = subst (λ (f : Text). AreSized its (sizes_path f found.number) last.sizes before found.sizes sized) same are_sized;
+            opened = subst (λ (f : Text). StreamsOpened its sized (stream_paths f found.number found.sizes.streams) readers opened)
+                same are;
           },
           stands.rounds,
         );
-        number = number_is ∙ count;
       }
 
   -- The rounds end.
-  ends_so : (last : LastRound) (next : Option Cnf) (before after : its.State)
-      → (stands : RoundsStand its plan formula sizes first paths last next before)
-      → RoundsEnd (length (all stands)) (now stands) after → EndsAt its plan formula sizes first paths last after
+  ends_so : (last : LastRound) (next : Option Cnf) (before after : its.State) → (stands : Stand last next before)
+      → RoundsEnd (now stands) after → EndsAt its given cube formula first last after
   ends_so last next before after stands over = record {
     round = now stands;
     before = stands.before;
     rounds = stands.rounds;
-    number = stands.number;
-    reports = refl;
-    verdict = refl;
-    unsaved = refl;
+    is = record { number = refl; reports = refl; verdict = refl; unsaved = refl };
     over = over;
   }
 
+  -- since the words ask for no others
+  pub ends_alone : (last : LastRound) (next : Option Cnf) (after : its.State) → rounds_of given.next ≡ None → Stand last next after
+      → EndsAt its given cube formula first last after
+  ends_alone last next after once stands = ends_so last next after after stands (inl (inl once, refl))
+
   -- since the last one doesn't go on
-  pub ends_barred : (last : LastRound) (after : its.State) → RoundsStand its plan formula sizes first paths last None after
-      → EndsAt its plan formula sizes first paths last after
-  ends_barred last after stands =
-      ends_so last None after after stands
-      (inl (subst (λ (n : ℕ). IsBarred n (now stands)) stands.number (stands.is_found.over refl), refl))
+  pub ends_barred : (last : LastRound) (after : its.State) → Stand last None after → EndsAt its given cube formula first last after
+  ends_barred last after stands = ends_so last None after after stands (inl (stands.is_found.over refl, refl))
 
   -- since there is no stream 1
-  pub ends_alone : (last : LastRound) (next : Cnf) (before after : its.State)
-      → RoundsStand its plan formula sizes first paths last (Some next) before
-      → IsAlone its plan last before after → EndsAt its plan formula sizes first paths last after
-  ends_alone last next before after stands alone =
-      let number = subst (λ (n : ℕ). (read : Sizes) × (sized : its.State)
-      × AreSized its (sizes_path plan.folder (n + 1)) last.sizes before read sized
-      × its.lacks sized (stream_path plan.folder (n + 1) 1) after) stands.number alone in
+  pub ends_without : (last : LastRound) (next : Cnf) (before after : its.State) (folder : Text) → rounds_of given.next ≡ Some folder
+      → Stand last (Some next) before → IsAlone its folder last before after → EndsAt its given cube formula first last after
+  ends_without last next before after folder asked stands alone =
+      let on = stands.is_found.goes_on next refl in
+      let both : Some folder ≡ Some on.folder = sym asked ∙ on.asked in
+      let same : folder ≡ on.folder = cc in
       ends_so last (Some next) before after stands
-      (inr (inl (next, subst (λ (n : ℕ). CarriesOn n (now stands) next) stands.number (stands.is_found.goes_on next refl), number)))
+      (inr (next, on, inl (subst (λ (f : Text). IsAlone its f last before after) same alone)))
 
   -- since the number of the next one would be too high
-  pub ends_high : (last : LastRound) (next : Option Cnf) (after : its.State)
-      → RoundsStand its plan formula sizes first paths last next after
-      → 2 ^ 64 < last.number + 3 → EndsAt its plan formula sizes first paths last after
+  pub ends_high : (last : LastRound) (next : Option Cnf) (after : its.State) → Stand last next after
+      → 2 ^ 64 < last.number + 3 → EndsAt its given cube formula first last after
   ends_high last None after stands high = ends_barred last after stands
   ends_high last (Some next) after stands high =
-      let goes_on = subst (λ (n : ℕ). CarriesOn n (now stands) next) stands.number (stands.is_found.goes_on next refl) in
-      ends_so last (Some next) after after stands
-      (inr (inr ((next, goes_on), subst (λ (n : ℕ). 2 ^ 64 < n + 3) stands.number high, refl)))
+      ends_so last (Some next) after after stands (inr (next, stands.is_found.goes_on next refl, inr (high, refl)))
 
   -- the next one has no report
-  pub fails_after : (last : LastRound) (next : Cnf) (before after : its.State) (failed : RoundFault)
-      → RoundsStand its plan formula sizes first paths last (Some next) before
-      → IsUnchecked its plan last next before failed.fault after → failed.round ≡ last.number + 1
-      → FailsAfter its plan formula sizes first paths failed after
-  fails_after last next before after failed stands cause number_is = record {
-    last = now stands;
-    before = stands.before;
-    rounds = stands.rounds;
-    number = number_is ∙ ap (λ n. n + 1) stands.number;
-    cause = (
-      next,
-      subst (λ (n : ℕ). CarriesOn n (now stands) next) stands.number (stands.is_found.goes_on next refl),
-      subst (λ (n : ℕ). IsRoundCause its plan n last.sizes next before failed.fault after) stands.number cause,
-    );
-  }
+  pub fails_after : (last : LastRound) (next : Cnf) (before after : its.State) (failed : RoundFault) (folder : Text)
+      → rounds_of given.next ≡ Some folder → Stand last (Some next) before
+      → IsRoundCause its given cube folder failed.round last.sizes next before failed.fault after → failed.round ≡ last.number + 1
+      → FailsAfter its given cube formula first failed after
+  fails_after last next before after failed folder asked stands cause number_is =
+      let on = stands.is_found.goes_on next refl in
+      let both : Some folder ≡ Some on.folder = sym asked ∙ on.asked in
+      let same : folder ≡ on.folder = cc in
+      let Cause : Text → ℕ → Type 0 = λ f n. IsRoundCause its given cube f n last.sizes next before failed.fault after in
+      record {
+        last = now stands;
+        before = stands.before;
+        rounds = stands.rounds;
+        number = number_is;
+        cause = (next, on, subst (Cause on.folder) number_is (subst (λ (f : Text). Cause f failed.round) same cause));
+      }
 
   -- a formula that a round refutes was refuted from the first one on
-  rounds_refute : RefutesBack → (round : Round its plan) (before : List (Round its plan))
-      → AreRounds formula sizes first paths (round ∷ before) → IsUnsatisfiable round.formula → IsUnsatisfiable formula
+  rounds_refute : RefutesBack → (round : Round its given cube) (before : List (Round its given cube))
+      → AreRounds formula first (round ∷ before) → IsUnsatisfiable round.formula → IsUnsatisfiable formula
   rounds_refute law round [] rounds refuted = subst IsUnsatisfiable rounds.formula_is refuted
   rounds_refute law round (b ∷ more) rounds refuted =
-      rounds_refute law b more rounds.1 (law b.formula round.formula (saved_entails _ b round.formula rounds.0.goes_on.saving) refuted)
+      rounds_refute law b more rounds.1
+      (law b.formula round.formula (carried_entails b round.formula rounds.0.goes_on) refuted)
 
-  rounds_refute_under : RefutesBackUnder → (round : Round its plan) (before : List (Round its plan))
-      → AreRounds formula sizes first paths (round ∷ before) → IsUnsatisfiableUnder round.formula plan.cube
-      → IsUnsatisfiableUnder formula plan.cube
-  rounds_refute_under law round [] rounds refuted = subst (λ (f : Cnf). IsUnsatisfiableUnder f plan.cube) rounds.formula_is refuted
+  rounds_refute_under : RefutesBackUnder → (round : Round its given cube) (before : List (Round its given cube))
+      → AreRounds formula first (round ∷ before) → IsUnsatisfiableUnder round.formula cube → IsUnsatisfiableUnder formula cube
+  rounds_refute_under law round [] rounds refuted = subst (λ (f : Cnf). IsUnsatisfiableUnder f cube) rounds.formula_is refuted
   rounds_refute_under law round (b ∷ more) rounds refuted =
       rounds_refute_under law b more rounds.1
-      (law b.formula round.formula plan.cube (saved_entails _ b round.formula rounds.0.goes_on.saving) refuted)
+      (law b.formula round.formula cube (carried_entails b round.formula rounds.0.goes_on) refuted)
 
-  pub ends_sound : RefutesBack → (last : LastRound) (after : its.State) → EndsAt its plan formula sizes first paths last after
+  pub ends_sound : RefutesBack → (last : LastRound) (after : its.State) → EndsAt its given cube formula first last after
       → last.found.verdict ≡ Unsatisfiable → IsUnsatisfiable formula
   ends_sound law last after ends is =
-      rounds_refute law ends.round ends.before ends.rounds
-      (ends.round.checked.sound (ends.verdict ∙ is))
+      rounds_refute law ends.round ends.before ends.rounds (ends.round.checked.sound (sym ends.is.verdict ∙ is))
 
-  pub ends_sound_under : RefutesBackUnder → (last : LastRound) (after : its.State) → EndsAt its plan formula sizes first paths last after
-      → last.found.verdict ≡ UnsatisfiableUnder → IsUnsatisfiableUnder formula plan.cube
+  pub ends_sound_under : RefutesBackUnder → (last : LastRound) (after : its.State) → EndsAt its given cube formula first last after
+      → last.found.verdict ≡ UnsatisfiableUnder → IsUnsatisfiableUnder formula cube
   ends_sound_under law last after ends is =
-      rounds_refute_under law ends.round ends.before ends.rounds
-      (ends.round.checked.sound_under (ends.verdict ∙ is))
+      rounds_refute_under law ends.round ends.before ends.rounds (ends.round.checked.sound_under (sym ends.is.verdict ∙ is))
 
 -- so much is true of streams that were opened behind stream 1
 pub opened_from : {F R : Type 0} (opens : F → Text → R → F → Type 0) (before next after : F) (first : R) (readers others : List R)
@@ -274,10 +252,13 @@ other_words (w ∷ ws) =
     let count : length (w ∷ ws) - 1 ≡ length ws = omega arith in
     ap texts (take_all (length (w ∷ ws) - 1) ws (omega (arith, count)))
 
--- a formula's parameters, by the options and the count that the program has
-pub run_params_same : (f : Cnf) (plan : Plan) (options : OptionsValue) (sizes : Sizes) (count : ℕ) → options ≡ options_by plan.tries sizes
-    → count ≡ sizes.streams → run_params_of options plan.cube f count ≡ run_params_by plan f sizes
-run_params_same f plan options sizes count options_are count_is = ap₂ (λ o n. run_params_of o plan.cube f n) options_are count_is
+-- what a round is checked by, by the options, the cube and the count that the program has
+pub run_params_same : (f : Cnf) (given : CommandLine) (cube other : CubeValue) (options : OptionsValue) (sizes : Sizes) (count : ℕ)
+    → options ≡ options_by given.tries sizes → other ≡ cube → count ≡ sizes.streams
+    → run_params_of options other f count ≡ run_params_by given cube f sizes
+run_params_same f given cube other options sizes count options_are cube_is count_is =
+    ap₂ (λ o n. run_params_of o other f n) options_are count_is
+    ∙ ap (λ c. run_params_of (options_by given.tries sizes) c f sizes.streams) cube_is
 
 -- why there are no sizes, of a file that was opened
 pub sizes_cause : (its : Deeds) (before : its.State) (path : Text) (reader : its.Reader) (after : its.State)
@@ -304,24 +285,35 @@ sizes_cause its before path reader after opened left faults.Sizes (inr (bytes, l
 sizes_cause its before path reader after opened left faults.Memory cause = inr (inr (reader, opened))
 sizes_cause its before path reader after opened left fault cause = absurd cause
 
--- in rounds the path that is created is that of round 2's formula
-created_in_rounds : (next : Next) (folder : Text) → rounds_of next ≡ Some folder → Some (formula_path folder 2) ≡ created_path next
-created_in_rounds Nothing folder asked = absurd (let no : None ≡ Some folder = asked in cc)
-created_in_rounds (Checkpoint path) folder asked = absurd (let no : None ≡ Some folder = asked in cc)
-created_in_rounds (Rounds other) folder asked = ap (option_map (λ at. formula_path at 2)) (sym asked)
+-- why a round doesn't go on, which has no next formula
+pub barred_by : (next : Next) (verdict : Verdict) (unsaved : Option SaveFault) (Ended : Type 0)
+    → ((folder : Text) → rounds_of next ≡ Some folder
+    → (verdict ≡ Unsatisfiable) ⊎ ((fault : SaveFault) × (unsaved ≡ Some fault)))
+    ⊎ ((¬ (verdict ≡ Unknown)) ⊎ (((fault : SaveFault) × (unsaved ≡ Some fault)) ⊎ (¬ Ended)))
+    → (rounds_of next ≡ None) ⊎ ((¬ (verdict ≡ Unknown)) ⊎ (((fault : SaveFault) × (unsaved ≡ Some fault)) ⊎ (¬ Ended)))
+barred_by Nothing verdict unsaved Ended why = inl refl
+barred_by (Checkpoint path) verdict unsaved Ended why = inl refl
+barred_by (Rounds folder) verdict unsaved Ended (inl unless) = elim (unless folder.now refl) [
+  | inl refuted ↦ inr (inl (λ is. let no : Unsatisfiable ≡ Unknown = sym refuted ∙ is in cc))
+  | inr failed ↦ inr (inr (inl failed))
+]
+barred_by (Rounds folder) verdict unsaved Ended (inr why) = inr why
 
--- why round 1, whose streams were opened, has no report, by the words
-pub first_start : (its : Deeds) (plan : Plan) (given : CommandLine) (cube : CubeValue) (folder : Text) (f : Cnf)
-    (readers : List its.Reader) (opened : its.State) → rounds_at given ≡ Some folder → (fault : CommandFault) (after : its.State)
-    → IsRoundStartCause its (plan_at given cube folder) 1 f (sizes_of given) readers opened fault after
-    → IsStartCause its given.serial f (run_params_given given cube f) readers opened (created_at given) fault after
-first_start its plan given cube folder f readers opened asked fault after cause =
-    subst (λ (o : Option Text). IsStartCause its given.serial f (run_params_given given cube f) readers opened o fault after)
-    (created_in_rounds given.next folder asked) cause
+-- the folder of rounds that are asked for
+pub folder_of : (next : Next) → is_some (rounds_of next) ≡ true → (folder : Text) × (rounds_of next ≡ Some folder)
+folder_of Nothing asked = absurd (let no : false ≡ true = asked in cc)
+folder_of (Checkpoint path) asked = absurd (let no : false ≡ true = asked in cc)
+folder_of (Rounds folder) asked = (folder.now, refl)
 
--- why a round doesn't go on, of which nothing was carried
-pub barred_by : (verdict : Verdict) (unsaved : Option SaveFault) (Ended : Type 0)
-    → (verdict ≡ Unsatisfiable) ⊎ ((fault : SaveFault) × (unsaved ≡ Some fault))
-    → (¬ (verdict ≡ Unknown)) ⊎ (((fault : SaveFault) × (unsaved ≡ Some fault)) ⊎ (¬ Ended))
-barred_by verdict unsaved Ended (inl refuted) = inl (λ is. let no : Unsatisfiable ≡ Unknown = sym refuted ∙ is in cc)
-barred_by verdict unsaved Ended (inr failed) = inr (inl failed)
+-- the words ask for no rounds
+pub once_of : (next : Next) → ((folder : Bor Text) → next ≡ Rounds folder → ⊥) → rounds_of next ≡ None
+once_of Nothing other = refl
+once_of (Checkpoint path) other = refl
+once_of (Rounds folder) other = absurd (other folder refl)
+
+-- the path that is created in rounds is lent
+pub lent_some : (path : Option (Bor Text)) (next : Next) (folder : Text) (number : ℕ) → path_of path ≡ created_path next number
+    → rounds_of next ≡ Some folder → is_some path ≡ true
+lent_some None next folder number is asked =
+    absurd (let no : None ≡ Some (formula_path folder (number + 1)) = is ∙ created_in next folder number asked in cc)
+lent_some (Some path) next folder number is asked = refl

@@ -1,7 +1,6 @@
 -- A checkpoint's file, from its creation to its end.
-use Rattle.std.proofs.Common.{◌≡◌, ◌∙◌, Bool, IfOk, IsTrue, List, Option, None, Some, Result, Ok, Err, ap, refl, subst, sym}
+use Rattle.std.proofs.Common.{◌≡◌, ◌∙◌, Bool, IfOk, IsTrue, List, Option, None, Some, Result, Err, subst, sym}
 use Rattle.std.specs.Prelude.{◌↔◌}
-use Rattle.std.specs.Option.{ForSome}
 use Rattle.lrup_model.specs.Event.{History}
 use Rattle.lrup_model.specs.Formula.{Cnf}
 use Rattle.lrup_model.specs.Layout.{LayoutValue}
@@ -18,22 +17,24 @@ use Rattle.checkpoint.specs.Checkpoints.{WritesCheckpoint}
 use Rattle.checkpoint.specs.declared.saving.SaveFault.{SaveFault}
 use Rattle.checkpoint.specs.declared.saving.SaveFault.TheVariants as faults
 use Rattle.command.specs.Commands.{Deeds, ClosesSink, IsLeftUnused, LeavesBehind, SavesCheckpoint, Text}
-use Rattle.command.specs.Rounds.{SavesNext}
 use Rattle.command.specs.internal.Running.{StandsBehind}
-use Rattle.command.specs.internal.Saving.{ClosesCheckpoint, CreatesCheckpoint, DiscardsIt, KeepsNext, SavesAndCloses}
+use Rattle.command.specs.internal.Saving.{ClosesCheckpoint, CreatesCheckpoint, DiscardsIt, SavesAndCloses}
 
 module _ (its : Deeds) (Saves : Result (Option Cnf) SaveFault → its.Output → its.Output → Type 0) where
   -- what was created and closed was left
-  leaves_file : (verdict : Verdict) (before next after : its.State) (path : Text) (first : its.Output) (unsaved : Option SaveFault)
-      → CreatesCheckpoint its before (Some path) (Some first) next → ClosesCheckpoint its Saves verdict next (Some first) unsaved after
-      → LeavesBehind its Saves verdict before (Some path) unsaved after
-  leaves_file Unsatisfiable before next after path first unsaved created closes = (
+  leaves_file : (verdict : Verdict) (before opened after : its.State) (path : Text) (first : its.Output) (unsaved : Option SaveFault)
+      (next : Option Cnf)
+      → CreatesCheckpoint its before (Some path) (Some first) opened
+      → ClosesCheckpoint its Saves verdict opened (Some first) unsaved next after
+      → LeavesBehind its Saves verdict before (Some path) unsaved next after
+  leaves_file Unsatisfiable before opened after path first unsaved next created closes = (
     closes.0,
-    record { output = first; next = next; created = created.0; empty = created.1; discarded = closes.1 },
+    closes.1,
+    record { output = first; next = opened; created = created.0; empty = created.1; discarded = closes.2 },
   )
-  leaves_file UnsatisfiableUnder before next after path first unsaved created closes = record {
+  leaves_file UnsatisfiableUnder before opened after path first unsaved next created closes = record {
     first = first;
-    next = next;
+    opened = opened;
     created = created.0;
     empty = created.1;
     result = closes.result;
@@ -41,9 +42,9 @@ module _ (its : Deeds) (Saves : Result (Option Cnf) SaveFault → its.Output →
     saving = closes.saving;
     closed = closes.closed;
   }
-  leaves_file Unknown before next after path first unsaved created closes = record {
+  leaves_file Unknown before opened after path first unsaved next created closes = record {
     first = first;
-    next = next;
+    opened = opened;
     created = created.0;
     empty = created.1;
     result = closes.result;
@@ -52,15 +53,15 @@ module _ (its : Deeds) (Saves : Result (Option Cnf) SaveFault → its.Output →
     closed = closes.closed;
   }
 
-  pub leaves_behind : (verdict : Verdict) (before next after : its.State) (path : Option Text) (output : Option its.Output)
-      (unsaved : Option SaveFault)
-      → CreatesCheckpoint its before path output next → ClosesCheckpoint its Saves verdict next output unsaved after
-      → LeavesBehind its Saves verdict before path unsaved after
-  leaves_behind verdict before next after None None unsaved created closes = (closes.0, closes.1 ∙ created)
-  leaves_behind verdict before next after None (Some first) unsaved created closes = absurd created
-  leaves_behind verdict before next after (Some path) None unsaved created closes = absurd created
-  leaves_behind verdict before next after (Some path) (Some first) unsaved created closes =
-      leaves_file verdict before next after path first unsaved created closes
+  pub leaves_behind : (verdict : Verdict) (before opened after : its.State) (path : Option Text) (output : Option its.Output)
+      (unsaved : Option SaveFault) (next : Option Cnf)
+      → CreatesCheckpoint its before path output opened → ClosesCheckpoint its Saves verdict opened output unsaved next after
+      → LeavesBehind its Saves verdict before path unsaved next after
+  leaves_behind verdict before opened after None None unsaved next created closes = (closes.0, closes.1, closes.2 ∙ created)
+  leaves_behind verdict before opened after None (Some first) unsaved next created closes = absurd created
+  leaves_behind verdict before opened after (Some path) None unsaved next created closes = absurd created
+  leaves_behind verdict before opened after (Some path) (Some first) unsaved next created closes =
+      leaves_file verdict before opened after path first unsaved next created closes
 
 -- a file that was created and discarded was left unused
 pub left_unused : (its : Deeds) (before next after : its.State) (path : Option Text) (output : Option its.Output)
@@ -86,49 +87,14 @@ module _ (its : Deeds) (f : Cnf) (h : History) (clauses : Clauses) (dropped : Li
   saving = record { checkpoint = checkpoint f h has; exactly = saves f h has; failed = failed }
 
   -- what was saved of what was left, and closed
-  pub saves_and_closes : (unsaved : Option SaveFault) (other : Result (Option Cnf) SaveFault) → result ≡ other
-      → ClosesSink its other before last unsaved after → SavesAndCloses its Saved before first unsaved after
-  saves_and_closes unsaved other same closed = record {
+  pub saves_and_closes : (unsaved : Option SaveFault) (next : Option Cnf) (other : Result (Option Cnf) SaveFault) → result ≡ other
+      → ClosesSink its other before last unsaved next after → SavesAndCloses its Saved before first unsaved next after
+  saves_and_closes unsaved next other same closed = record {
     result = result;
     last = last;
     saving = saving;
-    closed = subst (λ (r : Result (Option Cnf) SaveFault). ClosesSink its r before last unsaved after) (sym same) closed;
+    closed = subst (λ (r : Result (Option Cnf) SaveFault). ClosesSink its r before last unsaved next after) (sym same) closed;
   }
-
-  -- and what the run goes on with
-  pub keeps_next : (next : Option Cnf) → result ≡ Ok next → its.keeps before last after
-      → ForSome next (KeepsNext its Saved before (Some first) after)
-  keeps_next next same kept made is =
-      (last, subst (λ (r : Result (Option Cnf) SaveFault). Saved r first last) (same ∙ ap Ok is) saving, kept)
-
--- what a run goes on with was saved at the path
-pub saves_next : (its : Deeds) (f : Cnf) (layout : LayoutValue) (h : History) (dropped : List DroppedIdsValue)
-    (before mid after : its.State) (path : Option Text) (output : Option its.Output) (next : Cnf)
-    → CreatesCheckpoint its before path output mid
-    → KeepsNext its (SavesCheckpoint its f layout h dropped) mid output after next
-    → (at : Text) × (path ≡ Some at) × SavesNext its f layout h dropped before at next after
-saves_next its f layout h dropped before mid after path None next created keeps = absurd keeps
-saves_next its f layout h dropped before mid after None (Some first) next created keeps = absurd created
-saves_next its f layout h dropped before mid after (Some at) (Some first) next created keeps =
-    let wrote = keeps.1.checkpoint in (
-      at,
-      refl,
-      record {
-        bytes = wrote.bytes;
-        saved = record {
-          first = first;
-          next = mid;
-          created = created.0;
-          empty = created.1;
-          last = keeps.0;
-          wrote = wrote.written;
-          kept = keeps.2;
-        };
-        checkpoint = wrote.checkpoint;
-        next_is = wrote.next_is next refl;
-        exactly = keeps.1.exactly;
-      },
-    )
 
 -- What was saved of what was left was saved of the run: by its layout, and with what its streams dropped.
 pub left_moved : {R : Type 0} {view : SourceView R} {serial : Bool} {f : Cnf} {run_params : RunParamsValue} {firsts : List R}

@@ -1,26 +1,27 @@
 -- What a status says.
-use Rattle.std.proofs.Common.{◌≡◌, ◌∙◌, ◌⊎◌, ℕ, Bool, IsTrue, true, false, List, []}
-use Rattle.std.proofs.Common.{Option, None, Some, Result, Ok, Err, inl, inr, refl, sym, subst}
+use Rattle.std.proofs.Common.{◌≡◌, ◌∙◌, ◌+◌, ◌∷◌, ◌⊎◌, ℕ, Bool, IsTrue, true, false, List, []}
+use Rattle.std.proofs.Common.{Option, None, Some, inl, inr, refl, sym, subst}
 use Rattle.std.specs.Prelude.{◌↔◌}
-use Rattle.std.specs.Io.KnownBytes.{Appends}
-use Rattle.std.specs.Option.{ForSome}
+use Rattle.lrup_model.specs.Cube.{CubeValue}
 use Rattle.lrup_model.specs.Formula.{Cnf}
 use Rattle.lrup_model.specs.declared.layout.LayoutFault.TheVariants as layouts
-use Rattle.stream_check.specs.declared.report.Report.{Report}
 use Rattle.portfolio.specs.declared.outcome.Verdict.{Verdict}
 use Rattle.portfolio.specs.declared.outcome.Verdict.TheVariants.{Unsatisfiable, UnsatisfiableUnder, Unknown}
 use Rattle.checkpoint.specs.Checkpoints.{IsCheckpoint}
 use Rattle.checkpoint.specs.declared.saving.SaveFault.{SaveFault}
-use Rattle.command_line.specs.CommandLine.{AskToSave}
-use Rattle.command_line.specs.lemmas.NextLemmas.{asks_for_one}
-use Rattle.command.specs.Commands.{CheckpointEntailed, CheckpointLeftEmpty, ClosesSink, ComesLast, Deeds, EndsWithFault}
-use Rattle.command.specs.Commands.{EndsWithReport, FilesView, IsAssumeCause, IsCause, IsOutcome, LeavesBehind, LeavesFile}
-use Rattle.command.specs.Commands.{SavesCheckpoint, SinkChange, Text, WasReadIn, WasSavedBy}
-use Rattle.command.specs.Commands.{assumed_at, checkpoint_at, layout_at, report_status}
+use Rattle.command_line.specs.CommandLine.{AskToSave, IsCommandLineOf, checkpoint_of, rounds_of}
+use Rattle.command_line.specs.declared.words.CommandLine.{CommandLine}
+use Rattle.command_line.specs.declared.words.Next.{Next}
+use Rattle.command_line.specs.declared.words.Next.TheVariants.{Checkpoint, Nothing, Rounds}
+use Rattle.command.specs.Commands.{CheckpointEntailed, CheckpointLeftEmpty, ComesLast, Deeds, FilesView, IsAssumeCause, IsCause}
+use Rattle.command.specs.Commands.{IsLeftEmpty, LeavesBehind, SavesCheckpoint, SinkChange, Text, WasReadIn, WasSavedBy}
+use Rattle.command.specs.Commands.{assumed_at, created_path, report_status, run_params_by}
 use Rattle.command.specs.Faults.{status_of}
+use Rattle.command.specs.Rounds.{AreRounds, CarriesOn, EndsWithFault, EndsWithReport, IsCauseIn, IsFirst, IsNextCause, ProgramEnds}
+use Rattle.command.specs.Rounds.{Round, RoundsEnd}
 use Rattle.command.specs.declared.fault.CommandFault.{CommandFault}
 use Rattle.command.specs.declared.fault.CommandFault.TheVariants as faults
-use Rattle.command.specs.Rounds.{EndsInRounds, IsNextCause, Plan, ProgramEnds, Round}
+use Rattle.command.proofs.SavedLemmas.{kept}
 
 -- the verdict of a report with this status
 pub zero_is : (failed : Bool) (unsaved : Option SaveFault) (verdict : Verdict) → report_status failed unsaved verdict ≡ 0
@@ -50,257 +51,236 @@ has_7 : (failed : Bool) (unsaved : Option SaveFault) (verdict : Verdict) → IsT
 has_7 true unsaved verdict is = refl
 has_7 false unsaved verdict is = absurd (let no : false ≡ true = is in cc)
 
--- only the fault of the report's writing has status 7
-seven_is : (fault : CommandFault) → status_of fault ≡ 7 → fault ≡ faults.Unwritten
-seven_is (faults.Usage text) is = absurd (let no : Path ℕ 2 7 = is in cc)
-seven_is faults.Unread is = absurd (let no : Path ℕ 5 7 = is in cc)
-seven_is (faults.Refused fault) is = absurd (let no : Path ℕ 4 7 = is in cc)
-seven_is faults.CubeUnread is = absurd (let no : Path ℕ 5 7 = is in cc)
-seven_is (faults.CubeRefused fault) is = absurd (let no : Path ℕ 4 7 = is in cc)
-seven_is (faults.NotOpened stream) is = absurd (let no : Path ℕ 5 7 = is in cc)
-seven_is (faults.Layout layouts.TooManyVariables) is = absurd (let no : Path ℕ 4 7 = is in cc)
-seven_is (faults.Layout layouts.TooManyClauses) is = absurd (let no : Path ℕ 4 7 = is in cc)
-seven_is (faults.Layout layouts.BadStreamCount) is = absurd (let no : Path ℕ 2 7 = is in cc)
-seven_is (faults.Layout layouts.RowTooLong) is = absurd (let no : Path ℕ 2 7 = is in cc)
-seven_is (faults.Spawn stream) is = absurd (let no : Path ℕ 6 7 = is in cc)
-seven_is (faults.Ring stream) is = absurd (let no : Path ℕ 6 7 = is in cc)
-seven_is faults.Memory is = absurd (let no : Path ℕ 6 7 = is in cc)
-seven_is faults.Unwritten is = refl
-seven_is faults.NotCreated is = absurd (let no : Path ℕ 5 7 = is in cc)
-seven_is (faults.NotSaved fault) is = absurd (let no : Path ℕ 9 7 = is in cc)
-seven_is faults.TwoCheckpoints is = absurd (let no : Path ℕ 2 7 = is in cc)
-seven_is faults.SizesUnread is = absurd (let no : Path ℕ 5 7 = is in cc)
-seven_is faults.Sizes is = absurd (let no : Path ℕ 2 7 = is in cc)
-
-module _ (files : FilesView) where
-  never_assumed : (vars : ℕ) (before : files.its.State) (path : Option Text) (after : files.its.State)
-      → IsAssumeCause files vars before path faults.Unwritten after → ⊥
-  never_assumed vars before None after cause = cause
-  never_assumed vars before (Some path) after cause = cause
-
-  -- no cause is one of the writing of a report
-  never_unwritten : (words : List Text) (after : files.its.State) → IsCause files words faults.Unwritten after → ⊥
-  never_unwritten words after cause = elim cause.2 [
-    | inl read ↦ read
-    | inr later ↦ elim later.3 [
-      | inl assume ↦ never_assumed later.0.vars later.1 (assumed_at cause.0) after assume
-      | inr last ↦ elim last.3 [ inl opens ↦ opens | inr start ↦ start.4 ]
-    ]
-  ]
-
-  not_7 : (words : List Text) (fault : CommandFault) (after : files.its.State) → IsCause files words fault after → status_of fault ≡ 7 → ⊥
-  not_7 words fault after cause is =
-      never_unwritten words after (subst (λ (f : CommandFault). IsCause files words f after) (seven_is fault is) cause)
-
--- however the program ends, its status is 7 exactly where the sink failed
-pub ends_unwritten : (files : FilesView) (words : List Text) (after : files.its.State) (out err : SinkChange) (status : ℕ)
-    → EndsWithReport files words after out err status ⊎ EndsWithFault files words after out err status → IsTrue out.failed ↔ (status ≡ 7)
-ends_unwritten files words after out err status (inl report) = (
-  (λ failed. report.status_is ∙ has_7 out.failed report.unsaved report.verdict failed),
-  (λ seven. written out.failed report.unsaved report.verdict (sym report.status_is ∙ seven)),
-)
-ends_unwritten files words after out err status (inr fault) = (
-  (λ failed. absurd (let no : false ≡ true = sym fault.untouched.failed ∙ failed in cc)),
-  (λ seven. absurd (not_7 files words fault.fault after fault.cause (sym fault.status_is ∙ seven))),
-)
-
--- With status 3 or 8 a checkpoint that was asked for was saved.
-
 neither : (n : ℕ) → (n ≡ 3 → ⊥) → (n ≡ 8 → ⊥) → (n ≡ 3) ⊎ (n ≡ 8) → ⊥
 neither n not_3 not_8 (inl three) = not_3 three
 neither n not_3 not_8 (inr eight) = not_8 eight
 
-pub no_fault : (fault : CommandFault) → (status_of fault ≡ 3) ⊎ (status_of fault ≡ 8) → ⊥
-no_fault (faults.Usage text) is = neither 2 (λ e. cc) (λ e. cc) is
-no_fault faults.Unread is = neither 5 (λ e. cc) (λ e. cc) is
-no_fault (faults.Refused fault) is = neither 4 (λ e. cc) (λ e. cc) is
-no_fault faults.CubeUnread is = neither 5 (λ e. cc) (λ e. cc) is
-no_fault (faults.CubeRefused fault) is = neither 4 (λ e. cc) (λ e. cc) is
-no_fault (faults.NotOpened stream) is = neither 5 (λ e. cc) (λ e. cc) is
-no_fault (faults.Layout layouts.TooManyVariables) is = neither 4 (λ e. cc) (λ e. cc) is
-no_fault (faults.Layout layouts.TooManyClauses) is = neither 4 (λ e. cc) (λ e. cc) is
-no_fault (faults.Layout layouts.BadStreamCount) is = neither 2 (λ e. cc) (λ e. cc) is
-no_fault (faults.Layout layouts.RowTooLong) is = neither 2 (λ e. cc) (λ e. cc) is
-no_fault (faults.Spawn stream) is = neither 6 (λ e. cc) (λ e. cc) is
-no_fault (faults.Ring stream) is = neither 6 (λ e. cc) (λ e. cc) is
-no_fault faults.Memory is = neither 6 (λ e. cc) (λ e. cc) is
-no_fault faults.Unwritten is = neither 7 (λ e. cc) (λ e. cc) is
-no_fault faults.NotCreated is = neither 5 (λ e. cc) (λ e. cc) is
-no_fault (faults.NotSaved fault) is = neither 9 (λ e. cc) (λ e. cc) is
-no_fault faults.TwoCheckpoints is = neither 2 (λ e. cc) (λ e. cc) is
-no_fault faults.SizesUnread is = neither 5 (λ e. cc) (λ e. cc) is
-no_fault faults.Sizes is = neither 2 (λ e. cc) (λ e. cc) is
+-- a report with this status was written, and its checkpoint was saved
+pub open_is : (failed : Bool) (unsaved : Option SaveFault) (verdict : Verdict)
+    → (report_status failed unsaved verdict ≡ 3) ⊎ (report_status failed unsaved verdict ≡ 8)
+    → (unsaved ≡ None) × (verdict ≡ Unsatisfiable → ⊥)
+open_is true unsaved verdict is = absurd (neither 7 (λ e. cc) (λ e. cc) is)
+open_is false (Some fault) verdict is = absurd (neither 9 (λ e. cc) (λ e. cc) is)
+open_is false None Unsatisfiable is = absurd (neither 0 (λ e. cc) (λ e. cc) is)
+open_is false None UnsatisfiableUnder is = (refl, λ no. let never : UnsatisfiableUnder ≡ Unsatisfiable = no in cc)
+open_is false None Unknown is = (refl, λ no. let never : Unknown ≡ Unsatisfiable = no in cc)
 
--- what was closed without a fault was saved
-module _ (its : Deeds) (Saves : Result (Option Cnf) SaveFault → its.Output → its.Output → Type 0) (f : Cnf)
-    (saves : (value : Option Cnf) (first last : its.Output) → Saves (Ok value) first last
-    → (bytes : List ℕ) × Appends (its.written first) (its.written last) bytes × IsCheckpoint f bytes) where
-  saved_of : (before next after : its.State) (path : Text) (result : Result (Option Cnf) SaveFault) (first last : its.Output)
-      → its.creates before path first next → ForSome (its.written first) (λ all. all ≡ [])
-      → Saves result first last → ClosesSink its result next last None after
-      → (bytes : List ℕ) × WasSavedBy its before path bytes after × IsCheckpoint f bytes
-  saved_of before next after path (Ok value) first last created empty saving closed =
-      let wrote = saves value first last saving in (
-        wrote.0,
-        record { first = first; next = next; created = created; empty = empty; last = last; wrote = wrote.1; kept = closed },
-        wrote.2,
-      )
-  saved_of before next after path (Err fault) first last created empty saving closed =
-      absurd (let no : None ≡ Some fault = closed.0 in cc)
+-- ---- the status of a fault
 
-  file_saved : (path : Text) (before after : its.State) → LeavesFile its Saves before path None after
-      → (bytes : List ℕ) × WasSavedBy its before path bytes after × IsCheckpoint f bytes
-  file_saved path before after leaves =
-      saved_of before leaves.next after path leaves.result leaves.first leaves.last leaves.created leaves.empty leaves.saving leaves.closed
+-- what holds of each status holds of that of a fault
+by_status : (P : CommandFault → ℕ → Type 0) → ((n : ℕ) (f : CommandFault) → (n ≡ 2) ⊎ ((n ≡ 4) ⊎ ((n ≡ 5) ⊎ (n ≡ 6))) → P f n)
+    → P faults.Unwritten 7 → ((unsaved : SaveFault) → P (faults.NotSaved unsaved) 9) → (fault : CommandFault) → P fault (status_of fault)
+by_status P low seven nine (faults.Usage text) = low 2 _ (inl refl)
+by_status P low seven nine faults.Unread = low 5 _ (inr (inr (inl refl)))
+by_status P low seven nine (faults.Refused fault) = low 4 _ (inr (inl refl))
+by_status P low seven nine faults.CubeUnread = low 5 _ (inr (inr (inl refl)))
+by_status P low seven nine (faults.CubeRefused fault) = low 4 _ (inr (inl refl))
+by_status P low seven nine (faults.NotOpened stream) = low 5 _ (inr (inr (inl refl)))
+by_status P low seven nine (faults.Layout layouts.TooManyVariables) = low 4 _ (inr (inl refl))
+by_status P low seven nine (faults.Layout layouts.TooManyClauses) = low 4 _ (inr (inl refl))
+by_status P low seven nine (faults.Layout layouts.BadStreamCount) = low 2 _ (inl refl)
+by_status P low seven nine (faults.Layout layouts.RowTooLong) = low 2 _ (inl refl)
+by_status P low seven nine (faults.Spawn stream) = low 6 _ (inr (inr (inr refl)))
+by_status P low seven nine (faults.Ring stream) = low 6 _ (inr (inr (inr refl)))
+by_status P low seven nine faults.Memory = low 6 _ (inr (inr (inr refl)))
+by_status P low seven nine faults.Unwritten = seven
+by_status P low seven nine faults.NotCreated = low 5 _ (inr (inr (inl refl)))
+by_status P low seven nine (faults.NotSaved fault) = nine fault
+by_status P low seven nine faults.TwoCheckpoints = low 2 _ (inl refl)
+by_status P low seven nine faults.SizesUnread = low 5 _ (inr (inr (inl refl)))
+by_status P low seven nine faults.Sizes = low 2 _ (inl refl)
 
-  pub leaves_saved : (failed : Bool) (unsaved : Option SaveFault) (verdict : Verdict) (path : Text) (before after : its.State)
-      → (report_status failed unsaved verdict ≡ 3) ⊎ (report_status failed unsaved verdict ≡ 8)
-      → LeavesBehind its Saves verdict before (Some path) unsaved after
-      → (bytes : List ℕ) × WasSavedBy its before path bytes after × IsCheckpoint f bytes
-  leaves_saved true unsaved verdict path before after is leaves = absurd (neither 7 (λ e. cc) (λ e. cc) is)
-  leaves_saved false (Some fault) verdict path before after is leaves = absurd (neither 9 (λ e. cc) (λ e. cc) is)
-  leaves_saved false None Unsatisfiable path before after is leaves = absurd (neither 0 (λ e. cc) (λ e. cc) is)
-  leaves_saved false None UnsatisfiableUnder path before after is leaves = file_saved path before after leaves
-  leaves_saved false None Unknown path before after is leaves = file_saved path before after leaves
+abbrev IsLow : ℕ → Type 0
+IsLow n = (n ≡ 2) ⊎ ((n ≡ 4) ⊎ ((n ≡ 5) ⊎ (n ≡ 6)))
 
-module _ (files : FilesView) where
-  abbrev Saves : (words : List Text) (reports : List Report) (verdict : Verdict) → IsOutcome files words reports verdict
-      → Result (Option Cnf) SaveFault → files.its.Output → files.its.Output → Type 0
-  Saves words reports verdict outcome =
-      SavesCheckpoint files.its outcome.formula (layout_at outcome.given outcome.formula) outcome.checked.ran.run.history
-      outcome.checked.dropped
+low_not_7 : (n : ℕ) → IsLow n → n ≡ 7 → ⊥
+low_not_7 n (inl two) is = let no : Path ℕ 2 7 = sym two ∙ is in cc
+low_not_7 n (inr (inl four)) is = let no : Path ℕ 4 7 = sym four ∙ is in cc
+low_not_7 n (inr (inr (inl five))) is = let no : Path ℕ 5 7 = sym five ∙ is in cc
+low_not_7 n (inr (inr (inr six))) is = let no : Path ℕ 6 7 = sym six ∙ is in cc
 
-  -- what was left at the path that is asked for
-  left_at : (words : List Text) (after : files.its.State) (out err : SinkChange) (status : ℕ)
-      → (report : EndsWithReport files words after out err status) → (path : Text) → AskToSave words path
-      → LeavesBehind files.its (Saves words report.reports report.verdict report.outcome) report.verdict report.outcome.last (Some path)
-      report.unsaved after
-  left_at words after out err status report path ask =
-      let outcome = report.outcome in
-      let asked : checkpoint_at outcome.given ≡ Some path = outcome.command_line.said.checkpoint ∙ ask.path_is in
-      subst (λ (o : Option Text). LeavesBehind files.its (Saves words report.reports report.verdict outcome) report.verdict outcome.last o
-      report.unsaved after) asked report.checkpoint
+-- the statuses of a report that was written
+abbrev pub IsOfReport : ℕ → Type 0
+IsOfReport status = (status ≡ 0) ⊎ ((status ≡ 3) ⊎ ((status ≡ 8) ⊎ (status ≡ 9)))
 
-  -- what was done after the streams were opened
-  comes_last : (words : List Text) (reports : List Report) (verdict : Verdict) (outcome : IsOutcome files words reports verdict)
-      (Came : Cnf → files.its.State → files.its.State → Type 0) (after : files.its.State) → Came outcome.formula outcome.last after
-      → ComesLast files.its.opens (WasReadIn files) Came files.first words after
-  comes_last words reports verdict outcome Came after came = record {
-    given = outcome.given;
-    command_line = outcome.command_line;
-    bytes = outcome.is_formula.0;
-    formula = outcome.formula;
-    next = outcome.next;
-    read = outcome.is_formula.1;
-    is_text = outcome.is_formula.2;
-    cube = outcome.cube;
-    later = outcome.later;
-    assumed = outcome.assumed;
-    readers = outcome.readers;
-    before = outcome.last;
-    opened = outcome.opened;
-    came = came;
-  }
+not_of_report : (n : ℕ) → (n ≡ 0 → ⊥) → (n ≡ 3 → ⊥) → (n ≡ 8 → ⊥) → (n ≡ 9 → ⊥) → IsOfReport n → ⊥
+not_of_report n not_0 not_3 not_8 not_9 (inl is) = not_0 is
+not_of_report n not_0 not_3 not_8 not_9 (inr (inl is)) = not_3 is
+not_of_report n not_0 not_3 not_8 not_9 (inr (inr (inl is))) = not_8 is
+not_of_report n not_0 not_3 not_8 not_9 (inr (inr (inr is))) = not_9 is
 
-  pub ends_saved : (words : List Text) (after : files.its.State) (out err : SinkChange) (status : ℕ)
-      → EndsWithReport files words after out err status ⊎ EndsWithFault files words after out err status
-      → CheckpointEntailed files.its.opens (WasReadIn files) (WasSavedBy files.its) files.first words after status
-  ends_saved words after out err status (inl report) path ask is =
-      let outcome = report.outcome in
-      let leaves = left_at words after out err status report path ask in
-      let statuses = subst (λ (n : ℕ). (n ≡ 3) ⊎ (n ≡ 8)) report.status_is is in
-      let saved = leaves_saved files.its (Saves words report.reports report.verdict outcome) outcome.formula
-      (λ next first last saves. (saves.checkpoint.bytes, saves.checkpoint.written, saves.checkpoint.checkpoint)) out.failed report.unsaved
-      report.verdict path outcome.last after statuses leaves in
-      comes_last words report.reports report.verdict outcome _ after saved
-  ends_saved words after out err status (inr fault) path ask is =
-      absurd (no_fault fault.fault (subst (λ (n : ℕ). (n ≡ 3) ⊎ (n ≡ 8)) fault.status_is is))
+low_unreported : (n : ℕ) → IsLow n → IsOfReport n → ⊥
+low_unreported n (inl two) is = not_of_report 2 (λ e. cc) (λ e. cc) (λ e. cc) (λ e. cc) (subst IsOfReport two is)
+low_unreported n (inr (inl four)) is = not_of_report 4 (λ e. cc) (λ e. cc) (λ e. cc) (λ e. cc) (subst IsOfReport four is)
+low_unreported n (inr (inr (inl five))) is = not_of_report 5 (λ e. cc) (λ e. cc) (λ e. cc) (λ e. cc) (subst IsOfReport five is)
+low_unreported n (inr (inr (inr six))) is = not_of_report 6 (λ e. cc) (λ e. cc) (λ e. cc) (λ e. cc) (subst IsOfReport six is)
 
--- With status 0 none was written.
+-- only the fault of the report's writing has status 7
+seven_is : (fault : CommandFault) → status_of fault ≡ 7 → fault ≡ faults.Unwritten
+seven_is fault =
+    by_status (λ f n. n ≡ 7 → f ≡ faults.Unwritten) (λ n f low is. absurd (low_not_7 n low is)) (λ is. refl)
+    (λ unsaved is. absurd (let no : Path ℕ 9 7 = is in cc)) fault
 
-pub no_zero : (fault : CommandFault) → status_of fault ≡ 0 → ⊥
-no_zero (faults.Usage text) is = let no : Path ℕ 2 0 = is in cc
-no_zero faults.Unread is = let no : Path ℕ 5 0 = is in cc
-no_zero (faults.Refused fault) is = let no : Path ℕ 4 0 = is in cc
-no_zero faults.CubeUnread is = let no : Path ℕ 5 0 = is in cc
-no_zero (faults.CubeRefused fault) is = let no : Path ℕ 4 0 = is in cc
-no_zero (faults.NotOpened stream) is = let no : Path ℕ 5 0 = is in cc
-no_zero (faults.Layout layouts.TooManyVariables) is = let no : Path ℕ 4 0 = is in cc
-no_zero (faults.Layout layouts.TooManyClauses) is = let no : Path ℕ 4 0 = is in cc
-no_zero (faults.Layout layouts.BadStreamCount) is = let no : Path ℕ 2 0 = is in cc
-no_zero (faults.Layout layouts.RowTooLong) is = let no : Path ℕ 2 0 = is in cc
-no_zero (faults.Spawn stream) is = let no : Path ℕ 6 0 = is in cc
-no_zero (faults.Ring stream) is = let no : Path ℕ 6 0 = is in cc
-no_zero faults.Memory is = let no : Path ℕ 6 0 = is in cc
-no_zero faults.Unwritten is = let no : Path ℕ 7 0 = is in cc
-no_zero faults.NotCreated is = let no : Path ℕ 5 0 = is in cc
-no_zero (faults.NotSaved fault) is = let no : Path ℕ 9 0 = is in cc
-no_zero faults.TwoCheckpoints is = let no : Path ℕ 2 0 = is in cc
-no_zero faults.SizesUnread is = let no : Path ℕ 5 0 = is in cc
-no_zero faults.Sizes is = let no : Path ℕ 2 0 = is in cc
+-- and only that of a checkpoint that wasn't saved has one of a report
+unsaved_is : (fault : CommandFault) → IsOfReport (status_of fault) → (unsaved : SaveFault) × (fault ≡ faults.NotSaved unsaved)
+unsaved_is fault =
+    by_status (λ f n. IsOfReport n → (unsaved : SaveFault) × (f ≡ faults.NotSaved unsaved))
+    (λ n f low is. absurd (low_unreported n low is))
+    (λ is. absurd (not_of_report 7 (λ e. cc) (λ e. cc) (λ e. cc) (λ e. cc) is)) (λ unsaved is. (unsaved, refl)) fault
 
-pub ends_empty : (files : FilesView) (words : List Text) (after : files.its.State) (out err : SinkChange) (status : ℕ)
-    → EndsWithReport files words after out err status ⊎ EndsWithFault files words after out err status
-    → CheckpointLeftEmpty files words after status
-ends_empty files words after out err status (inl report) path ask is =
-    let outcome = report.outcome in
-    let refuted = zero_is out.failed report.unsaved report.verdict (sym report.status_is ∙ is) in
-    let leaves = left_at files words after out err status report path ask in
-    let left = subst (λ (verdict : Verdict). LeavesBehind files.its (Saves files words report.reports report.verdict outcome) verdict
-    outcome.last (Some path) report.unsaved after) refuted leaves in
-    comes_last files words report.reports report.verdict outcome _ after left.1
-ends_empty files words after out err status (inr fault) path ask is = absurd (no_zero fault.fault (sym fault.status_is ∙ is))
+-- neither is a cause of a round without a report
+module _ (files : FilesView) (words : List Text) (after : files.its.State) where
+  unassumed : (vars : ℕ) (before : files.its.State) (path : Option Text) → IsAssumeCause files vars before path faults.Unwritten after
+      → ⊥
+  unassumed vars before None cause = cause
+  unassumed vars before (Some path) cause = cause
 
--- ---- the same, where the program may end in rounds
-
-module _ {its : Deeds} {plan : Plan} (number : ℕ) (last : Round its plan) (after : its.State) where
-  -- no cause of a round is one of the writing of a report
-  never_next : IsNextCause number last faults.Unwritten after → ⊥
-  never_next (next, on, inl sizes) = sizes
-  never_next (next, on, inr (sizes, sized, are, inl (inl first))) = first
-  never_next (next, on, inr (sizes, sized, are, inl (inr others))) = others.3
-  never_next (next, on, inr (sizes, sized, are, inr (readers, opened, were, start))) = start
-
-  next_not_7 : (fault : CommandFault) → IsNextCause number last fault after → status_of fault ≡ 7 → ⊥
-  next_not_7 fault cause is =
-      never_next (subst (λ (f : CommandFault). IsNextCause number last f after) (seven_is fault is) cause)
-
-module _ (files : FilesView) (words : List Text) where
-  in_rounds_unwritten : (after : files.its.State) (out err : SinkChange) (status : ℕ) → EndsInRounds files words after out err status
-      → IsTrue out.failed ↔ (status ≡ 7)
-  in_rounds_unwritten after out err status ends = elim ends.ending [
-    | inl report ↦ (
-      (λ failed. report.status_is ∙ has_7 out.failed report.last.unsaved report.last.verdict failed),
-      (λ seven. written out.failed report.last.unsaved report.last.verdict (sym report.status_is ∙ seven)),
-    )
-    | inr fails ↦ (
-      (λ failed. absurd (let no : false ≡ true = sym fails.untouched.failed ∙ failed in cc)),
-      (λ seven. absurd (next_not_7 _ fails.last after fails.fault fails.cause (sym fails.status_is ∙ seven))),
-    )
+  never_unwritten : (number : ℕ) → IsCauseIn files words number faults.Unwritten after → ⊥
+  never_unwritten number (inl (one, cause)) = elim cause.2 [
+    | inl read ↦ read
+    | inr later ↦ elim later.3 [
+      | inl assume ↦ unassumed later.0.vars later.1 (assumed_at cause.0) assume
+      | inr last ↦ elim last.3 [ inl opens ↦ opens | inr start ↦ start.4 ]
+    ]
+  ]
+  never_unwritten number (inr fails) = elim fails.cause.2 [
+    | inl sizes ↦ sizes
+    | inr sized ↦ elim sized.3 [
+      | inl opens ↦ elim opens [ inl first ↦ first | inr others ↦ others.3 ]
+      | inr start ↦ start.3
+    ]
   ]
 
-  pub all_unwritten : (after : files.its.State) (out err : SinkChange) (status : ℕ) → ProgramEnds files words after out err status
-      → IsTrue out.failed ↔ (status ≡ 7)
-  all_unwritten after out err status (inl report) = ends_unwritten files words after out err status (inl report.0)
-  all_unwritten after out err status (inr (inl fault)) = ends_unwritten files words after out err status (inr fault)
-  all_unwritten after out err status (inr (inr rounds)) = in_rounds_unwritten after out err status rounds
+  unassumed_9 : (unsaved : SaveFault) (vars : ℕ) (before : files.its.State) (path : Option Text)
+      → IsAssumeCause files vars before path (faults.NotSaved unsaved) after → ⊥
+  unassumed_9 unsaved vars before None cause = cause
+  unassumed_9 unsaved vars before (Some path) cause = cause
 
-  -- there are no rounds beside a checkpoint that is asked for
-  not_both : (after : files.its.State) (out err : SinkChange) (status : ℕ) (path : Text) → AskToSave words path
-      → EndsInRounds files words after out err status → ⊥
-  not_both after out err status path ask ends =
-      let line = ends.command_line in
-      asks_for_one words ends.given line
-      (path, ends.folder, ask, record { good = line.good; folder_is = sym line.said.rounds ∙ ends.asked })
+  never_unsaved : (unsaved : SaveFault) (number : ℕ) → IsCauseIn files words number (faults.NotSaved unsaved) after → ⊥
+  never_unsaved unsaved number (inl (one, cause)) = elim cause.2 [
+    | inl read ↦ read
+    | inr later ↦ elim later.3 [
+      | inl assume ↦ unassumed_9 unsaved later.0.vars later.1 (assumed_at cause.0) assume
+      | inr last ↦ elim last.3 [ inl opens ↦ opens | inr start ↦ start.4 ]
+    ]
+  ]
+  never_unsaved unsaved number (inr fails) = elim fails.cause.2 [
+    | inl sizes ↦ sizes
+    | inr sized ↦ elim sized.3 [
+      | inl opens ↦ elim opens [ inl first ↦ first | inr others ↦ others.3 ]
+      | inr start ↦ start.3
+    ]
+  ]
 
-  pub all_saved : (after : files.its.State) (out err : SinkChange) (status : ℕ) → ProgramEnds files words after out err status
+module _ (files : FilesView) (words : List Text) (after : files.its.State) (out err : SinkChange) (status : ℕ) where
+  -- so the program doesn't end with such a status without a report
+  pub never_reported : EndsWithFault files words after out err status → IsOfReport status → ⊥
+  never_reported ends is =
+      let fault = unsaved_is ends.fault (subst IsOfReport ends.status_is is) in
+      never_unsaved files words after fault.0 ends.number
+      (subst (λ (f : CommandFault). IsCauseIn files words ends.number f after) fault.1 ends.cause)
+
+  not_7 : EndsWithFault files words after out err status → status ≡ 7 → ⊥
+  not_7 ends is =
+      never_unwritten files words after ends.number (subst (λ (f : CommandFault). IsCauseIn files words ends.number f after)
+      (seven_is ends.fault (sym ends.status_is ∙ is)) ends.cause)
+
+  -- however the program ends, its status is 7 exactly where the sink failed
+  pub all_unwritten : ProgramEnds files words after out err status → IsTrue out.failed ↔ (status ≡ 7)
+  all_unwritten (inl report) = (
+    (λ failed. report.status_is ∙ has_7 out.failed report.last.unsaved report.last.verdict failed),
+    (λ seven. written out.failed report.last.unsaved report.last.verdict (sym report.status_is ∙ seven)),
+  )
+  all_unwritten (inr fault) = (
+    (λ failed. absurd (let no : false ≡ true = sym fault.untouched.failed ∙ failed in cc)),
+    (λ seven. absurd (not_7 fault seven)),
+  )
+
+-- ---- words that ask for a checkpoint
+
+asks_to_save : (next : Next) (path : Text) (number : ℕ) → checkpoint_of next ≡ Some path
+    → (rounds_of next ≡ None) × (created_path next number ≡ Some path)
+asks_to_save Nothing path number is = absurd (let no : None ≡ Some path = is in cc)
+asks_to_save (Checkpoint other) path number is = (refl, is)
+asks_to_save (Rounds folder) path number is = absurd (let no : None ≡ Some path = is in cc)
+
+module _ {its : Deeds} {given : CommandLine} {cube : CubeValue} (once : rounds_of given.next ≡ None) where
+  -- no round goes on
+  never_on : (round : Round its given cube) (next : Cnf) → CarriesOn round next → ⊥
+  never_on round next on = let no : None ≡ Some on.folder = sym once ∙ on.asked in cc
+
+  -- so there is one
+  is_first : (formula : Cnf) (first : its.State) (last : Round its given cube) (before : List (Round its given cube))
+      → AreRounds formula first (last ∷ before) → IsFirst formula first last
+  is_first formula first last [] rounds = rounds
+  is_first formula first last (b ∷ more) rounds = absurd (never_on b last.formula rounds.0.goes_on)
+
+  is_over : (last : Round its given cube) (after : its.State) → RoundsEnd last after → after ≡ last.after
+  is_over last after (inl (barred, same)) = same
+  is_over last after (inr (next, on, end)) = absurd (never_on last next on)
+
+module _ (files : FilesView) (words : List Text) (after : files.its.State) (out err : SinkChange) (status : ℕ)
+    (report : EndsWithReport files words after out err status) (path : Text) (ask : AskToSave words path) where
+  abbrev last : Round files.its report.given report.cube
+  last = report.last
+
+  asked : (rounds_of report.given.next ≡ None) × (created_path report.given.next last.number ≡ Some path)
+  asked = asks_to_save report.given.next path last.number (report.command_line.said.checkpoint ∙ ask.path_is)
+
+  -- what was done last
+  comes_last : (Came : Cnf → files.its.State → files.its.State → Type 0) → Came last.formula last.opened last.after
+      → ComesLast files.its.opens (WasReadIn files) Came files.first words after
+  comes_last Came came =
+      let were = report.were in
+      let first = is_first asked.0 were.formula were.later last report.before were.rounds in
+      record {
+        given = report.given;
+        command_line = report.command_line;
+        bytes = were.is_formula.0;
+        formula = were.formula;
+        next = were.next;
+        read = were.is_formula.1;
+        is_text = were.is_formula.2;
+        cube = report.cube;
+        later = were.later;
+        assumed = were.assumed;
+        readers = last.readers;
+        before = last.opened;
+        opened = first.opened.opened;
+        came = subst (λ (f : Cnf). Came f last.opened after) first.formula_is
+            (subst (λ (s : files.its.State). Came last.formula last.opened s) (sym (is_over asked.0 last after report.over)) came);
+      }
+
+  pub report_saved : (status ≡ 3) ⊎ (status ≡ 8)
+      → ComesLast files.its.opens (WasReadIn files) (λ formula before after. (saved : List ℕ)
+      × WasSavedBy files.its before path saved after × IsCheckpoint formula saved) files.first words after
+  report_saved is =
+      let unrefuted = open_is out.failed last.unsaved last.verdict (subst (λ (n : ℕ). (n ≡ 3) ⊎ (n ≡ 8)) report.status_is is) in
+      let at = kept last path asked.1 unrefuted.1 unrefuted.0 in
+      comes_last _ (at.bytes, at.saved, at.checkpoint)
+
+  pub report_empty : status ≡ 0
+      → ComesLast files.its.opens (WasReadIn files) (λ formula before after.
+      IsLeftEmpty files.its.creates files.its.written files.its.discards before path after) files.first words after
+  report_empty is =
+      let refuted = zero_is out.failed last.unsaved last.verdict (sym report.status_is ∙ is) in
+      let Saves = SavesCheckpoint files.its last.formula (run_params_by report.given report.cube last.formula last.sizes).layout
+      last.checked.ran.run.history last.checked.dropped in
+      let left = subst (λ (o : Option Text). LeavesBehind files.its Saves last.verdict last.opened o last.unsaved last.next last.after)
+      asked.1 last.leaves in
+      let empty = subst (λ (v : Verdict). LeavesBehind files.its Saves v last.opened (Some path) last.unsaved last.next last.after)
+      refuted left in
+      comes_last _ empty.2
+
+module _ (files : FilesView) (words : List Text) (after : files.its.State) (out err : SinkChange) (status : ℕ) where
+  -- with status 3 or 8 it was saved
+  pub all_saved : ProgramEnds files words after out err status
       → CheckpointEntailed files.its.opens (WasReadIn files) (WasSavedBy files.its) files.first words after status
-  all_saved after out err status (inl report) path ask is = ends_saved files words after out err status (inl report.0) path ask is
-  all_saved after out err status (inr (inl fault)) path ask is = ends_saved files words after out err status (inr fault) path ask is
-  all_saved after out err status (inr (inr rounds)) path ask is = absurd (not_both after out err status path ask rounds)
+  all_saved (inl report) path ask is = report_saved files words after out err status report path ask is
+  all_saved (inr fault) path ask is =
+      absurd (never_reported files words after out err status fault (elim is [ inl three ↦ inr (inl three) | inr eight ↦ inr (inr (inl eight)) ]))
 
-  pub all_empty : (after : files.its.State) (out err : SinkChange) (status : ℕ) → ProgramEnds files words after out err status
-      → CheckpointLeftEmpty files words after status
-  all_empty after out err status (inl report) path ask is = ends_empty files words after out err status (inl report.0) path ask is
-  all_empty after out err status (inr (inl fault)) path ask is = ends_empty files words after out err status (inr fault) path ask is
-  all_empty after out err status (inr (inr rounds)) path ask is = absurd (not_both after out err status path ask rounds)
+  -- with status 0 none was written
+  pub all_empty : ProgramEnds files words after out err status → CheckpointLeftEmpty files words after status
+  all_empty (inl report) path ask is = report_empty files words after out err status report path ask is
+  all_empty (inr fault) path ask is = absurd (never_reported files words after out err status fault (inl is))

@@ -1,21 +1,18 @@
-//! From the words to the reports.
-ghost use Rattle.std.specs.Prelude.{◌≡◌, ◌≢◌, ◌⊎◌, ◌<◌, ◌≤◌, List, None, true, false, IfErr, IfOk, Some, is_some, length, map, vec_len};
+//! From the words to streams that are open, and their check.
+ghost use Rattle.std.specs.Prelude.{◌≡◌, ◌≢◌, ◌⊎◌, ◌<◌, ◌≤◌, List, None, true, false, IfErr, IfOk, IfSome, Some, is_some, length, map, vec_len};
 ghost use Rattle.std.specs.List.{AllByRecursion};
 ghost use Rattle.std.specs.Option.{ForSome};
 ghost use Rattle.clap.specs.Walk.{texts};
 ghost use Rattle.command_line.specs.CommandLine.{IsCommandLineOf};
 ghost use Rattle.dimacs.specs.FormulaFault.{IsFormulaFault};
 ghost use Rattle.dimacs.specs.FormulaText.{IsFormulaText};
-ghost use Rattle.checkpoint.specs.Checkpoints.{IsUnsatisfiableText};
 ghost use Rattle.lrup_text.specs.Reads.{GaveAll};
-ghost use Rattle.command.specs.Commands.{AreAssumed, AreOpened, IsAssumeCause, IsCause, IsFileCause, IsOpenCause, HasNoFault, IsStartCause, IsUnsatisfiableTextWith};
+ghost use Rattle.command.specs.Commands.{AreAssumed, AreOpened, IsAssumeCause, IsCause, IsFileCause, IsOpenCause, HasNoFault, IsStartCause};
 ghost use Rattle.command.specs.internal.Running.{IsFailedRead, run_params_on, IsLayoutCause};
-ghost use Rattle.command.specs.Commands.{IsOutcome, LeavesCheckpoint, Text, WasRead, WasReadIn, assumed_at};
-ghost use Rattle.command.specs.Commands.{from_first, path_of, rounds_at};
+ghost use Rattle.command.specs.Commands.{Text, WasReadIn, from_first, path_of};
 ghost use Rattle.runs.specs.Readings.{readers_view};
 ghost use Rattle.command.specs.internal.RoundProgress.{HasBegun, RanAndLeft};
 ghost use Rattle.command.specs.internal.FaultSources.{of_cube_file};
-ghost use Rattle.stream_check.specs.StreamParams.{max_tries};
 
 use crate::closing::{close_checkpoint, create_checkpoint, discard_it};
 use crate::fault::CommandFault;
@@ -27,7 +24,7 @@ use command_line::{CommandLine, read_words};
 use dimacs::DimacsFault;
 use lrup_model::{Cube, Formula};
 use lrup_text::{PIECE, Source, read_cube};
-use portfolio::{Options, Verdict};
+use portfolio::Verdict;
 use std::alloc::Global;
 use std::sync::Wait;
 use std::thread::Threads;
@@ -73,60 +70,6 @@ pub fn read_asked<'a, W: Wait, F: Machine>(
     Ok(Asked { line, formula })
 }
 
-/// Parses the formula, reads the assumed literals, opens the streams, finds their layout, creates the checkpoint's file if there is to
-/// be one, checks the streams, and saves the checkpoint unless one of them refuted the formula. It blocks while a file does.
-pub fn check_asked<T: Threads + Wait + Sync, C: Clock + Sync, F: Machine>(
-    threads: &T,
-    clock: &C,
-    alloc: Global,
-    asked: Asked<'_>,
-    files: &mut F,
-) -> Result<RunResult, CommandFault>
-    requires tries { asked.line.tries ≤ max_tries }
-    requires once { rounds_at asked.line ≡ None }
-    ensures outcome { (words : List Text) (first : F) →
-        let view = from_first (⟦<F as Viewed>⟧.view files.old) first in
-        IsCommandLineOf words asked.entry.line
-        → WasReadIn view first asked.entry.line.formula.now asked.entry.formula.items files.old
-        → IfOk result (λ found. (outcome : IsOutcome view words found.reports.items found.verdict)
-        × LeavesCheckpoint view words found.reports.items found.verdict outcome found.unsaved
-        files.new) }
-    ensures sound { IfOk result (λ found. found.verdict ≡ Verdict.Unsatisfiable
-        → IsUnsatisfiableText asked.entry.formula.items) }
-    ensures sound_under { let read = WasRead F.opens F.Input.Source.reads (F.tells files.old) in
-        IfOk result (λ found. found.verdict ≡ Verdict.UnsatisfiableUnder
-        → IsUnsatisfiableTextWith read asked.entry.formula.items files.old
-        (assumed_at asked.entry.line)) }
-    ensures cause { (words : List Text) (first : F) →
-        let view = from_first (⟦<F as Viewed>⟧.view files.old) first in
-        IsCommandLineOf words asked.entry.line
-        → WasReadIn view first asked.entry.line.formula.now asked.entry.formula.items files.old
-        → IfErr result (λ fault. IsCause view words fault files.new) }
-{
-    let Asked {
-        line,
-        formula: bytes,
-    } = asked;
-    let begun = begin(threads, alloc, &line, bytes, files)?;
-    let Beginning {
-        formula,
-        cube,
-        readers,
-    } = begun;
-    let options = Options::new(line.tries, line.lines, line.room).unwrap();
-    let setup = Setup {
-        cube: &cube,
-        options,
-        serial: line.serial,
-        watch: line.watch,
-    };
-    let path = line.next.checkpoint();
-    let checked = check_streams(
-        threads, clock, alloc, &setup, formula, readers, path, false, files,
-    )?;
-    Ok(checked.found)
-}
-
 /// What was found of streams. If the run may go on: the formula that was saved, if it was, and when the streams were over, if that is
 /// watched.
 #[derive(Drop)]
@@ -153,6 +96,7 @@ pub(crate) fn check_streams<T: Threads + Wait + Sync, C: Clock + Sync, F: Machin
     ensures ran { let run_params = run_params_on setup.now formula (length readers.items) in
         IfOk result (λ checked. RanAndLeft ⟦<F as Viewed>⟧.deeds setup.now.serial formula run_params
         readers.items (path_of path.entry) files.old checked.found checked.next files.new) }
+    ensures asked { IfOk result (λ checked. IfSome checked.next (λ _. goes_on ≡ true)) }
     ensures none { goes_on ≡ true → is_some path.entry ≡ true → IfOk result (λ checked.
         checked.next ≡ None → (checked.found.verdict ≡ Verdict.Unsatisfiable)
         ⊎ ((fault : SaveFault) × (checked.found.unsaved ≡ Some fault))) }

@@ -1,11 +1,11 @@
 //! A checkpoint's file, from its creation to its end.
-ghost use Rattle.std.specs.Prelude.{◌≡◌, ◌⊎◌, [], None, Some, false, IfErr, IfOk, is_some, true};
+ghost use Rattle.std.specs.Prelude.{◌≡◌, ◌⊎◌, [], None, Some, false, IfErr, IfOk, IfSome, is_some, true};
 ghost use Rattle.std.specs.Option.{ForSome};
 ghost use Rattle.lrup_model.specs.Event.{History};
 ghost use Rattle.lrup_model.specs.Formula.{Cnf};
 ghost use Rattle.command.specs.Commands.{SavesCheckpoint, path_of};
 ghost use Rattle.portfolio.specs.Saving.{CanBeSaved, WereLeftBy, layout_left};
-ghost use Rattle.command.specs.internal.Saving.{ClosesCheckpoint, CreatesCheckpoint, DiscardsIt, IsNotCreated, KeepsNext, SavesAndCloses};
+ghost use Rattle.command.specs.internal.Saving.{ClosesCheckpoint, CreatesCheckpoint, DiscardsIt, IsNotCreated, SavesAndCloses};
 
 use crate::fault::CommandFault;
 use crate::files::{Machine, OpenFault, Viewed};
@@ -97,11 +97,8 @@ pub(crate) fn close_checkpoint<F: Machine>(
     ensures closes { let its = ⟦<F as Viewed>⟧.deeds in
         (f : Cnf) (h : History) → WereLeftBy f h clauses
         → ClosesCheckpoint its (SavesCheckpoint its f (layout_left clauses) h dropped.now)
-        verdict files.old output result.unsaved files.new }
-    ensures next { let its = ⟦<F as Viewed>⟧.deeds in
-        (f : Cnf) (h : History) → WereLeftBy f h clauses
-        → ForSome result.next (KeepsNext its (SavesCheckpoint its f (layout_left clauses) h
-        dropped.now) files.old output files.new) }
+        verdict files.old output result.unsaved result.next files.new }
+    ensures asked { IfSome result.next (λ _. goes_on ≡ true) }
     ensures none { is_some output ≡ true → goes_on ≡ true → result.next ≡ None
         → (verdict ≡ Verdict.Unsatisfiable)
         ⊎ ((fault : SaveFault) × (result.unsaved ≡ Some fault)) }
@@ -134,11 +131,8 @@ fn save_and_close<F: Machine>(
     ensures closes { let its = ⟦<F as Viewed>⟧.deeds in
         (f : Cnf) (h : History) → WereLeftBy f h clauses
         → SavesAndCloses its (SavesCheckpoint its f (layout_left clauses) h dropped.now)
-        files.old output result.unsaved files.new }
-    ensures next { let its = ⟦<F as Viewed>⟧.deeds in
-        (f : Cnf) (h : History) → WereLeftBy f h clauses
-        → ForSome result.next (KeepsNext its (SavesCheckpoint its f (layout_left clauses) h
-        dropped.now) files.old (Some output) files.new) }
+        files.old output result.unsaved result.next files.new }
+    ensures asked { IfSome result.next (λ _. goes_on ≡ true) }
     ensures none { goes_on ≡ true → result.next ≡ None
         → (fault : SaveFault) × (result.unsaved ≡ Some fault) }
 {

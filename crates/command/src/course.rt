@@ -1,11 +1,12 @@
 //! What the rounds of a run have in common, and what one hands to the next.
 ghost use Rattle.std.specs.Prelude.{◌≡◌, ◌<◌, ◌≤◌};
 ghost use Rattle.stream_check.specs.StreamParams.{max_tries};
-ghost use Rattle.command.specs.Rounds.{options_by};
+ghost use Rattle.command.specs.Commands.{options_by};
 
 use crate::checking::RunResult;
 use crate::fault::CommandFault;
-use command_line::Sizes;
+use crate::running::Setup;
+use command_line::{CommandLine, Sizes};
 use lrup_model::{Cube, Formula};
 use portfolio::Options;
 use std::time::Instant;
@@ -13,20 +14,24 @@ use std::time::Instant;
 /// What stays the same in all rounds.
 #[derive(Clone, Copy)]
 pub(crate) struct Course<'a> {
-    pub(crate) tries: u64,
-    pub(crate) serial: bool,
-    pub(crate) watch: bool,
+    pub(crate) line: &'a CommandLine<'a>,
     pub(crate) cube: &'a Cube,
-    pub(crate) folder: &'a str,
-    ghost few: { tries ≤ max_tries },
+    ghost few: { line.now.tries ≤ max_tries },
 }
 
 impl<'a> Course<'a> {
-    /// The options of a round of these sizes.
-    pub(crate) fn options(&self, sizes: Sizes) -> Options
-        ensures { result ≡ options_by self.now.tries sizes }
+    /// How the streams of a round of these sizes are checked.
+    pub(crate) fn setup(&self, sizes: Sizes) -> Setup<'a>
+        ensures cube { result.cube.now ≡ self.now.cube.now }
+        ensures options { result.options ≡ options_by self.now.line.now.tries sizes }
+        ensures serial { result.serial ≡ self.now.line.now.serial }
     {
-        Options::new(self.tries, sizes.lines, sizes.room).unwrap()
+        Setup {
+            cube: self.cube,
+            options: Options::new(self.line.tries, sizes.lines, sizes.room).unwrap(),
+            serial: self.line.serial,
+            watch: self.line.watch,
+        }
     }
 }
 

@@ -1,23 +1,22 @@
 //! The whole program, over the files, threads, clock and sinks that its caller hands in.
-ghost use Rattle.std.specs.Prelude.{◌≡◌, ◌↔◌, ◌⊎◌, ◌≤◌, IsTrue, List, None, Some, false, is_err, true};
+ghost use Rattle.std.specs.Prelude.{◌≡◌, ◌↔◌, ◌⊎◌, ◌≤◌, IsTrue, List, false, is_err, true};
 ghost use Rattle.clap.specs.Walk.{texts};
 ghost use Rattle.checkpoint.specs.Checkpoints.{IsUnsatisfiableText};
 ghost use Rattle.command_line.specs.CommandLine.{HaveFault, IsCommandLineOf};
-ghost use Rattle.command.specs.Commands.{CheckpointEntailed, CheckpointLeftEmpty, EndsWithFault, EndsWithReport, IsUnsatisfiableTextWith, NameUnsatisfiable, rounds_at};
-ghost use Rattle.command.specs.Rounds.{ProgramEnds, EndsInRounds, RoundsEntailed, last_text, round_text};
+ghost use Rattle.command.specs.Commands.{CheckpointEntailed, CheckpointLeftEmpty, IsUnsatisfiableTextWith, NameUnsatisfiable};
+ghost use Rattle.command.specs.Rounds.{ProgramEnds, RoundsEntailed, last_text, round_text};
 ghost use Rattle.lrup_text.specs.Writing.{WritesText};
 ghost use Rattle.command.specs.Commands.{NameUnsatisfiableUnder, SaysOfRound, SinkTook, Text, WasRead, WasReadIn, WasSaved};
 ghost use Rattle.command.specs.Commands.{assumed_at, change, from_first, report_status};
 ghost use Rattle.command.specs.Faults.{error_text, round_error_text, status_of};
 ghost use Rattle.stream_check.specs.StreamParams.{max_tries};
 
-use crate::checking::{Asked, RunResult, check_asked, read_asked};
+use crate::checking::{Asked, RunResult, read_asked};
 use crate::fault::CommandFault;
 use crate::files::{Machine, Viewed};
 use crate::rounds::check_rounds;
 use checkpoint::SaveFault;
 use checkpoint::laws::{entails_itself, entails_onward};
-use command_line::Next;
 use lrup_text::{Sink, WriteBuffer, WriteFault};
 use portfolio::{Verdict, write_report};
 use std::alloc::Global;
@@ -130,87 +129,13 @@ pub fn check_formula<T: Threads + Wait + Sync, C: Clock + Sync, F: Machine, O: S
         → ProgramEnds view words files.new (change O.Sink out.old out.new)
         (change E.Sink err.old err.new) result }
 {
-    match asked.line.next {
-        Next::Nothing | Next::Checkpoint(_) => {
-            check_once(threads, clock, alloc, asked, files, out, err)
-        }
-        Next::Rounds(folder) => {
-            check_in_rounds(threads, clock, alloc, asked, folder, files, out, err)
-        }
-    }
-}
-
-/// Checks the streams in one run.
-fn check_once<T: Threads + Wait + Sync, C: Clock + Sync, F: Machine, O: Sink, E: Sink>(
-    threads: &T,
-    clock: &C,
-    alloc: Global,
-    asked: Asked<'_>,
-    files: &mut F,
-    out: &mut O,
-    err: &mut E,
-) -> u8
-    requires out { O.has_failed out.old ≡ false }
-    requires err { E.has_failed err.old ≡ false }
-    // The words allow no greater number.
-    requires tries { asked.line.tries ≤ max_tries }
-    requires once { rounds_at asked.line ≡ None }
-    ensures sound { result ≡ 0 → IsUnsatisfiableText asked.entry.formula.items }
-    ensures sound_under { let read = WasRead F.opens F.Input.Source.reads (F.tells files.old) in
-        result ≡ 8 → IsUnsatisfiableTextWith read asked.entry.formula.items files.old
-        (assumed_at asked.entry.line) }
-    ensures ends { (words : List Text) (first : F) →
-        let view = from_first (⟦<F as Viewed>⟧.view files.old) first in
-        let output = change O.Sink out.old out.new in
-        let errors = change E.Sink err.old err.new in
-        IsCommandLineOf words asked.entry.line
-        → WasReadIn view first asked.entry.line.formula.now asked.entry.formula.items files.old
-        → EndsWithReport view words files.new output errors result
-        ⊎ EndsWithFault view words files.new output errors result }
-{
-    match check_asked(threads, clock, alloc, asked, files) {
-        Ok(found) => report(1, &found, out, err),
-        Err(fault) => say(&fault, err),
-    }
-}
-
-/// Checks the streams of one round after the other.
-fn check_in_rounds<T: Threads + Wait + Sync, C: Clock + Sync, F: Machine, O: Sink, E: Sink>(
-    threads: &T,
-    clock: &C,
-    alloc: Global,
-    asked: Asked<'_>,
-    folder: &str,
-    files: &mut F,
-    out: &mut O,
-    err: &mut E,
-) -> u8
-    requires out { O.has_failed out.old ≡ false }
-    requires err { E.has_failed err.old ≡ false }
-    // The words allow no greater number.
-    requires tries { asked.line.tries ≤ max_tries }
-    requires folder { rounds_at asked.line ≡ Some folder.now }
-    ensures sound { result ≡ 0 → IsUnsatisfiableText asked.entry.formula.items }
-    ensures sound_under { let read = WasRead F.opens F.Input.Source.reads (F.tells files.old) in
-        result ≡ 8 → IsUnsatisfiableTextWith read asked.entry.formula.items files.old
-        (assumed_at asked.entry.line) }
-    ensures ends { (words : List Text) (first : F) →
-        let view = from_first (⟦<F as Viewed>⟧.view files.old) first in
-        let output = change O.Sink out.old out.new in
-        let errors = change E.Sink err.old err.new in
-        IsCommandLineOf words asked.entry.line
-        → WasReadIn view first asked.entry.line.formula.now asked.entry.formula.items files.old
-        → EndsWithFault view words files.new output errors result
-        ⊎ EndsInRounds view words files.new output errors result }
-{
-    match check_rounds(threads, clock, alloc, asked, folder, files) {
+    match check_rounds(threads, clock, alloc, asked, files) {
         Ok(last) => report(last.number, &last.found, out, err),
         Err(failed) => say_of_round(failed.round, &failed.fault, err),
     }
 }
 
-/// Says why the checkpoint wasn't saved, if it wasn't, writes the report of what was found in the last round, and gives the status. A
-/// run that isn't in rounds is round 1.
+/// Says why the checkpoint wasn't saved, if it wasn't, writes the report of what was found in the last round, and gives the status.
 fn report<O: Sink, E: Sink>(round: u64, found: &RunResult, out: &mut O, err: &mut E) -> u8
     requires out { O.has_failed out.old ≡ false }
     requires err { E.has_failed err.old ≡ false }

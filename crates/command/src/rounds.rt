@@ -1,18 +1,19 @@
-//! Runs in rounds: each goes on with the clauses that the one before it saved.
-ghost use Rattle.std.specs.Prelude.{◌≡◌, ◌↔◌, ◌⊎◌, ◌<◌, ◌≤◌, ◌+◌, ◌∷◌, List, None, false, IfErr, IfOk, IfSome, IsTrue, Ok, Some, length, map, string_bytes};
+//! A run is a list of rounds: each goes on with the clauses that the one before it saved.
+ghost use Rattle.std.specs.Prelude.{◌≡◌, ◌↔◌, ◌⊎◌, ◌<◌, ◌≤◌, ◌+◌, ◌∷◌, List, None, false, IfErr, IfOk, IfSome, IsTrue, Ok, Some, length, map, option_map, string_bytes};
+ghost use Rattle.std.specs.Cow.{cow_str_bytes};
 ghost use Rattle.std.specs.List.{AllByRecursion};
 ghost use Rattle.std.specs.Option.{ForSome};
 ghost use Rattle.checkpoint.specs.Checkpoints.{IsUnsatisfiableText};
 ghost use Rattle.lrup_model.specs.Formula.{Cnf};
-ghost use Rattle.command_line.specs.CommandLine.{IsCommandLineOf};
-ghost use Rattle.command.specs.Commands.{AreOpened, IsCause, IsOpenCause, IsUnsatisfiableTextWith, Text, WasRead, WasReadIn, assumed_at, from_first};
-ghost use Rattle.command.specs.Commands.{rounds_at};
+ghost use Rattle.command_line.specs.CommandLine.{IsCommandLineOf, rounds_of};
+ghost use Rattle.command.specs.Commands.{AreOpened, IsOpenCause, IsRoundStartCause, IsUnsatisfiableTextWith, Text, WasRead, WasReadIn, assumed_at, from_first};
+ghost use Rattle.command.specs.Commands.{created_path, path_of, sizes_of};
 ghost use Rattle.command.specs.Paths.{formula_path, stream_path, stream_paths};
-ghost use Rattle.command.specs.Rounds.{HaveEnded, IsRoundStartCause, IsStreamCause, StreamsOpened};
+ghost use Rattle.command.specs.Rounds.{HaveEnded, IsCauseIn, IsRoundCause, IsStreamCause, StreamsOpened};
 ghost use Rattle.command_line.specs.declared.sizes.Sizes.{Sizes};
 ghost use Rattle.clap.specs.Walk.{texts};
-ghost use Rattle.command.specs.internal.RoundProgress.{EndsAt, FailsAt, IsAlone, IsReported, IsRoundsFault, IsUnchecked, RoundsStand};
-ghost use Rattle.command.specs.internal.RoundProgress.{WasFound, plan_of};
+ghost use Rattle.command.specs.internal.RoundProgress.{EndsAt, FailsAt, IsAlone, IsReported, RoundsStand};
+ghost use Rattle.command.specs.internal.RoundProgress.{WasFound};
 ghost use Rattle.stream_check.specs.StreamParams.{max_tries};
 
 use crate::arguments::words_of;
@@ -20,15 +21,15 @@ use crate::checking::{Asked, Beginning, CheckedStreams, begin, check_streams, op
 use crate::course::{Course, LastRound, OpenRound, RoundFault};
 use crate::fault::CommandFault;
 use crate::files::{Machine, OpenFault, Viewed};
-use crate::running::Setup;
 use crate::sizing::sizes_of_round;
 use crate::watching::report_begin;
 use checkpoint::SaveFault;
 use checkpoint::laws::{refutes_back, refutes_back_under};
-use command_line::Sizes;
+use command_line::{Next, Sizes};
 use lrup_model::Formula;
 use portfolio::Verdict;
 use std::alloc::{AllocError, Global};
+use std::borrow::CowStr;
 use std::sync::Wait;
 use std::thread::Threads;
 use std::time::Clock;
@@ -41,8 +42,8 @@ struct CheckedRound {
     next: Option<Formula>,
 }
 
-/// Checks the streams of a round, saves its checkpoint, and gives the next formula, if the round goes on. The round's formula is given
-/// back before that one is made.
+/// Checks the streams of a round, saves the clauses that they left if the words ask for that, and gives the next formula, if the round
+/// goes on. The round's formula is given back before that one is made.
 fn check_round<T: Threads + Wait + Sync, C: Clock + Sync, F: Machine>(
     threads: &T,
     clock: &C,
@@ -55,13 +56,14 @@ fn check_round<T: Threads + Wait + Sync, C: Clock + Sync, F: Machine>(
         round.readers.items }
     requires count { length round.readers.items ≡ round.sizes.streams }
     requires number { round.number < u64.MAX }
-    ensures found { IfOk result (λ found. WasFound ⟦<F as Viewed>⟧.deeds (plan_of course.now)
-        round.formula round.readers.items files.old found.last found.next files.new) }
+    ensures found { IfOk result (λ found. WasFound ⟦<F as Viewed>⟧.deeds course.now.line.now
+        course.now.cube.now round.formula round.readers.items files.old found.last found.next
+        files.new) }
     ensures number { IfOk result (λ found. found.last.number ≡ round.number) }
     ensures sizes { IfOk result (λ found. found.last.sizes ≡ round.sizes) }
     ensures cause { IfErr result (λ fault. IsRoundStartCause ⟦<F as Viewed>⟧.deeds
-        (plan_of course.now) round.number round.formula round.sizes round.readers.items files.old
-        fault files.new) }
+        course.now.line.now course.now.cube.now round.number round.formula round.sizes
+        round.readers.items files.old fault files.new) }
 {
     let OpenRound {
         number,
@@ -69,16 +71,20 @@ fn check_round<T: Threads + Wait + Sync, C: Clock + Sync, F: Machine>(
         formula,
         readers,
     } = round;
-    let setup = Setup {
-        cube: course.cube,
-        options: course.options(sizes),
-        serial: course.serial,
-        watch: course.watch,
-    };
-    let path = formula_path(alloc, course.folder, number + 1)?;
-    let path = Some(path.as_str());
+    let setup = course.setup(sizes);
+    let next = course.line.next;
+    let created = created_path(alloc, next, number)?;
+    let goes_on = next.goes_on();
     let checked = check_streams(
-        threads, clock, alloc, &setup, formula, readers, path, true, files,
+        threads,
+        clock,
+        alloc,
+        &setup,
+        formula,
+        readers,
+        lent(&created),
+        goes_on,
+        files,
     )?;
     let CheckedStreams { found, next, ended } = checked;
     let next = next_of(&found.reports, found.verdict, found.unsaved, next);
@@ -91,6 +97,36 @@ fn check_round<T: Threads + Wait + Sync, C: Clock + Sync, F: Machine>(
         },
         next,
     })
+}
+
+/// The path of the file that the round with this number creates for what comes after it, if it creates one.
+fn created_path<'a>(
+    alloc: Global,
+    next: Next<'a>,
+    number: u64,
+) -> Result<Option<CowStr<'a>>, AllocError>
+    requires number { number < u64.MAX }
+    ensures { IfOk result (λ path.
+        option_map cow_str_bytes path ≡ created_path next.entry number) }
+{
+    match next {
+        Next::Nothing => Ok(None),
+        Next::Checkpoint(path) => Ok(Some(CowStr::Borrowed(path))),
+        Next::Rounds(folder) => {
+            let path = formula_path(alloc, folder, number + 1)?;
+            Ok(Some(CowStr::Owned(path)))
+        }
+    }
+}
+
+/// The path, lent.
+fn lent<'a>(path: &'a Option<CowStr<'_>>) -> Option<&'a str>
+    ensures { path_of result ≡ option_map cow_str_bytes path.now }
+{
+    match path {
+        None => None,
+        Some(path) => Some(path.as_str()),
+    }
 }
 
 /// The formula that a round goes on with: none, if its verdict isn't 'unknown', its checkpoint wasn't saved or a stream didn't end.
@@ -221,32 +257,34 @@ fn next_round<T: Threads + Wait + Sync, C: Clock + Sync, F: Machine>(
     clock: &C,
     alloc: Global,
     course: &Course<'_>,
+    folder: &str,
     last: &LastRound,
     number: u64,
     formula: Formula,
     files: &mut F,
 ) -> Result<Option<CheckedRound>, CommandFault>
+    requires folder { rounds_of course.now.line.now.next ≡ Some folder.now }
     requires after { number ≡ last.now.number + 1 }
     requires number { number < u64.MAX }
     ensures stands { let its = ⟦<F as Viewed>⟧.deeds in
-        (given : Cnf) (sizes : Sizes) (first : F) (paths : List Text)
-        → RoundsStand its (plan_of course.now) given sizes first paths last.now (Some formula)
-        files.old → IfOk result (λ next. ForSome next (λ found. RoundsStand its (plan_of course.now)
-        given sizes first paths found.last found.next files.new)) }
+        (given : Cnf) (first : F)
+        → RoundsStand its course.now.line.now course.now.cube.now given first last.now
+        (Some formula) files.old → IfOk result (λ next. ForSome next (λ found. RoundsStand its
+        course.now.line.now course.now.cube.now given first found.last found.next files.new)) }
     ensures number { IfOk result (λ next. ForSome next (λ found.
         found.last.number ≡ number)) }
-    ensures over { result ≡ Ok None → IsAlone ⟦<F as Viewed>⟧.deeds (plan_of course.now) last.now
-        files.old files.new }
-    ensures cause { IfErr result (λ fault. IsUnchecked ⟦<F as Viewed>⟧.deeds (plan_of course.now)
-        last.now formula files.old fault files.new) }
+    ensures over { result ≡ Ok None → IsAlone ⟦<F as Viewed>⟧.deeds folder.now last.now files.old
+        files.new }
+    ensures cause { IfErr result (λ fault. IsRoundCause ⟦<F as Viewed>⟧.deeds course.now.line.now
+        course.now.cube.now folder.now number last.now.sizes formula files.old fault files.new) }
 {
-    let sizes = sizes_of_round(alloc, files, course.folder, number, last.sizes)?;
-    let readers = match open_round(alloc, files, course.folder, number, sizes.streams) {
+    let sizes = sizes_of_round(alloc, files, folder, number, last.sizes)?;
+    let readers = match open_round(alloc, files, folder, number, sizes.streams) {
         Ok(None) => return Ok(None),
         Ok(Some(readers)) => readers,
         Err(fault) => return Err(fault),
     };
-    if course.watch {
+    if course.line.watch {
         report_begin(clock, alloc, files, number, &formula, last.ended);
     }
     let round = OpenRound {
@@ -261,7 +299,7 @@ fn next_round<T: Threads + Wait + Sync, C: Clock + Sync, F: Machine>(
     }
 }
 
-/// Checks round 1, whose streams are open, and then one round after the other.
+/// Checks round 1, whose streams are open, and then one round after the other, if the words ask for rounds.
 fn go_on<T: Threads + Wait + Sync, C: Clock + Sync, F: Machine>(
     threads: &T,
     clock: &C,
@@ -274,28 +312,32 @@ fn go_on<T: Threads + Wait + Sync, C: Clock + Sync, F: Machine>(
         round.readers.items }
     requires count { length round.readers.items ≡ round.sizes.streams }
     requires one { round.number ≡ 1 }
+    requires sizes { round.sizes ≡ sizes_of course.now.line.now }
     ensures over { let its = ⟦<F as Viewed>⟧.deeds in
-        (first : F) (paths : List Text)
-        → StreamsOpened its first paths round.readers.items files.old
-        → IfOk result (λ last. EndsAt its (plan_of course.now) round.formula round.sizes first paths
-        last files.new) }
+        (first : F)
+        → StreamsOpened its first course.now.line.now.streams round.readers.items files.old
+        → IfOk result (λ last. EndsAt its course.now.line.now course.now.cube.now round.formula
+        first last files.new) }
     ensures cause { let its = ⟦<F as Viewed>⟧.deeds in
-        (first : F) (paths : List Text)
-        → StreamsOpened its first paths round.readers.items files.old
-        → IfErr result (λ failed. FailsAt its (plan_of course.now) round.formula round.sizes first
-        paths round.readers.items files.old failed files.new) }
+        (first : F)
+        → StreamsOpened its first course.now.line.now.streams round.readers.items files.old
+        → IfErr result (λ failed. FailsAt its course.now.line.now course.now.cube.now
+        round.formula first round.readers.items files.old failed files.new) }
 {
     let checked = match check_round(threads, clock, alloc, course, round, files) {
         Ok(checked) => checked,
         Err(fault) => return Err(RoundFault { round: 1, fault }),
     };
     let CheckedRound { mut last, mut next } = checked;
+    let Next::Rounds(folder) = course.line.next else {
+        return Ok(last);
+    };
     for number in 2..u64::MAX {
         let formula = match next {
             None => return Ok(last),
             Some(formula) => formula,
         };
-        match next_round(threads, clock, alloc, course, &last, number, formula, files) {
+        match next_round(threads, clock, alloc, course, folder, &last, number, formula, files) {
             Ok(Some(found)) => {
                 last = found.last;
                 next = found.next;
@@ -312,23 +354,21 @@ fn go_on<T: Threads + Wait + Sync, C: Clock + Sync, F: Machine>(
     Ok(last)
 }
 
-/// Parses the formula, reads the assumed literals, and opens and checks the streams of one round after the other. It blocks while a
-/// file does.
+/// Parses the formula, reads the assumed literals, opens the streams, and checks them: those of round 1, and then those of each round
+/// after it. It blocks while a file does.
 pub(crate) fn check_rounds<T: Threads + Wait + Sync, C: Clock + Sync, F: Machine>(
     threads: &T,
     clock: &C,
     alloc: Global,
     asked: Asked<'_>,
-    folder: &str,
     files: &mut F,
 ) -> Result<LastRound, RoundFault>
     requires tries { asked.line.tries ≤ max_tries }
-    requires folder { rounds_at asked.line ≡ Some folder.now }
     ensures reported { (words : List Text) (first : F) →
         let view = from_first (⟦<F as Viewed>⟧.view files.old) first in
         IsCommandLineOf words asked.entry.line
         → WasReadIn view first asked.entry.line.formula.now asked.entry.formula.items files.old
-        → IfOk result (λ last. IsReported view asked.entry.line folder.now last files.new) }
+        → IfOk result (λ last. IsReported view asked.entry.line last files.new) }
     ensures sound { IfOk result (λ last. last.found.verdict ≡ Verdict.Unsatisfiable
         → IsUnsatisfiableText asked.entry.formula.items) }
     ensures sound_under { let read = WasRead F.opens F.Input.Source.reads (F.tells files.old) in
@@ -339,8 +379,7 @@ pub(crate) fn check_rounds<T: Threads + Wait + Sync, C: Clock + Sync, F: Machine
         let view = from_first (⟦<F as Viewed>⟧.view files.old) first in
         IsCommandLineOf words asked.entry.line
         → WasReadIn view first asked.entry.line.formula.now asked.entry.formula.items files.old
-        → IfErr result (λ failed. IsRoundsFault view words asked.entry.line folder.now failed
-        files.new) }
+        → IfErr result (λ failed. IsCauseIn view words failed.round failed.fault files.new) }
 {
     let Asked {
         line,
@@ -359,11 +398,8 @@ pub(crate) fn check_rounds<T: Threads + Wait + Sync, C: Clock + Sync, F: Machine
         readers,
     } = begun;
     let course = Course {
-        tries: line.tries,
-        serial: line.serial,
-        watch: line.watch,
+        line: &line,
         cube: &cube,
-        folder,
     };
     let sizes = Sizes {
         streams: readers.len() as u64,

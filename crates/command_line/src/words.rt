@@ -1,5 +1,5 @@
 //! The words of the command line.
-ghost use Rattle.std.specs.Prelude.{◌≡◌, IfErr, IfNone, IfOk, IfSome, IsSome, Some, codes, option_map};
+ghost use Rattle.std.specs.Prelude.{◌≡◌, IfErr, IfNone, IfOk, IfSome, IsSome, Some, codes, is_some, option_map};
 ghost use Rattle.clap.specs.Walk.{rows_of, texts};
 ghost use Rattle.clap.specs.Words.{FailsBy, all_of, fault_of, first_of, found_of};
 ghost use Rattle.command_line.specs.CommandLine.{IsCommandLineOf, IsWordsFault, IsSaidBy, checkpoint_of, is_set, lrupd, option_number, rounds_of};
@@ -48,14 +48,11 @@ pub enum Next<'a> {
 }
 
 impl<'a> Next<'a> {
-    /// The path of a later run's formula, if one is to be saved.
-    pub fn checkpoint(self) -> Option<&'a str>
-        ensures { option_map (λ path. path.now) result ≡ checkpoint_of self.entry }
+    /// Whether the run goes on in rounds.
+    pub fn goes_on(self) -> bool
+        ensures { result ≡ is_some (rounds_of self.entry) }
     {
-        match self {
-            Next::Checkpoint(path) => Some(path),
-            Next::Nothing | Next::Rounds(_) => None,
-        }
+        matches!(self, Next::Rounds(_))
     }
 }
 

@@ -10,7 +10,7 @@ use Rattle.command_line.specs.Sizes.{HaveNoSizes, IsSizesText}
 use Rattle.command_line.specs.declared.sizes.Sizes.{Sizes}
 use Rattle.command_line.specs.declared.words.CommandLine.{CommandLine}
 use Rattle.command.specs.Commands.{AreAssumed, AreChecked, AreOpened, Deeds, FilesView, HasBrokenOff, IsRoundStartCause, LeavesBehind}
-use Rattle.command.specs.Commands.{SavesCheckpoint, Text, WasReadIn, assumed_at, created_path, run_params_by}
+use Rattle.command.specs.Commands.{SavesCheckpoint, Text, WasReadIn, assumed_at, created_path, run_params_by, sizes_of}
 use Rattle.command.specs.Paths.{sizes_path, stream_path}
 use Rattle.command.specs.Rounds.{AreRounds, AreSized, CarriesOn, IsBarred, IsNextCause, Round, RoundsEnd, WereRounds}
 use Rattle.command.specs.declared.fault.CommandFault.{CommandFault}
@@ -109,11 +109,11 @@ pub record FailsAfter (its : Deeds) (given : CommandLine) (cube : CubeValue) (fo
   pub cause : IsNextCause last failed.fault after
 
 -- The fault is one of round 1, after the opening of its streams; or one of a round after it.
-abbrev pub FailsAt : (its : Deeds) → CommandLine → CubeValue → Cnf → Sizes → its.State
+abbrev pub FailsAt : (its : Deeds) → CommandLine → CubeValue → Cnf → its.State
     → List its.Reader → its.State → RoundFault → its.State → Type 0
-FailsAt its given cube formula sizes first readers opened failed after =
+FailsAt its given cube formula first readers opened failed after =
     ((failed.round ≡ 1)
-    × IsRoundStartCause its given cube 1 formula sizes readers opened failed.fault after)
+    × IsRoundStartCause its given cube 1 formula (sizes_of given) readers opened failed.fault after)
     ⊎ FailsAfter its given cube formula first failed after
 
 -- The rounds of a command line ended with this one and left these files.

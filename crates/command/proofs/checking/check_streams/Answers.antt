@@ -2,10 +2,10 @@ use Rattle.std.proofs.Common.{◌∙◌, ℕ, length, subst, sym}
 use Rattle.runs.specs.Streams.{RunParamsValue}
 use Rattle.command.specs.Commands.{HasNoFault, IsStartCause, SavesCheckpoint, deeds_of, path_of}
 use Rattle.command.specs.internal.Running.{IsLayoutCause, run_params_on}
-use Rattle.command.specs.internal.Saving.{ClosesCheckpoint, KeepsNext}
+use Rattle.command.specs.internal.Saving.{ClosesCheckpoint}
 use Rattle.command.specs.declared.fault.CommandFault.{CommandFault}
 use Rattle.command.proofs.CheckingLemmas.{create_start, err_given, layout_start, run_start}
-use Rattle.command.proofs.SavingLemmas.{leaves_behind, left_moved, left_unused, saves_next}
+use Rattle.command.proofs.SavingLemmas.{leaves_behind, left_moved, left_unused}
 use Rattle.command.proofs.checking.check_streams.Goals as goal
 
 pub returns-in_err-find_layout-clause-cause : goal.returns-in_err-find_layout-clause-cause
@@ -75,10 +75,8 @@ returns-clause-ran g c =
     let h = stands.checked.ran.run.history in
     record {
       checked = stands.checked;
-      leaves = leaves_behind its _ run.verdict before mid after path output closed.result.unsaved c.in_ok-output.ensures.created
+      leaves = leaves_behind its _ run.verdict before mid after path output closed.result.unsaved closed.result.next
+          c.in_ok-output.ensures.created
           (left_moved stands (λ p dropped. ClosesCheckpoint its (SavesCheckpoint its f p h dropped) run.verdict mid output
-          closed.result.unsaved after) (rw c.deref.ensures.value at (closed.ensures.closes f h stands.has)));
-      saved = λ next is. saves_next its f _ h stands.checked.dropped before mid after path output next c.in_ok-output.ensures.created
-          (left_moved stands (λ p dropped. KeepsNext its (SavesCheckpoint its f p h dropped) mid output after next)
-          (rw c.deref.ensures.value at (closed.ensures.next f h stands.has next is)));
+          closed.result.unsaved closed.result.next after) (rw c.deref.ensures.value at (closed.ensures.closes f h stands.has)));
     }

@@ -1,10 +1,11 @@
-use Rattle.std.proofs.Common.{ℕ, List, Option, inl, inr, rules, subst}
+use Rattle.std.proofs.Common.{ℕ, List, Option, inl, inr, refl, rules, subst, sym}
 use Rattle.clap.specs.Walk.{texts}
-use Rattle.command.specs.Commands.{FilesView, Text, WasReadIn, change, files_view}
+use Rattle.command.specs.Commands.{FilesView, SinkTook, Text, WasReadIn, change, files_view}
 use Rattle.command.specs.Rounds.{ProgramEnds}
 use Rattle.command.proofs.CheckingLemmas.{names_unsatisfiable, names_unsatisfiable_under}
 use Rattle.command.proofs.EntailedLemmas.{all_entailed}
 use Rattle.command.proofs.StatusLemmas.{all_empty, all_saved, all_unwritten}
+use Rattle.command.proofs.WritingLemmas.{first_error}
 use Rattle.command.proofs.program.command.Goals as goal
 
 pub returns-in-Ok-clause-sound : goal.returns-in-Ok-clause-sound
@@ -53,13 +54,15 @@ returns-in-Ok-clause-saved_rounds g c folder =
     all_entailed c.entails_itself.ensures c.entails_onward.ensures _ _ folder _ _ _ _ (returns-in-Ok-clause-ends g c)
 
 pub returns-in-Err-clause-ends : goal.returns-in-Err-clause-ends
-returns-in-Err-clause-ends g c = inr (inl (record {
+returns-in-Err-clause-ends g c = inr (record {
+  number = 1;
   fault = c.in-Err.fault;
-  cause = c.in-Err.ensures.cause;
+  cause = inl (refl, c.in-Err.ensures.cause);
   untouched = record { written = search rules; failed = c.requires.out };
-  said = c.say.ensures.said;
+  said = subst (λ (text : List ℕ). SinkTook (change g.E.Sink c.args.err.now c.say.new.err) text) (sym (first_error c.in-Err.fault))
+      c.say.ensures.said;
   status_is = c.say.ensures.status;
-}))
+})
 
 pub returns-in-Err-clause-saved_rounds : goal.returns-in-Err-clause-saved_rounds
 returns-in-Err-clause-saved_rounds g c folder =

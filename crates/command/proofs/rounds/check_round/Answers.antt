@@ -1,69 +1,55 @@
-use Rattle.std.proofs.Common.{◌≡◌, ◌<◌, ◌+◌, ◌∙◌, None, Some, arith, inl, inr, length, refl, subst}
-use Rattle.command.specs.Commands.{Text, deeds_of}
-use Rattle.command.specs.Paths.{formula_path}
-use Rattle.command.specs.Rounds.{HaveEnded, SavesNext, run_params_by}
-use Rattle.command.specs.internal.RoundProgress.{RanAndLeft, plan_of}
+use Rattle.std.proofs.Common.{◌≡◌, ◌<◌, ◌∙◌, Bool, None, Option, Some, ap, arith, inl, inr, is_some, length, subst, sym, true}
+use Rattle.command_line.specs.CommandLine.{rounds_of}
+use Rattle.command.specs.Commands.{Text, created_path, deeds_of, path_of, run_params_by}
+use Rattle.command.specs.Rounds.{HaveEnded}
+use Rattle.command.specs.internal.RoundProgress.{RanAndLeft}
+use Rattle.command.specs.internal.Running.{run_params_on}
 use Rattle.portfolio.specs.declared.outcome.Verdict.TheVariants.{Unknown}
 use Rattle.runs.specs.Streams.{RunParamsValue}
 use Rattle.command.proofs.CheckingLemmas.{some_given}
-use Rattle.command.proofs.RoundLemmas.{barred_by, run_params_same, some_streams}
-use Rattle.command.proofs.rounds.check_round.Given as given
+use Rattle.command.proofs.RoundLemmas.{barred_by, folder_of, lent_some, run_params_same, some_streams}
 use Rattle.command.proofs.rounds.check_round.Goals as goal
-
--- the streams were checked, by the parameters of the round, and their clauses were left as the next round's formula
-ran : (g : given.Over) (c : goal.After-drop-path-2 g)
-    → RanAndLeft (deeds_of g.F.Files g.F.Machine g.F.Input.Source g.F.Output.Sink) c.args.course.now.serial c.args.round.formula
-    (run_params_by (plan_of c.args.course.now) c.args.round.formula c.args.round.sizes) c.args.round.readers.items
-    (Some (formula_path c.args.course.now.folder.now (c.args.round.number + 1))) c.args.files.now c.in_ok-checked.checked.found
-    c.in_ok-checked.checked.next c.check_streams.new.files
-ran g c =
-    let its = deeds_of g.F.Files g.F.Machine g.F.Input.Source g.F.Output.Sink in
-    let round = c.args.round in
-    let plan = plan_of c.args.course.now in
-    let checked = c.in_ok-checked.checked in
-    let after = c.check_streams.new.files in
-    let same = run_params_same round.formula plan c.options.result round.sizes (length round.readers.items) c.options.ensures
-    c.requires.count in
-    subst
-    (λ (at : Text). RanAndLeft its plan.serial round.formula (run_params_by plan round.formula round.sizes) round.readers.items (Some at)
-    c.args.files.now checked.found checked.next after) (c.as_str.ensures.value ∙ c.in_ok-path.ensures)
-    (subst
-    (λ (t : RunParamsValue). RanAndLeft its plan.serial round.formula t round.readers.items (Some c.as_str.result.now) c.args.files.now
-    checked.found checked.next after) same c.in_ok-checked.ensures.ran)
 
 pub returns-clause-found : goal.returns-clause-found
 returns-clause-found g c =
     let its = deeds_of g.F.Files g.F.Machine g.F.Input.Source g.F.Output.Sink in
-    let plan = plan_of c.args.course.now in
     let round = c.args.round in
+    let line = c.args.course.now.line.now in
+    let cube = c.args.course.now.cube.now in
     let checked = c.in_ok-checked.checked in
     let found = checked.found in
     let of = c.next_of-next.ensures in
-    let left = ran g c in
-    let at = formula_path plan.folder (round.number + 1) in
+    let setup = c.setup-setup in
+    let Ran : Bool → RunParamsValue → Option Text → Type 0 = λ serial params path. RanAndLeft its serial round.formula params
+    round.readers.items path c.args.files.now found checked.next c.check_streams.new.files in
+    let params = run_params_same round.formula line cube setup.result.cube.now setup.result.options round.sizes
+    (length round.readers.items) setup.ensures.options setup.ensures.cube c.requires.count in
+    let left : Ran line.serial (run_params_by line cube round.formula round.sizes) (created_path line.next round.number) =
+    subst (Ran line.serial (run_params_by line cube round.formula round.sizes)) (c.lent.ensures ∙ c.in_ok-created.ensures)
+    (subst (λ (p : RunParamsValue). Ran line.serial p (path_of c.lent.result)) params
+    (subst (λ (b : Bool). Ran b (run_params_on setup.result round.formula (length round.readers.items)) (path_of c.lent.result))
+    setup.ensures.serial c.in_ok-checked.ensures.ran)) in
     record {
-      was = record { count = c.requires.count; checked = left.checked };
+      saved = checked.next;
+      was = record { count = c.requires.count; checked = left.checked; leaves = left.leaves };
       goes_on = λ next is.
-          let saved = left.saved next (some_given (λ made. checked.next ≡ Some made) is of.next) in
-          let same : Some at ≡ Some saved.0 = saved.1 in
-          let path : saved.0 ≡ at = cc in
+          let next_is : checked.next ≡ Some next = some_given (λ made. checked.next ≡ Some made) is of.next in
+          let folder = folder_of line.next
+          (sym c.goes_on-goes_on.ensures ∙ some_given (λ _. c.goes_on-goes_on.result ≡ true) next_is c.in_ok-checked.ensures.asked) in
           record {
+            folder = folder.0;
+            asked = folder.1;
             verdict = some_given (λ made. found.verdict ≡ Unknown) is of.verdict;
             ended = rw c.deref.ensures.value at (some_given (λ made. HaveEnded c.deref.result.now) is of.ended);
             unsaved = some_given (λ made. found.unsaved ≡ None) is of.saved;
-            saving = subst
-                (λ (path : Text). SavesNext its round.formula (run_params_by plan round.formula round.sizes).layout
-                left.checked.ran.run.history left.checked.dropped c.args.files.now path next c.check_streams.new.files)
-                path saved.2;
+            next_is = next_is;
           };
-      over = λ none. record {
-        why = elim (of.none none) [
-          | inl nothing ↦ barred_by found.verdict found.unsaved (HaveEnded found.reports.items)
-              (c.in_ok-checked.ensures.none refl refl nothing)
-          | inr why ↦ (rw c.deref.ensures.value at why)
-        ];
-        checkpoint = left.leaves;
-      };
+      over = λ none. barred_by line.next found.verdict found.unsaved (HaveEnded found.reports.items) (elim (of.none none) [
+        | inl nothing ↦ inl (λ folder asked. c.in_ok-checked.ensures.none
+            (c.goes_on-goes_on.ensures ∙ ap (λ (o : Option Text). is_some o) asked)
+            (lent_some c.lent.result line.next folder c.args.round.number (c.lent.ensures ∙ c.in_ok-created.ensures) asked) nothing)
+        | inr why ↦ inr (rw c.deref.ensures.value at why)
+      ]);
     }
 
 pub invariant_of-result : goal.invariant_of-result

@@ -1,9 +1,29 @@
-use Rattle.std.proofs.Common.{◌∙◌, Ok, Option, ap, arith, inr, subst}
+use Rattle.std.proofs.Common.{◌≡◌, ◌∙◌, ℕ, arith, Ok, Option, None, Some, ap, inl, inr, refl, subst}
 use Rattle.lrup_model.specs.Formula.{Cnf}
-use Rattle.command.specs.Commands.{deeds_of}
-use Rattle.command.specs.internal.RoundProgress.{RoundsStand, plan_of}
-use Rattle.command.proofs.RoundLemmas.{ends_alone, ends_barred, ends_high, fails_after, stands_first}
+use Rattle.command_line.specs.CommandLine.{rounds_of}
+use Rattle.command_line.specs.declared.sizes.Sizes.{Sizes}
+use Rattle.command.specs.Commands.{IsRoundStartCause, deeds_of}
+use Rattle.command.specs.internal.RoundProgress.{RoundsStand}
+use Rattle.command.proofs.RoundLemmas.{ends_alone, ends_barred, ends_high, ends_without, fails_after, once_of, stands_first}
 use Rattle.command.proofs.rounds.go_on.Goals as goal
+
+-- the words ask for no rounds
+pub returns-in_default : goal.returns-in_default
+returns-in_default g c =
+    let its = deeds_of g.F.Files g.F.Machine g.F.Input.Source g.F.Output.Sink in
+    let of = c.in-Ok.ensures in
+    let checked = c.in-Ok.checked in
+    let round = c.args.round in
+    let line = c.args.course.now.line.now in
+    let cube = c.args.course.now.cube.now in
+    record {
+      over = λ first opened.
+          ends_alone its line cube round.formula first checked.last checked.next c.check_round.new.files
+          (once_of line.next c.in_default.not-Rounds)
+          (stands_first its line cube round.formula first checked.last checked.next c.args.files.now c.check_round.new.files
+          round.readers.items (of.number ∙ c.requires.one) opened of.found (of.sizes ∙ c.requires.sizes));
+      cause = λ first opened. tt;
+    }
 
 pub loop-number-init : goal.loop-number-init
 loop-number-init g c =
@@ -12,54 +32,70 @@ loop-number-init g c =
     let checked = c.in-Ok.checked in
     let round = c.args.round in
     record {
-      stands = λ first paths opened.
-          stands_first its (plan_of c.args.course.now) round.formula round.sizes first paths checked.last checked.next c.args.files.now
-          c.check_round.new.files round.readers.items (of.number ∙ c.requires.one) opened of.found of.sizes;
+      stands = λ first opened.
+          stands_first its c.args.course.now.line.now c.args.course.now.cube.now round.formula first checked.last checked.next
+          c.args.files.now c.check_round.new.files round.readers.items (of.number ∙ c.requires.one) opened of.found
+          (of.sizes ∙ c.requires.sizes);
       number = omega (arith, of.number, c.requires.one);
     }
 
 -- the last round doesn't go on
 pub returns-in-None-clause-over : goal.returns-in-None-clause-over
-returns-in-None-clause-over g c first paths opened =
+returns-in-None-clause-over g c first opened =
     let its = deeds_of g.F.Files g.F.Machine g.F.Input.Source g.F.Output.Sink in
-    let plan = plan_of c.args.course.now in
+    let line = c.args.course.now.line.now in
+    let cube = c.args.course.now.cube.now in
     let now = c.loop-number in
-    let round = c.args.round in
-    ends_barred its plan round.formula round.sizes first paths now.last now.files
-    (subst (λ (n : Option Cnf). RoundsStand its plan round.formula round.sizes first paths now.last n now.files) c.in-None.is
-    (now.invariant.stands first paths opened))
+    let formula = c.args.round.formula in
+    ends_barred its line cube formula first now.last now.files
+    (subst (λ (n : Option Cnf). RoundsStand its line cube formula first now.last n now.files) c.in-None.is
+    (now.invariant.stands first opened))
 
 -- there is no next one
 pub returns-in-Ok-None-clause-over : goal.returns-in-Ok-None-clause-over
-returns-in-Ok-None-clause-over g c first paths opened =
+returns-in-Ok-None-clause-over g c first opened =
     let its = deeds_of g.F.Files g.F.Machine g.F.Input.Source g.F.Output.Sink in
-    let plan = plan_of c.args.course.now in
+    let line = c.args.course.now.line.now in
+    let cube = c.args.course.now.cube.now in
     let now = c.loop-number in
-    let round = c.args.round in
-    ends_alone its plan round.formula round.sizes first paths now.last c.in-Some.formula now.files c.next_round.new.files
-    (subst (λ (n : Option Cnf). RoundsStand its plan round.formula round.sizes first paths now.last n now.files) c.in-Some.is
-    (now.invariant.stands first paths opened))
+    let formula = c.args.round.formula in
+    ends_without its line cube formula first now.last c.in-Some.formula now.files c.next_round.new.files c.in-Rounds.folder.now
+    (ap rounds_of c.in-Rounds.is)
+    (subst (λ (n : Option Cnf). RoundsStand its line cube formula first now.last n now.files) c.in-Some.is
+    (now.invariant.stands first opened))
     (c.next_round.ensures.over (c.in-Ok-None.is ∙ ap Ok c.in-Ok-None.field-0-is))
 
 -- it has no report
 pub returns-in-Err-next_round-clause-cause : goal.returns-in-Err-next_round-clause-cause
-returns-in-Err-next_round-clause-cause g c first paths opened =
+returns-in-Err-next_round-clause-cause g c first opened =
     let its = deeds_of g.F.Files g.F.Machine g.F.Input.Source g.F.Output.Sink in
-    let plan = plan_of c.args.course.now in
+    let line = c.args.course.now.line.now in
+    let cube = c.args.course.now.cube.now in
     let now = c.loop-number in
-    let round = c.args.round in
-    inr (fails_after its plan round.formula round.sizes first paths now.last c.in-Some.formula now.files
-    c.next_round.new.files _
-    (subst (λ (n : Option Cnf). RoundsStand its plan round.formula round.sizes first paths now.last n now.files) c.in-Some.is
-    (now.invariant.stands first paths opened))
+    let formula = c.args.round.formula in
+    inr (fails_after its line cube formula first now.last c.in-Some.formula now.files
+    c.next_round.new.files _ c.in-Rounds.folder.now (ap rounds_of c.in-Rounds.is)
+    (subst (λ (n : Option Cnf). RoundsStand its line cube formula first now.last n now.files) c.in-Some.is
+    (now.invariant.stands first opened))
     c.in-Err-next_round.ensures.cause now.invariant.number)
 
 -- its number would be too high
 pub returns-clause-over : goal.returns-clause-over
-returns-clause-over g c first paths opened =
+returns-clause-over g c first opened =
     let its = deeds_of g.F.Files g.F.Machine g.F.Input.Source g.F.Output.Sink in
-    let plan = plan_of c.args.course.now in
     let now = c.loop-number in
-    let round = c.args.round in
-    ends_high its plan round.formula round.sizes first paths now.last now.next now.files (now.invariant.stands first paths opened)
+    ends_high its c.args.course.now.line.now c.args.course.now.cube.now c.args.round.formula first now.last now.next now.files
+    (now.invariant.stands first opened)
     (omega (arith, now.invariant.number, c.loop-number-test.false))
+
+-- round 1 has no report
+pub returns-in-Err-clause-cause : goal.returns-in-Err-clause-cause
+returns-in-Err-clause-cause g c first opened =
+    let its = deeds_of g.F.Files g.F.Machine g.F.Input.Source g.F.Output.Sink in
+    let line = c.args.course.now.line.now in
+    let cube = c.args.course.now.cube.now in
+    let round = c.args.round in
+    let Cause : ℕ → Sizes → Type 0 = λ n s. IsRoundStartCause its line cube n round.formula s round.readers.items c.args.files.now
+    c.in-Err.fault c.check_round.new.files in
+    let cause : Cause round.number round.sizes = c.in-Err.ensures.cause in
+    inl (refl, subst (Cause 1) c.requires.sizes (subst (λ (n : ℕ). Cause n round.sizes) c.requires.one cause))
