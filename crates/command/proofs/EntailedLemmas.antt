@@ -1,5 +1,5 @@
 -- What rounds saved follows from the first formula.
-use Rattle.std.proofs.Common.{◌≡◌, ◌∙◌, ◌+◌, ◌∷◌, ◌⊎◌, ℕ, List, [], None, Some, inl, inr, subst, sym}
+use Rattle.std.proofs.Common.{◌≡◌, ◌∙◌, ◌+◌, ◌∷◌, ◌⊎◌, ℕ, List, [], Some, inl, inr, subst, sym}
 use Rattle.lrup_model.specs.Cube.{CubeValue}
 use Rattle.lrup_model.specs.Formula.{Cnf}
 use Rattle.portfolio.specs.declared.outcome.Verdict.TheVariants.{Unknown, Unsatisfiable}

@@ -1,5 +1,5 @@
 -- What a status says.
-use Rattle.std.proofs.Common.{◌≡◌, ◌∙◌, ◌+◌, ◌∷◌, ◌⊎◌, ℕ, Bool, IsTrue, true, false, List, []}
+use Rattle.std.proofs.Common.{◌≡◌, ◌∙◌, ◌∷◌, ◌⊎◌, ℕ, Bool, IsTrue, true, false, List, []}
 use Rattle.std.proofs.Common.{Option, None, Some, inl, inr, refl, sym, subst}
 use Rattle.std.specs.Prelude.{◌↔◌}
 use Rattle.lrup_model.specs.Cube.{CubeValue}
@@ -9,15 +9,15 @@ use Rattle.portfolio.specs.declared.outcome.Verdict.{Verdict}
 use Rattle.portfolio.specs.declared.outcome.Verdict.TheVariants.{Unsatisfiable, UnsatisfiableUnder, Unknown}
 use Rattle.checkpoint.specs.Checkpoints.{IsCheckpoint}
 use Rattle.checkpoint.specs.declared.saving.SaveFault.{SaveFault}
-use Rattle.command_line.specs.CommandLine.{AskToSave, IsCommandLineOf, checkpoint_of, rounds_of}
+use Rattle.command_line.specs.CommandLine.{AskToSave, checkpoint_of, rounds_of}
 use Rattle.command_line.specs.declared.words.CommandLine.{CommandLine}
 use Rattle.command_line.specs.declared.words.Next.{Next}
 use Rattle.command_line.specs.declared.words.Next.TheVariants.{Checkpoint, Nothing, Rounds}
-use Rattle.command.specs.Commands.{CheckpointEntailed, CheckpointLeftEmpty, ComesLast, Deeds, FilesView, IsAssumeCause, IsCause}
+use Rattle.command.specs.Commands.{CheckpointEntailed, CheckpointLeftEmpty, ComesLast, Deeds, FilesView, IsAssumeCause}
 use Rattle.command.specs.Commands.{IsLeftEmpty, LeavesBehind, SavesCheckpoint, SinkChange, Text, WasReadIn, WasSavedBy}
 use Rattle.command.specs.Commands.{assumed_at, created_path, report_status, run_params_by}
 use Rattle.command.specs.Faults.{status_of}
-use Rattle.command.specs.Rounds.{AreRounds, CarriesOn, EndsWithFault, EndsWithReport, IsCauseIn, IsFirst, IsNextCause, ProgramEnds}
+use Rattle.command.specs.Rounds.{AreRounds, CarriesOn, EndsWithFault, EndsWithReport, IsCauseIn, IsFirst, ProgramEnds}
 use Rattle.command.specs.Rounds.{Round, RoundsEnd}
 use Rattle.command.specs.declared.fault.CommandFault.{CommandFault}
 use Rattle.command.specs.declared.fault.CommandFault.TheVariants as faults

@@ -337,7 +337,9 @@ fn go_on<T: Threads + Wait + Sync, C: Clock + Sync, F: Machine>(
             None => return Ok(last),
             Some(formula) => formula,
         };
-        match next_round(threads, clock, alloc, course, folder, &last, number, formula, files) {
+        match next_round(
+            threads, clock, alloc, course, folder, &last, number, formula, files,
+        ) {
             Ok(Some(found)) => {
                 last = found.last;
                 next = found.next;

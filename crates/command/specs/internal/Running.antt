@@ -1,14 +1,9 @@
 -- What the check of streams leaves: what private functions say of it (this project's own).
-use Rattle.std.specs.Prelude.{◌≡◌, ◌<◌, Bool, false, List, vec_len}
+use Rattle.std.specs.Prelude.{◌≡◌, Bool, false, List}
 use Rattle.std.specs.Prelude.{ℕ}
-use Rattle.lrup_model.specs.Event.{History}
 use Rattle.lrup_model.specs.Formula.{Cnf}
-use Rattle.lrup_model.specs.Layout.{Fits, IsFault, IsStream, LayoutValue}
-use Rattle.lrup_model.specs.Plain.{formula_of, plain_state}
-use Rattle.lrup_model.specs.State.{state}
-use Rattle.clause_store.specs.Passes.{AreOf, views}
+use Rattle.lrup_model.specs.Layout.{IsFault, IsStream, LayoutValue}
 use Rattle.lrup_text.specs.ReadOut.{SourceView}
-use Rattle.runs.specs.SequentialConsistency.{HaveOneHistory}
 use Rattle.runs.specs.Streams.{RunParamsValue}
 use Rattle.stream_check.specs.DroppedIdsValue.{DroppedIdsValue}
 use Rattle.stream_check.specs.declared.report.Report.{Report}

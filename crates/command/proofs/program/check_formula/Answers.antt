@@ -1,4 +1,4 @@
-use Rattle.std.proofs.Common.{◌∙◌, ◌≡◌, ℕ, List, Option, ap, inl, inr, rules, subst, sym}
+use Rattle.std.proofs.Common.{◌∙◌, ℕ, List, Option, ap, inl, inr, rules, subst, sym}
 use Rattle.portfolio.specs.declared.outcome.Verdict.{Verdict}
 use Rattle.stream_check.specs.declared.report.Report.{Report}
 use Rattle.checkpoint.specs.declared.saving.SaveFault.{SaveFault}

@@ -1,5 +1,4 @@
 use Rattle.std.proofs.Common.{◌≡◌, ◌<◌, ◌∙◌, Bool, None, Option, Some, ap, arith, inl, inr, is_some, length, subst, sym, true}
-use Rattle.command_line.specs.CommandLine.{rounds_of}
 use Rattle.command.specs.Commands.{Text, created_path, deeds_of, path_of, run_params_by}
 use Rattle.command.specs.Rounds.{HaveEnded}
 use Rattle.command.specs.internal.RoundProgress.{RanAndLeft}

@@ -1,8 +1,8 @@
-use Rattle.std.proofs.Common.{◌≡◌, ◌∙◌, ℕ, IfErr, IfOk, ap, inl, inr, map, subst, sym}
+use Rattle.std.proofs.Common.{◌∙◌, ℕ, ap, inl, inr, map, subst, sym}
 use Rattle.command_line.specs.declared.sizes.Sizes.{Sizes}
-use Rattle.command.specs.Commands.{FilesView, IsCause, IsFormulaAt, deeds_of, files_view, from_first, sizes_of}
+use Rattle.command.specs.Commands.{IsCause, IsFormulaAt, deeds_of, files_view, from_first}
 use Rattle.command.specs.Rounds.{IsCauseIn, StreamsOpened}
-use Rattle.command.specs.internal.RoundProgress.{EndsAt, FailsAt, IsReported}
+use Rattle.command.specs.internal.RoundProgress.{IsReported}
 use Rattle.command.specs.declared.fault.CommandFault.{CommandFault}
 use Rattle.command.proofs.CheckingLemmas.{if_err, if_ok, start_cause}
 use Rattle.command.proofs.RoundLemmas.{ends_sound, ends_sound_under, opened_count}

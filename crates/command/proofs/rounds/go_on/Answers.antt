@@ -1,4 +1,4 @@
-use Rattle.std.proofs.Common.{◌≡◌, ◌∙◌, ℕ, arith, Ok, Option, None, Some, ap, inl, inr, refl, subst}
+use Rattle.std.proofs.Common.{◌∙◌, ℕ, arith, Ok, Option, ap, inl, inr, refl, subst}
 use Rattle.lrup_model.specs.Formula.{Cnf}
 use Rattle.command_line.specs.CommandLine.{rounds_of}
 use Rattle.command_line.specs.declared.sizes.Sizes.{Sizes}

@@ -1,5 +1,4 @@
-use Rattle.std.proofs.Common.{◌≡◌, ◌+◌, Some}
-use Rattle.command_line.specs.CommandLine.{rounds_of}
+use Rattle.std.proofs.Common.{◌≡◌, ◌+◌}
 use Rattle.command.specs.Commands.{deeds_of}
 use Rattle.command.specs.Rounds.{StreamsOpened}
 use Rattle.command.specs.internal.RoundProgress.{RoundsStand}

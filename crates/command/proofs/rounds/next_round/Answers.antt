@@ -1,8 +1,8 @@
 use Rattle.std.proofs.Common.{◌∙◌, inl, inr, subst, sym, ℕ}
 use Rattle.command_line.specs.declared.sizes.Sizes.{Sizes}
 use Rattle.command.specs.Paths.{sizes_path, stream_paths}
-use Rattle.command.specs.Commands.{IsRoundStartCause, deeds_of}
-use Rattle.command.specs.Rounds.{AreSized, IsStreamCause, StreamsOpened}
+use Rattle.command.specs.Commands.{deeds_of}
+use Rattle.command.specs.Rounds.{AreSized, StreamsOpened}
 use Rattle.command.specs.internal.RoundProgress.{RoundsStand}
 use Rattle.command.proofs.RoundLemmas.{for_some, stands_next}
 use Rattle.command.proofs.rounds.next_round.Goals as goal
