@@ -6,6 +6,7 @@ use Rattle.std.specs.List.{AllByRecursion, Any, flat_map, list_any}
 use Rattle.std.proofs.lemmas.Bool.{cases_eq, cond-true, cond-false, or_right}
 use Rattle.std.proofs.lemmas.List.{length-map}
 use Rattle.std.proofs.lemmas.Option.{slice_get-map, slice_get_within, slice_get_cases}
+use Rattle.lrup_model.specs.Cube.{CubeValue}
 use Rattle.lrup_model.specs.Event.{History}
 use Rattle.lrup_model.specs.Formula.{Cnf, IsCnf}
 use Rattle.lrup_model.specs.Layout.{Fits, IsStream}
@@ -27,7 +28,9 @@ use Rattle.portfolio.specs.Histories.{OnOneThread, way_of}
 use Rattle.portfolio.specs.Outcomes.{verdict_of}
 use Rattle.portfolio.specs.declared.outcome.Verdict.{Verdict}
 use Rattle.portfolio.specs.declared.outcome.Verdict.TheVariants.{Unsatisfiable, UnsatisfiableUnder, Unknown}
-use Rattle.command.specs.Commands.{AreChecked, Text}
+use Rattle.command_line.specs.declared.words.CommandLine.{CommandLine}
+use Rattle.command.specs.Commands.{AreChecked, Deeds, Text, run_params_by}
+use Rattle.command.specs.Rounds.{Round}
 
 -- The streams at these paths were opened as these readers, and what the files tell these have left; and they were checked.
 pub record Check {R : Type 0} (reading : SourceView R) : Type 0 where
@@ -43,6 +46,24 @@ pub record Check {R : Type 0} (reading : SourceView R) : Type 0 where
   pub reports : List Report
   pub verdict : Verdict
   pub checked : AreChecked reading serial formula run_params readers reports verdict
+
+-- what was checked in a round whose streams were opened so
+abbrev pub check_of : {its : Deeds} {given : CommandLine} {cube : CubeValue} (round : Round its given cube)
+    (tells : Text → Option (List ℕ)) (paths : List Text) → map its.reading.left round.readers ≡ map tells paths → Check its.reading
+check_of {its} {given} {cube} round tells paths left = record {
+  serial = given.serial;
+  formula = round.formula;
+  run_params = run_params_by given cube round.formula round.sizes;
+  fits = record { vars = refl; clauses = refl; literals = refl };
+  tells = tells;
+  paths = paths;
+  count = sym (length-map paths tells) ∙ sym (ap length left) ∙ length-map round.readers its.reading.left ∙ round.count;
+  readers = round.readers;
+  left = left;
+  reports = round.reports;
+  verdict = round.verdict;
+  checked = round.checked;
+}
 
 -- a report of the empty clause comes to 'unsatisfiable'
 one_says : (reports : List Report) (k : ℕ) (report : Report) → slice_get reports k ≡ Some report → report.empty ≡ true

@@ -3,6 +3,7 @@ mod CubeLemmas
 mod RunLemmas
 mod WordLemmas
 mod OutcomeLemmas
+mod SavedLemmas
 mod StatusLemmas
 mod ValidLemmas
 mod SerialLemmas

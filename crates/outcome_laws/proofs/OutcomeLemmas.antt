@@ -1,21 +1,22 @@
 -- Two outcomes of the program.
-use Rattle.std.proofs.Common.{◌≡◌, ◌++◌, ℕ, List, length, Option, Some, refl, sym, ap, subst, ◌∙◌}
+use Rattle.std.proofs.Common.{◌≡◌, ◌++◌, ℕ, List, [], map, Option, Some, sym, ap, subst, ◌∙◌}
 use Rattle.std.specs.Prelude.{codes}
 use Rattle.std.specs.Fmt.{decimal}
 use Rattle.std.specs.Option.{ForSome}
+use Rattle.lrup_model.specs.Cube.{CubeValue}
 use Rattle.lrup_model.specs.Formula.{Cnf}
-use Rattle.lrup_model.specs.Layout.{Fits}
 use Rattle.dimacs.specs.FormulaText.{IsFormulaText}
 use Rattle.stream_check.specs.declared.report.Ending.{Ending}
 use Rattle.stream_check.specs.declared.report.Report.{Report}
 use Rattle.run_laws.specs.Groups.{IsRun}
-use Rattle.portfolio.specs.Outcomes.{OptionsValue, layout_of}
 use Rattle.portfolio.specs.ReportText.{ending_text, stream_line}
-use Rattle.portfolio.specs.declared.outcome.Verdict.{Verdict}
-use Rattle.command.specs.Commands.{FilesView, IsFormulaAt, IsOutcome, Text, layout_at, options_of, run_params_given}
-use Rattle.outcome_laws.specs.Outcomes.{SayTheSame}
+use Rattle.command_line.specs.declared.sizes.Sizes.{Sizes}
+use Rattle.command_line.specs.declared.words.CommandLine.{CommandLine}
+use Rattle.command.specs.Commands.{FilesView, IsFormulaAt, Text}
+use Rattle.command.specs.Rounds.{Round, WereRounds}
+use Rattle.outcome_laws.specs.Outcomes.{SayTheSame, layout_in}
 use Rattle.outcome_laws.specs.Laws.{SameBytesSayTheSame, OutcomesAgree}
-use Rattle.outcome_laws.proofs.CheckLemmas.{Check, run_of, observation_of_file, observed_of}
+use Rattle.outcome_laws.proofs.CheckLemmas.{Check, check_of, run_of, observation_of_file, observed_of}
 
 -- a text is that of one formula: the law of `dimacs`
 abbrev pub OneFormula : Type 0
@@ -39,45 +40,37 @@ pub is_text : (files : FilesView) (path : Text) (f : Cnf) (after : files.its.Sta
 is_text files path f after text told at =
     subst (λ (x : List ℕ). IsFormulaText x f) (sym (text_of (files.tells path) text at.0 told at.1.told)) at.2
 
--- what was checked in an outcome
-abbrev pub check_of : (files : FilesView) (words : List Text) (reports : List Report) (verdict : Verdict)
-    → IsOutcome files words reports verdict → Check files.its.reading
-check_of files words reports verdict a = record {
-  serial = a.given.serial;
-  formula = a.formula;
-  run_params = run_params_given a.given a.cube a.formula;
-  fits = record { vars = refl; clauses = refl; literals = refl };
-  tells = files.tells;
-  paths = a.given.streams;
-  count = refl;
-  readers = a.readers;
-  left = a.left;
-  reports = reports;
-  verdict = verdict;
-  checked = a.checked;
-}
+-- Round 1 of a run.
+module _ (files : FilesView) (given : CommandLine) (cube : CubeValue) (round : Round files.its given cube)
+    (were : WereRounds files given cube round []) where
+  -- what was checked in it
+  abbrev pub first_check : Check files.its.reading
+  first_check = check_of round files.tells given.streams
+      (were.rounds.opened.left ∙ ap (λ (t : Text → Option (List ℕ)). map t given.streams) were.told)
+
+  -- its formula is that of the text that FORMULA has
+  pub first_text : (text : List ℕ) → files.tells given.formula.now ≡ Some text → IsFormulaText text round.formula
+  first_text text told = subst (IsFormulaText text) (sym were.rounds.formula_is)
+      (is_text files given.formula.now were.formula were.next text told were.is_formula)
 
 pub outcomes_agree : OneFormula → SameBytesSayTheSame → (files : FilesView) (others : FilesView) → OutcomesAgree files others
-outcomes_agree one_formula same files others words other_words reports other_reports verdict other_verdict a b s text
-    whole report other
-    options count told known cites on there =
-    let formulas : b.formula ≡ a.formula =
-    one_formula text b.formula a.formula (is_text others b.given.formula.now b.formula b.next text known b.is_formula)
-    (is_text files a.given.formula.now a.formula a.next text told a.is_formula) in
-    let layouts : layout_at b.given b.formula ≡ layout_at a.given a.formula =
-    ap (λ (x : OptionsValue). layout_of x b.formula (length b.given.streams)) options
-    ∙ ap (λ (x : Cnf). layout_of (options_of a.given) x (length b.given.streams)) formulas
-    ∙ ap (layout_of (options_of a.given) a.formula) count in
-    let fits : Fits (layout_at a.given a.formula) a.formula = record { vars = refl; clauses = refl; literals = refl } in
-    let mine = check_of files words reports verdict a in
-    let theirs = check_of others other_words other_reports other_verdict b in
+outcomes_agree one_formula same files others given other_given cube other_cube round other s text whole report other_report were
+    others_were tries sizes told known cites on there =
+    let formulas : other.formula ≡ round.formula =
+    one_formula text other.formula round.formula (first_text others other_given other_cube other others_were text known)
+    (first_text files given cube round were text told) in
+    let layouts : layout_in other.formula other.sizes ≡ layout_in round.formula round.sizes =
+    ap (λ (z : Sizes). layout_in other.formula z) (others_were.rounds.sizes_are ∙ sizes ∙ sym were.rounds.sizes_are)
+    ∙ ap (λ (f : Cnf). layout_in f round.sizes) formulas in
+    let mine = first_check files given cube round were in
+    let theirs = first_check others other_given other_cube other others_were in
     let here = observation_of_file files.its.reading mine s on.path whole on.names on.tells in
     let over = observation_of_file others.its.reading theirs s there.path whole there.names there.tells in
-    same_line s report other
-    (same a.formula (run_params_given a.given a.cube a.formula) (run_params_given b.given b.cube b.formula) s whole
-    (observed_of files.its.reading mine) (observed_of others.its.reading theirs) here.0 over.0 reports other_reports report other
-    fits layouts (ap (λ (x : OptionsValue). x.tries) options) cites
-    (run_of files.its.reading mine) (subst (λ (g : Cnf). IsRun g (run_params_given b.given b.cube b.formula)
-    (observed_of others.its.reading theirs) other_reports) formulas (run_of others.its.reading theirs))
+    same_line s report other_report
+    (same round.formula mine.run_params theirs.run_params s whole
+    (observed_of files.its.reading mine) (observed_of others.its.reading theirs) here.0 over.0 round.reports other.reports report
+    other_report mine.fits layouts tries cites
+    (run_of files.its.reading mine) (subst (λ (g : Cnf). IsRun g theirs.run_params
+    (observed_of others.its.reading theirs) other.reports) formulas (run_of others.its.reading theirs))
     here.1 here.2 over.1 over.2
     on.says there.says on.memory on.failure there.memory there.failure)

@@ -20,8 +20,10 @@ use Rattle.run_laws.specs.Valid.{IsCutOffIn}
 use Rattle.portfolio.specs.ReportText.{ending_text, report_text, stream_line, stream_lines, verdict_line}
 use Rattle.portfolio.specs.declared.outcome.Verdict.{Verdict}
 use Rattle.command.specs.Commands.{FilesView, IsUntouched, SinkChange, SinkTook, TakesUnlessFailed, Text}
-use Rattle.outcome_laws.specs.Valid.{InconclusiveBecause, unwritten, no_report, lost, ValidRefutationSays}
+use Rattle.command.specs.Rounds.{EndsWithReport, last_text}
+use Rattle.outcome_laws.specs.Valid.{AskWell, InconclusiveBecause, unwritten, no_report, lost, ValidRefutationSays}
 use Rattle.outcome_laws.specs.Printed.{HoldsBackRefuted, NoBadLineShown, ShowsBadLine}
+use Rattle.outcome_laws.proofs.ValidLemmas.{alone, asks_once}
 
 -- Bytes before a mark
 
@@ -260,17 +262,28 @@ module _ (s count : ℕ) (out : SinkChange) (shows : ShowsBadLine s out) where
       let none : [] ≡ Shown = kept out.before out.after shows.before Shown untouched.written shows.was shows.is in
       omega (arith, some_shown, ap length none)
 
-  pub shown_so : (files : FilesView) (words : List Text) (after : files.its.State) (err : SinkChange) (status : ℕ)
+  -- in round 1 no number is printed
+  printed_so : (files : FilesView) (words : List Text) → AskWell files words None → (after : files.its.State) (err : SinkChange)
+      (status : ℕ) → (ends : EndsWithReport files words after out err status)
+      → SinkTook out (report_text ends.last.reports ends.last.verdict)
+  printed_so files words asks after err status ends =
+      let once = asks_once files words asks ends.given ends.command_line in
+      let were = alone files ends.given ends.cube once ends.last ends.before ends.were in
+      subst (λ (n : ℕ). SinkTook out (last_text n ends.last.reports ends.last.verdict)) were.rounds.number ends.printed
+
+  pub shown_so : (files : FilesView) (words : List Text) → AskWell files words None → (after : files.its.State) (err : SinkChange)
+      (status : ℕ)
       → InconclusiveBecause files words s (IsCutOffIn count) after out err status → HoldsBackRefuted files words after out err status
-  shown_so files words after err status (no_report ends machine is) = absurd (none_untouched ends.untouched)
-  shown_so files words after err status (lost ends written report says why is) =
-      absurd (none_of_lost ends.reports ends.verdict ends.printed report says why)
-  shown_so files words after err status (unwritten ends failed (inl refuted) is) = record { ends = ends; refuted = refuted; is = is }
-  shown_so files words after err status (unwritten ends failed (inr (report, says, why)) is) =
-      absurd (none_of_lost ends.reports ends.verdict ends.printed report says why)
+  shown_so files words asks after err status (no_report ends machine is) = absurd (none_untouched ends.untouched)
+  shown_so files words asks after err status (lost ends written report says why is) =
+      absurd (none_of_lost ends.last.reports ends.last.verdict (printed_so files words asks after err status ends) report says why)
+  shown_so files words asks after err status (unwritten ends failed (inl refuted) is) =
+      record { ends = ends; refuted = refuted; is = is }
+  shown_so files words asks after err status (unwritten ends failed (inr (report, says, why)) is) =
+      absurd (none_of_lost ends.last.reports ends.last.verdict (printed_so files words asks after err status ends) report says why)
 
 pub no_bad_line_shown : (files : FilesView) → ValidRefutationSays files → NoBadLineShown files
 no_bad_line_shown files law words after s out err status ask ends shows = elim (law words after s out err status ask ends) [
   | inl is ↦ inl is
-  | inr inconclusive ↦ inr (shown_so s (length ask.valid.lines) out shows files words after err status inconclusive)
+  | inr inconclusive ↦ inr (shown_so s (length ask.valid.lines) out shows files words ask.asks after err status inconclusive)
 ]

@@ -20,56 +20,58 @@ use Rattle.run_laws.specs.Valid.{AddsEmpty, valid_report}
 use Rattle.run_laws.specs.ValidLaws.{ValidEmpty}
 use Rattle.run_laws.specs.Together.{Step, IsValidOrder, lines_by}
 use Rattle.run_laws.specs.TurnsLaws.{BytesDecide, HaveJustTexts, HaveSameBytes, NoneCutShort, ValidByTurns}
-use Rattle.portfolio.specs.Outcomes.{OptionsValue, layout_of, verdict_of}
-use Rattle.portfolio.specs.declared.outcome.Verdict.{Verdict}
+use Rattle.portfolio.specs.Outcomes.{verdict_of}
 use Rattle.portfolio.specs.declared.outcome.Verdict.TheVariants.{Unsatisfiable}
-use Rattle.command.specs.Commands.{EndsWithReport, FilesView, IsOutcome, SinkChange, Text, layout_at, options_of, run_params_given}
+use Rattle.command_line.specs.CommandLine.{IsCommandLineOf}
+use Rattle.command_line.specs.declared.sizes.Sizes.{Sizes}
+use Rattle.command_line.specs.declared.words.CommandLine.{CommandLine}
+use Rattle.command.specs.Commands.{FilesView, SinkChange, Text}
+use Rattle.command.specs.Rounds.{EndsWithReport, Round, WereRounds}
+use Rattle.outcome_laws.specs.Outcomes.{layout_in}
 use Rattle.outcome_laws.specs.Laws.{SameWordsAskAlike}
 use Rattle.outcome_laws.specs.Valid.{InconclusiveBecause}
 use Rattle.outcome_laws.specs.Serial.{AskForValidTurns, IsCutOff, ValidTurnsSay, SerialOutcomesAgree}
 use Rattle.outcome_laws.proofs.CheckLemmas.{Check, turns_of, comes_to, entry_at, has_report, of_some, path_at, run_of, observed_of}
-use Rattle.outcome_laws.proofs.OutcomeLemmas.{OneFormula, is_text, check_of}
-use Rattle.outcome_laws.proofs.ValidLemmas.{NoFormulaFault, IsOf, is_of, with_report, without_report}
+use Rattle.outcome_laws.proofs.OutcomeLemmas.{OneFormula, first_check, first_text}
+use Rattle.outcome_laws.proofs.ValidLemmas.{NoFormulaFault, IsOf, alone, asks_once, is_of, with_report, without_report}
 
 -- a run whose lines have an order by turns
 abbrev IsRunInTurns : Cnf → RunParamsValue → List InputObservation → List Report → Type 0
 IsRunInTurns f run_params told reports = (run : IsRun f run_params told reports) × IsOrderedByTurns f run_params run.streams reports
 
 pub serial_outcomes_agree : OneFormula → BytesDecide → (files : FilesView) (others : FilesView) → SerialOutcomesAgree files others
-serial_outcomes_agree one_formula decide files others words other_words reports other_reports verdict other_verdict a b ask
-    cubes fine good =
-    let formulas : b.formula ≡ a.formula =
-    one_formula ask.text b.formula a.formula (is_text others b.given.formula.now b.formula b.next ask.text ask.same_formula b.is_formula)
-    (is_text files a.given.formula.now a.formula a.next ask.text ask.formula a.is_formula) in
-    let run_params = run_params_given a.given a.cube a.formula in
-    let layouts : layout_at b.given b.formula ≡ layout_at a.given a.formula =
-    ap (λ (x : OptionsValue). layout_of x b.formula (length b.given.streams)) ask.options
-    ∙ ap (λ (x : Cnf). layout_of (options_of a.given) x (length b.given.streams)) formulas
-    ∙ ap (layout_of (options_of a.given) a.formula) ask.count in
-    let same_run_params : run_params_given b.given b.cube b.formula ≡ run_params =
-    ap (λ (p : LayoutValue). record { layout = p; cube = b.cube; tries = b.given.tries }) layouts
-    ∙ ap (λ (c : CubeValue). record { layout = layout_at a.given a.formula; cube = c; tries = b.given.tries }) cubes
-    ∙ ap (λ (x : OptionsValue). record { layout = layout_at a.given a.formula; cube = a.cube; tries = x.tries }) ask.options in
-    let mine = check_of files words reports verdict a in
-    let others_check = check_of others other_words other_reports other_verdict b in
-    let told = observed_of files.its.reading mine in
-    let other_observed = observed_of others.its.reading others_check in
-    let theirs : IsRunInTurns a.formula run_params other_observed other_reports =
-    subst (λ (t : RunParamsValue). IsRunInTurns a.formula t other_observed other_reports) same_run_params
-    (subst (λ (g : Cnf). IsRunInTurns g (run_params_given b.given b.cube b.formula) other_observed other_reports) formulas
-    (run_of others.its.reading others_check, turns_of others.its.reading others_check ask.too)) in
-    let bytes : HaveSameBytes told other_observed = λ s observation other at there.
+serial_outcomes_agree one_formula decide files others given other_given cube other_cube round other were others_were ask cubes fine good =
+    let formulas : other.formula ≡ round.formula =
+    one_formula ask.text other.formula round.formula (first_text others other_given other_cube other others_were ask.text ask.same_formula)
+    (first_text files given cube round were ask.text ask.formula) in
+    let layout = layout_in round.formula round.sizes in
+    let layouts : layout_in other.formula other.sizes ≡ layout =
+    ap (λ (z : Sizes). layout_in other.formula z) (others_were.rounds.sizes_are ∙ ask.sizes ∙ sym were.rounds.sizes_are)
+    ∙ ap (λ (f : Cnf). layout_in f round.sizes) formulas in
+    let mine = first_check files given cube round were in
+    let theirs = first_check others other_given other_cube other others_were in
+    let same_run_params : theirs.run_params ≡ mine.run_params =
+    ap (λ (p : LayoutValue). record { layout = p; cube = other_cube; tries = other_given.tries }) layouts
+    ∙ ap (λ (c : CubeValue). record { layout = layout; cube = c; tries = other_given.tries }) cubes
+    ∙ ap (λ (n : ℕ). record { layout = layout; cube = cube; tries = n }) ask.tries in
+    let observed = observed_of files.its.reading mine in
+    let other_observed = observed_of others.its.reading theirs in
+    let in_turns : IsRunInTurns round.formula mine.run_params other_observed other.reports =
+    subst (λ (t : RunParamsValue). IsRunInTurns round.formula t other_observed other.reports) same_run_params
+    (subst (λ (g : Cnf). IsRunInTurns g theirs.run_params other_observed other.reports) formulas
+    (run_of others.its.reading theirs, turns_of others.its.reading theirs ask.too)) in
+    let bytes : HaveSameBytes observed other_observed = λ s observation another at there.
     let path = path_at files.its.reading mine s observation at in
-    let other_path = path_at others.its.reading others_check s other there in
+    let other_path = path_at others.its.reading theirs s another there in
     let both = ask.streams s path.0 other_path.0 path.1 other_path.1 in (
       both.0,
       entry_at files.its.reading mine s observation path.0 both.0 at path.1 both.1,
-      entry_at others.its.reading others_check s other other_path.0 both.0 there other_path.1 both.2,
+      entry_at others.its.reading theirs s another other_path.0 both.0 there other_path.1 both.2,
     ) in
-    let same : reports ≡ other_reports =
-    decide a.formula run_params told other_observed reports other_reports bytes (run_of files.its.reading mine) theirs.0
-    (turns_of files.its.reading mine ask.serial) theirs.1 fine good in
-    (same, a.checked.is_verdict ∙ ap verdict_of same ∙ sym b.checked.is_verdict)
+    let same : round.reports ≡ other.reports =
+    decide round.formula mine.run_params observed other_observed round.reports other.reports bytes (run_of files.its.reading mine)
+    in_turns.0 (turns_of files.its.reading mine ask.serial) in_turns.1 fine good in
+    (same, round.checked.is_verdict ∙ ap verdict_of same ∙ sym other.checked.is_verdict)
 
 -- Valid proofs, by turns
 
@@ -142,33 +144,37 @@ module _ (one_formula : OneFormula) (no_fault : NoFormulaFault) (alike : SameWor
     (empty : ValidEmpty)
     (files : FilesView) (words : List Text) (s : ℕ) (ask : AskForValidTurns files words s) where
   -- where no stream was cut off the verdict is 'unsatisfiable'
-  turns_refute : (reports : List Report) (verdict : Verdict) (a : IsOutcome files words reports verdict) → NoneCutShort reports
-      → verdict ≡ Unsatisfiable
-  turns_refute reports verdict a fine =
+  turns_refute : (given : CommandLine) → IsCommandLineOf words given → (cube : CubeValue) (round : Round files.its given cube)
+      → WereRounds files given cube round [] → NoneCutShort round.reports → round.verdict ≡ Unsatisfiable
+  turns_refute given line cube round were fine =
       let asks = ask.asks in
-      let is : IsOf one_formula alike empty files words asks reports verdict a =
-      is_of one_formula alike empty files words asks reports verdict a in
-      let order : IsValidOrder a.formula (layout_at a.given a.formula) ask.steps =
-      subst (λ (x : Cnf). IsValidOrder x (layout_at a.given a.formula) ask.steps) (sym is.formulas)
+      let is : IsOf one_formula alike empty files words asks given round =
+      is_of one_formula alike empty files words asks given line cube round were in
+      let layout = layout_in round.formula round.sizes in
+      let order : IsValidOrder round.formula layout ask.steps =
+      subst (λ (x : Cnf). IsValidOrder x layout ask.steps) (sym is.formulas)
       (subst (λ (p : LayoutValue). IsValidOrder asks.formula p ask.steps) is.layouts ask.order) in
-      let on_one : a.given.serial ≡ true = a.command_line.said.serial ∙ sym asks.command_line.said.serial ∙ ask.serial in
-      by_turns_refutes files.its.reading (check_of files words reports verdict a) is.cnf valid on_one ask.steps order ask.turns
+      let on_one : given.serial ≡ true = line.said.serial ∙ sym asks.command_line.said.serial ∙ ask.serial in
+      by_turns_refutes files.its.reading (first_check files given cube round were) is.cnf valid on_one ask.steps order ask.turns
       (λ t path names. ask.tells t path (subst (λ (x : List Text). IsOfStream x t path) is.streams names)) fine empty s ask.empty
 
   turns_say : (after : files.its.State) (out err : SinkChange) (status : ℕ) → EndsWithReport files words after out err status
       → (status ≡ 0) ⊎ ((t : ℕ) × InconclusiveBecause files words t IsCutOff after out err status)
-  turns_say after out err status ends = elim (some_cut ends.reports) [
-    | inl cut ↦ elim (with_report files IsCutOff words after cut.0 out err status ends (inr (cut.1, cut.2, cut.3))) [
-      | inl is ↦ inl is
-      | inr inconclusive ↦ inr (cut.0, inconclusive)
-    ]
-    | inr fine ↦
-        let refuted = turns_refute ends.reports ends.verdict ends.outcome fine in
-        elim (with_report files IsCutOff words after s out err status ends (inl refuted)) [
+  turns_say after out err status ends =
+      let once = asks_once files words ask.asks ends.given ends.command_line in
+      elim (some_cut ends.last.reports) [
+        | inl cut ↦ elim (with_report files IsCutOff words after cut.0 out err status ends once (inr (cut.1, cut.2, cut.3))) [
           | inl is ↦ inl is
-          | inr inconclusive ↦ inr (s, inconclusive)
+          | inr inconclusive ↦ inr (cut.0, inconclusive)
         ]
-  ]
+        | inr fine ↦
+            let refuted = turns_refute ends.given ends.command_line ends.cube ends.last
+            (alone files ends.given ends.cube once ends.last ends.before ends.were) fine in
+            elim (with_report files IsCutOff words after s out err status ends once (inl refuted)) [
+              | inl is ↦ inl is
+              | inr inconclusive ↦ inr (s, inconclusive)
+            ]
+      ]
 
 pub valid_turns_say : OneFormula → NoFormulaFault → SameWordsAskAlike → ValidByTurns → ValidEmpty
     → (files : FilesView) → ValidTurnsSay files

@@ -1,15 +1,18 @@
 -- What the clause `ends` says of status 0.
-use Rattle.std.proofs.Common.{◌≡◌, Bool, true, false, Option, None, Some, inl, inr, refl, sym, ◌∙◌}
+use Rattle.std.proofs.Common.{◌≡◌, Bool, true, false, Option, None, Some, inl, inr, refl}
+use Rattle.lrup_model.specs.Entailment.{IsUnsatisfiable}
 use Rattle.lrup_model.specs.declared.layout.LayoutFault.{LayoutFault}
 use Rattle.lrup_model.specs.declared.layout.LayoutFault.TheVariants as layouts
 use Rattle.portfolio.specs.declared.outcome.Verdict.{Verdict}
 use Rattle.portfolio.specs.declared.outcome.Verdict.TheVariants.{Unsatisfiable, UnsatisfiableUnder, Unknown}
+use Rattle.checkpoint.specs.Entails.{EntailsItself, EntailsOnward, RefutesBack}
 use Rattle.checkpoint.specs.declared.saving.SaveFault.{SaveFault}
 use Rattle.command.specs.Commands.{FilesView, report_status}
 use Rattle.command.specs.Faults.{layout_status, status_of}
 use Rattle.command.specs.declared.fault.CommandFault.{CommandFault}
 use Rattle.command.specs.declared.fault.CommandFault.TheVariants as faults
-use Rattle.outcome_laws.specs.Laws.{PlainEnds, Status0HasACommandLine}
+use Rattle.outcome_laws.specs.Laws.{Status0HasACommandLine}
+use Rattle.outcome_laws.proofs.SavedLemmas.{follows}
 
 pub refuted : (failed : Bool) (unsaved : Option SaveFault) (verdict : Verdict) → 0 ≡ report_status failed unsaved verdict
     → verdict ≡ Unsatisfiable
@@ -43,25 +46,19 @@ no_fault faults.TwoCheckpoints is = let no : 0 ≡ 2 = is in cc
 no_fault faults.SizesUnread is = let no : 0 ≡ 5 = is in cc
 no_fault faults.Sizes is = let no : 0 ≡ 2 = is in cc
 
--- without rounds
-pub plain : (files : FilesView) → PlainEnds files
-plain files words after out err status once (inl report) = inl report.0
-plain files words after out err status once (inr (inl fault)) = inr fault
-plain files words after out err status once (inr (inr rounds)) =
-    let line = rounds.command_line in
-    absurd (once rounds.folder (record { good = line.good; folder_is = sym line.said.rounds ∙ rounds.asked }))
-
-pub status_0 : (files : FilesView) → Status0HasACommandLine files
-status_0 files words after out err (inl report) =
-    let o = report.outcome in
-    let at = o.is_formula in (
-      o.given,
+pub status_0 : EntailsItself → EntailsOnward → RefutesBack → (files : FilesView) → Status0HasACommandLine files
+status_0 itself onward back files words after out err (inl ends) =
+    let were = ends.were in
+    let at = were.is_formula in
+    let refutes : IsUnsatisfiable ends.last.formula =
+    ends.last.checked.sound (refuted out.failed ends.last.unsaved ends.last.verdict ends.status_is) in (
+      ends.given,
       at.0,
-      o.formula,
-      o.next,
-      o.command_line,
+      were.formula,
+      were.next,
+      ends.command_line,
       at.1,
       at.2,
-      o.checked.sound (refuted out.failed report.unsaved report.verdict report.status_is),
+      back were.formula ends.last.formula (follows itself onward were.formula were.later ends.last ends.before were.rounds) refutes,
     )
-status_0 files words after out err (inr fault) = absurd (no_fault fault.fault fault.status_is)
+status_0 itself onward back files words after out err (inr fault) = absurd (no_fault fault.fault fault.status_is)

@@ -1,5 +1,6 @@
 -- Laws of outcomes. Each is the contract of a function of laws.
-use Rattle.std.specs.Prelude.{◌≡◌, ◌⊎◌, ℕ, List, length, Some}
+use Rattle.std.specs.Prelude.{◌≡◌, ℕ, List, [], Some}
+use Rattle.lrup_model.specs.Cube.{CubeValue}
 use Rattle.lrup_model.specs.Event.{History}
 use Rattle.lrup_model.specs.Formula.{Cnf}
 use Rattle.lrup_model.specs.Layout.{Fits}
@@ -12,15 +13,13 @@ use Rattle.runs.specs.Closed.{IsOfStream, CiteWithin}
 use Rattle.runs.specs.Streams.{InputObservation, RunParamsValue}
 use Rattle.run_laws.specs.Groups.{one, IsRun}
 use Rattle.portfolio.specs.ReportText.{stream_line}
-use Rattle.portfolio.specs.declared.outcome.Verdict.{Verdict}
-use Rattle.command_line.specs.CommandLine.{AskForRounds, IsCommandLineOf}
+use Rattle.command_line.specs.CommandLine.{IsCommandLineOf}
 use Rattle.command_line.specs.declared.words.CommandLine.{CommandLine}
-use Rattle.command.specs.Commands.{EndsWithFault, EndsWithReport, FilesView, IsOutcome, SinkChange, Text, WasReadIn}
-use Rattle.command.specs.Commands.{layout_at, options_of}
-use Rattle.command.specs.Rounds.{ProgramEnds}
+use Rattle.command.specs.Commands.{FilesView, SinkChange, Text, WasReadIn, sizes_of}
+use Rattle.command.specs.Rounds.{ProgramEnds, Round, WereRounds}
 use Rattle.dimacs.specs.FormulaText.{IsFormulaText}
 use Rattle.lrup_model.specs.Entailment.{IsUnsatisfiable}
-use Rattle.outcome_laws.specs.Outcomes.{bare_params, bare_report, SayTheSame, ReportsOn}
+use Rattle.outcome_laws.specs.Outcomes.{bare_params, bare_report, layout_in, SayTheSame, ReportsOn}
 
 -- what a stream is judged by under a cube, it is judged by without one, and its report says the same, but of clauses within the cube
 abbrev pub NoCubeJudgesAlike : Type 0
@@ -53,38 +52,30 @@ SameBytesSayTheSame =
 abbrev pub SameWordsAskAlike : Type 0
 SameWordsAskAlike = (words : List Text) (given other : CommandLine) → IsCommandLineOf words given
     → IsCommandLineOf words other
-    → (options_of other ≡ options_of given) × (other.streams ≡ given.streams)
-    × (other.formula.now ≡ given.formula.now)
+    → (other.tries ≡ given.tries) × (sizes_of other ≡ sizes_of given)
+    × (other.streams ≡ given.streams) × (other.formula.now ≡ given.formula.now)
 
--- In two outcomes of the program, whose options and number of streams are the same, a stream that cites within itself has the same
--- line, where the files of the formula and of the stream tell the same bytes, unless a report of the stream is of memory or of a
--- failed read: whatever the other streams' files are, whatever is assumed, and whichever of the two ran with threads.
+-- In round 1 of two runs of the program, with the same tries and sizes, a stream that cites within itself has the same line, where the
+-- files of the formula and of the stream have the same bytes, unless a report of the stream is of memory or of a failed read: whatever the
+-- other streams' files are, whatever is assumed, and whichever of the two ran with threads. A run without rounds is its round 1.
 abbrev pub OutcomesAgree : FilesView → FilesView → Type 0
 OutcomesAgree files others =
-    (words other_words : List Text) (reports other_reports : List Report)
-    (verdict other_verdict : Verdict)
-    (a : IsOutcome files words reports verdict)
-    (b : IsOutcome others other_words other_reports other_verdict)
+    (given other_given : CommandLine) (cube other_cube : CubeValue)
+    (round : Round files.its given cube) (other : Round others.its other_given other_cube)
     (s : ℕ) (text whole : List ℕ) (report other_report : Report)
-    → options_of b.given ≡ options_of a.given → length b.given.streams ≡ length a.given.streams
-    → files.tells a.given.formula.now ≡ Some text → others.tells b.given.formula.now ≡ Some text
-    → CiteWithin (layout_at a.given a.formula) (one s) whole
-    → ReportsOn files a.given reports s whole report
-    → ReportsOn others b.given other_reports s whole other_report
+    → WereRounds files given cube round [] → WereRounds others other_given other_cube other []
+    → other_given.tries ≡ given.tries → sizes_of other_given ≡ sizes_of given
+    → files.tells given.formula.now ≡ Some text → others.tells other_given.formula.now ≡ Some text
+    → CiteWithin (layout_in round.formula round.sizes) (one s) whole
+    → ReportsOn files given round.reports s whole report
+    → ReportsOn others other_given other.reports s whole other_report
     → stream_line s report ≡ stream_line s other_report
 
--- Where the words ask for no rounds, the program ends with the report of a single run, or without one, for a cause of such a run.
-abbrev pub PlainEnds : FilesView → Type 0
-PlainEnds files = (words : List Text) (after : files.its.State) (out err : SinkChange) (status : ℕ)
-    → ((folder : Text) → ¬ AskForRounds words folder) → ProgramEnds files words after out err status
-    → EndsWithReport files words after out err status ⊎ EndsWithFault files words after out err
-    status
-
--- What the ending of a single run says of status 0: the words have a command line, and what was read at its FORMULA is a text of a formula
+-- What the ending of the program says of status 0: the words have a command line, and what was read at its FORMULA is a text of a formula
 -- that no assignment satisfies. So all that isn't in the clause `sound` of what the words say is in the clause `ends`.
 abbrev pub Status0HasACommandLine : FilesView → Type 0
 Status0HasACommandLine files = (words : List Text) (after : files.its.State) (out err : SinkChange)
-    → EndsWithReport files words after out err 0 ⊎ EndsWithFault files words after out err 0
+    → ProgramEnds files words after out err 0
     → (given : CommandLine) × (bytes : List ℕ) × (f : Cnf) × (next : files.its.State)
     × IsCommandLineOf words given
     × WasReadIn files files.first given.formula.now bytes next

@@ -1,11 +1,19 @@
 -- What two outcomes of the program have in common (this project's own).
 use Rattle.std.specs.Prelude.{◌≡◌, ℕ, List, [], Some}
+use Rattle.lrup_model.specs.Formula.{Cnf}
+use Rattle.lrup_model.specs.Layout.{LayoutValue}
 use Rattle.stream_check.specs.declared.report.Report.{Report}
 use Rattle.stream_check.specs.Laws.{IsOfMemory, IsOfFailure}
 use Rattle.stream_check.specs.StreamParams.{StreamParams}
 use Rattle.runs.specs.Closed.{IsOfStream}
+use Rattle.portfolio.specs.Outcomes.{layout_of}
+use Rattle.command_line.specs.declared.sizes.Sizes.{Sizes}
 use Rattle.command_line.specs.declared.words.CommandLine.{CommandLine}
-use Rattle.command.specs.Commands.{FilesView, Text}
+use Rattle.command.specs.Commands.{FilesView, Text, options_by}
+
+-- the layout of a round
+abbrev pub layout_in : Cnf → Sizes → LayoutValue
+layout_in formula sizes = layout_of (options_by 0 sizes) formula sizes.streams
 
 -- Without a cube
 

@@ -5,7 +5,8 @@ use Rattle.stream_check.specs.declared.report.Ending.TheVariants as endings
 use Rattle.stream_check.specs.declared.report.Report.{Report}
 use Rattle.portfolio.specs.ReportText.{stream_line, stream_lines}
 use Rattle.portfolio.specs.declared.outcome.Verdict.TheVariants.{Unsatisfiable}
-use Rattle.command.specs.Commands.{EndsWithFault, EndsWithReport, FilesView, SinkChange, Text}
+use Rattle.command.specs.Commands.{FilesView, SinkChange, Text}
+use Rattle.command.specs.Rounds.{EndsWithReport, ProgramEnds}
 use Rattle.outcome_laws.specs.Valid.{AskForValidRefutation}
 
 -- What went out to the sink begins with lines of the streams before stream s, and one of stream s, by which a line of it is bad. What
@@ -26,7 +27,7 @@ pub record ShowsBadLine (s : ℕ) (sink : SinkChange) : Type 0 where
 pub record HoldsBackRefuted (files : FilesView) (words : List Text) (after : files.its.State)
     (out err : SinkChange) (status : ℕ) : Type 0 where
   pub ends : EndsWithReport files words after out err status
-  pub refuted : ends.verdict ≡ Unsatisfiable
+  pub refuted : ends.last.verdict ≡ Unsatisfiable
   pub is : status ≡ 7
 
 -- Where the words ask for a valid refutation as stream s, a bad line of it is shown only with status 0, or with 7 where the report says
@@ -34,6 +35,5 @@ pub record HoldsBackRefuted (files : FilesView) (words : List Text) (after : fil
 abbrev pub NoBadLineShown : FilesView → Type 0
 NoBadLineShown files = (words : List Text) (after : files.its.State) (s : ℕ) (out err : SinkChange)
     (status : ℕ) → AskForValidRefutation files words s
-    → EndsWithReport files words after out err status ⊎ EndsWithFault files words after out err
-    status
+    → ProgramEnds files words after out err status
     → ShowsBadLine s out → (status ≡ 0) ⊎ HoldsBackRefuted files words after out err status

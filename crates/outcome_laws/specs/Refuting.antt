@@ -9,17 +9,19 @@ use Rattle.portfolio.specs.declared.outcome.Verdict.TheVariants.{Unsatisfiable}
 use Rattle.checkpoint.specs.Checkpoints.{IsUnsatisfiableText, IsUnsatisfiableTextUnder}
 use Rattle.checkpoint.specs.declared.saving.SaveFault.{SaveFault}
 use Rattle.stream_check.specs.DroppedIdsValue.{DroppedIdsValue}
-use Rattle.command.specs.Commands.{Deeds, EndsWithReport, FilesView, LeavesBehind, SavesCheckpoint, SinkChange, Text, checkpoint_at}
-use Rattle.command.specs.Commands.{layout_at}
+use Rattle.command_line.specs.declared.words.CommandLine.{CommandLine}
+use Rattle.command.specs.Commands.{Deeds, FilesView, LeavesBehind, SavesCheckpoint, SinkChange, Text, created_path}
+use Rattle.command.specs.Rounds.{EndsWithReport, Round}
+use Rattle.outcome_laws.specs.Outcomes.{layout_in}
 
--- A run ended with a report and this status, and these bytes were read of its FORMULA.
+-- A run, of one round or more, ended with a report and this status, and these bytes were read of its FORMULA.
 pub record IsRunOn (files : FilesView) (bytes : List ℕ) (status : ℕ) : Type 0 where
   pub words : List Text
   pub after : files.its.State
   pub out : SinkChange
   pub err : SinkChange
   pub ends : EndsWithReport files words after out err status
-  pub read : ends.outcome.is_formula.0 ≡ bytes
+  pub read : ends.were.is_formula.0 ≡ bytes
 
 -- the bytes that were written to a sink, where that succeeded
 abbrev pub written_bytes : {its : Deeds} {formula : Cnf} {layout : LayoutValue} {history : History}
@@ -32,25 +34,29 @@ written_bytes (Err fault) first last saves = None
 -- the bytes that were saved as a checkpoint, if there is one
 abbrev pub saved_bytes : (its : Deeds) (formula : Cnf) (layout : LayoutValue) (history : History)
     (dropped : List DroppedIdsValue) (verdict : Verdict) (before : its.State) (path : Option Text)
-    (unsaved : Option SaveFault) (after : its.State)
+    (unsaved : Option SaveFault) (next : Option Cnf) (after : its.State)
     → LeavesBehind its (SavesCheckpoint its formula layout history dropped) verdict before path
-    unsaved after → Option (List ℕ)
-saved_bytes its formula layout history dropped verdict before None unsaved after leaves = None
-saved_bytes its formula layout history dropped Unsatisfiable before (Some path) unsaved after
+    unsaved next after → Option (List ℕ)
+saved_bytes its formula layout history dropped verdict before None unsaved next after leaves = None
+saved_bytes its formula layout history dropped Unsatisfiable before (Some path) unsaved next after
     leaves = None
-saved_bytes its formula layout history dropped verdict before (Some path) (Some fault) after
+saved_bytes its formula layout history dropped verdict before (Some path) (Some fault) next after
     leaves = None
-saved_bytes its formula layout history dropped verdict before (Some path) None after leaves =
+saved_bytes its formula layout history dropped verdict before (Some path) None next after leaves =
     written_bytes leaves.result leaves.first leaves.last leaves.saving
 
--- the same, of a run
+-- the same, of a round
+abbrev pub saved_in : {its : Deeds} {given : CommandLine} {cube : CubeValue} → Round its given cube
+    → Option (List ℕ)
+saved_in {its} {given} round =
+    saved_bytes its round.formula (layout_in round.formula round.sizes)
+    round.checked.ran.run.history round.checked.dropped round.verdict round.opened
+    (created_path given.next round.number) round.unsaved round.next round.after round.leaves
+
+-- the same, of a run: what its last round saved
 abbrev pub saved_by : (files : FilesView) (bytes : List ℕ) (status : ℕ)
     → IsRunOn files bytes status → Option (List ℕ)
-saved_by files bytes status run =
-    let outcome = run.ends.outcome in
-    saved_bytes files.its outcome.formula (layout_at outcome.given outcome.formula)
-    outcome.checked.ran.run.history outcome.checked.dropped run.ends.verdict outcome.last
-    (checkpoint_at outcome.given) run.ends.unsaved run.after run.ends.checkpoint
+saved_by files bytes status run = saved_in run.ends.last
 
 -- Runs over files as they were before each: the first read these bytes, each further one what the one before it saved, and the last
 -- one is as wanted.
@@ -71,5 +77,5 @@ OutcomesRefute view = (bytes : List ℕ) (more : List (List ℕ))
 abbrev pub OutcomesRefuteUnder : {F : Type 0} → (F → FilesView) → Type 0
 OutcomesRefuteUnder view = (cube : CubeValue) (bytes : List ℕ) (more : List (List ℕ))
     → AreRuns view
-    (λ first last. (run : IsRunOn (view first) last 8) × (run.ends.outcome.cube ≡ cube)) bytes more
+    (λ first last. (run : IsRunOn (view first) last 8) × (run.ends.cube ≡ cube)) bytes more
     → IsUnsatisfiableTextUnder cube bytes

@@ -18,12 +18,13 @@ use Rattle.run_laws.specs.Together.{Step, IsValidOrder, lines_by}
 use Rattle.portfolio.specs.declared.outcome.Verdict.{Verdict}
 use Rattle.portfolio.specs.declared.outcome.Verdict.TheVariants.{Unsatisfiable}
 use Rattle.checkpoint.specs.declared.saving.SaveFault.{SaveFault}
-use Rattle.command_line.specs.CommandLine.{AskToSave, IsCommandLineOf}
+use Rattle.command_line.specs.CommandLine.{AskToSave, IsCommandLineOf, rounds_of}
 use Rattle.command_line.specs.declared.words.CommandLine.{CommandLine}
-use Rattle.command.specs.Commands.{EndsWithFault, EndsWithReport, FilesView, SinkChange, Text, assumed_at, layout_at, rounds_at, run_params_given}
-use Rattle.command.specs.Commands.{verdict_status}
+use Rattle.command.specs.Commands.{FilesView, SinkChange, Text, assumed_at, run_params_by, sizes_of, verdict_status}
+use Rattle.command.specs.Rounds.{EndsWithFault, EndsWithReport, ProgramEnds}
 use Rattle.command.specs.declared.fault.CommandFault.{CommandFault}
 use Rattle.command.specs.declared.fault.CommandFault.TheVariants as faults
+use Rattle.outcome_laws.specs.Outcomes.{layout_in}
 
 -- there are no assumed literals, or the file at their path tells bytes that have no fault
 abbrev pub AreValidAssumptions : FilesView → ℕ → Option Text → Type 0
@@ -41,9 +42,9 @@ pub record AskWell (files : FilesView) (words : List Text) (folder : Option Text
   pub told : files.tells given.formula.now ≡ Some text
   pub formula : Cnf
   pub is_text : IsFormulaText text formula
-  pub layout : (fault : LayoutFault) → ¬ IsFault (layout_at given formula) fault
+  pub layout : (fault : LayoutFault) → ¬ IsFault (layout_in formula (sizes_of given)) fault
   pub assumptions : AreValidAssumptions files formula.vars (assumed_at given)
-  pub rounds : rounds_at given ≡ folder
+  pub rounds : rounds_of given.next ≡ folder
 
 -- The words ask well, and the file of stream s tells a valid refutation of the formula. Nothing is asked of the other streams.
 pub record AskForValidRefutation (files : FilesView) (words : List Text)
@@ -53,7 +54,7 @@ pub record AskForValidRefutation (files : FilesView) (words : List Text)
   pub names : IsOfStream asks.given.streams s path
   pub bytes : List ℕ
   pub tells : files.tells path ≡ Some bytes
-  pub valid : IsValidRefutation asks.formula (layout_at asks.given asks.formula) s bytes
+  pub valid : IsValidRefutation asks.formula (layout_in asks.formula (sizes_of asks.given)) s bytes
 
 -- The words ask well, lines of a set of streams have a valid order, the files of these streams begin with the texts of their lines, and
 -- some line of stream s adds the empty clause. Nothing is asked of the streams outside the set, nor of what comes behind the lines.
@@ -62,7 +63,7 @@ pub record AskForValidOrder (files : FilesView) (words : List Text)
   pub asks : AskWell files words None
   pub set : ℕ → Bool
   pub steps : List Step
-  pub order : IsValidOrder asks.formula (layout_at asks.given asks.formula) steps
+  pub order : IsValidOrder asks.formula (layout_in asks.formula (sizes_of asks.given)) steps
   pub members : AllByRecursion (λ step. IsTrue (set step.stream)) steps
   pub tells : (t : ℕ) (path : Text) → IsTrue (set t) → IsOfStream asks.given.streams t path
       → (more : List ℕ)
@@ -95,7 +96,8 @@ abbrev pub StoppedAtForeignHint : (files : FilesView) (words : List Text) → As
     → ℕ → ℕ → Report → Type 0
 StoppedAtForeignHint files words asks s count report =
     IsCutOffIn count report
-    ⊎ LacksOfAnotherIn (stream_params (run_params_given asks.given [] asks.formula) s) count report
+    ⊎ LacksOfAnotherIn
+    (stream_params (run_params_by asks.given [] asks.formula (sizes_of asks.given)) s) count report
 
 -- the report says 'unsatisfiable', or it tells that stream s was stopped, for such a reason
 abbrev pub IsRefutedOrLost : ℕ → (Report → Type 0) → List Report → Verdict → Type 0
@@ -120,7 +122,7 @@ pub data InconclusiveBecause (files : FilesView) (words : List Text) (s : ℕ)
   -- the report wasn't written, and says 'unsatisfiable', or that stream s was stopped so
   unwritten :
       (ends : EndsWithReport files words after out err status) (failed : out.failed ≡ true)
-      (says : IsRefutedOrLost s Lost ends.reports ends.verdict) (is : status ≡ 7)
+      (says : IsRefutedOrLost s Lost ends.last.reports ends.last.verdict) (is : status ≡ 7)
       → InconclusiveBecause files words s Lost after out err status
   -- there is no report, for a fault of the machine
   no_report :
@@ -131,8 +133,8 @@ pub data InconclusiveBecause (files : FilesView) (words : List Text) (s : ℕ)
   -- reason
   lost :
       (ends : EndsWithReport files words after out err status) (written : out.failed ≡ false)
-      (report : Report) (says : IsOfStream ends.reports s report) (why : Lost report)
-      (is : IsOpen words ends.unsaved ends.verdict status)
+      (report : Report) (says : IsOfStream ends.last.reports s report) (why : Lost report)
+      (is : IsOpen words ends.last.unsaved ends.last.verdict status)
       → InconclusiveBecause files words s Lost after out err status
 
 -- Where the words ask for a valid refutation, the program ends with status 0; or with 7, for a report that wasn't written; or with 5
@@ -142,8 +144,7 @@ abbrev pub ValidRefutationSays : FilesView → Type 0
 ValidRefutationSays files = (words : List Text) (after : files.its.State) (s : ℕ) (out err :
     SinkChange)
     (status : ℕ) → (ask : AskForValidRefutation files words s)
-    → EndsWithReport files words after out err status ⊎ EndsWithFault files words after out err
-    status
+    → ProgramEnds files words after out err status
     → (status ≡ 0)
     ⊎ InconclusiveBecause files words s (IsCutOffIn (length ask.valid.lines)) after out err status
 
@@ -152,8 +153,7 @@ ValidRefutationSays files = (words : List Text) (after : files.its.State) (s : �
 abbrev pub ValidOrderSays : FilesView → Type 0
 ValidOrderSays files = (words : List Text) (after : files.its.State) (s : ℕ) (out err : SinkChange)
     (status : ℕ) → (ask : AskForValidOrder files words s)
-    → EndsWithReport files words after out err status ⊎ EndsWithFault files words after out err
-    status
+    → ProgramEnds files words after out err status
     → (status ≡ 0)
     ⊎ InconclusiveBecause files words s
     (StoppedAtForeignHint files words ask.asks s (length (lines_by s ask.steps))) after

@@ -1,5 +1,5 @@
 -- What the program says of valid proofs in rounds, and the laws that say so (this project's own).
-use Rattle.std.specs.Prelude.{◌≡◌, ◌⊎◌, ◌++◌, ◌+◌, ◌∷◌, ◌<◌, ◌≤◌, ◌^◌, ℕ, Bool, true, false, IsTrue, List, [], length, map, Option, None, Some}
+use Rattle.std.specs.Prelude.{◌≡◌, ◌⊎◌, ◌++◌, ◌+◌, ◌<◌, ◌≤◌, ◌^◌, ℕ, Bool, true, false, IsTrue, List, [], length, map, Option, Some}
 use Rattle.std.specs.List.{AllByRecursion, Any, flat_map}
 use Rattle.lrup_model.specs.Cube.{CubeValue}
 use Rattle.lrup_model.specs.Formula.{Cnf}
@@ -14,24 +14,19 @@ use Rattle.runs.specs.Turns.{IsByTurns}
 use Rattle.run_laws.specs.AnyRun.{LacksOfAnother, LacksOfAnotherIn}
 use Rattle.run_laws.specs.Valid.{AddsEmpty, IsCutOffIn, IsValidRefutation, IsValidProof}
 use Rattle.run_laws.specs.Together.{Step, IsValidOrder, lines_by}
-use Rattle.portfolio.specs.Outcomes.{layout_of}
 use Rattle.portfolio.specs.declared.outcome.Verdict.TheVariants.{Unsatisfiable, UnsatisfiableUnder}
 use Rattle.checkpoint.specs.declared.saving.SaveFault.{SaveFault}
 use Rattle.command_line.specs.CommandLine.{IsCommandLineOf}
 use Rattle.command_line.specs.declared.sizes.Sizes.{Sizes}
 use Rattle.command_line.specs.declared.words.CommandLine.{CommandLine}
-use Rattle.command.specs.Commands.{Deeds, EndsWithFault, FilesView, SinkChange, Text, assumed_at}
+use Rattle.command.specs.Commands.{Deeds, FilesView, SinkChange, Text, assumed_at, sizes_of}
 use Rattle.command.specs.Paths.{sizes_path, stream_path, stream_paths}
-use Rattle.command.specs.Rounds.{AreSized, CarriesOn, FailsInRound, HaveEnded, HoldsNoSizes, ProgramEnds, ReportsRounds, Round, WereRounds}
-use Rattle.command.specs.Rounds.{Plan, options_by, plan_at, sizes_of}
+use Rattle.command.specs.Rounds.{AreSized, CarriesOn, EndsWithFault, EndsWithReport, HaveEnded, HoldsNoSizes, ProgramEnds, Round, WereRounds}
 use Rattle.command.specs.declared.fault.CommandFault.{CommandFault}
 use Rattle.command.specs.declared.fault.CommandFault.TheVariants as faults
+use Rattle.outcome_laws.specs.Outcomes.{layout_in}
 use Rattle.outcome_laws.specs.Valid.{AskWell, IsOfMachine}
 use Rattle.outcome_laws.specs.Serial.{IsCutOff}
-
--- the layout of a round
-abbrev pub layout_in : Cnf → Sizes → LayoutValue
-layout_in formula sizes = layout_of (options_by 0 sizes) formula sizes.streams
 
 -- What may be asked of the streams of a round: by its formula and its layout; by what files tell, as they are before the streams are
 -- opened; and by the paths of the streams.
@@ -112,12 +107,11 @@ pub record AskForValidRounds (Before Last : RoundAsk) (files : FilesView) (words
   pub few : last + 2 ≤ 2 ^ 64
   pub first : IsAskedOf Before Last last 1 asks.formula (sizes_of asks.given) files.tells
       asks.given.streams
-  pub later : (given : CommandLine) (cube : CubeValue)
-      (round : Round files.its (plan_at given cube folder))
-      (before : List (Round files.its (plan_at given cube folder))) (next : Cnf)
-      → IsCommandLineOf words given → WereRounds files given folder cube round before
-      → length (round ∷ before) < last → CarriesOn (length (round ∷ before)) round next
-      → IsProvided Before Last last files.its folder (length (round ∷ before) + 1)
+  pub later : (given : CommandLine) (cube : CubeValue) (round : Round files.its given cube)
+      (before : List (Round files.its given cube)) (next : Cnf)
+      → IsCommandLineOf words given → WereRounds files given cube round before
+      → round.number < last → (on : CarriesOn round next)
+      → IsProvided Before Last last files.its on.folder (round.number + 1)
       round.sizes next round.after
 
 -- the fault of a round is the machine's: as of a run, or a file of sizes wasn't opened or read (5)
@@ -133,71 +127,66 @@ abbrev pub WasStopped : (Early Late : Loss) → (last number : ℕ) → Loss
 WasStopped Early Late last number layout s report =
     ((number < last) × Early layout s report) ⊎ ((number ≡ last) × Late layout s report)
 
--- a stream of the round with this number was stopped, for such a reason
-abbrev pub HasStopped : {its : Deeds} {plan : Plan} (Early Late : Loss) (last number : ℕ)
-    → Round its plan → Type 0
-HasStopped Early Late last number round =
+-- a stream of the round was stopped, for such a reason
+abbrev pub HasStopped : {its : Deeds} {given : CommandLine} {cube : CubeValue} (Early Late : Loss)
+    (last : ℕ) → Round its given cube → Type 0
+HasStopped Early Late last round =
     (s : ℕ) × (report : Report) × IsOfStream round.reports s report
-    × WasStopped Early Late last number (layout_in round.formula round.sizes) s report
+    × WasStopped Early Late last round.number (layout_in round.formula round.sizes) s report
 
 -- all streams of the round ended, or one was stopped, for such a reason
-abbrev pub EndedOrStopped : {its : Deeds} {plan : Plan} (Early Late : Loss) (last number : ℕ)
-    → Round its plan → Type 0
-EndedOrStopped Early Late last number round =
-    HaveEnded round.reports ⊎ HasStopped Early Late last number round
+abbrev pub EndedOrStopped : {its : Deeds} {given : CommandLine} {cube : CubeValue}
+    (Early Late : Loss) (last : ℕ) → Round its given cube → Type 0
+EndedOrStopped Early Late last round =
+    HaveEnded round.reports ⊎ HasStopped Early Late last round
 
--- Why the report of the last round that there was, with this number, doesn't say 'unsatisfiable', or its checkpoint wasn't saved, where
--- rounds are valid; and the status that it has once it is written. None of these says that a line is wrong.
-pub data FallsShort {its : Deeds} {plan : Plan} (given : CommandLine) (Early Late : Loss)
-    (last number : ℕ) (round : Round its plan) (status : ℕ) : Type 0 where
+-- Why the report of the last round that there was doesn't say 'unsatisfiable', or its checkpoint wasn't saved, where rounds are valid; and
+-- the status that it has once it is written. None of these says that a line is wrong.
+pub data FallsShort {its : Deeds} {given : CommandLine} {cube : CubeValue} (Early Late : Loss)
+    (last : ℕ) (round : Round its given cube) (status : ℕ) : Type 0 where
   -- the formula of the next round wasn't saved
   not_kept :
       (fault : SaveFault) (why : round.unsaved ≡ Some fault)
-      (streams : (round.verdict ≡ Unsatisfiable) ⊎ EndedOrStopped Early Late last number round)
-      (is : status ≡ 9) → FallsShort given Early Late last number round status
+      (streams : (round.verdict ≡ Unsatisfiable) ⊎ EndedOrStopped Early Late last round)
+      (is : status ≡ 9) → FallsShort Early Late last round status
   -- the words ask for assumed literals, and the report says 'unsatisfiable under assumptions'
   under_cube :
       (path : Text) (asked : assumed_at given ≡ Some path)
       (why : round.verdict ≡ UnsatisfiableUnder)
-      (streams : EndedOrStopped Early Late last number round) (is : status ≡ 8)
-      → FallsShort given Early Late last number round status
+      (streams : EndedOrStopped Early Late last round) (is : status ≡ 8)
+      → FallsShort Early Late last round status
   -- the report says that a stream was stopped, for such a reason
   stopped :
-      (why : HasStopped Early Late last number round) (is : status ≡ 3)
-      → FallsShort given Early Late last number round status
+      (why : HasStopped Early Late last round) (is : status ≡ 3)
+      → FallsShort Early Late last round status
 
 -- Why the program doesn't say 'unsatisfiable', where rounds are valid. How it ended says what it wrote to `out` and to `err`: the text
 -- of the report of the last round that there was, or a beginning of it where `out` failed; without a report nothing, and the
 -- fault's text.
-pub data InconclusiveInRounds (files : FilesView) (words : List Text) (folder : Text)
-    (Early Late : Loss) (last : ℕ) (after : files.its.State) (out err : SinkChange)
-    (status : ℕ) : Type 0 where
+pub data InconclusiveInRounds (files : FilesView) (words : List Text) (Early Late : Loss)
+    (last : ℕ) (after : files.its.State) (out err : SinkChange) (status : ℕ) : Type 0 where
   -- the report wasn't written: it says 'unsatisfiable', or falls short of it so
   not_printed :
-      (given : CommandLine) (line : IsCommandLineOf words given)
-      (ends : ReportsRounds files given folder after out err status) (failed : out.failed ≡ true)
+      (ends : EndsWithReport files words after out err status) (failed : out.failed ≡ true)
       (why : (ends.last.verdict ≡ Unsatisfiable)
-      ⊎ ((wanted : ℕ)
-      × FallsShort given Early Late last (length (ends.last ∷ ends.before)) ends.last wanted))
+      ⊎ ((printed_status : ℕ) × FallsShort Early Late last ends.last printed_status))
       (is : status ≡ 7)
-      → InconclusiveInRounds files words folder Early Late last after out err status
+      → InconclusiveInRounds files words Early Late last after out err status
   -- there is no report, for a fault of the machine, in round 1 or before
   not_begun :
-      (ends : EndsWithFault files words after out err status) (machine : IsOfMachine ends.fault)
-      (is : (status ≡ 5) ⊎ (status ≡ 6))
-      → InconclusiveInRounds files words folder Early Late last after out err status
+      (ends : EndsWithFault files words after out err status) (number : ends.number ≡ 1)
+      (machine : IsOfMachine ends.fault) (is : (status ≡ 5) ⊎ (status ≡ 6))
+      → InconclusiveInRounds files words Early Late last after out err status
   -- there is none, for a fault of the machine, in a later round
   not_gone_on :
-      (given : CommandLine) (line : IsCommandLineOf words given)
-      (ends : FailsInRound files given folder after out err status)
+      (ends : EndsWithFault files words after out err status) (number : 1 < ends.number)
       (machine : IsOfMachineInRound ends.fault) (is : (status ≡ 5) ⊎ (status ≡ 6))
-      → InconclusiveInRounds files words folder Early Late last after out err status
+      → InconclusiveInRounds files words Early Late last after out err status
   -- the report was written, and falls short of 'unsatisfiable' so
   printed :
-      (given : CommandLine) (line : IsCommandLineOf words given)
-      (ends : ReportsRounds files given folder after out err status) (written : out.failed ≡ false)
-      (why : FallsShort given Early Late last (length (ends.last ∷ ends.before)) ends.last status)
-      → InconclusiveInRounds files words folder Early Late last after out err status
+      (ends : EndsWithReport files words after out err status) (written : out.failed ≡ false)
+      (why : FallsShort Early Late last ends.last status)
+      → InconclusiveInRounds files words Early Late last after out err status
 
 -- memory ran out, or a read failed, in the first lines of stream s, so many
 abbrev pub IsCutOffOf : (s count : ℕ) → Loss
@@ -215,7 +204,7 @@ ValidRoundsSay files = (words : List Text) (folder : Text) (last s count : ℕ) 
     → AskForValidRounds AreValidAlone (IsRefutedAlone s count) files words folder last
     → ProgramEnds files words after out err status
     → (status ≡ 0)
-    ⊎ InconclusiveInRounds files words folder (λ layout t report. IsCutOff report)
+    ⊎ InconclusiveInRounds files words (λ layout t report. IsCutOff report)
     (IsCutOffOf s count) last after out err status
 
 -- what a stream is checked by, without a cube
@@ -243,7 +232,7 @@ ValidOrdersSay files = (words : List Text) (folder : Text) (last s count : ℕ) 
     → AskForValidRounds AreValidInOrder (IsRefutedInOrder s count) files words folder last
     → ProgramEnds files words after out err status
     → (status ≡ 0)
-    ⊎ InconclusiveInRounds files words folder IsStopped (IsStoppedOf s count) last after
+    ⊎ InconclusiveInRounds files words IsStopped (IsStoppedOf s count) last after
     out err status
 
 -- Where the words ask for one thread, and in each round lines of all streams have a valid order that is by turns, and in the last one
@@ -257,5 +246,5 @@ ValidTurnRoundsSay files = (words : List Text) (folder : Text) (last s : ℕ) (a
     → ask.asks.given.serial ≡ true
     → ProgramEnds files words after out err status
     → (status ≡ 0)
-    ⊎ InconclusiveInRounds files words folder (λ layout t report. IsCutOff report)
+    ⊎ InconclusiveInRounds files words (λ layout t report. IsCutOff report)
     (λ layout t report. IsCutOff report) last after out err status

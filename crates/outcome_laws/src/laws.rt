@@ -4,9 +4,12 @@ ghost use Rattle.outcome_laws.specs.Refuting.{OutcomesRefute, OutcomesRefuteUnde
 ghost use Rattle.outcome_laws.specs.Valid.{ValidOrderSays, ValidRefutationSays};
 ghost use Rattle.outcome_laws.specs.ValidRounds.{ValidOrdersSay, ValidRoundsSay, ValidTurnRoundsSay};
 ghost use Rattle.outcome_laws.specs.Serial.{ValidTurnsSay, SerialOutcomesAgree};
-ghost use Rattle.outcome_laws.specs.Laws.{NoCubeJudgesAlike, SameBytesSayTheSame, SameWordsAskAlike, OutcomesAgree, PlainEnds, Status0HasACommandLine};
+ghost use Rattle.outcome_laws.specs.Laws.{NoCubeJudgesAlike, SameBytesSayTheSame, SameWordsAskAlike, OutcomesAgree, Status0HasACommandLine};
 
-use checkpoint::laws::{files_refute, files_refute_under};
+use checkpoint::laws::{
+    entails_itself, entails_onward, files_refute, files_refute_under, refutes_back,
+    refutes_back_under,
+};
 use command::{Machine, Viewed};
 use dimacs::laws::{formula_or_fault, one_formula};
 use run_laws::groups::same_bytes_agree;
@@ -35,9 +38,9 @@ pub fn same_words_ask_alike()
     ensures { SameWordsAskAlike }
 {}
 
-/// In two outcomes of the program, over files that stand before the runs, a stream that cites within itself has the same line if
-/// the options and the number of streams are the same, and the files of the formula and of the stream tell the same bytes, unless a
-/// report of the stream is of memory or of a failed read.
+/// In round 1 of two runs of the program, a stream that cites within itself has the same line if the tries and the sizes are the same, and
+/// the files of the formula and of the stream have the same bytes before the runs, unless a report of the stream is of memory or of a
+/// failed read. A run without rounds is its round 1.
 pub fn outcomes_agree<F: Machine, G: Machine>(files: &F, others: &G)
     ensures { OutcomesAgree (⟦<F as Viewed>⟧.view files.now) (⟦<G as Viewed>⟧.view others.now) }
 {
@@ -45,17 +48,15 @@ pub fn outcomes_agree<F: Machine, G: Machine>(files: &F, others: &G)
     same_bytes_say_the_same();
 }
 
-/// If the words ask for no rounds, the clause `ends` of `command` says what the other laws take: a report of a single run, or none
-/// and the cause.
-pub fn plain_ends<F: Machine>(files: &F)
-    ensures { PlainEnds (⟦<F as Viewed>⟧.view files.now) }
-{}
-
-/// With status 0 of a single run the words have a whole command line, and what was read at its FORMULA is a text of a formula that no
-/// assignment satisfies: the clause `ends` of `command` says so.
+/// With status 0 the words have a whole command line, and what was read at its FORMULA is a text of a formula that no assignment satisfies:
+/// the clause `ends` of `command` says so.
 pub fn status_0_has_a_command_line<F: Machine>(files: &F)
     ensures { Status0HasACommandLine (⟦<F as Viewed>⟧.view files.now) }
-{}
+{
+    entails_itself();
+    entails_onward();
+    refutes_back();
+}
 
 /// If the words ask for a valid refutation, the program ends with status 0; or with 7, for a report that wasn't written; or with
 /// 5 or 6, for a fault of the machine; or with 3 or 8, and then memory ran out, or a read failed, in the refutation's lines; or with
@@ -92,9 +93,9 @@ pub fn valid_order_says<F: Machine>(files: &F)
     valid_empty();
 }
 
-/// In two outcomes of the program on one thread, over files that stand before the runs, the reports are the same if the options
-/// and the assumed literals are the same, and the files of the formula and of each stream tell the same bytes, unless some report
-/// is of memory or of a failed read.
+/// In round 1 of two runs of the program on one thread, the reports are the same if the tries, the sizes and the assumed literals are the
+/// same, and the files of the formula and of each stream have the same bytes before the runs, unless some report is of memory or of a
+/// failed read. A run without rounds is its round 1.
 pub fn serial_outcomes_agree<F: Machine, G: Machine>(files: &F, others: &G)
     ensures { SerialOutcomesAgree (⟦<F as Viewed>⟧.view files.now)
         (⟦<G as Viewed>⟧.view others.now) }
@@ -164,11 +165,15 @@ pub fn valid_turn_rounds_say<F: Machine>(files: &F)
     valid_empty();
 }
 
-/// If runs of the program follow one another, each on the checkpoint that the one before it saved, and the last one ends with
-/// status 0, what the first one read is a text of a formula that no assignment satisfies: the clause `ends` of `command` says so.
+/// If runs of the program, of one round or more, follow one another, each on the checkpoint that the last round of the one before it saved,
+/// and the last run ends with status 0, what the first one read is a text of a formula that no assignment satisfies: the clause `ends` of
+/// `command` says so.
 pub fn outcomes_refute<F: Machine>(_files: &F)
     ensures { OutcomesRefute ⟦<F as Viewed>⟧.view }
 {
+    entails_itself();
+    entails_onward();
+    refutes_back();
     files_refute();
 }
 
@@ -176,5 +181,8 @@ pub fn outcomes_refute<F: Machine>(_files: &F)
 pub fn outcomes_refute_under<F: Machine>(_files: &F)
     ensures { OutcomesRefuteUnder ⟦<F as Viewed>⟧.view }
 {
+    entails_itself();
+    entails_onward();
+    refutes_back_under();
     files_refute_under();
 }

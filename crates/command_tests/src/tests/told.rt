@@ -9,7 +9,7 @@ ghost use Rattle.lrup_model.specs.Formula.{Cnf};
 
 use super::*;
 use command_line::laws::plain_words;
-use outcome_laws::laws::{plain_ends, status_0_has_a_command_line};
+use outcome_laws::laws::status_0_has_a_command_line;
 
 /// A formula at the paths of one byte, and a stream at all others.
 #[derive(Drop)]
@@ -92,7 +92,7 @@ fn refutes<T: Threads + Wait + Sync + Clock>(
     command(rt, rt, alloc, &["f", "s1"], &mut files, &mut out, &mut err) == 0
 }
 
-/// The same. By two laws and the clause `ends` the words then have a whole command line, and the text is one that its FORMULA names.
+/// The same. By a law and the clause `ends` the words then have a whole command line, and the text is one that its FORMULA names.
 fn refutes_by_its_end<T: Threads + Wait + Sync + Clock>(
     rt: &T,
     alloc: Global,
@@ -105,7 +105,6 @@ fn refutes_by_its_end<T: Threads + Wait + Sync + Clock>(
 {
     plain_words();
     let mut files = Told { formula, stream };
-    plain_ends(&files);
     status_0_has_a_command_line(&files);
     let mut out = Paper::new(alloc, 7, 0);
     let mut err = Paper::new(alloc, 7, 0);

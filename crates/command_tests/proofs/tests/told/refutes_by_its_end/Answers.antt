@@ -21,7 +21,7 @@ returns g c zero =
     let formula = c.args.formula.now in
     let ends = rw (eqb-true c.command.result 0 zero) at c.command.ensures.ends in
     let plain = c.plain_words.ensures (codes "f") (codes "s1" ∷ []) refl refl (omega arith) (omega arith) in
-    let named = c.status_0_has_a_command_line.ensures _ _ _ _ (c.plain_ends.ensures _ _ _ _ _ plain.4 ends) in
+    let named = c.status_0_has_a_command_line.ensures _ _ _ _ ends in
     let said = plain.1 named.0 named.4 in
     let same = read_is_told _ _ formula c.args.stream.now named.0.formula.now named.1 _ named.3 said.formula named.5 in
     (named.0, named.2, named.4, text_is_told formula named.1 named.2 same named.6, named.7)
