@@ -9,7 +9,7 @@ use Rattle.command_line.specs.declared.words.CommandLine.{CommandLine}
 use Rattle.command.specs.Commands.{Deeds, FilesView, SinkChange, Text}
 use Rattle.command.specs.Paths.{formula_path}
 use Rattle.command.specs.Rounds.{AreRounds, EndsWithReport, ProgramEnds, ReportsEntailed, Round, SaveEntailed, SavesEntailed}
-use Rattle.command.proofs.SavedLemmas.{KeptAt, carried_entails, created_in, kept}
+use Rattle.command.specs.lemmas.SavedLemmas.{KeptAt, carried_entails, created_in, kept}
 use Rattle.command.proofs.StatusLemmas.{IsOfReport, never_reported, open_is}
 
 module _ (itself : EntailsItself) (onward : EntailsOnward) {its : Deeds} {given : CommandLine} {cube : CubeValue} (folder : Text)

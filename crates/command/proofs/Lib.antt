@@ -9,4 +9,3 @@ mod StatusLemmas
 mod SavingLemmas
 mod RoundLemmas
 mod EntailedLemmas
-mod SavedLemmas

@@ -33,7 +33,7 @@ use Rattle.command.specs.declared.course.LastRound.{LastRound}
 use Rattle.command.specs.declared.course.RoundFault.{RoundFault}
 use Rattle.command.specs.declared.fault.CommandFault.{CommandFault}
 use Rattle.command.specs.declared.fault.CommandFault.TheVariants as faults
-use Rattle.command.proofs.SavedLemmas.{carried_entails, created_in}
+use Rattle.command.specs.lemmas.SavedLemmas.{carried_entails, created_in}
 
 -- the paths of one more stream
 pub paths_next : (folder : Text) (number k : ℕ)

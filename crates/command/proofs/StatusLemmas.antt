@@ -21,7 +21,9 @@ use Rattle.command.specs.Rounds.{AreRounds, CarriesOn, EndsWithFault, EndsWithRe
 use Rattle.command.specs.Rounds.{Round, RoundsEnd}
 use Rattle.command.specs.declared.fault.CommandFault.{CommandFault}
 use Rattle.command.specs.declared.fault.CommandFault.TheVariants as faults
-use Rattle.command.proofs.SavedLemmas.{kept}
+use Rattle.command_line.specs.lemmas.NextLemmas.{never_both}
+use Rattle.command.specs.lemmas.OneRound.{creates_checkpoint, is_over, were_one}
+use Rattle.command.specs.lemmas.SavedLemmas.{kept}
 
 -- the verdict of a report with this status
 pub zero_is : (failed : Bool) (unsaved : Option SaveFault) (verdict : Verdict) → report_status failed unsaved verdict ≡ 0
@@ -198,41 +200,26 @@ module _ (files : FilesView) (words : List Text) (after : files.its.State) (out 
 
 -- ---- words that ask for a checkpoint
 
-asks_to_save : (next : Next) (path : Text) (number : ℕ) → checkpoint_of next ≡ Some path
-    → (rounds_of next ≡ None) × (created_path next number ≡ Some path)
-asks_to_save Nothing path number is = absurd (let no : None ≡ Some path = is in cc)
-asks_to_save (Checkpoint other) path number is = (refl, is)
-asks_to_save (Rounds folder) path number is = absurd (let no : None ≡ Some path = is in cc)
-
-module _ {its : Deeds} {given : CommandLine} {cube : CubeValue} (once : rounds_of given.next ≡ None) where
-  -- no round goes on
-  never_on : (round : Round its given cube) (next : Cnf) → CarriesOn round next → ⊥
-  never_on round next on = let no : None ≡ Some on.folder = sym once ∙ on.asked in cc
-
-  -- so there is one
-  is_first : (formula : Cnf) (first : its.State) (last : Round its given cube) (before : List (Round its given cube))
-      → AreRounds formula first (last ∷ before) → IsFirst formula first last
-  is_first formula first last [] rounds = rounds
-  is_first formula first last (b ∷ more) rounds = absurd (never_on b last.formula rounds.0.goes_on)
-
-  is_over : (last : Round its given cube) (after : its.State) → RoundsEnd last after → after ≡ last.after
-  is_over last after (inl (barred, same)) = same
-  is_over last after (inr (next, on, end)) = absurd (never_on last next on)
-
 module _ (files : FilesView) (words : List Text) (after : files.its.State) (out err : SinkChange) (status : ℕ)
     (report : EndsWithReport files words after out err status) (path : Text) (ask : AskToSave words path) where
   abbrev last : Round files.its report.given report.cube
   last = report.last
 
-  asked : (rounds_of report.given.next ≡ None) × (created_path report.given.next last.number ≡ Some path)
-  asked = asks_to_save report.given.next path last.number (report.command_line.said.checkpoint ∙ ask.path_is)
+  asked : checkpoint_of report.given.next ≡ Some path
+  asked = report.command_line.said.checkpoint ∙ ask.path_is
+
+  once : rounds_of report.given.next ≡ None
+  once = never_both report.given.next path asked
+
+  created : created_path report.given.next last.number ≡ Some path
+  created = creates_checkpoint report.given.next path last.number asked
 
   -- what was done last
   comes_last : (Came : Cnf → files.its.State → files.its.State → Type 0) → Came last.formula last.opened last.after
       → ComesLast files.its.opens (WasReadIn files) Came files.first words after
   comes_last Came came =
-      let were = report.were in
-      let first = is_first asked.0 were.formula were.later last report.before were.rounds in
+      let were = were_one once files report.cube last report.before report.were in
+      let first = were.rounds in
       record {
         given = report.given;
         command_line = report.command_line;
@@ -248,7 +235,7 @@ module _ (files : FilesView) (words : List Text) (after : files.its.State) (out 
         before = last.opened;
         opened = first.opened.opened;
         came = subst (λ (f : Cnf). Came f last.opened after) first.formula_is
-            (subst (λ (s : files.its.State). Came last.formula last.opened s) (sym (is_over asked.0 last after report.over)) came);
+            (subst (λ (s : files.its.State). Came last.formula last.opened s) (sym (is_over once last after report.over)) came);
       }
 
   pub report_saved : (status ≡ 3) ⊎ (status ≡ 8)
@@ -256,7 +243,7 @@ module _ (files : FilesView) (words : List Text) (after : files.its.State) (out 
       × WasSavedBy files.its before path saved after × IsCheckpoint formula saved) files.first words after
   report_saved is =
       let unrefuted = open_is out.failed last.unsaved last.verdict (subst (λ (n : ℕ). (n ≡ 3) ⊎ (n ≡ 8)) report.status_is is) in
-      let at = kept last path asked.1 unrefuted.1 unrefuted.0 in
+      let at = kept last path created unrefuted.1 unrefuted.0 in
       comes_last _ (at.bytes, at.saved, at.checkpoint)
 
   pub report_empty : status ≡ 0
@@ -267,7 +254,7 @@ module _ (files : FilesView) (words : List Text) (after : files.its.State) (out 
       let Saves = SavesCheckpoint files.its last.formula (run_params_by report.given report.cube last.formula last.sizes).layout
       last.checked.ran.run.history last.checked.dropped in
       let left = subst (λ (o : Option Text). LeavesBehind files.its Saves last.verdict last.opened o last.unsaved last.next last.after)
-      asked.1 last.leaves in
+      created last.leaves in
       let empty = subst (λ (v : Verdict). LeavesBehind files.its Saves v last.opened (Some path) last.unsaved last.next last.after)
       refuted left in
       comes_last _ empty.2

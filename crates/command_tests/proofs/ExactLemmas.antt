@@ -2,11 +2,11 @@
 use Rattle.std.proofs.Common.{◌≡◌, ◌∙◌, ◌++◌, ◌+◌, ◌⊎◌, ℕ, ℤ, Bool, true, false, List, [], ◌∷◌, Option, None, Some, Result, Ok, Err}
 use Rattle.std.proofs.Common.{inl, inr, ap, length, refl, sym, subst}
 use Rattle.std.proofs.lemmas.List.{append-nil}
+use Rattle.lrup_model.specs.Cube.{CubeValue}
 use Rattle.lrup_model.specs.Formula.{Cnf}
 use Rattle.lrup_model.specs.declared.layout.LayoutFault.TheVariants as layouts
 use Rattle.lrup_text.specs.ReadOut.{SourceView}
 use Rattle.dimacs.specs.FormulaText.{IsFormulaText}
-use Rattle.stream_check.specs.declared.report.Report.{Report}
 use Rattle.portfolio.specs.declared.outcome.Verdict.{Verdict}
 use Rattle.portfolio.specs.declared.outcome.Verdict.TheVariants.{Unsatisfiable, UnsatisfiableUnder, Unknown}
 use Rattle.checkpoint.specs.Checkpoints.{IsCheckpoint, Saves}
@@ -15,16 +15,17 @@ use Rattle.checkpoint.specs.Printing.{formula_text}
 use Rattle.checkpoint.specs.declared.saving.SaveFault.{SaveFault}
 use Rattle.checkpoint.specs.declared.saving.SaveFault.TheVariants as saves
 use Rattle.command_line.specs.CommandLine.{AskToSave, IsCommandLineOf}
-use Rattle.command_line.specs.lemmas.NextLemmas.{asks_for_one}
+use Rattle.command_line.specs.lemmas.NextLemmas.{never_both}
 use Rattle.command_line.specs.declared.sizes.Sizes.{Sizes}
 use Rattle.command_line.specs.declared.words.CommandLine.{CommandLine}
 use Rattle.command.specs.Commands.{AreAssumed, AreOpened, CheckpointEntailed, CheckpointLeftEmpty, ClosesSink, ComesLast, Deeds}
-use Rattle.command.specs.Commands.{FilesView, IsAssumeCause, IsCause, IsOutcome, LeavesBehind, LeavesFile, SavesCheckpoint, SinkChange}
-use Rattle.command.specs.Commands.{Text}
-use Rattle.command.specs.Commands.{WasReadIn, WasSaved, assumed_at, checkpoint_at, layout_at, report_status}
+use Rattle.command.specs.Commands.{FilesView, IsAssumeCause, LeavesBehind, LeavesFile, SavesCheckpoint, SinkChange, Text}
+use Rattle.command.specs.Commands.{WasReadIn, WasSaved, assumed_at, report_status, run_params_by}
 use Rattle.command.specs.Faults.{status_of}
 use Rattle.command.specs.Paths.{formula_path}
-use Rattle.command.specs.Rounds.{AreRounds, AreSized, Plan, ProgramEnds, Round, RoundsEnd, RoundsEntailed}
+use Rattle.command.specs.Rounds.{AreRounds, AreSized, IsCauseIn, ProgramEnds, Round, RoundsEnd, RoundsEntailed, WereRounds}
+use Rattle.command.specs.lemmas.OneRound.{creates_checkpoint, is_over, were_one}
+use Rattle.command.specs.lemmas.SavedLemmas.{carried}
 use Rattle.command.specs.declared.fault.CommandFault.{CommandFault}
 use Rattle.command.specs.declared.fault.CommandFault.TheVariants as faults
 use Rattle.command_tests.specs.ExactFiles.{ExactValue, HasNoFile, FindsText, ClosesFile, IsCreated, IsEmptied, IsKept, IsKeptInRounds}
@@ -57,60 +58,85 @@ nine_is faults.Sizes is = absurd (let no : Path ℕ 2 9 = is in cc)
 
 -- what a report with this status left
 left_unsaved : (its : Deeds) (Saves : Result (Option Cnf) SaveFault → its.Output → its.Output → Type 0)
-    (failed : Bool) (unsaved : Option SaveFault) (verdict : Verdict) (path : Text) (before after : its.State)
-    → report_status failed unsaved verdict ≡ 9 → LeavesBehind its Saves verdict before (Some path) unsaved after
-    → (why : SaveFault) × LeavesFile its Saves before path (Some why) after
-left_unsaved its Saves true unsaved verdict path before after is leaves = absurd (let no : Path ℕ 7 9 = is in cc)
-left_unsaved its Saves false None Unsatisfiable path before after is leaves = absurd (let no : Path ℕ 0 9 = is in cc)
-left_unsaved its Saves false None UnsatisfiableUnder path before after is leaves = absurd (let no : Path ℕ 8 9 = is in cc)
-left_unsaved its Saves false None Unknown path before after is leaves = absurd (let no : Path ℕ 3 9 = is in cc)
-left_unsaved its Saves false (Some why) Unsatisfiable path before after is leaves = absurd (let no : Some why ≡ None = leaves.0 in cc)
-left_unsaved its Saves false (Some why) UnsatisfiableUnder path before after is leaves = (why, leaves)
-left_unsaved its Saves false (Some why) Unknown path before after is leaves = (why, leaves)
+    (failed : Bool) (unsaved : Option SaveFault) (verdict : Verdict) (path : Text) (before : its.State) (next : Option Cnf)
+    (after : its.State)
+    → report_status failed unsaved verdict ≡ 9 → LeavesBehind its Saves verdict before (Some path) unsaved next after
+    → (why : SaveFault) × LeavesFile its Saves before path (Some why) next after
+left_unsaved its Saves true unsaved verdict path before next after is leaves = absurd (let no : Path ℕ 7 9 = is in cc)
+left_unsaved its Saves false None Unsatisfiable path before next after is leaves = absurd (let no : Path ℕ 0 9 = is in cc)
+left_unsaved its Saves false None UnsatisfiableUnder path before next after is leaves = absurd (let no : Path ℕ 8 9 = is in cc)
+left_unsaved its Saves false None Unknown path before next after is leaves = absurd (let no : Path ℕ 3 9 = is in cc)
+left_unsaved its Saves false (Some why) Unsatisfiable path before next after is leaves =
+    absurd (let no : Some why ≡ None = leaves.0 in cc)
+left_unsaved its Saves false (Some why) UnsatisfiableUnder path before next after is leaves = (why, leaves)
+left_unsaved its Saves false (Some why) Unknown path before next after is leaves = (why, leaves)
 
-module _ (files : FilesView) where
+-- what a round saves
+abbrev SavesOf : {its : Deeds} {given : CommandLine} {cube : CubeValue} → Round its given cube → Result (Option Cnf) SaveFault
+    → its.Output → its.Output → Type 0
+SavesOf {its} {given} {cube} round =
+    SavesCheckpoint its round.formula (run_params_by given cube round.formula round.sizes).layout round.checked.ran.run.history
+    round.checked.dropped
+
+-- With status 9, if the words ask for a checkpoint at the path, there is a report of one round, and what was saved to a file there isn't
+-- saved.
+pub record NinthEnd (files : FilesView) (words : List Text) (path : Text) (after : files.its.State) : Type 0 where
+  pub given : CommandLine
+  pub command_line : IsCommandLineOf words given
+  pub cube : CubeValue
+  pub round : Round files.its given cube
+  pub were : WereRounds files given cube round []
+  pub why : SaveFault
+  pub file : LeavesFile files.its (SavesOf round) round.opened path (Some why) round.next after
+
+module _ (files : FilesView) (words : List Text) where
   never_assumed : (vars : ℕ) (before : files.its.State) (path : Option Text) (why : SaveFault) (after : files.its.State)
       → IsAssumeCause files vars before path (faults.NotSaved why) after → ⊥
   never_assumed vars before None why after cause = cause
   never_assumed vars before (Some path) why after cause = cause
 
   -- no cause is one of saving
-  never_unsaved : (words : List Text) (why : SaveFault) (after : files.its.State) → IsCause files words (faults.NotSaved why) after → ⊥
-  never_unsaved words why after cause = elim cause.2 [
+  never_unsaved : (number : ℕ) (why : SaveFault) (after : files.its.State) → IsCauseIn files words number (faults.NotSaved why) after
+      → ⊥
+  never_unsaved number why after (inl (one, cause)) = elim cause.2 [
     | inl read ↦ read
     | inr later ↦ elim later.3 [
       | inl assume ↦ never_assumed later.0.vars later.1 (assumed_at cause.0) why after assume
       | inr last ↦ elim last.3 [ inl opens ↦ opens | inr start ↦ start.4 ]
     ]
   ]
+  never_unsaved number why after (inr fails) = elim fails.cause.2 [
+    | inl sizes ↦ sizes
+    | inr sized ↦ elim sized.3 [
+      | inl opens ↦ elim opens [ inl first ↦ first | inr others ↦ others.3 ]
+      | inr start ↦ start.3
+    ]
+  ]
 
-  -- With status 9, if the words ask for a checkpoint at the path, there is a report, and what was saved to a file there isn't saved.
-  abbrev pub NinthEnd : (words : List Text) (path : Text) (after : files.its.State) → Type 0
-  NinthEnd words path after = (reports : List Report) × (verdict : Verdict) × (outcome : IsOutcome files words reports verdict)
-      × (why : SaveFault)
-      × LeavesFile files.its
-      (SavesCheckpoint files.its outcome.formula (layout_at outcome.given outcome.formula) outcome.checked.ran.run.history
-      outcome.checked.dropped) outcome.last path (Some why) after
-
-  pub ninth_end : (words : List Text) (after : files.its.State) (out err : SinkChange) (status : ℕ) (path : Text)
-      → AskToSave words path → status ≡ 9 → ProgramEnds files words after out err status → NinthEnd words path after
-  ninth_end words after out err status path ask nine (inl (report, alone)) =
-      let outcome = report.outcome in
-      let asked : checkpoint_at outcome.given ≡ Some path = outcome.command_line.said.checkpoint ∙ ask.path_is in
-      let saves = SavesCheckpoint files.its outcome.formula (layout_at outcome.given outcome.formula)
-      outcome.checked.ran.run.history outcome.checked.dropped in
-      let leaves = subst (λ (o : Option Text). LeavesBehind files.its saves report.verdict outcome.last o report.unsaved after)
-      asked report.checkpoint in
-      let left = left_unsaved files.its saves out.failed report.unsaved report.verdict path outcome.last after
+  pub ninth_end : (after : files.its.State) (out err : SinkChange) (status : ℕ) (path : Text)
+      → AskToSave words path → status ≡ 9 → ProgramEnds files words after out err status → NinthEnd files words path after
+  ninth_end after out err status path ask nine (inl report) =
+      let round = report.last in
+      let asked = report.command_line.said.checkpoint ∙ ask.path_is in
+      let once = never_both report.given.next path asked in
+      let leaves = subst (λ (o : Option Text). LeavesBehind files.its (SavesOf round) round.verdict round.opened o round.unsaved round.next
+      round.after) (creates_checkpoint report.given.next path round.number asked) round.leaves in
+      let left = left_unsaved files.its (SavesOf round) out.failed round.unsaved round.verdict path round.opened round.next round.after
       (sym report.status_is ∙ nine) leaves in
-      (report.reports, report.verdict, outcome, left.0, left.1)
-  ninth_end words after out err status path ask nine (inr (inl fault)) =
+      record {
+        given = report.given;
+        command_line = report.command_line;
+        cube = report.cube;
+        round = round;
+        were = were_one once files report.cube round report.before report.were;
+        why = left.0;
+        file = subst (λ (s : files.its.State). LeavesFile files.its (SavesOf round) round.opened path (Some left.0) round.next s)
+            (sym (is_over once round after report.over)) left.1;
+      }
+  ninth_end after out err status path ask nine (inr fault) =
       let is = nine_is fault.fault (sym fault.status_is ∙ nine) in
-      absurd (never_unsaved words is.0 after (subst (λ (f : CommandFault). IsCause files words f after) is.1 fault.cause))
-  ninth_end words after out err status path ask nine (inr (inr rounds)) =
-      let line = rounds.command_line in
-      absurd (asks_for_one words rounds.given line
-      (path, rounds.folder, ask, record { good = line.good; folder_is = sym line.said.rounds ∙ rounds.asked }))
+      absurd (never_unsaved fault.number is.0 after
+      (subst (λ (f : CommandFault). IsCauseIn files words fault.number f after) is.1 fault.cause))
 
 -- Files of which contracts know everything: their readers have these bytes left, and their new files these.
 module _ {R W : Type 0} (left : R → List ℕ) (content : W → List ℕ) (reading : SourceView R) (has_failed : W → Bool) where
@@ -234,58 +260,59 @@ module _ {R W : Type 0} (left : R → List ℕ) (content : W → List ℕ) (read
   begun_by saves.Unwritten vars entries before after so = (so.0, so.3, (entries, so.1, so.2))
 
   -- how a file is closed that isn't saved
-  module _ (words : List Text) (first : ExactValue) (reports : List Report) (verdict : Verdict)
-      (outcome : IsOutcome (exact_view first) words reports verdict) (path : List ℕ) where
-    stays : outcome.last ≡ first
-    stays = opened_stays outcome.later outcome.given.streams outcome.readers outcome.last outcome.opened
-        ∙ assumed_stays first outcome.formula.vars outcome.next (assumed_at outcome.given) outcome.cube outcome.later outcome.assumed
-        ∙ outcome.is_formula.1.opened.0
+  module _ (words : List Text) (first : ExactValue) (path : List ℕ) (after : ExactValue)
+      (ninth : NinthEnd (exact_view first) words path after) where
+    abbrev round : Round exact_deeds ninth.given ninth.cube
+    round = ninth.round
 
-    outcome_lies : (Holds : Cnf → List ℕ → Type 0) (bytes : List ℕ) (closing : Closing) (after : ExactValue) → Holds outcome.formula bytes
-        → after ≡ record outcome.last { path = path; bytes = bytes; closing = closing } → FileLies Holds words first path closing after
-    outcome_lies Holds bytes closing after holds closed =
-        let read = outcome.is_formula in
-        lies_at Holds words first outcome.last path bytes closing after outcome.given outcome.formula read.0 outcome.next
-        outcome.command_line read.1 read.2 holds stays closed
+    stays : round.opened ≡ first
+    stays =
+        let were = ninth.were in
+        opened_stays were.later ninth.given.streams round.readers round.opened were.rounds.opened.opened
+        ∙ assumed_stays first were.formula.vars were.next (assumed_at ninth.given) ninth.cube were.later were.assumed
+        ∙ were.is_formula.1.opened.0
 
-    begins : (fault : SaveFault) (from to : W)
-        → SavesCheckpoint exact_deeds outcome.formula (layout_at outcome.given outcome.formula)
-        outcome.checked.ran.run.history outcome.checked.dropped (Err fault) from to
-        → (bytes : List ℕ) × (content to ≡ content from ++ bytes) × BeginsCheckpoint outcome.formula bytes
+    round_lies : (Holds : Cnf → List ℕ → Type 0) (bytes : List ℕ) (closing : Closing) → Holds round.formula bytes
+        → after ≡ record round.opened { path = path; bytes = bytes; closing = closing } → FileLies Holds words first path closing after
+    round_lies Holds bytes closing holds closed =
+        let were = ninth.were in
+        let read = were.is_formula in
+        lies_at Holds words first round.opened path bytes closing after ninth.given were.formula read.0 were.next
+        ninth.command_line read.1 read.2 (subst (λ (f : Cnf). Holds f bytes) were.rounds.formula_is holds) stays closed
+
+    begins : (fault : SaveFault) (from to : W) → SavesOf round (Err fault) from to
+        → (bytes : List ℕ) × (content to ≡ content from ++ bytes) × BeginsCheckpoint round.formula bytes
     begins fault from to saving = elim saving.exactly.saves.1 [
-      | inl all ↦ begun_by fault outcome.formula.vars _ (content from) (content to) all.1
+      | inl all ↦ begun_by fault round.formula.vars _ (content from) (content to) all.1
       | inr none ↦
-          ([], ap content none.1 ∙ sym (append-nil (content from)), ([], formula_text outcome.formula.vars [], refl))
+          ([], ap content none.1 ∙ sym (append-nil (content from)), ([], formula_text round.formula.vars [], refl))
     ]
 
-    unsure_by : (why : SaveFault) (from to : W) (next after : ExactValue) (result : Result (Option Cnf) SaveFault)
-        → IsCreated outcome.last path (content from) next
-        → SavesCheckpoint exact_deeds outcome.formula (layout_at outcome.given outcome.formula)
-        outcome.checked.ran.run.history outcome.checked.dropped result from to
-        → ClosesSink exact_deeds result next to (Some why) after
+    unsure_by : (from to : W) (opened : ExactValue) (result : Result (Option Cnf) SaveFault)
+        → IsCreated round.opened path (content from) opened → SavesOf round result from to
+        → ClosesSink exact_deeds result opened to (Some ninth.why) round.next after
         → (FileLies IsCheckpoint words first path closings.Lost after × (first.is_lossy ≡ true))
         ⊎ FileLies BeginsCheckpoint words first path closings.Discarded after
-    unsure_by why from to next after (Ok done) created saving closed =
+    unsure_by from to opened (Ok done) created saving closed =
         let wrote = saving.checkpoint in
         inl (
-          outcome_lies IsCheckpoint wrote.bytes closings.Lost after wrote.checkpoint
-              (closed_at closings.Lost outcome.last next path from to wrote.bytes after created wrote.written closed.1.0),
+          round_lies IsCheckpoint wrote.bytes closings.Lost wrote.checkpoint
+              (closed_at closings.Lost round.opened opened path from to wrote.bytes after created wrote.written closed.2.0),
           ap (λ (files : ExactValue). files.is_lossy) (sym stays)
               ∙ ap (λ (files : ExactValue). files.is_lossy) (sym created.2)
-              ∙ closed.1.1,
+              ∙ closed.2.1,
         )
-    unsure_by why from to next after (Err fault) created saving closed =
+    unsure_by from to opened (Err fault) created saving closed =
         let begun = begins fault from to saving in
-        inr (outcome_lies BeginsCheckpoint begun.0 closings.Discarded after begun.2
-        (closed_at closings.Discarded outcome.last next path from to begun.0 after created begun.1 closed.1))
+        inr (round_lies BeginsCheckpoint begun.0 closings.Discarded begun.2
+        (closed_at closings.Discarded round.opened opened path from to begun.0 after created begun.1 closed.2))
 
   pub exactly_unsure : (words : List Text) (first after : ExactValue) (out err : SinkChange) (status : ℕ)
       → ProgramEnds (exact_view first) words after out err status → IsUnsure words first after status
   exactly_unsure words first after out err status ends path ask nine =
       let ninth = ninth_end (exact_view first) words after out err status path ask nine ends in
-      let file = ninth.4 in
-      unsure_by words first ninth.0 ninth.1 ninth.2 path ninth.3 file.first file.last file.next after file.result file.created file.saving
-      file.closed
+      let file = ninth.file in
+      unsure_by words first path after ninth file.first file.last file.opened file.result file.created file.saving file.closed
 
   -- Rounds.
 
@@ -298,35 +325,26 @@ module _ {R W : Type 0} (left : R → List ℕ) (content : W → List ℕ) (read
   sized_stays path old new before after (inl (lacks, same)) = lacks.0
   sized_stays path old new before after (inr (bytes, read, is)) = read.opened.0
 
-  module _ (plan : Plan) where
-    round_saved : (number : ℕ) (round : Round exact_deeds plan) (bytes : List ℕ)
-        → WasSaved exact_deeds.creates exact_deeds.written exact_deeds.keeps round.opened (formula_path plan.folder (number + 1)) bytes
-        round.after
-        → round.after ≡ with_new (formula_path plan.folder (number + 1)) bytes round.opened
-    round_saved number round bytes saved = saved_at round.opened (formula_path plan.folder (number + 1)) bytes round.after saved
-
+  module _ (given : CommandLine) (cube : CubeValue) where
     -- what is there from the beginning stays in all rounds
-    rounds_stay : (formula : Cnf) (sizes : Sizes) (first : ExactValue) (paths : List Text) (round : Round exact_deeds plan)
-        (before : List (Round exact_deeds plan)) (path bytes : List ℕ)
-        → AreRounds formula sizes first paths (round ∷ before)
+    rounds_stay : (formula : Cnf) (first : ExactValue) (round : Round exact_deeds given cube)
+        (before : List (Round exact_deeds given cube)) (path bytes : List ℕ) → AreRounds formula first (round ∷ before)
         → with_new path bytes round.opened ≡ with_new path bytes first
-    rounds_stay formula sizes first paths round [] path bytes rounds =
-        ap (with_new path bytes) (opened_stays first paths round.readers round.opened rounds.opened.opened)
-    rounds_stay formula sizes first paths round (last ∷ before) path bytes rounds =
-        let number = length (last ∷ before) in
+    rounds_stay formula first round [] path bytes rounds =
+        ap (with_new path bytes) (opened_stays first given.streams round.readers round.opened rounds.opened.opened)
+    rounds_stay formula first round (last ∷ before) path bytes rounds =
         let next = rounds.0 in
-        let saving = next.goes_on.saving in
+        let saved = carried last round.formula next.goes_on in
         ap (with_new path bytes)
         (opened_stays next.sized _ round.readers round.opened next.opened.opened
         ∙ sized_stays _ last.sizes round.sizes last.after next.sized next.sizes
-        ∙ round_saved number last saving.bytes saving.saved)
-        ∙ rounds_stay formula sizes first paths last before path bytes rounds.1
+        ∙ saved_at last.opened _ saved.bytes last.after saved.saved)
+        ∙ rounds_stay formula first last before path bytes rounds.1
 
-    over_stays : (number : ℕ) (last : Round exact_deeds plan) (after : ExactValue) → RoundsEnd number last after → after ≡ last.after
-    over_stays number last after (inl (barred, same)) = same
-    over_stays number last after (inr (inl (next, on, alone))) =
-        alone.3.0 ∙ sized_stays _ last.sizes alone.0 last.after alone.1 alone.2
-    over_stays number last after (inr (inr ((next, on), high, same))) = same
+    over_stays : (last : Round exact_deeds given cube) (after : ExactValue) → RoundsEnd last after → after ≡ last.after
+    over_stays last after (inl (barred, same)) = same
+    over_stays last after (inr (next, on, inl alone)) = alone.3.0 ∙ sized_stays _ last.sizes alone.0 last.after alone.1 alone.2
+    over_stays last after (inr (next, on, inr (high, same))) = same
 
   pub exactly_in_rounds : (words : List Text) (first after : ExactValue) (out err : SinkChange) (status : ℕ)
       → RoundsEntailed (exact_view first) words after out err status → IsKeptInRounds words first after status
@@ -334,17 +352,17 @@ module _ {R W : Type 0} (left : R → List ℕ) (content : W → List ℕ) (read
       let report = entailed folder ask (elim is [ inl three ↦ inr (inl three) | inr eight ↦ inr (inr (inl eight)) ]) in
       let ending = report.ending in
       let were = ending.were in
-      let number = length (ending.last ∷ ending.before) in
+      let last = ending.last in
       let saved = report.last_saved is in
       let read = were.is_formula in
-      let path = formula_path folder (number + 1) in
+      let path = formula_path folder (last.number + 1) in
       let stays : were.later ≡ first =
-      assumed_stays first were.formula.vars were.next (assumed_at report.given) ending.cube were.later were.assumed ∙ read.1.opened.0 in
+      assumed_stays first were.formula.vars were.next (assumed_at ending.given) ending.cube were.later were.assumed ∙ read.1.opened.0 in
       let closed : after ≡ with_new path saved.0 were.later =
-      over_stays _ number ending.last after ending.over
-      ∙ round_saved _ number ending.last saved.0 saved.1
-      ∙ rounds_stay _ were.formula _ were.later report.given.streams ending.last ending.before path saved.0 were.rounds in (
-        number + 1,
-        lies_at IsCheckpoint words first were.later path saved.0 closings.Kept after report.given were.formula read.0 were.next
-            report.command_line read.1 read.2 saved.2 stays closed,
+      over_stays ending.given ending.cube last after ending.over
+      ∙ saved_at last.opened path saved.0 last.after saved.1
+      ∙ rounds_stay ending.given ending.cube were.formula were.later last ending.before path saved.0 were.rounds in (
+        last.number + 1,
+        lies_at IsCheckpoint words first were.later path saved.0 closings.Kept after ending.given were.formula read.0 were.next
+            ending.command_line read.1 read.2 saved.2 stays closed,
       )

@@ -1,0 +1,52 @@
+-- Runs of one round.
+use Rattle.std.proofs.Common.{◌≡◌, ◌∙◌, ◌∷◌, ℕ, List, [], None, Some, inl, inr, sym}
+use Rattle.lrup_model.specs.Cube.{CubeValue}
+use Rattle.lrup_model.specs.Formula.{Cnf}
+use Rattle.command_line.specs.CommandLine.{checkpoint_of, rounds_of}
+use Rattle.command_line.specs.declared.words.CommandLine.{CommandLine}
+use Rattle.command_line.specs.declared.words.Next.{Next}
+use Rattle.command_line.specs.declared.words.Next.TheVariants.{Checkpoint, Nothing, Rounds}
+use Rattle.command.specs.Commands.{Deeds, FilesView, Text, created_path}
+use Rattle.command.specs.Rounds.{AreRounds, CarriesOn, IsFirst, Round, RoundsEnd, WereRounds}
+
+-- the checkpoint that is asked for is the file that is created
+pub creates_checkpoint : (next : Next) (path : Text) (number : ℕ) → checkpoint_of next ≡ Some path
+    → created_path next number ≡ Some path
+creates_checkpoint Nothing path number is = is
+creates_checkpoint (Checkpoint other) path number is = is
+creates_checkpoint (Rounds folder) path number is =
+    absurd (let no : None ≡ Some path = is in cc)
+
+-- Words that ask for no rounds.
+module _ {given : CommandLine} (once : rounds_of given.next ≡ None) where
+  -- no round goes on
+  never_on : {its : Deeds} {cube : CubeValue} (round : Round its given cube) (next : Cnf)
+      → CarriesOn round next → ⊥
+  never_on round next on = let no : None ≡ Some on.folder = sym once ∙ on.asked in cc
+
+  -- so there is one
+  is_first : {its : Deeds} {cube : CubeValue} (formula : Cnf) (first : its.State)
+      (last : Round its given cube) (before : List (Round its given cube))
+      → AreRounds formula first (last ∷ before) → IsFirst formula first last
+  is_first formula first last [] rounds = rounds
+  is_first formula first last (b ∷ more) rounds =
+      absurd (never_on b last.formula rounds.0.goes_on)
+
+  pub were_one : (files : FilesView) (cube : CubeValue) (last : Round files.its given cube)
+      (before : List (Round files.its given cube)) → WereRounds files given cube last before
+      → WereRounds files given cube last []
+  were_one files cube last before were = record {
+    formula = were.formula;
+    next = were.next;
+    is_formula = were.is_formula;
+    later = were.later;
+    assumed = were.assumed;
+    told = were.told;
+    rounds = is_first were.formula were.later last before were.rounds;
+  }
+
+  -- and nothing is done to the files after it
+  pub is_over : {its : Deeds} {cube : CubeValue} (last : Round its given cube) (after : its.State)
+      → RoundsEnd last after → after ≡ last.after
+  is_over last after (inl (barred, same)) = same
+  is_over last after (inr (next, on, end)) = absurd (never_on last next on)
