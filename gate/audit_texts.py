@@ -388,48 +388,53 @@ RIGHT_ROWS: Rows = [
      'unsatisfiable' ([[law no_bad_line_shown]])."""),
 ]
 
-ROUNDS_TOP = """[AUDIT](AUDIT.md#checkpoints) has chains of runs. Of runs with `--rounds` ([[EndsInRounds: asked : rounds_at
-given ≡ Some folder]]) [[fn command.ends]] has this:"""
+ROUNDS_TOP = """[AUDIT](AUDIT.md#checkpoints) has chains of runs. Of each run, with `--rounds` or without, [[fn command.ends]] has
+this:"""
 
 ROUNDS_ROWS: Rows = [
-    ("A run that gives a report had rounds, one after the other, and the report and the status are the last one's.", """[[ReportsRounds:
-     were : WereRounds files given folder cube last before]], a list with the last [[Round]] first ([[AreRounds]]);
-     [[ReportsRounds: printed : SinkTook out (last_text (length (last ∷ before)) last.reports last.verdict)]];
-     [[ReportsRounds: status_is : status ≡ report_status out.failed last.unsaved last.verdict]]."""),
+    ("A run that gives a report had rounds, one after the other, and the report and the status are the last one's.", """[[EndsWithReport:
+     were : WereRounds files given cube last before]], a list with the last [[Round]] first ([[AreRounds]]);
+     [[EndsWithReport: printed : SinkTook out (last_text last.number last.reports last.verdict)]];
+     [[EndsWithReport: status_is : status ≡ report_status out.failed last.unsaved last.verdict]]."""),
     ("Round 1 has the formula that was read, and the words' streams.", """[[IsFirst: formula_is : round.formula ≡ formula]],
      [[WereRounds: is_formula : IsFormulaAt files given.formula.now formula next]]; [[IsFirst: opened : StreamsOpened its
-     first paths round.readers round.opened]]."""),
-    ("Each later round has the formula that the round before carried on.", """[[ComesNext: goes_on : CarriesOn number before
+     first given.streams round.readers round.opened]]."""),
+    ("Each later round has the formula that the round before carried on.", """[[ComesNext: goes_on : CarriesOn before
      round.formula]]."""),
     ("It has the sizes of its file of sizes, or else those of the round before.", """[[AreSized: (its.lacks before path after
      × (new ≡ old))]], [[AreSized: IsSizesText bytes new]]. That file is opened once the formula was saved ([[ComesNext: sizes
-     : AreSized its (sizes_path plan.folder (number + 1)) before.sizes before.after]])."""),
-    ("Its streams are the files of its number.", """[[ComesNext: opened : StreamsOpened its sized (stream_paths plan.folder
-     (number + 1) round.sizes.streams) round.readers round.opened]]."""),
-    ("A round carries on just the live clauses that some stream didn't drop.", """[[SavesNext: exactly : SavesState
-     its.written (Ok (Some next))]] fetches each identity once, and saves what is live and [[is_wanted]]. The state is the one that the history of
-     the round's run leaves, [[SavesNext: (state formula history)]], [[SavesRound: round.checked.ran.run.history]]."""),
+     : AreSized its (sizes_path goes_on.folder round.number) before.sizes before.after]])."""),
+    ("Its streams are the files of its number.", """[[ComesNext: opened : StreamsOpened its sized (stream_paths goes_on.folder
+     round.number round.sizes.streams) round.readers round.opened]]."""),
+    ("A round carries on just the live clauses that some stream didn't drop.", """[[Round: leaves : LeavesBehind its]] what was saved
+     by [[SavesCheckpoint]]: [[SavesCheckpoint: exactly : SavesState its.written result (state formula history) layout (is_wanted
+     dropped)]] fetches each identity once, and saves what is live and [[is_wanted]], in the state that the history of the round's run
+     leaves ([[Round: checked.ran.run.history checked.dropped]])."""),
     ("They follow from the round's formula, and their text was saved for the next round, once the round's streams were "
      "opened.",
-     """[[SavesRound: SavesNext its round.formula]]; [[SavesNext: checkpoint : IsCheckpoint formula bytes]], [[IsCheckpoint: entails : Entails original
-     formula]], [[SavesNext: next_is : next ≡ checkpoint.formula]]; [[SavesNext: saved : WasSavedBy its before path bytes after]], [[SavesRound: round.opened (formula_path plan.folder (number + 1)) next round.after]]."""),
+     """[[SavesCheckpoint: checkpoint : IfOk result (WritesCheckpoint formula (its.written first) (its.written last))]],
+     [[WritesCheckpoint: checkpoint : IsCheckpoint original bytes]], [[IsCheckpoint: entails : Entails original formula]];
+     [[CarriesOn: next_is : round.next ≡ Some next]], [[WritesCheckpoint: next_is : ForSome next (λ formula. formula ≡
+     checkpoint.formula)]]; [[Round: verdict opened (created_path given.next number) unsaved next after]]."""),
     ("If the report was written, what each round but the last saved follows from the first formula. With status 3 or 8, so does "
      "what the last one saved.",
      """[[fn command.saved_rounds]]: [[RoundsEntailed: (status ≡ 0) ⊎ ((status ≡ 3) ⊎ ((status ≡ 8) ⊎ (status ≡ 9)))]], [[ReportsEntailed: saved :
      SaveEntailed]], [[ReportsEntailed: last_saved : (status ≡ 3) ⊎ (status ≡ 8)]]. What a round saved is a text of a formula over the same variables, and
      all its clauses follow from that of FORMULA ([[SavesEntailed]])."""),
     ("The streams of each round are checked as those of a single run.", """[[Round: checked : AreChecked its.reading]]: with a history, or
-     with `--serial` an order of lines, of its own. Tries, assumed literals and `--serial` stay ([[Plan]])."""),
-    ("A round is followed by another one only if its verdict is 'unknown', its streams ended, and its formula was saved.",
-     """[[CarriesOn: verdict : round.verdict ≡ Unknown]], [[CarriesOn: ended : HaveEnded round.reports]], [[CarriesOn: unsaved
+     with `--serial` an order of lines, of its own. Tries, assumed literals and `--serial` stay ([[Round: given.serial formula
+     (run_params_by given cube formula sizes)]])."""),
+    ("A round is followed by another one only if the words ask for rounds, its verdict is 'unknown', its streams ended, and its "
+     "formula was saved.",
+     """[[CarriesOn: asked : rounds_of given.next ≡ Some folder]], [[CarriesOn: verdict : round.verdict ≡ Unknown]], [[CarriesOn: ended : HaveEnded round.reports]], [[CarriesOn: unsaved
      : round.unsaved ≡ None]]."""),
     ("The last round is barred so, or the next one has no file as its stream 1, or the numbers below 2^64 - 1 are used up.",
-     """[[RoundsEnd]]: [[IsBarred]]; or [[RoundsEnd: its.lacks sized (stream_path plan.folder (number + 1) 1) after]]; or
-     [[RoundsEnd: (2 ^ 64 < number + 3)]]."""),
-    ("If there is no report, the cause is one of round 1, or of the round that follows such rounds.", """[[FailsInRound: cause
-     : IsNextCause (length (last ∷ before)) last fault]]: of its sizes
-     ([[IsSizesCause]]), its streams, or their start ([[IsStartCause]]). The text names the round ([[FailsInRound: said :
-     SinkTook err (round_error_text (length (last ∷ before) + 1) fault)]])."""),
+     """[[RoundsEnd]]: [[IsBarred]]; or [[RoundsEnd: its.lacks sized (stream_path on.folder (last.number + 1) 1) after]]; or
+     [[RoundsEnd: (2 ^ 64 < last.number + 3)]]."""),
+    ("If there is no report, the cause is one of round 1, or of the round that follows such rounds.", """[[EndsWithFault: cause
+     : IsCauseIn files words number fault after]]; [[FailsLater: cause : IsNextCause last fault after]]: of its sizes
+     ([[IsSizesCause]]), its streams, or their start ([[IsRoundStartCause]]). The text names the round ([[EndsWithFault: said :
+     SinkTook err (round_error_text number fault)]])."""),
     ("Nothing more was done to the files then, except that a created file was discarded.", """Each cause has the files after
      it; for the exception [[IsLeftUnused]]."""),
     ("Premise: words, formula and assumptions are accepted, and each round finds its stream 1, and sizes that have a layout. "

@@ -16,7 +16,8 @@ use Rattle.stream_check.specs.declared.report.Report.{Report}
 use Rattle.checkpoint.specs.Checkpoints.{WritesCheckpoint}
 use Rattle.checkpoint.specs.declared.saving.SaveFault.{SaveFault}
 use Rattle.checkpoint.specs.declared.saving.SaveFault.TheVariants as faults
-use Rattle.command.specs.Commands.{Deeds, ClosesSink, IsLeftUnused, LeavesBehind, SavesCheckpoint, Text}
+use Rattle.command.specs.Commands.{Deeds, IsLeftUnused, Text}
+use Rattle.command.specs.Rounds.{ClosesSink, LeavesBehind, SavesCheckpoint}
 use Rattle.command.specs.internal.Running.{StandsBehind}
 use Rattle.command.specs.internal.Saving.{ClosesCheckpoint, CreatesCheckpoint, DiscardsIt, SavesAndCloses}
 

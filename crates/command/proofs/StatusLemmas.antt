@@ -14,10 +14,10 @@ use Rattle.command_line.specs.declared.words.CommandLine.{CommandLine}
 use Rattle.command_line.specs.declared.words.Next.{Next}
 use Rattle.command_line.specs.declared.words.Next.TheVariants.{Checkpoint, Nothing, Rounds}
 use Rattle.command.specs.Commands.{CheckpointEntailed, CheckpointLeftEmpty, ComesLast, Deeds, FilesView, IsAssumeCause}
-use Rattle.command.specs.Commands.{IsLeftEmpty, LeavesBehind, SavesCheckpoint, SinkChange, Text, WasReadIn, WasSavedBy}
+use Rattle.command.specs.Commands.{IsLeftEmpty, SinkChange, Text, WasReadIn, WasSavedBy}
 use Rattle.command.specs.Commands.{assumed_at, created_path, report_status, run_params_by}
 use Rattle.command.specs.Faults.{status_of}
-use Rattle.command.specs.Rounds.{AreRounds, CarriesOn, EndsWithFault, EndsWithReport, IsCauseIn, IsFirst, ProgramEnds}
+use Rattle.command.specs.Rounds.{AreRounds, CarriesOn, EndsWithFault, EndsWithReport, IsCauseIn, IsFirst, LeavesBehind, ProgramEnds, SavesCheckpoint}
 use Rattle.command.specs.Rounds.{Round, RoundsEnd}
 use Rattle.command.specs.declared.fault.CommandFault.{CommandFault}
 use Rattle.command.specs.declared.fault.CommandFault.TheVariants as faults

@@ -5,10 +5,8 @@ use Rattle.std.specs.Borrow.{Bor}
 use Rattle.std.specs.Option.{ForSome}
 use Rattle.lrup_model.specs.Cube.{CubeValue, IsUnsatisfiableUnder}
 use Rattle.lrup_model.specs.Entailment.{IsUnsatisfiable}
-use Rattle.lrup_model.specs.Event.{History}
 use Rattle.lrup_model.specs.Formula.{Cnf}
 use Rattle.lrup_model.specs.Layout.{LayoutValue, IsFault, IsStream}
-use Rattle.lrup_model.specs.State.{state}
 use Rattle.lrup_model.specs.declared.layout.LayoutFault.{LayoutFault}
 use Rattle.dimacs.specs.FormulaFault.{IsFormulaFault}
 use Rattle.dimacs.specs.FormulaText.{IsFormulaText}
@@ -24,15 +22,13 @@ use Rattle.stream_check.specs.declared.report.Report.{Report}
 use Rattle.portfolio.specs.Histories.{IsRunOf, way_of}
 use Rattle.portfolio.specs.Outcomes.{OptionsValue, run_params_of, verdict_of}
 use Rattle.portfolio.specs.RingStops.{StopsAtRing}
-use Rattle.portfolio.specs.Saving.{SavesState, is_wanted}
 use Rattle.runs.specs.Readings.{readers_view}
 use Rattle.runs.specs.Streams.{RunParamsValue}
 use Rattle.stream_check.specs.DroppedIdsValue.{DroppedIdsValue}
 use Rattle.portfolio.specs.declared.outcome.Verdict.{Verdict}
 use Rattle.portfolio.specs.declared.outcome.Verdict.TheVariants.{Unsatisfiable, UnsatisfiableUnder, Unknown}
-use Rattle.checkpoint.specs.Checkpoints.{IsCheckpoint, WritesCheckpoint}
+use Rattle.checkpoint.specs.Checkpoints.{IsCheckpoint}
 use Rattle.checkpoint.specs.declared.saving.SaveFault.{SaveFault}
-use Rattle.checkpoint.specs.declared.saving.SaveFault.TheVariants as saves
 use Rattle.command_line.specs.CommandLine.{AskFor, AskForBoth, AskToSave, HaveFault, IsCommandLineOf}
 use Rattle.command_line.specs.declared.sizes.Sizes.{Sizes}
 use Rattle.command_line.specs.declared.words.CommandLine.{CommandLine}
@@ -284,59 +280,6 @@ abbrev pub created_path : Next → ℕ → Option Text
 created_path Nothing number = None
 created_path (Checkpoint path) number = Some path.now
 created_path (Rounds folder) number = Some (round_paths.formula_path folder.now (number + 1))
-
--- What is saved.
-
--- What became of the saving of a checkpoint to a sink that was the first and is the last, after a run of the formula with this layout, whose
--- history and dropped identities these are. What was written whole is a text of a formula over the same variables, each clause of which
--- follows from this one, and it is the next formula, if one is given. It is that of the clauses that the history leaves live, but for those
--- that all streams dropped, and no others. Just where the sink failed, the result is that a write failed.
-pub record SavesCheckpoint (its : Deeds) (formula : Cnf) (layout : LayoutValue) (history : History)
-    (dropped : List DroppedIdsValue) (result : Result (Option Cnf) SaveFault)
-    (first last : its.Output) : Type 0 where
-  pub checkpoint : IfOk result
-      (WritesCheckpoint formula (its.written first) (its.written last))
-  pub exactly : SavesState its.written result (state formula history) layout (is_wanted dropped)
-      first last
-  pub failed : IsTrue (its.has_failed last) ↔ (result ≡ Err saves.Unwritten)
-
--- How a sink was closed, to which something was saved with this result; why that isn't saved, if it isn't; and the next formula, if there
--- is one. What was saved was kept, or that failed; else the sink was discarded.
-abbrev pub ClosesSink : (its : Deeds) → Result (Option Cnf) SaveFault → its.State → its.Output
-    → Option SaveFault → Option Cnf → its.State → Type 0
-ClosesSink its (Ok made) before last None next after = (next ≡ made) × its.keeps before last after
-ClosesSink its (Ok made) before last (Some fault) next after =
-    (fault ≡ saves.Unwritten) × (next ≡ None) × its.loses before last after
-ClosesSink its (Err fault) before last unsaved next after =
-    (unsaved ≡ Some fault) × (next ≡ None) × its.discards before last after
-
--- A file was created at the path, from the files before. Where its device tells its bytes, it was empty. Something was saved to it, and it
--- was closed.
-pub record LeavesFile (its : Deeds)
-    (Saves : Result (Option Cnf) SaveFault → its.Output → its.Output → Type 0) (before : its.State)
-    (path : Text) (unsaved : Option SaveFault) (next : Option Cnf) (after : its.State) : Type 0
-  where
-    pub first : its.Output
-    pub opened : its.State
-    pub created : its.creates before path first opened
-    pub empty : ForSome (its.written first) (λ all. all ≡ [])
-    pub result : Result (Option Cnf) SaveFault
-    pub last : its.Output
-    pub saving : Saves result first last
-    pub closed : ClosesSink its result opened last unsaved next after
-
--- What a round with this verdict leaves at the path, why that wasn't saved, if it wasn't, and the next formula, if there is one. Without a
--- path: nothing. With 'unsatisfiable': a file to which nothing went. Else a file to which the checkpoint was saved.
-abbrev pub LeavesBehind : (its : Deeds)
-    → (Result (Option Cnf) SaveFault → its.Output → its.Output → Type 0) → Verdict → its.State
-    → Option Text → Option SaveFault → Option Cnf → its.State → Type 0
-LeavesBehind its Saves verdict before None unsaved next after =
-    (unsaved ≡ None) × (next ≡ None) × (after ≡ before)
-LeavesBehind its Saves Unsatisfiable before (Some path) unsaved next after =
-    (unsaved ≡ None) × (next ≡ None)
-    × IsLeftEmpty its.creates its.written its.discards before path after
-LeavesBehind its Saves verdict before (Some path) unsaved next after =
-    LeavesFile its Saves before path unsaved next after
 
 -- Causes, and the files then: what was opened and created of them by then, in order, and nothing more. Nothing shows afterwards that
 -- memory ran out or that a thread wasn't started, so these are taken as causes whatever the files hold.

@@ -1,24 +1,30 @@
 -- A run is a list of rounds: each goes on with what the one before it saved (this project's own).
-use Rattle.std.specs.Prelude.{◌≡◌, ◌==◌, if◌then◌else◌, ◌+◌, ◌++◌, ◌∷◌, ◌⊎◌, ◌<◌, ◌≤◌, ◌^◌, ℕ, List, [], Option, None, Some, codes, drop, length, map}
+use Rattle.std.specs.Prelude.{◌≡◌, ◌==◌, ◌↔◌, if◌then◌else◌, ◌+◌, ◌++◌, ◌∷◌, ◌⊎◌, ◌<◌, ◌≤◌, ◌^◌, ℕ, IsTrue, List, [], Option, None, Some, Result, Ok, Err, IfOk, codes, drop, length, map}
 use Rattle.std.specs.Fmt.{decimal}
 use Rattle.std.specs.List.{AllByRecursion}
 use Rattle.std.specs.Option.{ForSome}
 use Rattle.lrup_model.specs.Cube.{CubeValue}
+use Rattle.lrup_model.specs.Event.{History}
 use Rattle.lrup_model.specs.Formula.{Cnf}
+use Rattle.lrup_model.specs.Layout.{LayoutValue}
+use Rattle.lrup_model.specs.State.{state}
 use Rattle.lrup_text.specs.Reads.{Gave, GaveAll}
+use Rattle.stream_check.specs.DroppedIdsValue.{DroppedIdsValue}
 use Rattle.stream_check.specs.declared.report.Ending.TheVariants as endings
 use Rattle.stream_check.specs.declared.report.Report.{Report}
 use Rattle.portfolio.specs.ReportText.{report_text}
+use Rattle.portfolio.specs.Saving.{SavesState, is_wanted}
 use Rattle.portfolio.specs.declared.outcome.Verdict.{Verdict}
-use Rattle.portfolio.specs.declared.outcome.Verdict.TheVariants.{Unknown}
-use Rattle.checkpoint.specs.Checkpoints.{IsCheckpoint}
+use Rattle.portfolio.specs.declared.outcome.Verdict.TheVariants.{Unknown, Unsatisfiable}
+use Rattle.checkpoint.specs.Checkpoints.{IsCheckpoint, WritesCheckpoint}
 use Rattle.checkpoint.specs.declared.saving.SaveFault.{SaveFault}
+use Rattle.checkpoint.specs.declared.saving.SaveFault.TheVariants as saves
 use Rattle.command_line.specs.CommandLine.{AskForRounds, IsCommandLineOf, rounds_of}
 use Rattle.command_line.specs.Sizes.{HaveNoSizes, IsSizesText}
 use Rattle.command_line.specs.declared.sizes.Sizes.{Sizes}
 use Rattle.command_line.specs.declared.words.CommandLine.{CommandLine}
 use Rattle.command.specs.Commands.{AreAssumed, AreChecked, AreOpened, Deeds, FilesView, HasBrokenOff, IsCause, IsFormulaAt}
-use Rattle.command.specs.Commands.{IsOpenCause, IsRoundStartCause, IsUntouched, LeavesBehind, SavesCheckpoint, SaysOfRound, SinkChange}
+use Rattle.command.specs.Commands.{IsLeftEmpty, IsOpenCause, IsRoundStartCause, IsUntouched, SaysOfRound, SinkChange}
 use Rattle.command.specs.Commands.{SinkTook, Text, WasRead, WasReadIn, WasSavedBy, assumed_at, created_path, report_status}
 use Rattle.command.specs.Commands.{run_params_by, sizes_of}
 use Rattle.command.specs.Faults.{round_error_text, status_of}
@@ -36,6 +42,57 @@ pub record StreamsOpened (its : Deeds) (before : its.State) (paths : List Text)
 -- all streams ended
 abbrev pub HaveEnded : List Report → Type 0
 HaveEnded reports = AllByRecursion (λ report. report.ending ≡ endings.Ended) reports
+
+-- What became of the saving of a checkpoint to a sink that was the first and is the last, after a run of the formula with this layout, whose
+-- history and dropped identities these are. What was written whole is a text of a formula over the same variables, each clause of which
+-- follows from this one, and it is the next formula, if one is given. It is that of the clauses that the history leaves live, but for those
+-- that all streams dropped, and no others. Just where the sink failed, the result is that a write failed.
+pub record SavesCheckpoint (its : Deeds) (formula : Cnf) (layout : LayoutValue) (history : History)
+    (dropped : List DroppedIdsValue) (result : Result (Option Cnf) SaveFault)
+    (first last : its.Output) : Type 0 where
+  pub checkpoint : IfOk result
+      (WritesCheckpoint formula (its.written first) (its.written last))
+  pub exactly : SavesState its.written result (state formula history) layout (is_wanted dropped)
+      first last
+  pub failed : IsTrue (its.has_failed last) ↔ (result ≡ Err saves.Unwritten)
+
+-- How a sink was closed, to which something was saved with this result; why that isn't saved, if it isn't; and the next formula, if there
+-- is one. What was saved was kept, or that failed; else the sink was discarded.
+abbrev pub ClosesSink : (its : Deeds) → Result (Option Cnf) SaveFault → its.State → its.Output
+    → Option SaveFault → Option Cnf → its.State → Type 0
+ClosesSink its (Ok made) before last None next after = (next ≡ made) × its.keeps before last after
+ClosesSink its (Ok made) before last (Some fault) next after =
+    (fault ≡ saves.Unwritten) × (next ≡ None) × its.loses before last after
+ClosesSink its (Err fault) before last unsaved next after =
+    (unsaved ≡ Some fault) × (next ≡ None) × its.discards before last after
+
+-- A file was created at the path, from the files before. Where its device tells its bytes, it was empty. Something was saved to it, and it
+-- was closed.
+pub record LeavesFile (its : Deeds)
+    (Saves : Result (Option Cnf) SaveFault → its.Output → its.Output → Type 0) (before : its.State)
+    (path : Text) (unsaved : Option SaveFault) (next : Option Cnf)
+    (after : its.State) : Type 0 where
+  pub first : its.Output
+  pub opened : its.State
+  pub created : its.creates before path first opened
+  pub empty : ForSome (its.written first) (λ all. all ≡ [])
+  pub result : Result (Option Cnf) SaveFault
+  pub last : its.Output
+  pub saving : Saves result first last
+  pub closed : ClosesSink its result opened last unsaved next after
+
+-- What a round with this verdict leaves at the path, why that wasn't saved, if it wasn't, and the next formula, if there is one. Without a
+-- path: nothing. With 'unsatisfiable': a file to which nothing went. Else a file to which the checkpoint was saved.
+abbrev pub LeavesBehind : (its : Deeds)
+    → (Result (Option Cnf) SaveFault → its.Output → its.Output → Type 0) → Verdict → its.State
+    → Option Text → Option SaveFault → Option Cnf → its.State → Type 0
+LeavesBehind its Saves verdict before None unsaved next after =
+    (unsaved ≡ None) × (next ≡ None) × (after ≡ before)
+LeavesBehind its Saves Unsatisfiable before (Some path) unsaved next after =
+    (unsaved ≡ None) × (next ≡ None)
+    × IsLeftEmpty its.creates its.written its.discards before path after
+LeavesBehind its Saves verdict before (Some path) unsaved next after =
+    LeavesFile its Saves before path unsaved next after
 
 -- A round: its number, its formula and its sizes; the readers of its streams as they were opened, and the files after that; its reports and
 -- its verdict; why its checkpoint wasn't saved, if it wasn't; the next formula, if there is one; and the files after that. Its streams were

@@ -18,12 +18,12 @@ use Rattle.command_line.specs.CommandLine.{AskToSave, IsCommandLineOf}
 use Rattle.command_line.specs.lemmas.NextLemmas.{never_both}
 use Rattle.command_line.specs.declared.sizes.Sizes.{Sizes}
 use Rattle.command_line.specs.declared.words.CommandLine.{CommandLine}
-use Rattle.command.specs.Commands.{AreAssumed, AreOpened, CheckpointEntailed, CheckpointLeftEmpty, ClosesSink, ComesLast, Deeds}
-use Rattle.command.specs.Commands.{FilesView, IsAssumeCause, LeavesBehind, LeavesFile, SavesCheckpoint, SinkChange, Text}
+use Rattle.command.specs.Commands.{AreAssumed, AreOpened, CheckpointEntailed, CheckpointLeftEmpty, ComesLast, Deeds}
+use Rattle.command.specs.Commands.{FilesView, IsAssumeCause, SinkChange, Text}
 use Rattle.command.specs.Commands.{WasReadIn, WasSaved, assumed_at, report_status, run_params_by}
 use Rattle.command.specs.Faults.{status_of}
 use Rattle.command.specs.Paths.{formula_path}
-use Rattle.command.specs.Rounds.{AreRounds, AreSized, IsCauseIn, ProgramEnds, Round, RoundsEnd, RoundsEntailed, WereRounds}
+use Rattle.command.specs.Rounds.{AreRounds, AreSized, ClosesSink, IsCauseIn, LeavesBehind, LeavesFile, ProgramEnds, Round, RoundsEnd, RoundsEntailed, SavesCheckpoint, WereRounds}
 use Rattle.command.specs.lemmas.OneRound.{creates_checkpoint, is_over, were_one}
 use Rattle.command.specs.lemmas.SavedLemmas.{carried}
 use Rattle.command.specs.declared.fault.CommandFault.{CommandFault}

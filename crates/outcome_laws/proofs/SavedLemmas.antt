@@ -11,8 +11,8 @@ use Rattle.checkpoint.specs.Entails.{Entails, EntailsItself, EntailsOnward}
 use Rattle.checkpoint.specs.declared.saving.SaveFault.{SaveFault}
 use Rattle.stream_check.specs.DroppedIdsValue.{DroppedIdsValue}
 use Rattle.command_line.specs.declared.words.CommandLine.{CommandLine}
-use Rattle.command.specs.Commands.{ClosesSink, Deeds, LeavesBehind, LeavesFile, SavesCheckpoint, Text, created_path}
-use Rattle.command.specs.Rounds.{AreRounds, CarriesOn, Round}
+use Rattle.command.specs.Commands.{Deeds, Text, created_path}
+use Rattle.command.specs.Rounds.{AreRounds, CarriesOn, ClosesSink, LeavesBehind, LeavesFile, Round, SavesCheckpoint}
 use Rattle.outcome_laws.specs.Outcomes.{layout_in}
 use Rattle.outcome_laws.specs.Refuting.{saved_bytes, saved_in, written_bytes}
 

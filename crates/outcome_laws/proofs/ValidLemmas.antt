@@ -31,10 +31,10 @@ use Rattle.command_line.specs.declared.sizes.Sizes.{Sizes}
 use Rattle.command_line.specs.declared.words.CommandLine.{CommandLine}
 use Rattle.command_line.specs.declared.words.Next.{Next}
 use Rattle.command_line.specs.declared.words.Next.TheVariants.{Checkpoint, Nothing, Rounds}
-use Rattle.command.specs.Commands.{Deeds, FilesView, IsAssumeCause, IsCause, IsFormulaAt, IsReadCause, LeavesBehind, SavesCheckpoint}
+use Rattle.command.specs.Commands.{Deeds, FilesView, IsAssumeCause, IsCause, IsFormulaAt, IsReadCause}
 use Rattle.command.specs.Commands.{SinkChange, Text, assumed_at, created_path, report_status, sizes_of, verdict_status}
 use Rattle.command.specs.Faults.{status_of}
-use Rattle.command.specs.Rounds.{CarriesOn, EndsWithFault, EndsWithReport, ProgramEnds, Round, WereRounds}
+use Rattle.command.specs.Rounds.{CarriesOn, EndsWithFault, EndsWithReport, LeavesBehind, ProgramEnds, Round, SavesCheckpoint, WereRounds}
 use Rattle.command.specs.declared.fault.CommandFault.{CommandFault}
 use Rattle.command.specs.declared.fault.CommandFault.TheVariants as faults
 use Rattle.outcome_laws.specs.Outcomes.{layout_in}

@@ -10,8 +10,8 @@ use Rattle.checkpoint.specs.Checkpoints.{IsUnsatisfiableText, IsUnsatisfiableTex
 use Rattle.checkpoint.specs.declared.saving.SaveFault.{SaveFault}
 use Rattle.stream_check.specs.DroppedIdsValue.{DroppedIdsValue}
 use Rattle.command_line.specs.declared.words.CommandLine.{CommandLine}
-use Rattle.command.specs.Commands.{Deeds, FilesView, LeavesBehind, SavesCheckpoint, SinkChange, Text, created_path}
-use Rattle.command.specs.Rounds.{EndsWithReport, Round}
+use Rattle.command.specs.Commands.{Deeds, FilesView, SinkChange, Text, created_path}
+use Rattle.command.specs.Rounds.{EndsWithReport, LeavesBehind, Round, SavesCheckpoint}
 use Rattle.outcome_laws.specs.Outcomes.{layout_in}
 
 -- A run, of one round or more, ended with a report and this status, and these bytes were read of its FORMULA.

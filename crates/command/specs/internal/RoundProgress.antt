@@ -9,10 +9,10 @@ use Rattle.runs.specs.Streams.{RunParamsValue}
 use Rattle.command_line.specs.Sizes.{HaveNoSizes, IsSizesText}
 use Rattle.command_line.specs.declared.sizes.Sizes.{Sizes}
 use Rattle.command_line.specs.declared.words.CommandLine.{CommandLine}
-use Rattle.command.specs.Commands.{AreAssumed, AreChecked, AreOpened, Deeds, FilesView, HasBrokenOff, IsRoundStartCause, LeavesBehind}
-use Rattle.command.specs.Commands.{SavesCheckpoint, Text, WasReadIn, assumed_at, created_path, run_params_by, sizes_of}
+use Rattle.command.specs.Commands.{AreAssumed, AreChecked, AreOpened, Deeds, FilesView, HasBrokenOff, IsRoundStartCause}
+use Rattle.command.specs.Commands.{Text, WasReadIn, assumed_at, created_path, run_params_by, sizes_of}
 use Rattle.command.specs.Paths.{sizes_path, stream_path}
-use Rattle.command.specs.Rounds.{AreRounds, AreSized, CarriesOn, IsBarred, IsNextCause, Round, RoundsEnd, WereRounds}
+use Rattle.command.specs.Rounds.{AreRounds, AreSized, CarriesOn, IsBarred, IsNextCause, LeavesBehind, Round, RoundsEnd, SavesCheckpoint, WereRounds}
 use Rattle.command.specs.declared.fault.CommandFault.{CommandFault}
 use Rattle.command.specs.declared.fault.CommandFault.TheVariants as faults
 use Rattle.command.specs.declared.checking.RunResult.{RunResult}

@@ -5,7 +5,8 @@ use Rattle.lrup_model.specs.Formula.{Cnf}
 use Rattle.portfolio.specs.declared.outcome.Verdict.{Verdict}
 use Rattle.portfolio.specs.declared.outcome.Verdict.TheVariants.{Unsatisfiable}
 use Rattle.checkpoint.specs.declared.saving.SaveFault.{SaveFault}
-use Rattle.command.specs.Commands.{Deeds, ClosesSink, IsRefusedNew, Text}
+use Rattle.command.specs.Commands.{Deeds, IsRefusedNew, Text}
+use Rattle.command.specs.Rounds.{ClosesSink}
 use Rattle.command.specs.declared.fault.CommandFault.{CommandFault}
 use Rattle.command.specs.declared.fault.CommandFault.TheVariants as faults
 use Rattle.command.specs.declared.files.OpenFault.TheVariants as open_faults

@@ -16,10 +16,10 @@ use Rattle.command_line.specs.declared.words.CommandLine.{CommandLine}
 use Rattle.command_line.specs.declared.words.Next.{Next}
 use Rattle.command_line.specs.declared.words.Next.TheVariants.{Checkpoint, Nothing, Rounds}
 use Rattle.stream_check.specs.DroppedIdsValue.{DroppedIdsValue}
-use Rattle.command.specs.Commands.{ClosesSink, Deeds, LeavesBehind, LeavesFile, SavesCheckpoint, Text, WasSavedBy, created_path}
+use Rattle.command.specs.Commands.{Deeds, Text, WasSavedBy, created_path}
 use Rattle.command.specs.Commands.{run_params_by}
 use Rattle.command.specs.Paths.{formula_path}
-use Rattle.command.specs.Rounds.{CarriesOn, Round}
+use Rattle.command.specs.Rounds.{CarriesOn, ClosesSink, LeavesBehind, LeavesFile, Round, SavesCheckpoint}
 
 -- A checkpoint of the formula was saved at the path; it is that of the next formula, if there is one.
 pub record KeptAt (its : Deeds) (formula : Cnf) (before : its.State) (path : Text) (next : Option Cnf) (after : its.State) : Type 0 where

@@ -1,6 +1,7 @@
 use Rattle.std.proofs.Common.{◌∙◌, ℕ, length, subst, sym}
 use Rattle.runs.specs.Streams.{RunParamsValue}
-use Rattle.command.specs.Commands.{HasNoFault, IsStartCause, SavesCheckpoint, deeds_of, path_of}
+use Rattle.command.specs.Commands.{HasNoFault, IsStartCause, deeds_of, path_of}
+use Rattle.command.specs.Rounds.{SavesCheckpoint}
 use Rattle.command.specs.internal.Running.{IsLayoutCause, run_params_on}
 use Rattle.command.specs.internal.Saving.{ClosesCheckpoint}
 use Rattle.command.specs.declared.fault.CommandFault.{CommandFault}
