@@ -7,6 +7,7 @@ use Rattle.std.specs.Prelude.{codes, slice_get, if◌then◌else◌}
 use Rattle.std.specs.Fmt.{decimal, digit_glyph, digits, digits_onto}
 use Rattle.std.specs.Io.KnownBytes.{Appends, Keeps}
 use Rattle.std.specs.List.{AllByRecursion}
+use Rattle.lrup_model.specs.Cube.{CubeValue}
 use Rattle.lrup_model.specs.lemmas.ListLemmas.{All-append, All-map}
 use Rattle.lrup_text.specs.declared.LineFault.TheVariants as texts
 use Rattle.stream_check.specs.Faults.{fault_text}
@@ -19,11 +20,15 @@ use Rattle.runs.specs.Closed.{IsOfStream}
 use Rattle.run_laws.specs.Valid.{IsCutOffIn}
 use Rattle.portfolio.specs.ReportText.{ending_text, report_text, stream_line, stream_lines, verdict_line}
 use Rattle.portfolio.specs.declared.outcome.Verdict.{Verdict}
-use Rattle.command.specs.Commands.{FilesView, IsUntouched, SinkChange, SinkTook, TakesUnlessFailed, Text}
-use Rattle.command.specs.Rounds.{EndsWithReport, last_text}
-use Rattle.outcome_laws.specs.Valid.{AskWell, InconclusiveBecause, unwritten, no_report, lost, ValidRefutationSays}
-use Rattle.outcome_laws.specs.Printed.{HoldsBackRefuted, NoBadLineShown, ShowsBadLine}
-use Rattle.outcome_laws.proofs.ValidLemmas.{alone, asks_once}
+use Rattle.portfolio.specs.declared.outcome.Verdict.TheVariants.{Unsatisfiable}
+use Rattle.command_line.specs.declared.words.CommandLine.{CommandLine}
+use Rattle.command.specs.Commands.{Deeds, FilesView, IsUntouched, SinkChange, SinkTook, TakesUnlessFailed, Text}
+use Rattle.command.specs.Rounds.{EndsWithReport, Round, last_text}
+use Rattle.outcome_laws.specs.Inconclusive.{EndedOrStopped, FallsShort, HasStopped, InconclusiveBecause, IsCutOff, no_report, not_kept}
+use Rattle.outcome_laws.specs.Inconclusive.{short, stopped, under_cube, unwritten}
+use Rattle.outcome_laws.specs.ValidLaws.{ValidRoundsSay}
+use Rattle.outcome_laws.specs.Printed.{NoBadLineShown, ShowsBadLine}
+use Rattle.outcome_laws.proofs.RoundLemmas.{some_number}
 
 -- Bytes before a mark
 
@@ -263,27 +268,43 @@ module _ (s count : ℕ) (out : SinkChange) (shows : ShowsBadLine s out) where
       omega (arith, some_shown, ap length none)
 
   -- in round 1 no number is printed
-  printed_so : (files : FilesView) (words : List Text) → AskWell files words None → (after : files.its.State) (err : SinkChange)
-      (status : ℕ) → (ends : EndsWithReport files words after out err status)
-      → SinkTook out (report_text ends.last.reports ends.last.verdict)
-  printed_so files words asks after err status ends =
-      let once = asks_once files words asks ends.given ends.command_line in
-      let were = alone files ends.given ends.cube once ends.last ends.before ends.were in
-      subst (λ (n : ℕ). SinkTook out (last_text n ends.last.reports ends.last.verdict)) were.rounds.number ends.printed
+  printed_so : (number : ℕ) (reports : List Report) (verdict : Verdict) → number ≡ 1 → SinkTook out (last_text number reports verdict)
+      → SinkTook out (report_text reports verdict)
+  printed_so number reports verdict is took = subst (λ (n : ℕ). SinkTook out (last_text n reports verdict)) is took
 
-  pub shown_so : (files : FilesView) (words : List Text) → AskWell files words None → (after : files.its.State) (err : SinkChange)
-      (status : ℕ)
-      → InconclusiveBecause files words s (IsCutOffIn count) after out err status → HoldsBackRefuted files words after out err status
-  shown_so files words asks after err status (no_report ends machine is) = absurd (none_untouched ends.untouched)
-  shown_so files words asks after err status (lost ends written report says why is) =
-      absurd (none_of_lost ends.last.reports ends.last.verdict (printed_so files words asks after err status ends) report says why)
-  shown_so files words asks after err status (unwritten ends failed (inl refuted) is) =
-      record { ends = ends; refuted = refuted; is = is }
-  shown_so files words asks after err status (unwritten ends failed (inr (report, says, why)) is) =
-      absurd (none_of_lost ends.last.reports ends.last.verdict (printed_so files words asks after err status ends) report says why)
+  -- the report of such a stream isn't one of which this is seen
+  none_of_stopped : {its : Deeds} {given : CommandLine} {cube : CubeValue} (round : Round its given cube) → 0 < round.number
+      → SinkTook out (last_text round.number round.reports round.verdict) → ¬ HasStopped IsCutOff s count 1 round
+  none_of_stopped round some took (inl early) = omega (arith, some, early.0)
+  none_of_stopped round some took (inr (first, (report, says, why))) =
+      none_of_lost round.reports round.verdict (printed_so round.number round.reports round.verdict first took) report says why
 
-pub no_bad_line_shown : (files : FilesView) → ValidRefutationSays files → NoBadLineShown files
-no_bad_line_shown files law words after s out err status ask ends shows = elim (law words after s out err status ask ends) [
-  | inl is ↦ inl is
-  | inr inconclusive ↦ inr (shown_so s (length ask.valid.lines) out shows files words ask.asks after err status inconclusive)
-]
+  none_of_open : {its : Deeds} {given : CommandLine} {cube : CubeValue} (round : Round its given cube) → 0 < round.number
+      → SinkTook out (last_text round.number round.reports round.verdict) → ¬ EndedOrStopped IsCutOff s count 1 round
+  none_of_open round some took (inl early) = omega (arith, some, early.0)
+  none_of_open round some took (inr lost) = none_of_stopped round some took lost
+
+  none_of_short : {its : Deeds} {given : CommandLine} {cube : CubeValue} (round : Round its given cube) (written : ℕ) → 0 < round.number
+      → SinkTook out (last_text round.number round.reports round.verdict) → ¬ FallsShort IsCutOff s count 1 round written
+  none_of_short round written some took (not_kept path asked fault unsaved verdict streams is) = none_of_open round some took streams
+  none_of_short round written some took (under_cube path asked verdict streams is) = none_of_open round some took streams
+  none_of_short round written some took (stopped verdict streams is) = none_of_stopped round some took streams
+
+  module _ (files : FilesView) (words : List Text) (after : files.its.State) (err : SinkChange) (status : ℕ) where
+    some_of : (ends : EndsWithReport files words after out err status) → 0 < ends.last.number
+    some_of ends = some_number files ends.given ends.cube ends.last ends.before ends.were
+
+    pub shown_so : InconclusiveBecause files words IsCutOff s count 1 after out err status
+        → (ends : EndsWithReport files words after out err status) × (ends.last.verdict ≡ Unsatisfiable) × (status ≡ 7)
+    shown_so (no_report ends few is) = absurd (none_untouched ends.untouched)
+    shown_so (short ends written why) = absurd (none_of_short ends.last status (some_of ends) ends.printed why)
+    shown_so (unwritten ends failed few (inl refuted) is) = (ends, refuted, is)
+    shown_so (unwritten ends failed few (inr (written, why)) is) =
+        absurd (none_of_short ends.last written (some_of ends) ends.printed why)
+
+pub no_bad_line_shown : (files : FilesView) → ValidRoundsSay files 1 → NoBadLineShown files
+no_bad_line_shown files law words s count after out err status ask ends shows =
+    elim (law words s count after out err status ask ends) [
+      | inl is ↦ inl is
+      | inr inconclusive ↦ inr (shown_so s count out shows files words after err status inconclusive)
+    ]

@@ -1,5 +1,5 @@
 -- What the program says of valid proofs in rounds.
-use Rattle.std.proofs.Common.{◌≡◌, ◌⊎◌, ◌<◌, ◌≤◌, ◌-◌, ◌+◌, ℕ, Bool, true, false, List, [], ◌∷◌, map, Option, None, Some, inl, inr}
+use Rattle.std.proofs.Common.{◌≡◌, ◌⊎◌, ◌<◌, ◌≤◌, ◌-◌, ◌+◌, ℕ, Bool, true, false, List, [], ◌∷◌, Result, map, Option, None, Some, inl, inr}
 use Rattle.std.proofs.Common.{refl, sym, ap, subst, drop, ◌∙◌, arith}
 use Rattle.std.proofs.lemmas.Bool.{cases_lt}
 use Rattle.lrup_model.specs.Cube.{CubeValue}
@@ -20,33 +20,27 @@ use Rattle.command_line.specs.declared.sizes.Sizes.{Sizes}
 use Rattle.command_line.specs.declared.words.CommandLine.{CommandLine}
 use Rattle.command.specs.Commands.{AreAssumed, Deeds, FilesView, IsOpenCause, IsStartCause, SinkChange, Text, WasReadIn, assumed_at}
 use Rattle.command.specs.Commands.{created_path, report_status, run_params_by, sizes_of}
-use Rattle.command.specs.Faults.{status_of}
 use Rattle.command.specs.Paths.{sizes_path, stream_path, stream_paths}
-use Rattle.command.specs.Rounds.{AreSized, CarriesOn, EndsWithFault, EndsWithReport, HaveEnded, IsCauseIn, IsFirstCause, IsRoundCause}
+use Rattle.command.specs.Rounds.{AreSized, CarriesOn, EndsWithFault, EndsWithReport, HaveEnded, IsCauseIn, IsFirstCause, IsRoundCause, LeavesBehind, SavesCheckpoint}
 use Rattle.command.specs.Rounds.{IsSizesCause, ProgramEnds, Round, RoundsEnd, WereRounds}
+use Rattle.command.specs.lemmas.SavedLemmas.{carried}
 use Rattle.command.specs.declared.fault.CommandFault.{CommandFault}
 use Rattle.command.specs.declared.fault.CommandFault.TheVariants as faults
 use Rattle.outcome_laws.specs.Laws.{SameWordsAskAlike}
 use Rattle.outcome_laws.specs.Outcomes.{layout_in}
-use Rattle.outcome_laws.specs.ValidRounds.{AreValidAlone, AreValidInOrder, AskForValidRounds, IsAskedOf, IsCutOffOf, InconclusiveInRounds}
-use Rattle.outcome_laws.specs.ValidRounds.{IsOfMachineInRound, IsProvided, IsRefutedAlone, IsRefutedInOrder, IsStopped, IsStoppedOf, Loss}
-use Rattle.outcome_laws.specs.ValidRounds.{AreValidByTurns, IsRefutedByTurns, ValidTurnRoundsSay, ValidOrdersSay, ValidRoundsSay, RoundAsk}
-use Rattle.outcome_laws.specs.ValidRounds.{EndedOrStopped, FallsShort, HasStopped, not_begun, not_gone_on, not_kept, not_printed}
-use Rattle.outcome_laws.specs.ValidRounds.{printed, stopped, under_cube}
-use Rattle.outcome_laws.specs.Serial.{IsCutOff}
+use Rattle.outcome_laws.specs.Inconclusive.{EndedOrStopped, FallsShort, HasStopped, InconclusiveBecause, IsCutOff, IsStopped, StopReason}
+use Rattle.outcome_laws.specs.Inconclusive.{WasStopped, no_report, not_kept, short, stopped, under_cube, unwritten}
+use Rattle.outcome_laws.specs.Valid.{AreValidAlone, AreValidByTurns, AreValidInOrder, AskForValidRounds, IsAskedOf, IsProvided}
+use Rattle.outcome_laws.specs.Valid.{IsRefutedAlone, IsRefutedByTurns, IsRefutedInOrder, RoundAsk}
+use Rattle.outcome_laws.specs.ValidLaws.{ValidOrdersSay, ValidRoundsSay, ValidTurnsSay}
 use Rattle.outcome_laws.proofs.CheckLemmas.{Check, check_of, never_under}
 use Rattle.outcome_laws.proofs.OutcomeLemmas.{OneFormula, first_text}
-use Rattle.outcome_laws.proofs.SavedLemmas.{IsOfCheckpoint, is_carried}
-use Rattle.outcome_laws.proofs.ValidLemmas.{NoFormulaFault, machine_status, of_machine, text_cnf}
-use Rattle.outcome_laws.proofs.StreamLemmas.{Either, OnOne, ends_by_turns, refutes_by_turns, EndsSo, RefutesSo, cut_is_open}
-use Rattle.outcome_laws.proofs.StreamLemmas.{ended_at, ends_alone, ends_in_order, cut_of_is_open, refutes_alone, refutes_in_order}
-use Rattle.outcome_laws.proofs.StreamLemmas.{stopped_is_open, stopped_of_is_open}
+use Rattle.outcome_laws.proofs.ValidLemmas.{IsOfMachine, NoFormulaFault, of_machine, text_cnf}
+use Rattle.outcome_laws.proofs.StreamLemmas.{Either, EndsSo, Lines, OnOne, RefutesSo, cut_first, cut_is_open, ended_at, ends_alone}
+use Rattle.outcome_laws.proofs.StreamLemmas.{ends_by_turns, ends_in_order, refutes_alone, refutes_by_turns, refutes_in_order}
+use Rattle.outcome_laws.proofs.StreamLemmas.{stopped_is_open}
 
 -- Faults
-
-round_status : (fault : CommandFault) → IsOfMachineInRound fault → (status_of fault ≡ 5) ⊎ (status_of fault ≡ 6)
-round_status fault (inl machine) = machine_status fault machine
-round_status fault (inr sizes) = inl (ap status_of sizes)
 
 -- what a fault of a later round isn't of
 module _ (its : Deeds) (given : CommandLine) (cube : CubeValue) (folder : Text) (number : ℕ) (old : Sizes) (formula : Cnf)
@@ -71,30 +65,30 @@ module _ (its : Deeds) (given : CommandLine) (cube : CubeValue) (folder : Text) 
       starts read sized are readers opened (created_path given.next number) cause
 
   module _ (Before Last : RoundAsk) (last : ℕ) (provided : IsProvided Before Last last its folder number old formula before) where
-    pub of_round : (fault : CommandFault) → Cause fault → IsOfMachineInRound fault
+    pub of_round : (fault : CommandFault) → Cause fault → IsOfMachine fault
     of_round (faults.Usage text) cause =
         absurd (none_so (faults.Usage text) (λ x. x) (λ b p x. x) (λ n p x. x) (λ z s a r o p x. x) cause)
-    of_round faults.Unread cause = inl tt
+    of_round faults.Unread cause = inl refl
     of_round (faults.Refused fault) cause =
         absurd (none_so (faults.Refused fault) (λ x. x) (λ b p x. x) (λ n p x. x) (λ z s a r o p x. x) cause)
-    of_round faults.CubeUnread cause = inl tt
+    of_round faults.CubeUnread cause = inl refl
     of_round (faults.CubeRefused fault) cause =
         absurd (none_so (faults.CubeRefused fault) (λ x. x) (λ b p x. x) (λ n p x. x) (λ z s a r o p x. x) cause)
-    of_round (faults.NotOpened stream) cause = inl tt
+    of_round (faults.NotOpened stream) cause = inl refl
     of_round (faults.Layout fault) cause =
         absurd (none_so (faults.Layout fault) (λ x. x) (λ b p x. x) (λ n p x. x)
         (λ sizes sized are readers opened path wrong. (provided.ready sizes sized are).layout fault wrong.0) cause)
-    of_round (faults.Spawn stream) cause = inl tt
-    of_round (faults.Ring stream) cause = inl tt
-    of_round faults.Memory cause = inl tt
+    of_round (faults.Spawn stream) cause = inr refl
+    of_round (faults.Ring stream) cause = inr refl
+    of_round faults.Memory cause = inr refl
     of_round faults.Unwritten cause =
         absurd (none_so faults.Unwritten (λ x. x) (λ b p x. x) (λ n p x. x) (λ z s a r o p x. x) cause)
-    of_round faults.NotCreated cause = inl tt
+    of_round faults.NotCreated cause = inl refl
     of_round (faults.NotSaved fault) cause =
         absurd (none_so (faults.NotSaved fault) (λ x. x) (λ b p x. x) (λ n p x. x) (λ z s a r o p x. x) cause)
     of_round faults.TwoCheckpoints cause =
         absurd (none_so faults.TwoCheckpoints (λ x. x) (λ b p x. x) (λ n p x. x) (λ z s a r o p x. x) cause)
-    of_round faults.SizesUnread cause = inr refl
+    of_round faults.SizesUnread cause = inl refl
     of_round faults.Sizes cause =
         absurd (none_so faults.Sizes (λ none. provided.sizes after none) (λ b p x. x) (λ n p x. x) (λ z s a r o p x. x) cause)
 
@@ -113,9 +107,12 @@ abbrev check_in : (Before Last : RoundAsk) (last : ℕ) {its : Deeds} {given : C
     → IsAsked Before Last last round → Check its.reading
 check_in Before Last last round is = check_of round is.tells is.paths is.left
 
--- the formula of a checkpoint is one
-cnf_of : (formula next : Cnf) → IsOfCheckpoint formula next → IsCnf next
-cnf_of formula next made = subst IsCnf (sym made.2) (text_cnf made.0 made.1.formula made.1.text)
+-- what a round carries on is a formula
+carried_cnf : {its : Deeds} {given : CommandLine} {cube : CubeValue} (round : Round its given cube) (next : Cnf) → CarriesOn round next
+    → IsCnf next
+carried_cnf round next on =
+    let at = carried round next on in
+    subst IsCnf (sym (at.next_is next refl)) (text_cnf at.bytes at.checkpoint.formula at.checkpoint.text)
 
 module _ (files : FilesView) (given : CommandLine) (cube : CubeValue) where
   -- the rounds before one that follows another
@@ -137,25 +134,61 @@ module _ (files : FilesView) (given : CommandLine) (cube : CubeValue) where
   some_number round [] were = omega (arith, were.rounds.number)
   some_number round (b ∷ more) were = omega (arith, were.rounds.0.number)
 
-module _ (Mode : Bool → Type 0) (Before Last : RoundAsk) (Early Late : Loss) (ends_so : EndsSo Mode Before Early)
-    (refutes_so : RefutesSo Mode Last Late)
-    (early_open : (layout : LayoutValue) (s : ℕ) (report : Report) → Early layout s report → ¬ (report.ending ≡ endings.Ended))
-    (late_open : (layout : LayoutValue) (s : ℕ) (report : Report) → Late layout s report → ¬ (report.ending ≡ endings.Ended))
+-- What a round left.
+module _ (its : Deeds) (Saves : Result (Option Cnf) SaveFault → its.Output → its.Output → Type 0) where
+  -- with 'unsatisfiable' there is nothing to be saved
+  all_saved : (verdict : Verdict) (before : its.State) (path : Option Text) (fault : SaveFault) (next : Option Cnf)
+      (after : its.State) → verdict ≡ Unsatisfiable → ¬ LeavesBehind its Saves verdict before path (Some fault) next after
+  all_saved UnsatisfiableUnder before path fault next after is leaves = let no : UnsatisfiableUnder ≡ Unsatisfiable = is in cc
+  all_saved Unknown before path fault next after is leaves = let no : Unknown ≡ Unsatisfiable = is in cc
+  all_saved Unsatisfiable before None fault next after is leaves = let no : Some fault ≡ None = leaves.0 in cc
+  all_saved Unsatisfiable before (Some path) fault next after is leaves = let no : Some fault ≡ None = leaves.0 in cc
+
+  -- what wasn't saved was asked for
+  asked_for : (verdict : Verdict) (before : its.State) (path : Option Text) (fault : SaveFault) (next : Option Cnf) (after : its.State)
+      → LeavesBehind its Saves verdict before path (Some fault) next after → (asked : Text) × (path ≡ Some asked)
+  asked_for verdict before None fault next after leaves = absurd (let no : Some fault ≡ None = leaves.0 in cc)
+  asked_for verdict before (Some path) fault next after leaves = (path, refl)
+
+module _ {its : Deeds} {given : CommandLine} {cube : CubeValue} (round : Round its given cube) (fault : SaveFault)
+    (unsaved : round.unsaved ≡ Some fault) where
+  abbrev Saves : Result (Option Cnf) SaveFault → its.Output → its.Output → Type 0
+  Saves = SavesCheckpoint its round.formula (layout_in round.formula round.sizes) round.checked.ran.run.history round.checked.dropped
+
+  abbrev left_at : Option Text
+  left_at = created_path given.next round.number
+
+  leaves_unsaved : LeavesBehind its Saves round.verdict round.opened left_at (Some fault) round.next round.after
+  leaves_unsaved =
+      subst (λ (u : Option SaveFault). LeavesBehind its Saves round.verdict round.opened left_at u round.next round.after) unsaved
+      round.leaves
+
+  unsaved_open : ¬ (round.verdict ≡ Unsatisfiable)
+  unsaved_open refuted = all_saved its Saves round.verdict round.opened left_at fault round.next round.after refuted leaves_unsaved
+
+  unsaved_asked : (asked : Text) × (left_at ≡ Some asked)
+  unsaved_asked = asked_for its Saves round.verdict round.opened left_at fault round.next round.after leaves_unsaved
+
+module _ (Mode : Bool → Type 0) (Before Last : RoundAsk) (Why : StopReason) (at : List Report → Lines) (ends_so : EndsSo Mode Before Why)
+    (refutes_so : RefutesSo Mode Last Why at)
+    (is_open : (layout : LayoutValue) (s n : ℕ) (report : Report) → Why layout s n report → ¬ (report.ending ≡ endings.Ended))
     (bare : EmptyCubeReported)
     (one_formula : OneFormula) (no_fault : NoFormulaFault) (alike : SameWordsAskAlike) (files : FilesView) (words : List Text)
-    (folder : Text)
-    (last : ℕ) (ask : AskForValidRounds Before Last files words folder last)
+    (last : ℕ) (ask : AskForValidRounds Before Last files words last)
     (mode : (given : CommandLine) → IsCommandLineOf words given → Mode given.serial) where
   -- in the round some stream was stopped
-  abbrev Lost : {given : CommandLine} {cube : CubeValue} → Round files.its given cube → Type 0
-  Lost round = HasStopped Early Late last round
+  abbrev Stops : {given : CommandLine} {cube : CubeValue} → Round files.its given cube → Type 0
+  Stops round = HasStopped Why (at round.reports).0 (at round.reports).1 last round
 
   -- who was stopped hasn't ended
-  unended : {given : CommandLine} {cube : CubeValue} (round : Round files.its given cube) → Lost round → ¬ HaveEnded round.reports
-  unended round (s, report, says, inl early) ended =
-      early_open (layout_in round.formula round.sizes) s report early.1 (ended_at round.reports (s - 1) report says.1 ended)
-  unended round (s, report, says, inr late) ended =
-      late_open (layout_in round.formula round.sizes) s report late.1 (ended_at round.reports (s - 1) report says.1 ended)
+  unended_at : {given : CommandLine} {cube : CubeValue} (round : Round files.its given cube) (s n : ℕ) → WasStopped Why round s n
+      → ¬ HaveEnded round.reports
+  unended_at round s n (report, says, why) ended =
+      is_open (layout_in round.formula round.sizes) s n report why (ended_at round.reports (s - 1) report says.1 ended)
+
+  unended : {given : CommandLine} {cube : CubeValue} (round : Round files.its given cube) → Stops round → ¬ HaveEnded round.reports
+  unended round (inl (below, (s, n, why))) ended = unended_at round s n why ended
+  unended round (inr (at_last, why)) ended = unended_at round (at round.reports).0 (at round.reports).1 why ended
 
   module _ (given : CommandLine) (line : IsCommandLineOf words given) (cube : CubeValue) where
     -- a round that was reached was asked for
@@ -188,7 +221,7 @@ module _ (Mode : Bool → Type 0) (Before Last : RoundAsk) (Early Late : Loss) (
         let provided = subst (λ (n : ℕ). IsProvided Before Last last files.its on.folder n b.sizes round.formula b.after) (sym comes.number)
         (ask.later given cube b more round.formula line earlier below on) in
         record {
-          cnf = cnf_of b.formula round.formula (is_carried b round.formula on);
+          cnf = carried_cnf b round.formula on;
           tells = files.its.tells comes.sized;
           paths = stream_paths on.folder round.number round.sizes.streams;
           left = comes.opened.left;
@@ -198,20 +231,20 @@ module _ (Mode : Bool → Type 0) (Before Last : RoundAsk) (Early Late : Loss) (
     -- what became of it
     fate : (round : Round files.its given cube) (before : List (Round files.its given cube))
         → WereRounds files given cube round before → round.number ≤ last
-        → (HaveEnded round.reports × (round.number < last)) ⊎ ((round.verdict ≡ Unsatisfiable) ⊎ Lost round)
+        → ((round.number < last) × HaveEnded round.reports) ⊎ ((round.verdict ≡ Unsatisfiable) ⊎ Stops round)
     fate round before were few =
         let is = is_asked round before were few in
         let check = check_in Before Last last round is in
         elim (cases_lt round.number last) [
           | inl below ↦ elim (ends_so files.its.Reader files.its.reading check (mode given line) is.cnf (is.asked.earlier below)) [
-            | inl ended ↦ inl (ended, below)
-            | inr lost ↦ inr (inr (lost.0, lost.1, lost.2, inl (below, lost.3)))
+            | inl ended ↦ inl (below, ended)
+            | inr lost ↦ inr (inr (inl (below, lost)))
           ]
           | inr above ↦
               let at_last : round.number ≡ last = omega (arith, above, few) in
               elim (refutes_so files.its.Reader files.its.reading check (mode given line) is.cnf (is.asked.at_last at_last)) [
                 | inl refuted ↦ inr (inl refuted)
-                | inr lost ↦ inr (inr (lost.0, lost.1, lost.2, inr (at_last, lost.3)))
+                | inr lost ↦ inr (inr (inr (at_last, lost)))
               ]
         ]
 
@@ -219,7 +252,7 @@ module _ (Mode : Bool → Type 0) (Before Last : RoundAsk) (Early Late : Loss) (
     goes_below : (round : Round files.its given cube) (before : List (Round files.its given cube))
         → WereRounds files given cube round before → round.number ≤ last → (next : Cnf) → CarriesOn round next → round.number < last
     goes_below round before were few next goes = elim (fate round before were few) [
-      | inl (ended, below) ↦ below
+      | inl (below, ended) ↦ below
       | inr (inl refuted) ↦ absurd (let no : Unsatisfiable ≡ Unknown = sym refuted ∙ goes.verdict in cc)
       | inr (inr lost) ↦ absurd (unended round lost goes.ended)
     ]
@@ -256,20 +289,23 @@ module _ (Mode : Bool → Type 0) (Before Last : RoundAsk) (Early Late : Loss) (
         → (asked : Text) × (assumed_at given ≡ Some asked)
     asked_under round before were under = under_some round before were (assumed_at given) refl were.assumed under
 
-    -- the words ask for rounds
-    rounds_asked : rounds_of given.next ≡ Some folder
-    rounds_asked = line.said.rounds ∙ sym ask.asks.command_line.said.rounds ∙ ask.asks.rounds
+    -- where there are later rounds the words ask for them
+    rounds_asked : (round : Round files.its given cube) (before : List (Round files.its given cube))
+        → WereRounds files given cube round before → round.number < last → ¬ (rounds_of given.next ≡ None)
+    rounds_asked round before were below once =
+        let asked = ask.rounds (omega (arith, below, some_number files given cube round before were)) in
+        let no : Some asked.0 ≡ None = sym asked.1 ∙ ask.asks.command_line.said.rounds ∙ sym line.said.rounds ∙ once in cc
 
     -- The rounds are over without an answer: a stream was stopped.
     lost_in : (round : Round files.its given cube) (before : List (Round files.its given cube)) → WereRounds files given cube round before
-        → (after : files.its.State) → RoundsEnd round after → round.verdict ≡ Unknown → round.unsaved ≡ None → Lost round
+        → (after : files.its.State) → RoundsEnd round after → round.verdict ≡ Unknown → round.unsaved ≡ None → Stops round
     lost_in round before were after over unknown saved =
         elim (fate round before were (few_rounds round before were)) [
           | inr (inr lost) ↦ lost
           | inr (inl refuted) ↦ absurd (let no : Unsatisfiable ≡ Unknown = sym refuted ∙ unknown in cc)
-          | inl (ended, below) ↦ absurd (elim over [
+          | inl (below, ended) ↦ absurd (elim over [
             | inl (barred, same) ↦ elim barred [
-              | inl once ↦ let no : Some folder ≡ None = sym rounds_asked ∙ once in cc
+              | inl once ↦ rounds_asked round before were below once
               | inr (inl other) ↦ other unknown
               | inr (inr (inl fault)) ↦ let no : Some fault.0 ≡ None = sym fault.1 ∙ saved in cc
               | inr (inr (inr not_ended)) ↦ not_ended ended
@@ -281,21 +317,23 @@ module _ (Mode : Bool → Type 0) (Before Last : RoundAsk) (Early Late : Loss) (
         ]
 
   module _ (after : files.its.State) (out err : SinkChange) (status : ℕ) where
-    abbrev Goal : Type 0
-    Goal = (status ≡ 0) ⊎ InconclusiveInRounds files words Early Late last after out err status
+    abbrev Goal : List Report → Type 0
+    Goal reports = (status ≡ 0) ⊎ InconclusiveBecause files words Why (at reports).0 (at reports).1 last after out err status
 
     abbrev Short : EndsWithReport files words after out err status → ℕ → Type 0
-    Short ends printed_status = FallsShort Early Late last ends.last printed_status
+    Short ends written = FallsShort Why (at ends.last.reports).0 (at ends.last.reports).1 last ends.last written
+
+    few_of : (ends : EndsWithReport files words after out err status) → ends.last.number ≤ last
+    few_of ends = few_rounds ends.given ends.command_line ends.cube ends.last ends.before ends.were
 
     -- what the report says of the streams
-    told_of_streams : (ends : EndsWithReport files words after out err status)
-        → (ends.last.verdict ≡ Unsatisfiable) ⊎ EndedOrStopped Early Late last ends.last
-    told_of_streams ends =
-        let few = few_rounds ends.given ends.command_line ends.cube ends.last ends.before ends.were in
-        elim (fate ends.given ends.command_line ends.cube ends.last ends.before ends.were few) [
-          | inl (ended, below) ↦ inr (inl ended)
-          | inr (inl refuted) ↦ inl refuted
-          | inr (inr lost) ↦ inr (inr lost)
+    streams_of : (ends : EndsWithReport files words after out err status) → ¬ (ends.last.verdict ≡ Unsatisfiable)
+        → EndedOrStopped Why (at ends.last.reports).0 (at ends.last.reports).1 last ends.last
+    streams_of ends other =
+        elim (fate ends.given ends.command_line ends.cube ends.last ends.before ends.were (few_of ends)) [
+          | inl ended ↦ inl ended
+          | inr (inl refuted) ↦ absurd (other refuted)
+          | inr (inr lost) ↦ inr lost
         ]
 
     -- it says 'unsatisfiable', or falls short of it
@@ -303,69 +341,79 @@ module _ (Mode : Bool → Type 0) (Before Last : RoundAsk) (Early Late : Loss) (
         → (unsaved : Option SaveFault) → ends.last.unsaved ≡ unsaved → (verdict : Verdict) → ends.last.verdict ≡ verdict
         → ((ends.last.verdict ≡ Unsatisfiable) × (0 ≡ report_status false unsaved verdict))
         ⊎ Short ends (report_status false unsaved verdict)
-    short_so ends (Some fault) u verdict v = inr (not_kept fault u (told_of_streams ends) refl)
+    short_so ends (Some fault) u verdict v =
+        let asked = unsaved_asked ends.last fault u in
+        let other = unsaved_open ends.last fault u in
+        inr (not_kept asked.0 asked.1 fault u other (streams_of ends other) refl)
     short_so ends None u Unsatisfiable v = inl (v, refl)
     short_so ends None u UnsatisfiableUnder v =
         let asked = asked_under ends.given ends.command_line ends.cube ends.last ends.before ends.were v in
-        elim (told_of_streams ends) [
-          | inl refuted ↦ absurd (let no : UnsatisfiableUnder ≡ Unsatisfiable = sym v ∙ refuted in cc)
-          | inr streams ↦ inr (under_cube asked.0 asked.1 v streams refl)
-        ]
+        let other : ¬ (ends.last.verdict ≡ Unsatisfiable) =
+        λ refuted. let no : UnsatisfiableUnder ≡ Unsatisfiable = sym v ∙ refuted in cc in
+        inr (under_cube asked.0 asked.1 v (streams_of ends other) refl)
     short_so ends None u Unknown v =
-        inr (stopped (lost_in ends.given ends.command_line ends.cube ends.last ends.before ends.were after ends.over v u) refl)
+        inr (stopped v (lost_in ends.given ends.command_line ends.cube ends.last ends.before ends.were after ends.over v u) refl)
 
     reported_so : (ends : EndsWithReport files words after out err status)
-        → (failed : Bool) → out.failed ≡ failed → status ≡ report_status failed ends.last.unsaved ends.last.verdict → Goal
+        → (failed : Bool) → out.failed ≡ failed → status ≡ report_status failed ends.last.unsaved ends.last.verdict
+        → Goal ends.last.reports
     reported_so ends true failed is =
         let why = short_so ends ends.last.unsaved refl ends.last.verdict refl in
-        inr (not_printed ends failed (elim why [
+        inr (unwritten ends failed (few_of ends) (elim why [
           | inl refuted ↦ inl refuted.0
-          | inr short ↦ inr (report_status false ends.last.unsaved ends.last.verdict, short)
+          | inr falls ↦ inr (report_status false ends.last.unsaved ends.last.verdict, falls)
         ]) is)
     reported_so ends false written is =
         elim (short_so ends ends.last.unsaved refl ends.last.verdict refl) [
           | inl refuted ↦ inl (is ∙ sym refuted.1)
-          | inr short ↦ inr (printed ends written (subst (Short ends) (sym is) short))
+          | inr falls ↦ inr (short ends written (subst (Short ends) (sym is) falls))
         ]
 
     -- why there is no report
-    failed_so : (ends : EndsWithFault files words after out err status) → IsCauseIn files words ends.number ends.fault after → Goal
+    failed_so : (ends : EndsWithFault files words after out err status) → IsCauseIn files words ends.number ends.fault after → Goal []
     failed_so ends (inl first) =
-        let machine = of_machine one_formula no_fault alike files (Some folder) words ask.asks after ends.fault first.1 in
-        inr (not_begun ends first.0 machine
-        (subst (λ (n : ℕ). (n ≡ 5) ⊎ (n ≡ 6)) (sym ends.status_is) (machine_status ends.fault machine)))
+        let machine = of_machine one_formula no_fault alike files words ask.asks after ends.fault first.1 in
+        inr (no_report ends (omega (arith, first.0, ask.some)) (subst (λ (n : ℕ). (n ≡ 5) ⊎ (n ≡ 6)) (sym ends.status_is) machine))
     failed_so ends (inr later) =
         let cause = later.cause in
+        let few = few_rounds later.given later.command_line later.cube later.last later.before later.were in
+        let below = goes_below later.given later.command_line later.cube later.last later.before later.were few cause.0 cause.1 in
         let provided = provided_for later.given later.command_line later.cube later.last later.before later.were cause.0 cause.1 in
         let machine = of_round files.its later.given later.cube cause.1.folder (later.last.number + 1) later.last.sizes
         cause.0 later.last.after after Before Last last provided ends.fault cause.2 in
-        let number : 1 < ends.number =
-        omega (arith, later.number_is, some_number files later.given later.cube later.last later.before later.were) in
-        inr (not_gone_on ends number machine
-        (subst (λ (n : ℕ). (n ≡ 5) ⊎ (n ≡ 6)) (sym ends.status_is) (round_status ends.fault machine)))
+        inr (no_report ends (omega (arith, later.number_is, below)) (subst (λ (n : ℕ). (n ≡ 5) ⊎ (n ≡ 6)) (sym ends.status_is) machine))
 
-    pub rounds_say : ProgramEnds files words after out err status → Goal
+    -- the reports of the last round that has some
+    abbrev pub reports_of : ProgramEnds files words after out err status → List Report
+    reports_of (inl ends) = ends.last.reports
+    reports_of (inr ends) = []
+
+    pub rounds_say : (ending : ProgramEnds files words after out err status) → Goal (reports_of ending)
     rounds_say (inl ends) = reported_so ends out.failed refl ends.status_is
     rounds_say (inr ends) = failed_so ends ends.cause
 
 pub valid_rounds_say : OneFormula → NoFormulaFault → EmptyCubeReported → SameWordsAskAlike → ValidReported → ValidBegins
-    → ValidEmpty → (files : FilesView) → ValidRoundsSay files
-valid_rounds_say one_formula no_fault bare alike reported begins empty files words folder last s count after out err status ask =
-    rounds_say Either AreValidAlone (IsRefutedAlone s count) (λ layout t report. IsCutOff report) (IsCutOffOf s count)
-    (ends_alone reported) (refutes_alone begins empty s count) cut_is_open (cut_of_is_open s count)
-    bare one_formula no_fault alike files words folder last ask (λ given line. tt) after out err status
+    → ValidEmpty → (files : FilesView) (last : ℕ) → ValidRoundsSay files last
+valid_rounds_say one_formula no_fault bare alike reported begins empty files last words s count after out err status ask =
+    rounds_say Either AreValidAlone (IsRefutedAlone s count) IsCutOff (λ reports. (s, count)) (ends_alone reported)
+    (refutes_alone begins empty s count) cut_is_open bare one_formula no_fault alike files words last ask (λ given line. tt) after out err
+    status
 
 pub valid_orders_say : OneFormula → NoFormulaFault → EmptyCubeReported → SameWordsAskAlike → ValidTogether → TogetherBegins
-    → ValidEmpty → (files : FilesView) → ValidOrdersSay files
-valid_orders_say one_formula no_fault bare alike together begins empty files words folder last s count after out err status ask =
-    rounds_say Either AreValidInOrder (IsRefutedInOrder s count) IsStopped (IsStoppedOf s count)
-    (ends_in_order together) (refutes_in_order begins empty s count) stopped_is_open (stopped_of_is_open s count)
-    bare one_formula no_fault alike files words folder last ask (λ given line. tt) after out err status
+    → ValidEmpty → (files : FilesView) (last : ℕ) → ValidOrdersSay files last
+valid_orders_say one_formula no_fault bare alike together begins empty files last words s count after out err status ask =
+    rounds_say Either AreValidInOrder (IsRefutedInOrder s count) IsStopped (λ reports. (s, count)) (ends_in_order together)
+    (refutes_in_order begins empty s count) stopped_is_open bare one_formula no_fault alike files words last ask (λ given line. tt) after
+    out err status
 
 pub valid_turn_rounds_say : OneFormula → NoFormulaFault → EmptyCubeReported → SameWordsAskAlike → ValidByTurns → ValidEmpty
-    → (files : FilesView) → ValidTurnRoundsSay files
-valid_turn_rounds_say one_formula no_fault bare alike by_turns empty files words folder last s after out err status ask on_one =
-    rounds_say OnOne AreValidByTurns (IsRefutedByTurns s) (λ layout t report. IsCutOff report) (λ layout t report. IsCutOff report)
-    (ends_by_turns by_turns) (refutes_by_turns by_turns empty s) cut_is_open cut_is_open
-    bare one_formula no_fault alike files words folder last ask
-    (λ given line. line.said.serial ∙ sym ask.asks.command_line.said.serial ∙ on_one) after out err status
+    → (files : FilesView) (last : ℕ) → ValidTurnsSay files last
+valid_turn_rounds_say one_formula no_fault bare alike by_turns empty files last words s after out err status ask on_one ending =
+    let on_one_so : (given : CommandLine) → IsCommandLineOf words given → given.serial ≡ true =
+    λ given line. line.said.serial ∙ sym ask.asks.command_line.said.serial ∙ on_one in
+    elim (rounds_say OnOne AreValidByTurns (IsRefutedByTurns s) IsCutOff cut_first (ends_by_turns by_turns)
+    (refutes_by_turns by_turns empty s) cut_is_open bare one_formula no_fault alike files words last ask on_one_so after out err status
+    ending) [
+      | inl is ↦ inl is
+      | inr inconclusive ↦ inr (_, _, inconclusive)
+    ]

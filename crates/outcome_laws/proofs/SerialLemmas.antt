@@ -1,4 +1,4 @@
--- Outcomes of the program on one thread.
+-- Runs on one thread.
 use Rattle.std.proofs.Common.{◌≡◌, ◌⊎◌, ◌-◌, ◌+◌, ◌<◌, ℕ, zero, suc, true, List, [], ◌∷◌, length, Some, inl, inr, refl, sym, ap, subst, ◌∙◌}
 use Rattle.std.proofs.Common.{arith, map}
 use Rattle.std.specs.Prelude.{slice_get}
@@ -16,24 +16,18 @@ use Rattle.runs.specs.Turns.{IsByTurns, IsOrderedByTurns}
 use Rattle.runs.specs.Closed.{IsOfStream}
 use Rattle.runs.specs.Streams.{InputObservation, RunParamsValue}
 use Rattle.run_laws.specs.Groups.{IsRun}
-use Rattle.run_laws.specs.Valid.{AddsEmpty, valid_report}
+use Rattle.run_laws.specs.Valid.{AddsEmpty, IsCutOffIn, valid_report}
 use Rattle.run_laws.specs.ValidLaws.{ValidEmpty}
 use Rattle.run_laws.specs.Together.{Step, IsValidOrder, lines_by}
 use Rattle.run_laws.specs.TurnsLaws.{BytesDecide, HaveJustTexts, HaveSameBytes, NoneCutShort, ValidByTurns}
 use Rattle.portfolio.specs.Outcomes.{verdict_of}
 use Rattle.portfolio.specs.declared.outcome.Verdict.TheVariants.{Unsatisfiable}
-use Rattle.command_line.specs.CommandLine.{IsCommandLineOf}
 use Rattle.command_line.specs.declared.sizes.Sizes.{Sizes}
-use Rattle.command_line.specs.declared.words.CommandLine.{CommandLine}
-use Rattle.command.specs.Commands.{FilesView, SinkChange, Text}
-use Rattle.command.specs.Rounds.{EndsWithReport, Round, WereRounds}
+use Rattle.command.specs.Commands.{FilesView, Text}
 use Rattle.outcome_laws.specs.Outcomes.{layout_in}
-use Rattle.outcome_laws.specs.Laws.{SameWordsAskAlike}
-use Rattle.outcome_laws.specs.Valid.{InconclusiveBecause}
-use Rattle.outcome_laws.specs.Serial.{AskForValidTurns, IsCutOff, ValidTurnsSay, SerialOutcomesAgree}
+use Rattle.outcome_laws.specs.Serial.{SerialOutcomesAgree}
 use Rattle.outcome_laws.proofs.CheckLemmas.{Check, turns_of, comes_to, entry_at, has_report, of_some, path_at, run_of, observed_of}
 use Rattle.outcome_laws.proofs.OutcomeLemmas.{OneFormula, first_check, first_text}
-use Rattle.outcome_laws.proofs.ValidLemmas.{NoFormulaFault, IsOf, alone, asks_once, is_of, with_report, without_report}
 
 -- a run whose lines have an order by turns
 abbrev IsRunInTurns : Cnf → RunParamsValue → List InputObservation → List Report → Type 0
@@ -75,7 +69,8 @@ serial_outcomes_agree one_formula decide files others given other_given cube oth
 
 -- Valid proofs, by turns
 
-by_ending : (ending : Ending) (report : Report) → report.ending ≡ ending → IsCutOff report ⊎ ((¬ IsOfMemory report) × ¬ IsOfFailure report)
+by_ending : (ending : Ending) (report : Report) → report.ending ≡ ending
+    → ((n : ℕ) × IsCutOffIn n report) ⊎ ((¬ IsOfMemory report) × ¬ IsOfFailure report)
 by_ending endings.Ended report is = inr (
   λ memory. let no : endings.Ended ≡ endings.Memory memory.0 = sym is ∙ memory.1 in cc,
   λ failed. let no : endings.Ended ≡ endings.ReadFailed failed.0 = sym is ∙ failed.1 in cc,
@@ -84,11 +79,11 @@ by_ending (endings.Bad line fault) report is = inr (
   λ memory. let no : endings.Bad line fault ≡ endings.Memory memory.0 = sym is ∙ memory.1 in cc,
   λ failed. let no : endings.Bad line fault ≡ endings.ReadFailed failed.0 = sym is ∙ failed.1 in cc,
 )
-by_ending (endings.ReadFailed line) report is = inl (inr (line, is))
-by_ending (endings.Memory line) report is = inl (inl (line, is))
+by_ending (endings.ReadFailed line) report is = inl (line, (line, omega arith, inr is))
+by_ending (endings.Memory line) report is = inl (line, (line, omega arith, inl is))
 
 -- what became of one stream
-pub said_of : (report : Report) → IsCutOff report ⊎ ((¬ IsOfMemory report) × ¬ IsOfFailure report)
+pub said_of : (report : Report) → ((n : ℕ) × IsCutOffIn n report) ⊎ ((¬ IsOfMemory report) × ¬ IsOfFailure report)
 said_of report = by_ending report.ending report refl
 
 all_fine : (r : Report) (reports : List Report) → (¬ IsOfMemory r) × (¬ IsOfFailure r)
@@ -99,23 +94,27 @@ all_fine r reports fine none zero report at =
 all_fine r reports fine none (suc k) report at = none k report at
 
 -- some report tells that its stream was cut off, or none does
-cut_at : (reports : List Report) → ((k : ℕ) × (report : Report) × (slice_get reports k ≡ Some report) × IsCutOff report)
+cut_at : (reports : List Report)
+    → ((k n : ℕ) × (report : Report) × (slice_get reports k ≡ Some report) × IsCutOffIn n report)
     ⊎ ((k : ℕ) (report : Report) → slice_get reports k ≡ Some report → (¬ IsOfMemory report) × (¬ IsOfFailure report))
 cut_at [] = inr (λ k report at. absurd (cc))
 cut_at (r ∷ reports) = elim (said_of r) [
-  | inl why ↦ inl (0, r, refl, why)
+  | inl why ↦ inl (0, why.0, r, refl, why.1)
   | inr fine ↦ elim (cut_at reports) [
-    | inl later ↦ inl (suc later.0, later.1, later.2, later.3)
+    | inl later ↦ inl (suc later.0, later.1, later.2, later.3, later.4)
     | inr none ↦ inr (all_fine r reports fine none)
   ]
 ]
 
-pub some_cut : (reports : List Report)
-    → ((t : ℕ) × (report : Report) × IsOfStream reports t report × IsCutOff report) ⊎ NoneCutShort reports
+-- a stream that was cut off, by its number and how many first lines of it suffice to say so
+abbrev pub SomeCut : List Report → Type 0
+SomeCut reports = (s n : ℕ) × (report : Report) × IsOfStream reports s report × IsCutOffIn n report
+
+pub some_cut : (reports : List Report) → SomeCut reports ⊎ NoneCutShort reports
 some_cut reports = elim (cut_at reports) [
   | inl cut ↦
       let place : cut.0 ≡ cut.0 + 1 - 1 = omega arith in
-      inl (cut.0 + 1, cut.1, (omega arith, subst (λ (k : ℕ). slice_get reports k ≡ Some cut.1) place cut.2), cut.3)
+      inl (cut.0 + 1, cut.1, cut.2, (omega arith, subst (λ (k : ℕ). slice_get reports k ≡ Some cut.2) place cut.3), cut.4)
   | inr none ↦ inr (λ t report at. none (t - 1) report at.1)
 ]
 
@@ -139,46 +138,3 @@ module _ {R : Type 0} (reading : SourceView R) (c : Check reading) (cnf : IsCnf 
       let report = has_report c.formula c.run_params (observed_of reading c) c.reports (run_of reading c) s stream in
       comes_to c.reports c.verdict s report.0 c.checked.is_verdict report.1
       (ap (λ (r : Report). r.empty) (valid_by_turns s report.0 report.1) ∙ (empty c.run_params s (lines_by s steps)).1 refutes)
-
-module _ (one_formula : OneFormula) (no_fault : NoFormulaFault) (alike : SameWordsAskAlike) (valid : ValidByTurns)
-    (empty : ValidEmpty)
-    (files : FilesView) (words : List Text) (s : ℕ) (ask : AskForValidTurns files words s) where
-  -- where no stream was cut off the verdict is 'unsatisfiable'
-  turns_refute : (given : CommandLine) → IsCommandLineOf words given → (cube : CubeValue) (round : Round files.its given cube)
-      → WereRounds files given cube round [] → NoneCutShort round.reports → round.verdict ≡ Unsatisfiable
-  turns_refute given line cube round were fine =
-      let asks = ask.asks in
-      let is : IsOf one_formula alike empty files words asks given round =
-      is_of one_formula alike empty files words asks given line cube round were in
-      let layout = layout_in round.formula round.sizes in
-      let order : IsValidOrder round.formula layout ask.steps =
-      subst (λ (x : Cnf). IsValidOrder x layout ask.steps) (sym is.formulas)
-      (subst (λ (p : LayoutValue). IsValidOrder asks.formula p ask.steps) is.layouts ask.order) in
-      let on_one : given.serial ≡ true = line.said.serial ∙ sym asks.command_line.said.serial ∙ ask.serial in
-      by_turns_refutes files.its.reading (first_check files given cube round were) is.cnf valid on_one ask.steps order ask.turns
-      (λ t path names. ask.tells t path (subst (λ (x : List Text). IsOfStream x t path) is.streams names)) fine empty s ask.empty
-
-  turns_say : (after : files.its.State) (out err : SinkChange) (status : ℕ) → EndsWithReport files words after out err status
-      → (status ≡ 0) ⊎ ((t : ℕ) × InconclusiveBecause files words t IsCutOff after out err status)
-  turns_say after out err status ends =
-      let once = asks_once files words ask.asks ends.given ends.command_line in
-      elim (some_cut ends.last.reports) [
-        | inl cut ↦ elim (with_report files IsCutOff words after cut.0 out err status ends once (inr (cut.1, cut.2, cut.3))) [
-          | inl is ↦ inl is
-          | inr inconclusive ↦ inr (cut.0, inconclusive)
-        ]
-        | inr fine ↦
-            let refuted = turns_refute ends.given ends.command_line ends.cube ends.last
-            (alone files ends.given ends.cube once ends.last ends.before ends.were) fine in
-            elim (with_report files IsCutOff words after s out err status ends once (inl refuted)) [
-              | inl is ↦ inl is
-              | inr inconclusive ↦ inr (s, inconclusive)
-            ]
-      ]
-
-pub valid_turns_say : OneFormula → NoFormulaFault → SameWordsAskAlike → ValidByTurns → ValidEmpty
-    → (files : FilesView) → ValidTurnsSay files
-valid_turns_say one_formula no_fault alike valid empty files words after s out err status ask (inl report) =
-    turns_say one_formula no_fault alike valid empty files words s ask after out err status report
-valid_turns_say one_formula no_fault alike valid empty files words after s out err status ask (inr fault) =
-    inr (s, without_report one_formula no_fault alike files IsCutOff words after s out err status ask.asks fault)

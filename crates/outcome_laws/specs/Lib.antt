@@ -1,7 +1,8 @@
 pub mod Outcomes
 pub mod Laws
 pub mod Valid
+pub mod Inconclusive
+pub mod ValidLaws
 pub mod Serial
 pub mod Refuting
-pub mod ValidRounds
 pub mod Printed

@@ -7,7 +7,7 @@ use Rattle.portfolio.specs.ReportText.{stream_line, stream_lines}
 use Rattle.portfolio.specs.declared.outcome.Verdict.TheVariants.{Unsatisfiable}
 use Rattle.command.specs.Commands.{FilesView, SinkChange, Text}
 use Rattle.command.specs.Rounds.{EndsWithReport, ProgramEnds}
-use Rattle.outcome_laws.specs.Valid.{AskForValidRefutation}
+use Rattle.outcome_laws.specs.Valid.{AreValidAlone, AskForValidRounds, IsRefutedAlone}
 
 -- What went out to the sink begins with lines of the streams before stream s, and one of stream s, by which a line of it is bad. What
 -- comes behind may be anything.
@@ -23,17 +23,14 @@ pub record ShowsBadLine (s : ℕ) (sink : SinkChange) : Type 0 where
   pub more : List ℕ
   pub is : sink.after ≡ Some (before ++ (stream_lines 1 others ++ (stream_line s blamed ++ more)))
 
--- the report that wasn't written says 'unsatisfiable'
-pub record HoldsBackRefuted (files : FilesView) (words : List Text) (after : files.its.State)
-    (out err : SinkChange) (status : ℕ) : Type 0 where
-  pub ends : EndsWithReport files words after out err status
-  pub refuted : ends.last.verdict ≡ Unsatisfiable
-  pub is : status ≡ 7
-
--- Where the words ask for a valid refutation as stream s, a bad line of it is shown only with status 0, or with 7 where the report says
--- 'unsatisfiable': a line behind the refutation may be bad. With each other status none is.
+-- Where the words ask for a valid refutation as stream s in round 1, a bad line of it is shown only with status 0, or with 7 where the
+-- report says 'unsatisfiable': a line after the refutation may be bad. With each other status none is.
 abbrev pub NoBadLineShown : FilesView → Type 0
-NoBadLineShown files = (words : List Text) (after : files.its.State) (s : ℕ) (out err : SinkChange)
-    (status : ℕ) → AskForValidRefutation files words s
+NoBadLineShown files = (words : List Text) (s count : ℕ) (after : files.its.State)
+    (out err : SinkChange) (status : ℕ)
+    → AskForValidRounds AreValidAlone (IsRefutedAlone s count) files words 1
     → ProgramEnds files words after out err status
-    → ShowsBadLine s out → (status ≡ 0) ⊎ HoldsBackRefuted files words after out err status
+    → ShowsBadLine s out
+    → (status ≡ 0)
+    ⊎ ((ends : EndsWithReport files words after out err status)
+    × (ends.last.verdict ≡ Unsatisfiable) × (status ≡ 7))

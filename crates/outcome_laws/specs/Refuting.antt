@@ -53,19 +53,14 @@ saved_in {its} {given} round =
     round.checked.ran.run.history round.checked.dropped round.verdict round.opened
     (created_path given.next round.number) round.unsaved round.next round.after round.leaves
 
--- the same, of a run: what its last round saved
-abbrev pub saved_by : (files : FilesView) (bytes : List ℕ) (status : ℕ)
-    → IsRunOn files bytes status → Option (List ℕ)
-saved_by files bytes status run = saved_in run.ends.last
-
--- Runs over files as they were before each: the first read these bytes, each further one what the one before it saved, and the last
--- one is as wanted.
+-- Runs over files as they were before each: the first read these bytes, each further one what the last round of the one before it saved,
+-- and the last run is as wanted.
 abbrev pub AreRuns : {F : Type 0} → (F → FilesView) → (F → List ℕ → Type 0) → List ℕ
     → List (List ℕ) → Type 0
 AreRuns {F = F} view IsLast bytes [] = (first : F) × IsLast first bytes
 AreRuns {F = F} view IsLast bytes (next ∷ more) =
     ((first : F) × (status : ℕ) × (run : IsRunOn (view first) bytes status)
-    × (saved_by (view first) bytes status run ≡ Some next)) × AreRuns view IsLast next more
+    × (saved_in run.ends.last ≡ Some next)) × AreRuns view IsLast next more
 
 -- Where the last of such runs ended with status 0, what the first one read is a text of a formula that no assignment satisfies.
 abbrev pub OutcomesRefute : {F : Type 0} → (F → FilesView) → Type 0

@@ -1,10 +1,10 @@
 //! Laws of outcomes. Each function does nothing; its contract is the law.
+ghost use Rattle.std.specs.Prelude.{ℕ};
+ghost use Rattle.outcome_laws.specs.Laws.{NoCubeJudgesAlike, SameBytesSayTheSame, SameWordsAskAlike, OutcomesAgree, Status0HasACommandLine};
 ghost use Rattle.outcome_laws.specs.Printed.{NoBadLineShown};
 ghost use Rattle.outcome_laws.specs.Refuting.{OutcomesRefute, OutcomesRefuteUnder};
-ghost use Rattle.outcome_laws.specs.Valid.{ValidOrderSays, ValidRefutationSays};
-ghost use Rattle.outcome_laws.specs.ValidRounds.{ValidOrdersSay, ValidRoundsSay, ValidTurnRoundsSay};
-ghost use Rattle.outcome_laws.specs.Serial.{ValidTurnsSay, SerialOutcomesAgree};
-ghost use Rattle.outcome_laws.specs.Laws.{NoCubeJudgesAlike, SameBytesSayTheSame, SameWordsAskAlike, OutcomesAgree, Status0HasACommandLine};
+ghost use Rattle.outcome_laws.specs.Serial.{SerialOutcomesAgree};
+ghost use Rattle.outcome_laws.specs.ValidLaws.{ValidOrdersSay, ValidRoundsSay, ValidTurnsSay};
 
 use checkpoint::laws::{
     entails_itself, entails_onward, files_refute, files_refute_under, refutes_back,
@@ -58,41 +58,6 @@ pub fn status_0_has_a_command_line<F: Machine>(files: &F)
     refutes_back();
 }
 
-/// If the words ask for a valid refutation, the program ends with status 0; or with 7, for a report that wasn't written; or with
-/// 5 or 6, for a fault of the machine; or with 3 or 8, and then memory ran out, or a read failed, in the refutation's lines; or with
-/// 9 in their place, for a checkpoint that the words ask for and that wasn't saved: the clause `ends` of `command` says so.
-pub fn valid_refutation_says<F: Machine>(files: &F)
-    ensures { ValidRefutationSays (⟦<F as Viewed>⟧.view files.now) }
-{
-    one_formula();
-    formula_or_fault();
-    same_words_ask_alike();
-    valid_begins();
-    valid_empty();
-}
-
-/// If the words ask for a valid refutation, no bad line of its stream is printed, but with status 0, or with 7 if the report says
-/// 'unsatisfiable'. The law `valid_refutation_says` alone says so: a status 5 or 6 leaves standard output as it was, and each other
-/// report tells that the stream was stopped by the machine.
-pub fn no_bad_line_shown<F: Machine>(files: &F)
-    ensures { NoBadLineShown (⟦<F as Viewed>⟧.view files.now) }
-{
-    valid_refutation_says(files);
-}
-
-/// If the words ask for streams whose lines have a valid order, one of which adds the empty clause, the program ends so too; or with
-/// 3 or 8, or 9 in their place, and then a line of that stream cites a clause of another stream, which wasn't there, or wasn't any
-/// more.
-pub fn valid_order_says<F: Machine>(files: &F)
-    ensures { ValidOrderSays (⟦<F as Viewed>⟧.view files.now) }
-{
-    one_formula();
-    formula_or_fault();
-    same_words_ask_alike();
-    together_begins();
-    valid_empty();
-}
-
 /// In round 1 of two runs of the program on one thread, the reports are the same if the tries, the sizes and the assumed literals are the
 /// same, and the files of the formula and of each stream have the same bytes before the runs, unless some report is of memory or of a
 /// failed read. A run without rounds is its round 1.
@@ -104,28 +69,14 @@ pub fn serial_outcomes_agree<F: Machine, G: Machine>(files: &F, others: &G)
     bytes_decide();
 }
 
-/// If the words ask for a run on one thread over streams whose lines have a valid order by turns, and one of which adds the empty
-/// clause, the program ends with status 0; or with 7, for a report that wasn't written; or with 5 or 6, for a fault of the machine;
-/// or with 3 or 8, or 9 in their place, and then memory ran out in some stream, or a read of it failed: the clause `ends` of `command`
-/// says so.
-pub fn valid_turns_say<F: Machine>(files: &F)
-    ensures { ValidTurnsSay (⟦<F as Viewed>⟧.view files.now) }
-{
-    one_formula();
-    formula_or_fault();
-    same_words_ask_alike();
-    valid_by_turns();
-    valid_empty();
-}
-
-/// If the words ask for rounds, in each of which before the last each stream is valid and cites only its own clauses and the
+/// If the words ask for rounds, or for one, in each of which before the last each stream is valid and cites only its own clauses and the
 /// formula's, and in the last one some stream is a valid refutation, the program ends with status 0; or with 7, for a report that
-/// wasn't written; or with 5 or 6, for a fault of the machine; or with 9, for a formula of the next round that wasn't saved; or with
-/// 8, and then there are assumed literals, and the report says 'unsatisfiable under assumptions'; or with 3, and then the report says
-/// that memory ran out, or a read failed: in the refutation's lines, or in some stream of a round before the last. The clause `ends` of
-/// `command` says so.
+/// wasn't written; or with 5 or 6, for a fault of the machine; or with 9, for a checkpoint, or a formula of the next round, that wasn't
+/// saved; or with 8, and then there are assumed literals, and the report says 'unsatisfiable under assumptions'; or with 3. With 3, and
+/// in the last round with 8 and 9 too, the report says that memory ran out, or a read failed: in the refutation's lines, or in some stream
+/// of a round before the last. The clause `ends` of `command` says so.
 pub fn valid_rounds_say<F: Machine>(files: &F)
-    ensures { ValidRoundsSay (⟦<F as Viewed>⟧.view files.now) }
+    ensures { (last : ℕ) → ValidRoundsSay (⟦<F as Viewed>⟧.view files.now) last }
 {
     one_formula();
     formula_or_fault();
@@ -137,10 +88,9 @@ pub fn valid_rounds_say<F: Machine>(files: &F)
 }
 
 /// If in each round before the last lines of all streams have a valid order, and in the last one some stream of such an order adds
-/// the empty clause, the program ends so too; or with 3, and then such a line cites a clause of another stream, which wasn't there, or
-/// wasn't any more.
+/// the empty clause, the program ends so too; or such a line cites a clause of another stream, which wasn't there, or wasn't any more.
 pub fn valid_orders_say<F: Machine>(files: &F)
-    ensures { ValidOrdersSay (⟦<F as Viewed>⟧.view files.now) }
+    ensures { (last : ℕ) → ValidOrdersSay (⟦<F as Viewed>⟧.view files.now) last }
 {
     one_formula();
     formula_or_fault();
@@ -151,11 +101,11 @@ pub fn valid_orders_say<F: Machine>(files: &F)
     valid_empty();
 }
 
-/// If the words ask for rounds on one thread, in each of which lines of all streams have a valid order by turns, and in the last
-/// one some stream adds the empty clause, the program ends so too; with 3 the report says that memory ran out in some stream, or that
-/// a read of it failed.
+/// If the words ask for rounds on one thread, in each of which lines of all streams have a valid order that takes one of each in turn,
+/// and in the last one some stream adds the empty clause, the program ends so too; where a stream is stopped, memory ran out in some
+/// stream, or a read of it failed.
 pub fn valid_turn_rounds_say<F: Machine>(files: &F)
-    ensures { ValidTurnRoundsSay (⟦<F as Viewed>⟧.view files.now) }
+    ensures { (last : ℕ) → ValidTurnsSay (⟦<F as Viewed>⟧.view files.now) last }
 {
     one_formula();
     formula_or_fault();
@@ -163,6 +113,41 @@ pub fn valid_turn_rounds_say<F: Machine>(files: &F)
     same_words_ask_alike();
     valid_by_turns();
     valid_empty();
+}
+
+/// If the words ask for a valid refutation in round 1, which is the run if they ask for no more, the program ends with status 0; or with
+/// 7, for a report that wasn't written; or with 5 or 6, for a fault of the machine; or with 3 or 8, and then memory ran out, or a read
+/// failed, in the refutation's lines; or with 9 in their place, for a checkpoint that the words ask for and that wasn't saved.
+pub fn valid_refutation_says<F: Machine>(files: &F)
+    ensures { ValidRoundsSay (⟦<F as Viewed>⟧.view files.now) 1 }
+{
+    valid_rounds_say(files);
+}
+
+/// If the words ask for a valid refutation in round 1, no bad line of its stream is printed, but with status 0, or with 7 if the report
+/// says 'unsatisfiable'. The law `valid_refutation_says` alone says so: a status 5 or 6 leaves standard output as it was, and each other
+/// report says that the machine stopped the stream.
+pub fn no_bad_line_shown<F: Machine>(files: &F)
+    ensures { NoBadLineShown (⟦<F as Viewed>⟧.view files.now) }
+{
+    valid_refutation_says(files);
+}
+
+/// If in round 1 lines of streams have a valid order, one of which adds the empty clause, the program ends so too; or with 3 or 8, or 9 in
+/// their place, and then a line of that stream cites a clause of another stream, which wasn't there, or wasn't any more.
+pub fn valid_order_says<F: Machine>(files: &F)
+    ensures { ValidOrdersSay (⟦<F as Viewed>⟧.view files.now) 1 }
+{
+    valid_orders_say(files);
+}
+
+/// If in round 1, on one thread, lines of all streams have a valid order that takes one of each in turn, and one of them adds the empty
+/// clause, the program ends with status 0; or with 7, for a report that wasn't written; or with 5 or 6, for a fault of the machine; or with
+/// 3 or 8, or 9 in their place, and then memory ran out in some stream, or a read of it failed.
+pub fn valid_turns_say<F: Machine>(files: &F)
+    ensures { ValidTurnsSay (⟦<F as Viewed>⟧.view files.now) 1 }
+{
+    valid_turn_rounds_say(files);
 }
 
 /// If runs of the program, of one round or more, follow one another, each on the checkpoint that the last round of the one before it saved,

@@ -1,6 +1,4 @@
-use Rattle.outcome_laws.proofs.ValidLemmas.{valid_order_says as lemma}
 use Rattle.outcome_laws.proofs.laws.valid_order_says.Goals as goal
 
 pub returns : goal.returns
-returns g c = lemma c.one_formula.ensures c.formula_or_fault.ensures c.same_words_ask_alike.ensures
-    c.together_begins.ensures c.valid_empty.ensures _
+returns g c = c.valid_orders_say.ensures 1
