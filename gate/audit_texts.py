@@ -120,7 +120,7 @@ CHECKPOINT_ROWS: Rows = [
     ("If each run of a chain writes its report, the next reads what it saved, and the last has status 0, no assignment "
      "satisfies the first formula.",
      """[[AreCheckpoints]] holds of such files, by `command.saved` or [`saved_rounds`](THEOREMS.md#5-rounds-and-chains), and
-     [[IsUnsatisfiableText]] of the last, by `command.sound`. So [[law files_refute]]; without rounds, [[law outcomes_refute]]."""),
+     [[IsUnsatisfiableText]] of the last, by `command.sound`. So [[law files_refute]], [[law outcomes_refute]]."""),
     ("If it ends with status 8, no assignment satisfies the first formula and makes the last run's assumed literals true.",
      """[[law files_refute_under]], [[law outcomes_refute_under]]."""),
 ]
@@ -373,16 +373,17 @@ RIGHT_ROWS: Rows = [
      that are [[IsByTurns]], as [[fn run_serial.ordered]] has them: if nothing follows the lines ([[ValidByTurns:
      HaveJustTexts steps observed]]), memory suffices and no read fails ([[ValidByTurns: NoneCutShort reports]]). Unless memory ran
      out or a read failed, the bytes decide order and reports ([[law turns_decide]], [[law bytes_decide]])."""),
-    ("If words without `--rounds`, formula and assumptions are accepted, and a stream begins with valid lines that add the "
-     "empty clause, the status is 0.",
-     """[[law valid_refutation_says]], of files that tell ([[AskWell]], [[AskForValidRefutation: tells : files.tells path ≡
-     Some bytes]]) and of all that `command` may do by [[fn command.ends]]. If lines of several streams have a valid order:
-     [[law valid_order_says]], [[law valid_turns_say]]. [[InconclusiveBecause]] has the exceptions."""),
-    ("Exception: by a fault of the machine, or if a stream's end got lost, the status is 5 or 6, and no report is begun.", """[[InconclusiveBecause: no_report : (ends :
-     EndsWithFault files words after out err status) (machine : IsOfMachine ends.fault)]]."""),
+    ("If words, formula and assumptions are accepted, and a stream of round 1 begins with valid lines that add the empty clause, the "
+     "status is 0.",
+     """[[law valid_refutation_says]], of files that tell ([[AskWell]], [[IsRefutedAlone: (tells path ≡ Some bytes)]]) and of all that
+     `command` may do by [[fn command.ends]]. If lines of several streams have a valid order: [[law valid_order_says]], [[law
+     valid_turns_say]]. [[InconclusiveBecause]] has the exceptions."""),
+    ("Exception: by a fault of the machine, or if a stream's end got lost, the status is 5 or 6, and no report is begun.", """[[InconclusiveBecause:
+     no_report : (ends : EndsWithFault files words after out err status) (few : ends.number ≤ last) (is : (status ≡ 5) ⊎ (status ≡
+     6))]]."""),
     ("Exception: if memory ran out or a read failed in these lines, the report says so, and the status is 3, 8 or 9.",
-     """[[InconclusiveBecause: lost :]], [[ValidRefutationSays: IsCutOffIn (length ask.valid.lines)]]; or, in an order, another stream's
-     clause lacked ([[StoppedAtForeignHint]]). Status 9 comes only with a checkpoint ([[IsOpen]])."""),
+     """[[InconclusiveBecause: short :]] ([[FallsShort]]), [[IsCutOff: IsCutOffIn count report]]; or, in an order, another stream's
+     clause lacked ([[IsStopped]]). Status 9 comes only with a checkpoint or rounds ([[FallsShort: not_kept :]])."""),
     ("Exception: if the report can't be written, the status is 7.", """[[InconclusiveBecause: unwritten :]]: the report says
      'unsatisfiable', or what the exception before has. So a bad line of the stream is shown only with status 0, or with 7 and
      'unsatisfiable' ([[law no_bad_line_shown]])."""),
@@ -406,10 +407,10 @@ ROUNDS_ROWS: Rows = [
      : AreSized its (sizes_path goes_on.folder round.number) before.sizes before.after]])."""),
     ("Its streams are the files of its number.", """[[ComesNext: opened : StreamsOpened its sized (stream_paths goes_on.folder
      round.number round.sizes.streams) round.readers round.opened]]."""),
-    ("A round carries on just the live clauses that some stream didn't drop.", """[[Round: leaves : LeavesBehind its]] what was saved
-     by [[SavesCheckpoint]]: [[SavesCheckpoint: exactly : SavesState its.written result (state formula history) layout (is_wanted
-     dropped)]] fetches each identity once, and saves what is live and [[is_wanted]], in the state that the history of the round's run
-     leaves ([[Round: checked.ran.run.history checked.dropped]])."""),
+    ("A round carries on just the live clauses that some stream didn't drop.", """[[Round: leaves : LeavesBehind its]]. By [[SavesCheckpoint: exactly :
+     SavesState its.written result (state formula history) layout (is_wanted dropped)]] each identity was fetched once, and what is live
+     and [[is_wanted]] was saved, in the state that the history of the round's run leaves ([[Round: checked.ran.run.history
+     checked.dropped]])."""),
     ("They follow from the round's formula, and their text was saved for the next round, once the round's streams were "
      "opened.",
      """[[SavesCheckpoint: checkpoint : IfOk result (WritesCheckpoint formula (its.written first) (its.written last))]],
@@ -442,8 +443,8 @@ ROUNDS_ROWS: Rows = [
      "lines that add the empty clause.",
      """[[AskForValidRounds]]."""),
     ("Then the status is 0.", """[[law valid_rounds_say]], [[law valid_orders_say]] and, with `--serial`, [[law
-     valid_turn_rounds_say]]. The exceptions are [[InconclusiveInRounds]]: those of a single run, a file of sizes that can't be read
-     (5), and [[FallsShort]]. Status 9 comes if a formula wasn't saved, and 8 if a round is 'unsatisfiable under assumptions'. Status
+     valid_turn_rounds_say]]. The exceptions are [[InconclusiveBecause]], as of round 1, and a file of sizes that can't be read
+     (5). Status 9 comes if a formula wasn't saved, and 8 if a round is 'unsatisfiable under assumptions'. Status
      3 comes if a stream was cut off or, in an order, lacked another one's clause. The report says which, printed or not (7)."""),
 ]
 

@@ -63,7 +63,8 @@ module _ (itself : EntailsItself) (onward : EntailsOnward) (files : FilesView) (
         last_saved = λ is.
             let unrefuted = open_is out.failed last.unsaved last.verdict (subst (λ (n : ℕ). (n ≡ 3) ⊎ (n ≡ 8)) ending.status_is is) in
             saves_entailed itself onward folder asked were.formula last follows
-            (kept last (formula_path folder (last.number + 1)) (created_in ending.given.next folder last.number asked) unrefuted.1 unrefuted.0);
+            (kept last (formula_path folder (last.number + 1)) (created_in ending.given.next folder last.number asked) unrefuted.1
+            unrefuted.0);
       }
 
   pub all_entailed : ProgramEnds files words after out err status → AskForRounds words folder → IsOfReport status

@@ -17,7 +17,7 @@ use Rattle.command.specs.Commands.{CheckpointEntailed, CheckpointLeftEmpty, Come
 use Rattle.command.specs.Commands.{IsLeftEmpty, SinkChange, Text, WasReadIn, WasSavedBy}
 use Rattle.command.specs.Commands.{assumed_at, created_path, report_status, run_params_by}
 use Rattle.command.specs.Faults.{status_of}
-use Rattle.command.specs.Rounds.{AreRounds, CarriesOn, EndsWithFault, EndsWithReport, IsCauseIn, IsFirst, LeavesBehind, ProgramEnds, SavesCheckpoint}
+use Rattle.command.specs.Rounds.{EndsWithFault, EndsWithReport, IsCauseIn, LeavesBehind, ProgramEnds, SavesCheckpoint}
 use Rattle.command.specs.Rounds.{Round, RoundsEnd}
 use Rattle.command.specs.declared.fault.CommandFault.{CommandFault}
 use Rattle.command.specs.declared.fault.CommandFault.TheVariants as faults
@@ -265,7 +265,8 @@ module _ (files : FilesView) (words : List Text) (after : files.its.State) (out 
       → CheckpointEntailed files.its.opens (WasReadIn files) (WasSavedBy files.its) files.first words after status
   all_saved (inl report) path ask is = report_saved files words after out err status report path ask is
   all_saved (inr fault) path ask is =
-      absurd (never_reported files words after out err status fault (elim is [ inl three ↦ inr (inl three) | inr eight ↦ inr (inr (inl eight)) ]))
+      absurd (never_reported files words after out err status fault
+      (elim is [ inl three ↦ inr (inl three) | inr eight ↦ inr (inr (inl eight)) ]))
 
   -- with status 0 none was written
   pub all_empty : ProgramEnds files words after out err status → CheckpointLeftEmpty files words after status

@@ -418,7 +418,8 @@ IsCauseAt files given fault after =
     ⊎ ((readers : List files.its.Reader) × (last : files.its.State)
     × AreOpened files.its.opens later given.streams readers last
     × (map files.its.reading.left readers ≡ map files.tells given.streams)
-    × IsRoundStartCause files.its given cube 1 formula (sizes_of given) readers last fault after)))))
+    × IsRoundStartCause files.its given cube 1 formula (sizes_of given) readers last fault
+    after)))))
 
 -- Why round 1 has no report, by the words and the files, and the files then. Words with a fault, words that ask for a checkpoint and for
 -- rounds, or the want of memory for them, leave the files as they were.

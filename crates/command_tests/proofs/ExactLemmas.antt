@@ -23,7 +23,8 @@ use Rattle.command.specs.Commands.{FilesView, IsAssumeCause, SinkChange, Text}
 use Rattle.command.specs.Commands.{WasReadIn, WasSaved, assumed_at, report_status, run_params_by}
 use Rattle.command.specs.Faults.{status_of}
 use Rattle.command.specs.Paths.{formula_path}
-use Rattle.command.specs.Rounds.{AreRounds, AreSized, ClosesSink, IsCauseIn, LeavesBehind, LeavesFile, ProgramEnds, Round, RoundsEnd, RoundsEntailed, SavesCheckpoint, WereRounds}
+use Rattle.command.specs.Rounds.{AreRounds, AreSized, ClosesSink, IsCauseIn, LeavesBehind, LeavesFile, ProgramEnds, Round, RoundsEnd}
+use Rattle.command.specs.Rounds.{RoundsEntailed, SavesCheckpoint, WereRounds}
 use Rattle.command.specs.lemmas.OneRound.{creates_checkpoint, is_over, were_one}
 use Rattle.command.specs.lemmas.SavedLemmas.{carried}
 use Rattle.command.specs.declared.fault.CommandFault.{CommandFault}

@@ -21,7 +21,8 @@ use Rattle.command_line.specs.declared.words.CommandLine.{CommandLine}
 use Rattle.command.specs.Commands.{AreAssumed, Deeds, FilesView, IsOpenCause, IsStartCause, SinkChange, Text, WasReadIn, assumed_at}
 use Rattle.command.specs.Commands.{created_path, report_status, run_params_by, sizes_of}
 use Rattle.command.specs.Paths.{sizes_path, stream_path, stream_paths}
-use Rattle.command.specs.Rounds.{AreSized, CarriesOn, EndsWithFault, EndsWithReport, HaveEnded, IsCauseIn, IsFirstCause, IsRoundCause, LeavesBehind, SavesCheckpoint}
+use Rattle.command.specs.Rounds.{AreSized, CarriesOn, EndsWithFault, EndsWithReport, HaveEnded, IsCauseIn, IsFirstCause, IsRoundCause}
+use Rattle.command.specs.Rounds.{LeavesBehind, SavesCheckpoint}
 use Rattle.command.specs.Rounds.{IsSizesCause, ProgramEnds, Round, RoundsEnd, WereRounds}
 use Rattle.command.specs.lemmas.SavedLemmas.{carried}
 use Rattle.command.specs.declared.fault.CommandFault.{CommandFault}

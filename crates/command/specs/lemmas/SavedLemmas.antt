@@ -22,7 +22,8 @@ use Rattle.command.specs.Paths.{formula_path}
 use Rattle.command.specs.Rounds.{CarriesOn, ClosesSink, LeavesBehind, LeavesFile, Round, SavesCheckpoint}
 
 -- A checkpoint of the formula was saved at the path; it is that of the next formula, if there is one.
-pub record KeptAt (its : Deeds) (formula : Cnf) (before : its.State) (path : Text) (next : Option Cnf) (after : its.State) : Type 0 where
+pub record KeptAt (its : Deeds) (formula : Cnf) (before : its.State) (path : Text)
+    (next : Option Cnf) (after : its.State) : Type 0 where
   pub bytes : List ℕ
   pub checkpoint : IsCheckpoint formula bytes
   pub saved : WasSavedBy its before path bytes after
@@ -33,9 +34,11 @@ module _ (its : Deeds) (f : Cnf) (layout : LayoutValue) (h : History) (dropped :
   Saves = SavesCheckpoint its f layout h dropped
 
   -- what was closed without a fault was saved
-  closed_kept : (before opened after : its.State) (path : Text) (result : Result (Option Cnf) SaveFault) (first last : its.Output)
-      (next : Option Cnf) → its.creates before path first opened → ForSome (its.written first) (λ all. all ≡ [])
-      → Saves result first last → ClosesSink its result opened last None next after → KeptAt its f before path next after
+  closed_kept : (before opened after : its.State) (path : Text)
+      (result : Result (Option Cnf) SaveFault) (first last : its.Output) (next : Option Cnf)
+      → its.creates before path first opened → ForSome (its.written first) (λ all. all ≡ [])
+      → Saves result first last → ClosesSink its result opened last None next after
+      → KeptAt its f before path next after
   closed_kept before opened after path (Ok made) first last next created empty saving closed =
       let wrote = saving.checkpoint in
       record {
@@ -55,14 +58,16 @@ module _ (its : Deeds) (f : Cnf) (layout : LayoutValue) (h : History) (dropped :
   closed_kept before opened after path (Err fault) first last next created empty saving closed =
       absurd (let no : None ≡ Some fault = closed.0 in cc)
 
-  file_kept : (before after : its.State) (path : Text) (next : Option Cnf) → LeavesFile its Saves before path None next after
+  file_kept : (before after : its.State) (path : Text) (next : Option Cnf)
+      → LeavesFile its Saves before path None next after
       → KeptAt its f before path next after
   file_kept before after path next leaves =
       closed_kept before leaves.opened after path leaves.result leaves.first leaves.last next leaves.created leaves.empty leaves.saving
       leaves.closed
 
   pub leaves_kept : (verdict : Verdict) (before after : its.State) (path : Text) (next : Option Cnf)
-      → (verdict ≡ Unsatisfiable → ⊥) → LeavesBehind its Saves verdict before (Some path) None next after
+      → (verdict ≡ Unsatisfiable → ⊥)
+      → LeavesBehind its Saves verdict before (Some path) None next after
       → KeptAt its f before path next after
   leaves_kept Unsatisfiable before after path next unrefuted leaves = absurd (unrefuted refl)
   leaves_kept UnsatisfiableUnder before after path next unrefuted leaves = file_kept before after path next leaves
@@ -77,7 +82,8 @@ created_in (Rounds other) folder number asked = ap (option_map (λ at. formula_p
 
 module _ {its : Deeds} {given : CommandLine} {cube : CubeValue} (round : Round its given cube) where
   -- a round that isn't refuted, and whose checkpoint was saved, saved it at the path that it created
-  pub kept : (path : Text) → created_path given.next round.number ≡ Some path → (round.verdict ≡ Unsatisfiable → ⊥)
+  pub kept : (path : Text) → created_path given.next round.number ≡ Some path
+      → (round.verdict ≡ Unsatisfiable → ⊥)
       → round.unsaved ≡ None → KeptAt its round.formula round.opened path round.next round.after
   kept path at unrefuted saved =
       let layout = (run_params_by given cube round.formula round.sizes).layout in
@@ -90,7 +96,8 @@ module _ {its : Deeds} {given : CommandLine} {cube : CubeValue} (round : Round i
 
   -- so did one that goes on, and its checkpoint is that of the next formula
   pub carried : (next : Cnf) (on : CarriesOn round next)
-      → KeptAt its round.formula round.opened (formula_path on.folder (round.number + 1)) (Some next) round.after
+      → KeptAt its round.formula round.opened (formula_path on.folder (round.number + 1))
+      (Some next) round.after
   carried next on =
       let path = formula_path on.folder (round.number + 1) in
       subst (λ (n : Option Cnf). KeptAt its round.formula round.opened path n round.after) on.next_is
