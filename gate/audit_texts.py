@@ -409,7 +409,7 @@ ROUNDS_ROWS: Rows = [
      round.number round.sizes.streams) round.readers round.opened]]."""),
     ("A round carries on just the live clauses that some stream didn't drop.", """[[Round: leaves : LeavesBehind its]]. By [[SavesCheckpoint: exactly :
      SavesState its.written result (state formula history) layout (is_wanted dropped)]] each identity was fetched once, and what is live
-     and [[is_wanted]] was saved, in the state that the history of the round's run leaves ([[Round: checked.ran.run.history
+     and [[is_wanted]] was saved. The state is the one that the history of the round's run leaves ([[Round: checked.ran.run.history
      checked.dropped]])."""),
     ("They follow from the round's formula, and their text was saved for the next round, once the round's streams were "
      "opened.",

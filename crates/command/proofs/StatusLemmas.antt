@@ -1,8 +1,7 @@
 -- What a status says.
-use Rattle.std.proofs.Common.{◌≡◌, ◌∙◌, ◌∷◌, ◌⊎◌, ℕ, Bool, IsTrue, true, false, List, []}
+use Rattle.std.proofs.Common.{◌≡◌, ◌∙◌, ◌⊎◌, ℕ, Bool, IsTrue, true, false, List}
 use Rattle.std.proofs.Common.{Option, None, Some, inl, inr, refl, sym, subst}
 use Rattle.std.specs.Prelude.{◌↔◌}
-use Rattle.lrup_model.specs.Cube.{CubeValue}
 use Rattle.lrup_model.specs.Formula.{Cnf}
 use Rattle.lrup_model.specs.declared.layout.LayoutFault.TheVariants as layouts
 use Rattle.portfolio.specs.declared.outcome.Verdict.{Verdict}
@@ -10,15 +9,12 @@ use Rattle.portfolio.specs.declared.outcome.Verdict.TheVariants.{Unsatisfiable, 
 use Rattle.checkpoint.specs.Checkpoints.{IsCheckpoint}
 use Rattle.checkpoint.specs.declared.saving.SaveFault.{SaveFault}
 use Rattle.command_line.specs.CommandLine.{AskToSave, checkpoint_of, rounds_of}
-use Rattle.command_line.specs.declared.words.CommandLine.{CommandLine}
-use Rattle.command_line.specs.declared.words.Next.{Next}
-use Rattle.command_line.specs.declared.words.Next.TheVariants.{Checkpoint, Nothing, Rounds}
-use Rattle.command.specs.Commands.{CheckpointEntailed, CheckpointLeftEmpty, ComesLast, Deeds, FilesView, IsAssumeCause}
+use Rattle.command.specs.Commands.{CheckpointEntailed, CheckpointLeftEmpty, ComesLast, FilesView, IsAssumeCause}
 use Rattle.command.specs.Commands.{IsLeftEmpty, SinkChange, Text, WasReadIn, WasSavedBy}
 use Rattle.command.specs.Commands.{assumed_at, created_path, report_status, run_params_by}
 use Rattle.command.specs.Faults.{status_of}
 use Rattle.command.specs.Rounds.{EndsWithFault, EndsWithReport, IsCauseIn, LeavesBehind, ProgramEnds, SavesCheckpoint}
-use Rattle.command.specs.Rounds.{Round, RoundsEnd}
+use Rattle.command.specs.Rounds.{Round}
 use Rattle.command.specs.declared.fault.CommandFault.{CommandFault}
 use Rattle.command.specs.declared.fault.CommandFault.TheVariants as faults
 use Rattle.command_line.specs.lemmas.NextLemmas.{never_both}
