@@ -13,11 +13,12 @@ use Rattle.portfolio.specs.declared.outcome.RunFault.{RunFault}
 use Rattle.portfolio.specs.declared.outcome.RunFault.TheVariants as runs
 use Rattle.checkpoint.specs.Checkpoints.{IsUnsatisfiableText}
 use Rattle.command_line.specs.CommandLine.{AskFor, IsCommandLineOf}
+use Rattle.command_line.specs.declared.sizes.Sizes.{Sizes}
 use Rattle.command_line.specs.declared.words.CommandLine.{CommandLine}
 use Rattle.command.specs.Commands.{AreAssumed, AreOpened, Deeds, FilesView, HasNoFault, IsAssumeCause, IsCause}
 use Rattle.command.specs.Commands.{IsFormulaAt, IsLeftUnused, IsOpenCause, IsReadCause, IsRoundStartCause, IsStartCause}
 use Rattle.command.specs.Commands.{IsUnsatisfiableTextWith, NameUnsatisfiable, NameUnsatisfiableUnder, Text, WasRead, WasReadIn}
-use Rattle.command.specs.Commands.{assumed_at, sizes_of}
+use Rattle.command.specs.Commands.{assumed_at, created_path, run_params_by, sizes_of}
 use Rattle.command.specs.internal.Running.{IsLayoutCause, IsRunCause}
 use Rattle.command.specs.internal.Saving.{IsNotCreated}
 use Rattle.command.specs.internal.FaultSources.{of_run}
@@ -186,3 +187,14 @@ module _ (its : Deeds) (serial : Bool) (f : Cnf) (run_params : RunParamsValue) (
   run_start (faults.Ring stream) after none cause unused = (cause.0, cause.1, cause.2, unused)
   run_start faults.Memory after none cause unused = inr (none, inr unused)
   run_start fault after none cause unused = absurd cause
+
+-- so of a round, by what the program has of it
+pub round_start : (its : Deeds) (given : CommandLine) (cube : CubeValue) (number : ℕ) (f : Cnf) (sizes : Sizes)
+    (readers : List its.Reader) (before : its.State) (serial : Bool) (run_params : RunParamsValue) (path : Option Text)
+    → serial ≡ given.serial → run_params ≡ run_params_by given cube f sizes → path ≡ created_path given.next number
+    → (fault : CommandFault) (after : its.State) → IsStartCause its serial f run_params readers before path fault after
+    → IsRoundStartCause its given cube number f sizes readers before fault after
+round_start its given cube number f sizes readers before serial run_params path serials params paths fault after cause =
+    let Cause : Bool → RunParamsValue → Option Text → Type 0 = λ b p o. IsStartCause its b f p readers before o fault after in
+    subst (Cause given.serial (run_params_by given cube f sizes)) paths
+    (subst (λ (p : RunParamsValue). Cause given.serial p path) params (subst (λ (b : Bool). Cause b run_params path) serials cause))

@@ -217,12 +217,12 @@ module _ (its : Deeds) (given : CommandLine) (cube : CubeValue) (formula : Cnf) 
       (law b.formula round.formula cube (carried_entails b round.formula rounds.0.goes_on) refuted)
 
   pub ends_sound : RefutesBack → (last : LastRound) (after : its.State) → EndsAt its given cube formula first last after
-      → last.found.verdict ≡ Unsatisfiable → IsUnsatisfiable formula
+      → last.verdict ≡ Unsatisfiable → IsUnsatisfiable formula
   ends_sound law last after ends is =
       rounds_refute law ends.round ends.before ends.rounds (ends.round.checked.sound (sym ends.is.verdict ∙ is))
 
   pub ends_sound_under : RefutesBackUnder → (last : LastRound) (after : its.State) → EndsAt its given cube formula first last after
-      → last.found.verdict ≡ UnsatisfiableUnder → IsUnsatisfiableUnder formula cube
+      → last.verdict ≡ UnsatisfiableUnder → IsUnsatisfiableUnder formula cube
   ends_sound_under law last after ends is =
       rounds_refute_under law ends.round ends.before ends.rounds (ends.round.checked.sound_under (sym ends.is.verdict ∙ is))
 
@@ -310,10 +310,3 @@ pub once_of : (next : Next) → ((folder : Bor Text) → next ≡ Rounds folder 
 once_of Nothing other = refl
 once_of (Checkpoint path) other = refl
 once_of (Rounds folder) other = absurd (other folder refl)
-
--- the path that is created in rounds is lent
-pub lent_some : (path : Option (Bor Text)) (next : Next) (folder : Text) (number : ℕ) → path_of path ≡ created_path next number
-    → rounds_of next ≡ Some folder → is_some path ≡ true
-lent_some None next folder number is asked =
-    absurd (let no : None ≡ Some (formula_path folder (number + 1)) = is ∙ created_in next folder number asked in cc)
-lent_some (Some path) next folder number is asked = refl

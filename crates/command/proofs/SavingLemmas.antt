@@ -1,5 +1,5 @@
 -- A checkpoint's file, from its creation to its end.
-use Rattle.std.proofs.Common.{◌≡◌, ◌∙◌, Bool, IfOk, IsTrue, List, Option, None, Some, Result, Err, subst, sym}
+use Rattle.std.proofs.Common.{◌≡◌, ◌∙◌, Bool, IfOk, IsTrue, List, Option, None, Some, Result, Err, is_some, refl, subst, sym, true}
 use Rattle.std.specs.Prelude.{◌↔◌}
 use Rattle.lrup_model.specs.Event.{History}
 use Rattle.lrup_model.specs.Formula.{Cnf}
@@ -16,7 +16,7 @@ use Rattle.stream_check.specs.declared.report.Report.{Report}
 use Rattle.checkpoint.specs.Checkpoints.{WritesCheckpoint}
 use Rattle.checkpoint.specs.declared.saving.SaveFault.{SaveFault}
 use Rattle.checkpoint.specs.declared.saving.SaveFault.TheVariants as faults
-use Rattle.command.specs.Commands.{Deeds, IsLeftUnused, Text}
+use Rattle.command.specs.Commands.{AreChecked, Deeds, IsLeftUnused, Text}
 use Rattle.command.specs.Rounds.{ClosesSink, LeavesBehind, SavesCheckpoint}
 use Rattle.command.specs.internal.Running.{StandsBehind}
 use Rattle.command.specs.internal.Saving.{ClosesCheckpoint, CreatesCheckpoint, DiscardsIt, SavesAndCloses}
@@ -105,3 +105,18 @@ pub left_moved : {R : Type 0} {view : SourceView R} {serial : Bool} {f : Cnf} {r
     → P (layout_left clauses) dropped → P run_params.layout stands.checked.dropped
 left_moved {run_params = run_params} {dropped = dropped} stands P is =
     subst (P run_params.layout) stands.dropped_is (subst (λ (p : LayoutValue). P p dropped) stands.layout is)
+
+-- Streams of this formula, opened as these readers, were checked, and left their clauses at the path, if there is one, as the verdict says.
+pub record RanAndLeft (its : Deeds) (formula : Cnf) (readers : List its.Reader) (reports : List Report) (verdict : Verdict)
+    (before : its.State) (unsaved : Option SaveFault) (next : Option Cnf) (after : its.State) (serial : Bool)
+    (run_params : RunParamsValue) (path : Option Text) : Type 0 where
+  pub checked : AreChecked its.reading serial formula run_params readers reports verdict
+  pub leaves : LeavesBehind its (SavesCheckpoint its formula run_params.layout checked.ran.run.history checked.dropped) verdict before
+      path unsaved next after
+
+-- if a file is to be created, there is one
+pub creates_some : (its : Deeds) (before after : its.State) (path : Option Text) (output : Option its.Output) (at : Text)
+    → CreatesCheckpoint its before path output after → path ≡ Some at → is_some output ≡ true
+creates_some its before after None output at created is = absurd (let no : None ≡ Some at = is in cc)
+creates_some its before after (Some path) None at created is = absurd created
+creates_some its before after (Some path) (Some output) at created is = refl

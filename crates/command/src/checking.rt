@@ -1,5 +1,5 @@
 //! From the words to streams that are open, and their check.
-ghost use Rattle.std.specs.Prelude.{◌≡◌, ◌≢◌, ◌⊎◌, ◌<◌, ◌≤◌, List, None, true, false, IfErr, IfOk, IfSome, Some, is_some, length, map, vec_len};
+ghost use Rattle.std.specs.Prelude.{◌≡◌, ◌≢◌, ◌↔◌, ◌⊎◌, ◌<◌, ◌≤◌, List, None, false, IfErr, IfOk, IfSome, IsTrue, Some, length, map};
 ghost use Rattle.std.specs.List.{AllByRecursion};
 ghost use Rattle.std.specs.Option.{ForSome};
 ghost use Rattle.clap.specs.Walk.{texts};
@@ -7,14 +7,16 @@ ghost use Rattle.command_line.specs.CommandLine.{IsCommandLineOf};
 ghost use Rattle.dimacs.specs.FormulaFault.{IsFormulaFault};
 ghost use Rattle.dimacs.specs.FormulaText.{IsFormulaText};
 ghost use Rattle.lrup_text.specs.Reads.{GaveAll};
-ghost use Rattle.command.specs.Commands.{AreAssumed, AreOpened, IsAssumeCause, IsCause, IsFileCause, IsOpenCause, HasNoFault, IsStartCause};
+ghost use Rattle.command.specs.Commands.{AreAssumed, AreOpened, IsAssumeCause, IsCause, IsFileCause, IsOpenCause, HasNoFault, IsRoundStartCause};
 ghost use Rattle.command.specs.internal.Running.{IsFailedRead, run_params_on, IsLayoutCause};
-ghost use Rattle.command.specs.Commands.{Text, WasReadIn, from_first, path_of};
+ghost use Rattle.command.specs.Commands.{Text, WasReadIn, created_path, from_first, path_of};
+ghost use Rattle.command.specs.Rounds.{HaveEnded};
 ghost use Rattle.runs.specs.Readings.{readers_view};
-ghost use Rattle.command.specs.internal.RoundProgress.{HasBegun, RanAndLeft};
+ghost use Rattle.command.specs.internal.RoundProgress.{HasBegun, WasFound};
 ghost use Rattle.command.specs.internal.FaultSources.{of_cube_file};
 
 use crate::closing::{close_checkpoint, create_checkpoint, discard_it};
+use crate::course::{CheckedRound, Course, LastRound, OpenRound};
 use crate::fault::CommandFault;
 use crate::files::{Machine, OpenFault, Viewed};
 use crate::running::{EndedRun, Setup, run_streams};
@@ -28,19 +30,8 @@ use portfolio::Verdict;
 use std::alloc::Global;
 use std::sync::Wait;
 use std::thread::Threads;
-use std::time::{Clock, Instant};
-use stream_check::Report;
-
-/// What a run found, and what it made of its checkpoint.
-#[derive(Drop)]
-pub struct RunResult {
-    /// The report of each stream, in order.
-    pub reports: Vec<Report>,
-    /// The verdict of the reports.
-    pub verdict: Verdict,
-    /// Why the checkpoint wasn't saved, if one was to be.
-    pub unsaved: Option<SaveFault>,
-}
+use std::time::Clock;
+use stream_check::{Ending, Report};
 
 /// A command line, and what was read of the formula's file.
 #[derive(Drop)]
@@ -70,44 +61,42 @@ pub fn read_asked<'a, W: Wait, F: Machine>(
     Ok(Asked { line, formula })
 }
 
-/// What was found of streams. If the run may go on: the formula that was saved, if it was, and when the streams were over, if that is
-/// watched.
-#[derive(Drop)]
-pub(crate) struct CheckedStreams {
-    pub(crate) found: RunResult,
-    pub(crate) next: Option<Formula>,
-    pub(crate) ended: Option<Instant>,
-}
-
-/// Finds the layout of streams that are open, creates the checkpoint's file if there is to be one, checks the streams, and saves the
-/// checkpoint unless one of them refuted the formula. The formula is given back before the next one is made.
+/// Finds the layout of the round's streams, which are open, creates the file at the path if there is one, checks the streams, and saves the
+/// clauses that they left unless one of them refuted the formula. It gives the next formula, if the round goes on, and the round's own back
+/// before that one is made.
 pub(crate) fn check_streams<T: Threads + Wait + Sync, C: Clock + Sync, F: Machine>(
     threads: &T,
     clock: &C,
     alloc: Global,
-    setup: &Setup<'_>,
-    formula: Formula,
-    readers: Vec<F::Input>,
+    course: &Course<'_>,
+    round: OpenRound<F::Input>,
     path: Option<&str>,
-    goes_on: bool,
     files: &mut F,
-) -> Result<CheckedStreams, CommandFault>
-    requires running { AllByRecursion (λ r. F.Input.Source.has_failed r ≡ false) readers.items }
-    ensures ran { let run_params = run_params_on setup.now formula (length readers.items) in
-        IfOk result (λ checked. RanAndLeft ⟦<F as Viewed>⟧.deeds setup.now.serial formula run_params
-        readers.items (path_of path.entry) files.old checked.found checked.next files.new) }
-    ensures asked { IfOk result (λ checked. IfSome checked.next (λ _. goes_on ≡ true)) }
-    ensures none { goes_on ≡ true → is_some path.entry ≡ true → IfOk result (λ checked.
-        checked.next ≡ None → (checked.found.verdict ≡ Verdict.Unsatisfiable)
-        ⊎ ((fault : SaveFault) × (checked.found.unsaved ≡ Some fault))) }
-    ensures cause { let run_params = run_params_on setup.now formula (length readers.items) in
-        IfErr result (λ fault. IsStartCause ⟦<F as Viewed>⟧.deeds setup.now.serial formula
-        run_params readers.items files.old (path_of path.entry) fault files.new) }
+) -> Result<CheckedRound, CommandFault>
+    requires running { AllByRecursion (λ r. F.Input.Source.has_failed r ≡ false)
+        round.readers.items }
+    requires count { length round.readers.items ≡ round.sizes.streams }
+    requires path { path_of path ≡ created_path course.now.line.now.next round.number }
+    ensures found { IfOk result (λ found. WasFound ⟦<F as Viewed>⟧.deeds course.now.line.now
+        course.now.cube.now round.formula round.readers.items files.old found.last found.next
+        files.new) }
+    ensures number { IfOk result (λ found. found.last.number ≡ round.number) }
+    ensures sizes { IfOk result (λ found. found.last.sizes ≡ round.sizes) }
+    ensures cause { IfErr result (λ fault. IsRoundStartCause ⟦<F as Viewed>⟧.deeds
+        course.now.line.now course.now.cube.now round.number round.formula round.sizes
+        round.readers.items files.old fault files.new) }
 {
-    find_layout(setup, &formula, readers.len())?;
+    let OpenRound {
+        number,
+        sizes,
+        formula,
+        readers,
+    } = round;
+    let setup = course.setup(sizes);
+    find_layout(&setup, &formula, readers.len())?;
     let output = create_checkpoint(files, path)?;
     let watched = setup.watch.then_some(&*files);
-    let run = match run_streams(threads, clock, alloc, setup, &formula, watched, readers) {
+    let run = match run_streams(threads, clock, alloc, &setup, &formula, watched, readers) {
         Ok(run) => run,
         Err(fault) => {
             discard_it(files, output);
@@ -115,6 +104,7 @@ pub(crate) fn check_streams<T: Threads + Wait + Sync, C: Clock + Sync, F: Machin
         }
     };
     drop(formula);
+    let goes_on = course.line.next.goes_on();
     let ended = now_if(clock, goes_on && setup.watch);
     let EndedRun {
         reports,
@@ -123,16 +113,46 @@ pub(crate) fn check_streams<T: Threads + Wait + Sync, C: Clock + Sync, F: Machin
         dropped,
     } = run;
     let closed = close_checkpoint(alloc, files, verdict, clauses, &dropped, goes_on, output);
-    let found = RunResult {
+    let unsaved = closed.unsaved;
+    let next = next_of(&reports, verdict, unsaved, closed.next);
+    let last = LastRound {
+        number,
+        sizes,
         reports,
         verdict,
-        unsaved: closed.unsaved,
-    };
-    Ok(CheckedStreams {
-        found,
-        next: closed.next,
+        unsaved,
         ended,
-    })
+    };
+    Ok(CheckedRound { last, next })
+}
+
+/// The formula that a round goes on with: none, if its verdict isn't 'unknown', its checkpoint wasn't saved or a stream didn't end.
+fn next_of(
+    reports: &[Report],
+    verdict: Verdict,
+    unsaved: Option<SaveFault>,
+    next: Option<Formula>,
+) -> Option<Formula>
+    ensures verdict { IfSome result (λ f. verdict ≡ Verdict.Unknown) }
+    ensures ended { IfSome result (λ f. HaveEnded reports.now) }
+    ensures saved { IfSome result (λ f. unsaved ≡ None) }
+    ensures next { IfSome result (λ f. next ≡ Some f) }
+    ensures none { result ≡ None → (next ≡ None) ⊎ ((¬ (verdict ≡ Verdict.Unknown))
+        ⊎ (((fault : SaveFault) × (unsaved ≡ Some fault)) ⊎ (¬ HaveEnded reports.now))) }
+{
+    match (verdict, unsaved) {
+        (Verdict::Unknown, None) => { if have_ended(reports) { next } else { None } }
+        (_, _) => None,
+    }
+}
+
+/// Whether all streams ended.
+fn have_ended(reports: &[Report]) -> bool
+    ensures { IsTrue result ↔ HaveEnded reports.now }
+{
+    reports
+        .iter()
+        .all(|report| matches!(report.ending, Ending::Ended))
 }
 
 /// What a run begins with.

@@ -3,13 +3,14 @@ ghost use Rattle.std.specs.Prelude.{◌≡◌, ◌<◌, ◌≤◌};
 ghost use Rattle.stream_check.specs.StreamParams.{max_tries};
 ghost use Rattle.command.specs.Commands.{options_by};
 
-use crate::checking::RunResult;
 use crate::fault::CommandFault;
 use crate::running::Setup;
+use checkpoint::SaveFault;
 use command_line::{CommandLine, Sizes};
 use lrup_model::{Cube, Formula};
-use portfolio::Options;
+use portfolio::{Options, Verdict};
 use std::time::Instant;
+use stream_check::Report;
 
 /// What stays the same in all rounds.
 #[derive(Clone, Copy)]
@@ -52,10 +53,22 @@ pub(crate) struct LastRound {
     /// The round's number, from 1 on.
     pub(crate) number: u64,
     pub(crate) sizes: Sizes,
-    pub(crate) found: RunResult,
+    /// The report of each stream, in order.
+    pub(crate) reports: Vec<Report>,
+    /// The verdict of the reports.
+    pub(crate) verdict: Verdict,
+    /// Why the checkpoint wasn't saved, if one was to be.
+    pub(crate) unsaved: Option<SaveFault>,
     /// When its streams were over, if rounds are watched.
     pub(crate) ended: Option<Instant>,
     ghost some: { 0 < sizes.streams },
+}
+
+/// A round that was checked, and the formula of the round after it, if it goes on.
+#[derive(Drop)]
+pub(crate) struct CheckedRound {
+    pub(crate) last: LastRound,
+    pub(crate) next: Option<Formula>,
 }
 
 /// Why a round has no report.

@@ -11,7 +11,8 @@ ghost use Rattle.command.specs.Commands.{assumed_at, change, from_first, report_
 ghost use Rattle.command.specs.Faults.{error_text, round_error_text, status_of};
 ghost use Rattle.stream_check.specs.StreamParams.{max_tries};
 
-use crate::checking::{Asked, RunResult, read_asked};
+use crate::checking::{Asked, read_asked};
+use crate::course::LastRound;
 use crate::fault::CommandFault;
 use crate::files::{Machine, Viewed};
 use crate::rounds::check_rounds;
@@ -130,41 +131,41 @@ pub fn check_formula<T: Threads + Wait + Sync, C: Clock + Sync, F: Machine, O: S
         (change E.Sink err.old err.new) result }
 {
     match check_rounds(threads, clock, alloc, asked, files) {
-        Ok(last) => report(last.number, &last.found, out, err),
+        Ok(last) => report(&last, out, err),
         Err(failed) => say_of_round(failed.round, &failed.fault, err),
     }
 }
 
-/// Says why the checkpoint wasn't saved, if it wasn't, writes the report of what was found in the last round, and gives the status.
-fn report<O: Sink, E: Sink>(round: u64, found: &RunResult, out: &mut O, err: &mut E) -> u8
+/// Says why the checkpoint wasn't saved, if it wasn't, writes the report of the last round, and gives the status.
+fn report<O: Sink, E: Sink>(last: &LastRound, out: &mut O, err: &mut E) -> u8
     requires out { O.has_failed out.old ≡ false }
     requires err { E.has_failed err.old ≡ false }
     ensures printed { SinkTook (change O.Sink out.old out.new)
-        (last_text round found.now.reports.items found.now.verdict) }
-    ensures said { SaysOfRound round (O.has_failed out.new) found.now.unsaved
+        (last_text last.now.number last.now.reports.items last.now.verdict) }
+    ensures said { SaysOfRound last.now.number (O.has_failed out.new) last.now.unsaved
         (change E.Sink err.old err.new) }
     ensures status { result
-        ≡ report_status (O.has_failed out.new) found.now.unsaved found.now.verdict }
+        ≡ report_status (O.has_failed out.new) last.now.unsaved last.now.verdict }
 {
-    say_unsaved(round, found.unsaved, err);
-    match write_last(round, found, out) {
-        Ok(()) => written_status(found),
+    say_unsaved(last.number, last.unsaved, err);
+    match write_last(last, out) {
+        Ok(()) => written_status(last),
         Err(WriteFault) => say_next(&CommandFault::Unwritten, err),
     }
 }
 
 /// Writes the report of the last round, after its number if that isn't 1.
-fn write_last<O: Sink>(round: u64, found: &RunResult, out: &mut O) -> Result<(), WriteFault>
+fn write_last<O: Sink>(last: &LastRound, out: &mut O) -> Result<(), WriteFault>
     requires running { O.has_failed out.old ≡ false }
     ensures text { WritesText result (O.written out.old) (O.written out.new)
-        (last_text round found.now.reports.items found.now.verdict) }
+        (last_text last.now.number last.now.reports.items last.now.verdict) }
     ensures failed { O.has_failed out.new ≡ is_err result }
 {
-    if round == 1 {
-        return write_report(&found.reports, found.verdict, out);
+    if last.number == 1 {
+        return write_report(&last.reports, last.verdict, out);
     }
-    match write_number(round, out) {
-        Ok(()) => write_report(&found.reports, found.verdict, out),
+    match write_number(last.number, out) {
+        Ok(()) => write_report(&last.reports, last.verdict, out),
         Err(WriteFault) => Err(WriteFault),
     }
 }
@@ -193,12 +194,12 @@ fn say_unsaved<E: Sink>(round: u64, unsaved: Option<SaveFault>, err: &mut E)
 }
 
 /// The status of a report that was written.
-fn written_status(found: &RunResult) -> u8
-    ensures { result ≡ report_status false found.now.unsaved found.now.verdict }
+fn written_status(last: &LastRound) -> u8
+    ensures { result ≡ report_status false last.now.unsaved last.now.verdict }
 {
-    match found.unsaved {
+    match last.unsaved {
         Some(_) => 9,
-        None => match found.verdict {
+        None => match last.verdict {
             Verdict::Unsatisfiable => 0,
             Verdict::UnsatisfiableUnder => 8,
             Verdict::Unknown => 3,

@@ -17,13 +17,12 @@ ghost use Rattle.command.specs.internal.RoundProgress.{WasFound};
 ghost use Rattle.stream_check.specs.StreamParams.{max_tries};
 
 use crate::arguments::words_of;
-use crate::checking::{Asked, Beginning, CheckedStreams, begin, check_streams, open_streams};
-use crate::course::{Course, LastRound, OpenRound, RoundFault};
+use crate::checking::{Asked, Beginning, begin, check_streams, open_streams};
+use crate::course::{CheckedRound, Course, LastRound, OpenRound, RoundFault};
 use crate::fault::CommandFault;
 use crate::files::{Machine, OpenFault, Viewed};
 use crate::sizing::sizes_of_round;
 use crate::watching::report_begin;
-use checkpoint::SaveFault;
 use checkpoint::laws::{refutes_back, refutes_back_under};
 use command_line::{Next, Sizes};
 use lrup_model::Formula;
@@ -33,14 +32,6 @@ use std::borrow::CowStr;
 use std::sync::Wait;
 use std::thread::Threads;
 use std::time::Clock;
-use stream_check::{Ending, Report};
-
-/// A round that was checked, and the formula of the round after it, if it goes on.
-#[derive(Drop)]
-struct CheckedRound {
-    last: LastRound,
-    next: Option<Formula>,
-}
 
 /// Checks the streams of a round, saves the clauses that they left if the words ask for that, and gives the next formula, if the round
 /// goes on. The round's formula is given back before that one is made.
@@ -65,38 +56,8 @@ fn check_round<T: Threads + Wait + Sync, C: Clock + Sync, F: Machine>(
         course.now.line.now course.now.cube.now round.number round.formula round.sizes
         round.readers.items files.old fault files.new) }
 {
-    let OpenRound {
-        number,
-        sizes,
-        formula,
-        readers,
-    } = round;
-    let setup = course.setup(sizes);
-    let next = course.line.next;
-    let created = created_path(alloc, next, number)?;
-    let goes_on = next.goes_on();
-    let checked = check_streams(
-        threads,
-        clock,
-        alloc,
-        &setup,
-        formula,
-        readers,
-        lent(&created),
-        goes_on,
-        files,
-    )?;
-    let CheckedStreams { found, next, ended } = checked;
-    let next = next_of(&found.reports, found.verdict, found.unsaved, next);
-    Ok(CheckedRound {
-        last: LastRound {
-            number,
-            sizes,
-            found,
-            ended,
-        },
-        next,
-    })
+    let path = created_path(alloc, course.line.next, round.number)?;
+    check_streams(threads, clock, alloc, course, round, lent(&path), files)
 }
 
 /// The path of the file that the round with this number creates for what comes after it, if it creates one.
@@ -127,35 +88,6 @@ fn lent<'a>(path: &'a Option<CowStr<'_>>) -> Option<&'a str>
         None => None,
         Some(path) => Some(path.as_str()),
     }
-}
-
-/// The formula that a round goes on with: none, if its verdict isn't 'unknown', its checkpoint wasn't saved or a stream didn't end.
-fn next_of(
-    reports: &[Report],
-    verdict: Verdict,
-    unsaved: Option<SaveFault>,
-    next: Option<Formula>,
-) -> Option<Formula>
-    ensures verdict { IfSome result (λ f. verdict ≡ Verdict.Unknown) }
-    ensures ended { IfSome result (λ f. HaveEnded reports.now) }
-    ensures saved { IfSome result (λ f. unsaved ≡ None) }
-    ensures next { IfSome result (λ f. next ≡ Some f) }
-    ensures none { result ≡ None → (next ≡ None) ⊎ ((¬ (verdict ≡ Verdict.Unknown))
-        ⊎ (((fault : SaveFault) × (unsaved ≡ Some fault)) ⊎ (¬ HaveEnded reports.now))) }
-{
-    match (verdict, unsaved) {
-        (Verdict::Unknown, None) => { if have_ended(reports) { next } else { None } }
-        (_, _) => None,
-    }
-}
-
-/// Whether all streams ended.
-fn have_ended(reports: &[Report]) -> bool
-    ensures { IsTrue result ↔ HaveEnded reports.now }
-{
-    reports
-        .iter()
-        .all(|report| matches!(report.ending, Ending::Ended))
 }
 
 /// The path of a round's formula.
@@ -371,10 +303,10 @@ pub(crate) fn check_rounds<T: Threads + Wait + Sync, C: Clock + Sync, F: Machine
         IsCommandLineOf words asked.entry.line
         → WasReadIn view first asked.entry.line.formula.now asked.entry.formula.items files.old
         → IfOk result (λ last. IsReported view asked.entry.line last files.new) }
-    ensures sound { IfOk result (λ last. last.found.verdict ≡ Verdict.Unsatisfiable
+    ensures sound { IfOk result (λ last. last.verdict ≡ Verdict.Unsatisfiable
         → IsUnsatisfiableText asked.entry.formula.items) }
     ensures sound_under { let read = WasRead F.opens F.Input.Source.reads (F.tells files.old) in
-        IfOk result (λ last. last.found.verdict ≡ Verdict.UnsatisfiableUnder
+        IfOk result (λ last. last.verdict ≡ Verdict.UnsatisfiableUnder
         → IsUnsatisfiableTextWith read asked.entry.formula.items files.old
         (assumed_at asked.entry.line)) }
     ensures cause { (words : List Text) (first : F) →

@@ -15,7 +15,6 @@ use Rattle.command.specs.Paths.{sizes_path, stream_path}
 use Rattle.command.specs.Rounds.{AreRounds, AreSized, CarriesOn, IsBarred, IsNextCause, LeavesBehind, Round, RoundsEnd, SavesCheckpoint, WereRounds}
 use Rattle.command.specs.declared.fault.CommandFault.{CommandFault}
 use Rattle.command.specs.declared.fault.CommandFault.TheVariants as faults
-use Rattle.command.specs.declared.checking.RunResult.{RunResult}
 use Rattle.command.specs.declared.course.LastRound.{LastRound}
 use Rattle.command.specs.declared.course.RoundFault.{RoundFault}
 
@@ -26,12 +25,12 @@ pub record WasChecked (its : Deeds) (given : CommandLine) (cube : CubeValue) (fo
     (after : its.State) : Type 0 where
   pub count : length readers ≡ last.sizes.streams
   pub checked : AreChecked its.reading given.serial formula
-      (run_params_by given cube formula last.sizes) readers last.found.reports.items
-      last.found.verdict
+      (run_params_by given cube formula last.sizes) readers last.reports.items
+      last.verdict
   pub leaves : LeavesBehind its
       (SavesCheckpoint its formula (run_params_by given cube formula last.sizes).layout
       checked.ran.run.history checked.dropped)
-      last.found.verdict opened (created_path given.next last.number) last.found.unsaved next after
+      last.verdict opened (created_path given.next last.number) last.unsaved next after
 
 -- the round that was checked so, with the files after the opening of its streams and those after its check
 abbrev pub round_of : {its : Deeds} {given : CommandLine} {cube : CubeValue} (formula : Cnf)
@@ -44,9 +43,9 @@ round_of formula readers opened last next after was = record {
   sizes = last.sizes;
   readers = readers;
   opened = opened;
-  reports = last.found.reports.items;
-  verdict = last.found.verdict;
-  unsaved = last.found.unsaved;
+  reports = last.reports.items;
+  verdict = last.verdict;
+  unsaved = last.unsaved;
   next = next;
   after = after;
   count = was.count;
@@ -86,9 +85,9 @@ IsAlone its folder last before after =
 pub record IsOfRound {its : Deeds} {given : CommandLine} {cube : CubeValue} (last : LastRound)
     (round : Round its given cube) : Type 0 where
   pub number : last.number ≡ round.number
-  pub reports : last.found.reports.items ≡ round.reports
-  pub verdict : last.found.verdict ≡ round.verdict
-  pub unsaved : last.found.unsaved ≡ round.unsaved
+  pub reports : last.reports.items ≡ round.reports
+  pub verdict : last.verdict ≡ round.verdict
+  pub unsaved : last.unsaved ≡ round.unsaved
 
 -- The rounds ended with this one and left these files.
 pub record EndsAt (its : Deeds) (given : CommandLine) (cube : CubeValue) (formula : Cnf)
@@ -158,13 +157,3 @@ pub record HasBegun (files : FilesView) (given : CommandLine) (formula : Cnf) (c
     pub left : map files.its.reading.left readers
         ≡ map files.tells given.streams
     pub told : files.its.tells later ≡ files.tells
-
--- Streams of this formula, opened as these readers, were checked, and left their clauses at the path, if there is one, as the verdict says.
-pub record RanAndLeft (its : Deeds) (serial : Bool) (formula : Cnf) (run_params : RunParamsValue)
-    (readers : List its.Reader) (path : Option Text) (before : its.State) (found : RunResult)
-    (next : Option Cnf) (after : its.State) : Type 0 where
-  pub checked : AreChecked its.reading serial formula run_params readers found.reports.items
-      found.verdict
-  pub leaves : LeavesBehind its
-      (SavesCheckpoint its formula run_params.layout checked.ran.run.history checked.dropped)
-      found.verdict before path found.unsaved next after

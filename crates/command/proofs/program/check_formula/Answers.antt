@@ -22,12 +22,12 @@ returns-in-Ok-clause-ends g c words first good at =
     let failed = g.O.Sink.has_failed c.report.new.out in
     let output = change g.O.Sink c.args.out.now c.report.new.out in
     let errors = change g.E.Sink c.args.err.now c.report.new.err in
-    let text = ap (λ (n : ℕ). last_text n last.found.reports.items last.found.verdict) is.number
-    ∙ ap (λ (rs : List Report). last_text round.number rs last.found.verdict) is.reports
+    let text = ap (λ (n : ℕ). last_text n last.reports.items last.verdict) is.number
+    ∙ ap (λ (rs : List Report). last_text round.number rs last.verdict) is.reports
     ∙ ap (λ (v : Verdict). last_text round.number round.reports v) is.verdict in
-    let status = ap (λ (u : Option SaveFault). report_status failed u last.found.verdict) is.unsaved
+    let status = ap (λ (u : Option SaveFault). report_status failed u last.verdict) is.unsaved
     ∙ ap (λ (v : Verdict). report_status failed round.unsaved v) is.verdict in
-    let said = subst (λ (n : ℕ). SaysOfRound n failed last.found.unsaved errors) is.number c.report.ensures.said in
+    let said = subst (λ (n : ℕ). SaysOfRound n failed last.unsaved errors) is.number c.report.ensures.said in
     inl (record {
       given = c.args.asked.line;
       command_line = good;

@@ -1,4 +1,4 @@
-use Rattle.std.proofs.Common.{◌∙◌, ℕ, arith, Ok, Option, ap, inl, inr, refl, subst}
+use Rattle.std.proofs.Common.{◌+◌, ◌∙◌, ℕ, arith, Ok, Option, ap, inl, inr, refl, subst, sym}
 use Rattle.lrup_model.specs.Formula.{Cnf}
 use Rattle.command_line.specs.CommandLine.{rounds_of}
 use Rattle.command_line.specs.declared.sizes.Sizes.{Sizes}
@@ -99,3 +99,19 @@ returns-in-Err-clause-cause g c first opened =
     c.in-Err.fault c.check_round.new.files in
     let cause : Cause round.number round.sizes = c.in-Err.ensures.cause in
     inl (refl, subst (Cause 1) c.requires.sizes (subst (λ (n : ℕ). Cause n round.sizes) c.requires.one cause))
+
+-- a round after another
+pub loop-number-preserved : goal.loop-number-preserved
+loop-number-preserved g c =
+    let its = deeds_of g.F.Files g.F.Machine g.F.Input.Source g.F.Output.Sink in
+    let line = c.args.course.now.line.now in
+    let cube = c.args.course.now.cube.now in
+    let now = c.loop-number in
+    let formula = c.args.round.formula in
+    let next = c.in-Ok-Some in
+    record {
+      stands = λ first opened. next.ensures.stands formula first
+          (subst (λ (n : Option Cnf). RoundsStand its line cube formula first now.last n now.files) c.in-Some.is
+          (now.invariant.stands first opened)) next.found next.field-0-is;
+      number = ap (λ (n : ℕ). n + 1) (sym (next.ensures.number next.found next.field-0-is));
+    }
