@@ -178,7 +178,7 @@ abbrev pub run_params_by : CommandLine → CubeValue → Cnf → Sizes → RunPa
 run_params_by given cube formula sizes =
     run_params_of (options_by given.tries sizes) cube formula sizes.streams
 
--- The reports and the verdict of a formula's streams are those of a run. `firsts` are the readers of the streams as they were opened,
+-- The reports and the verdict of a formula's streams are those of one check of them. `firsts` are the readers of the streams as they were opened,
 -- and `lasts` those in the end.
 pub record AreChecked {R : Type 0} (reading : SourceView R) (serial : Bool) (formula : Cnf)
     (run_params : RunParamsValue) (firsts : List R) (reports : List Report)
@@ -347,7 +347,7 @@ pub record WasRefused (its : Deeds) (before : its.State) (paths : List Text) (pl
   pub opened : AreOpened its.opens before (take place paths) readers next
   pub refused : its.refuses next path fault after
 
--- why not all of the streams at these paths were opened, the first of which is the one behind so many: one of them was refused; or memory
+-- why not all of the streams at these paths were opened, before the first of which come this many: one of them was refused; or memory
 -- ran out before they were opened, at the opening of one, or after it
 abbrev pub IsOpenCause : (its : Deeds) → ℕ → its.State → List Text → CommandFault → its.State
     → Type 0
@@ -397,7 +397,7 @@ IsStartCause its serial formula run_params readers before path faults.Memory aft
     ⊎ IsLeftUnused its before path after))
 IsStartCause its serial formula run_params readers before path fault after = ⊥
 
--- so of the round with this number, with the file that it creates for what comes after it
+-- why the streams of the round with this number weren't checked: as above, with the file that it creates for what comes after it, if any
 abbrev pub IsRoundStartCause : (its : Deeds) → CommandLine → CubeValue → ℕ → Cnf → Sizes
     → List its.Reader → its.State → CommandFault → its.State → Type 0
 IsRoundStartCause its given cube number formula sizes readers opened fault after =
@@ -422,7 +422,7 @@ IsCauseAt files given fault after =
     after)))))
 
 -- Why round 1 has no report, by the words and the files, and the files then. Words with a fault, words that ask for a checkpoint and for
--- rounds, or the want of memory for them, leave the files as they were.
+-- rounds, or memory that ran out while they were read, leave the files as they were.
 abbrev pub IsCause : (files : FilesView) → List Text → CommandFault → files.its.State → Type 0
 IsCause files words (faults.Usage text) after = HaveFault words × (after ≡ files.first)
 IsCause files words faults.TwoCheckpoints after = AskForBoth words × (after ≡ files.first)

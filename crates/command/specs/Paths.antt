@@ -18,7 +18,7 @@ sizes_path folder number = round_path folder number (codes ".sizes")
 abbrev pub stream_path : List ℕ → ℕ → ℕ → List ℕ
 stream_path folder number stream = round_path folder number (codes ".stream-" ++ decimal stream)
 
--- of the first so many streams
+-- of this many streams, from 1 on
 abbrev pub stream_paths : List ℕ → ℕ → ℕ → List (List ℕ)
 stream_paths folder number zero = []
 stream_paths folder number (suc count) =

@@ -33,7 +33,7 @@ use Rattle.command.specs.declared.fault.CommandFault.{CommandFault}
 use Rattle.command.specs.declared.fault.CommandFault.TheVariants as faults
 use Rattle.command.specs.declared.files.OpenFault.TheVariants as open_faults
 
--- The files at the paths were opened as these readers, in order, and where files tell what a path has, its reader has just that left.
+-- The files at the paths were opened as these readers, in order, and where it is known what a path has, its reader has just that left.
 pub record StreamsOpened (its : Deeds) (before : its.State) (paths : List Text)
     (readers : List its.Reader) (after : its.State) : Type 0 where
   pub opened : AreOpened its.opens before paths readers after
@@ -43,8 +43,8 @@ pub record StreamsOpened (its : Deeds) (before : its.State) (paths : List Text)
 abbrev pub HaveEnded : List Report → Type 0
 HaveEnded reports = AllByRecursion (λ report. report.ending ≡ endings.Ended) reports
 
--- What became of the saving of a checkpoint to a sink that was the first and is the last, after a run of the formula with this layout, whose
--- history and dropped identities these are. What was written whole is a text of a formula over the same variables, each clause of which
+-- What became of the saving of a checkpoint to a sink, which is `first` before it and `last` after it, once streams of the formula with this
+-- layout were checked, whose history and dropped identities these are. What was written whole is a text of a formula over the same variables, each clause of which
 -- follows from this one, and it is the next formula, if one is given. It is that of the clauses that the history leaves live, but for those
 -- that all streams dropped, and no others. Just where the sink failed, the result is that a write failed.
 pub record SavesCheckpoint (its : Deeds) (formula : Cnf) (layout : LayoutValue) (history : History)
@@ -56,8 +56,8 @@ pub record SavesCheckpoint (its : Deeds) (formula : Cnf) (layout : LayoutValue) 
       first last
   pub failed : IsTrue (its.has_failed last) ↔ (result ≡ Err saves.Unwritten)
 
--- How a sink was closed, to which something was saved with this result; why that isn't saved, if it isn't; and the next formula, if there
--- is one. What was saved was kept, or that failed; else the sink was discarded.
+-- How a file was closed, after a save with this result. If the save succeeded, the file was kept, or keeping it failed; if the save failed,
+-- the file was discarded. `unsaved` is why nothing is saved, if so, and `next` is the formula that was saved, if the save gives it.
 abbrev pub ClosesSink : (its : Deeds) → Result (Option Cnf) SaveFault → its.State → its.Output
     → Option SaveFault → Option Cnf → its.State → Type 0
 ClosesSink its (Ok made) before last None next after = (next ≡ made) × its.keeps before last after
@@ -66,8 +66,8 @@ ClosesSink its (Ok made) before last (Some fault) next after =
 ClosesSink its (Err fault) before last unsaved next after =
     (unsaved ≡ Some fault) × (next ≡ None) × its.discards before last after
 
--- A file was created at the path, from the files before. Where its device tells its bytes, it was empty. Something was saved to it, and it
--- was closed.
+-- A file was created at the path, from the files before. Where its bytes are known, it was empty. Something was saved to it, and it was
+-- closed.
 pub record LeavesFile (its : Deeds)
     (Saves : Result (Option Cnf) SaveFault → its.Output → its.Output → Type 0) (before : its.State)
     (path : Text) (unsaved : Option SaveFault) (next : Option Cnf)
@@ -82,7 +82,8 @@ pub record LeavesFile (its : Deeds)
   pub closed : ClosesSink its result opened last unsaved next after
 
 -- What a round with this verdict leaves at the path, why that wasn't saved, if it wasn't, and the next formula, if there is one. Without a
--- path: nothing. With 'unsatisfiable': a file to which nothing went. Else a file to which the checkpoint was saved.
+-- path: nothing. With 'unsatisfiable': a new file, which was discarded before anything was written to it. Else a new file, to which the
+-- program tried to save the checkpoint.
 abbrev pub LeavesBehind : (its : Deeds)
     → (Result (Option Cnf) SaveFault → its.Output → its.Output → Type 0) → Verdict → its.State
     → Option Text → Option SaveFault → Option Cnf → its.State → Type 0
@@ -96,7 +97,7 @@ LeavesBehind its Saves verdict before (Some path) unsaved next after =
 
 -- A round: its number, its formula and its sizes; the readers of its streams as they were opened, and the files after that; its reports and
 -- its verdict; why its checkpoint wasn't saved, if it wasn't; the next formula, if there is one; and the files after that. Its streams were
--- checked as those of a run are, and the clauses that were left were saved.
+-- checked, and `leaves` says what became of the clauses that they left.
 pub record Round (its : Deeds) (given : CommandLine) (cube : CubeValue) : Type 0 where
   pub number : ℕ
   pub formula : Cnf
@@ -116,8 +117,8 @@ pub record Round (its : Deeds) (given : CommandLine) (cube : CubeValue) : Type 0
       checked.ran.run.history checked.dropped)
       verdict opened (created_path given.next number) unsaved next after
 
--- The words ask for rounds of a folder, and the round goes on: its verdict is 'unknown', its streams ended, and its checkpoint was saved, which
--- is that of the next formula.
+-- The words ask for rounds of a folder, and the round goes on: its verdict is 'unknown', its streams ended, and its checkpoint, a text of the
+-- next formula, was saved.
 pub record CarriesOn {its : Deeds} {given : CommandLine} {cube : CubeValue}
     (round : Round its given cube) (next : Cnf) : Type 0 where
   pub folder : Text
@@ -162,7 +163,8 @@ pub record IsFirst {its : Deeds} {given : CommandLine} {cube : CubeValue} (formu
   pub sizes_are : round.sizes ≡ sizes_of given
   pub opened : StreamsOpened its first given.streams round.readers round.opened
 
--- Rounds, the last one first: the first of them has this formula, from these files, and each other comes next after the one before it.
+-- Rounds, listed from the last one back to round 1. Round 1 has this formula and starts from these files, and each other round follows the
+-- one before it. So a round's number is how many there are up to it.
 abbrev pub AreRounds : {its : Deeds} {given : CommandLine} {cube : CubeValue} → Cnf → its.State
     → List (Round its given cube) → Type 0
 AreRounds formula first [] = ⊥
@@ -231,7 +233,7 @@ IsFirstCause its before path faults.Memory after =
     (after ≡ before) ⊎ its.fails before path open_faults.Memory after
 IsFirstCause its before path fault after = ⊥
 
--- why not all streams of a round were opened: the first wasn't; or it was, and as of a run's, from the second on
+-- why not all streams of a round were opened: the first wasn't; or it was, and the others as in round 1, from the second stream on
 abbrev pub IsStreamCause : (its : Deeds) → its.State → Text → ℕ → ℕ → CommandFault → its.State
     → Type 0
 IsStreamCause its before folder number streams fault after =
@@ -240,8 +242,8 @@ IsStreamCause its before folder number streams fault after =
     × its.opens before (stream_path folder number 1) first next
     × IsOpenCause its 1 next (drop 1 (stream_paths folder number streams)) fault after)
 
--- why the round with this number, which follows one of the old sizes and has this formula, has no report: of its sizes; or, once they were
--- read, of the opening of its streams; or, of those that were opened, of their check
+-- why the round with this number, which follows one of the old sizes and has this formula, has no report: because of its sizes; or, once
+-- these were read, because a stream wasn't opened; or, once all were open, because they weren't checked
 abbrev pub IsRoundCause : (its : Deeds) → CommandLine → CubeValue → Text → ℕ → Sizes → Cnf
     → its.State → CommandFault → its.State → Type 0
 IsRoundCause its given cube folder number old formula before fault after =
@@ -266,7 +268,7 @@ IsNextCause {its} {given} {cube} last fault after =
 abbrev pub round_text : ℕ → List ℕ
 round_text number = codes "c round " ++ decimal number ++ codes "\n"
 
--- the report of the last round, after the line of its number
+-- the report of the last round, from round 2 on after the line of its number
 abbrev pub last_text : ℕ → List Report → Verdict → List ℕ
 last_text number reports verdict =
     (if number == 1 then [] else round_text number) ++ report_text reports verdict

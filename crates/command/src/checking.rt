@@ -104,7 +104,7 @@ pub(crate) fn check_streams<T: Threads + Wait + Sync, C: Clock + Sync, F: Machin
         }
     };
     drop(formula);
-    let goes_on = course.line.next.goes_on();
+    let goes_on = course.line.next.asks_for_rounds();
     let ended = now_if(clock, goes_on && setup.watch);
     let EndedRun {
         reports,

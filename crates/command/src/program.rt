@@ -28,7 +28,8 @@ use std::time::Clock;
 /// Runs `lrupd` with the words after the program's name, and returns the exit status. In this order:
 ///
 /// 1. The words are read, then the file of the formula, and it is parsed. So is the file of the assumed literals, if there is one.
-/// 2. The streams are opened. If they have a layout, and the words have `--checkpoint`, its file is created.
+/// 2. The streams are opened. If they have a layout, and the words have `--checkpoint` or `--rounds`, the file of the checkpoint, or of
+///    the next round's formula, is created.
 /// 3. The streams are checked. If the words have `--watch`, each stream's progress is reported on a watcher.
 /// 4. The checkpoint is saved, unless the verdict is 'unsatisfiable'. If that fails, `err` says why.
 /// 5. If the words have `--rounds`, the checkpoint of a round is the next one's formula, and the folder has the next one's sizes and
@@ -67,7 +68,7 @@ pub fn command<T: Threads + Wait + Sync, C: Clock + Sync, F: Machine, O: Sink, E
     // With status 8 no assignment makes it and every literal of the assumptions' file true.
     ensures sound_under { let read = WasRead F.opens F.Input.Source.reads (F.tells files.old) in
         result ≡ 8 → NameUnsatisfiableUnder _ read files.old (texts words.now) }
-    // Either the report is printed, or one error line; in both cases the exit status matches.
+    // There is a report, or none and the text of one cause; and the exit status matches.
     ensures ends { ProgramEnds (⟦<F as Viewed>⟧.view files.old) (texts words.now) files.new
         (change O.Sink out.old out.new) (change E.Sink err.old err.new) result }
     // With status 3 or 8, if the words ask for a checkpoint, what was saved there is a text of a formula each clause of which

@@ -48,8 +48,8 @@ pub enum Next<'a> {
 }
 
 impl<'a> Next<'a> {
-    /// Whether the run goes on in rounds.
-    pub fn goes_on(self) -> bool
+    /// Whether the words ask for rounds.
+    pub fn asks_for_rounds(self) -> bool
         ensures { result ≡ is_some (rounds_of self.entry) }
     {
         matches!(self, Next::Rounds(_))

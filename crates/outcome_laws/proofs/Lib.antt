@@ -11,3 +11,4 @@ mod RefutingLemmas
 mod StreamLemmas
 mod RoundLemmas
 mod PrintedLemmas
+mod AloneLemmas

@@ -1,5 +1,5 @@
 -- Laws of outcomes. Each is the contract of a function of laws.
-use Rattle.std.specs.Prelude.{◌≡◌, ℕ, List, [], Some}
+use Rattle.std.specs.Prelude.{◌≡◌, ◌⊎◌, ℕ, List, [], Some}
 use Rattle.lrup_model.specs.Cube.{CubeValue}
 use Rattle.lrup_model.specs.Event.{History}
 use Rattle.lrup_model.specs.Formula.{Cnf}
@@ -13,10 +13,10 @@ use Rattle.runs.specs.Closed.{IsOfStream, CiteWithin}
 use Rattle.runs.specs.Streams.{InputObservation, RunParamsValue}
 use Rattle.run_laws.specs.Groups.{one, IsRun}
 use Rattle.portfolio.specs.ReportText.{stream_line}
-use Rattle.command_line.specs.CommandLine.{IsCommandLineOf}
+use Rattle.command_line.specs.CommandLine.{AskForRounds, IsCommandLineOf}
 use Rattle.command_line.specs.declared.words.CommandLine.{CommandLine}
-use Rattle.command.specs.Commands.{FilesView, SinkChange, Text, WasReadIn, sizes_of}
-use Rattle.command.specs.Rounds.{ProgramEnds, Round, WereRounds}
+use Rattle.command.specs.Commands.{FilesView, IsCause, SinkChange, Text, WasReadIn, sizes_of}
+use Rattle.command.specs.Rounds.{EndsWithFault, EndsWithReport, ProgramEnds, Round, WereRounds}
 use Rattle.dimacs.specs.FormulaText.{IsFormulaText}
 use Rattle.lrup_model.specs.Entailment.{IsUnsatisfiable}
 use Rattle.outcome_laws.specs.Outcomes.{bare_params, bare_report, layout_in, SayTheSame, ReportsOn}
@@ -28,7 +28,7 @@ NoCubeJudgesAlike = (c : StreamParams) (bytes : List ℕ) (end : StreamEnd) (blo
     → JudgesBlocks c bytes end blocks report
     → JudgesBlocks (bare_params c) bytes end blocks (bare_report report)
 
--- In two runs of one formula, by one layout and so many tries, a stream that cites within itself has reports that say the same, but of
+-- In two runs of one formula, by one layout and the same tries, a stream that cites within itself has reports that say the same, but of
 -- clauses within a cube, where both readers have the same bytes left at first, unless memory ran out or a read failed: whatever the
 -- cubes and the other streams are, and whichever runs have threads.
 abbrev pub SameBytesSayTheSame : Type 0
@@ -56,7 +56,7 @@ SameWordsAskAlike = (words : List Text) (given other : CommandLine) → IsComman
     × (other.streams ≡ given.streams) × (other.formula.now ≡ given.formula.now)
 
 -- In round 1 of two runs of the program, with the same tries and sizes, a stream that cites within itself has the same line, where the
--- files of the formula and of the stream have the same bytes, unless a report of the stream is of memory or of a failed read: whatever the
+-- files of the formula and of the stream are known to have the same bytes, unless a report of the stream is of memory or of a failed read: whatever the
 -- other streams' files are, whatever is assumed, and whichever of the two ran with threads. A run without rounds is its round 1.
 abbrev pub OutcomesAgree : FilesView → FilesView → Type 0
 OutcomesAgree files others =
@@ -80,3 +80,13 @@ Status0HasACommandLine files = (words : List Text) (after : files.its.State) (ou
     × IsCommandLineOf words given
     × WasReadIn files files.first given.formula.now bytes next
     × IsFormulaText bytes f × IsUnsatisfiable f
+
+-- If the words ask for no rounds, there is one, after which nothing is done to the files; or, without a report, the cause is one of round 1.
+abbrev pub OneRoundAlone : FilesView → Type 0
+OneRoundAlone files = (words : List Text) (after : files.its.State) (out err : SinkChange)
+    (status : ℕ) → ((folder : Text) → ¬ AskForRounds words folder)
+    → ProgramEnds files words after out err status
+    → ((ends : EndsWithReport files words after out err status) × (ends.before ≡ [])
+    × (ends.last.number ≡ 1) × (after ≡ ends.last.after))
+    ⊎ ((ends : EndsWithFault files words after out err status) × (ends.number ≡ 1)
+    × IsCause files words ends.fault after)

@@ -1,6 +1,6 @@
 //! Laws of outcomes. Each function does nothing; its contract is the law.
 ghost use Rattle.std.specs.Prelude.{ℕ};
-ghost use Rattle.outcome_laws.specs.Laws.{NoCubeJudgesAlike, SameBytesSayTheSame, SameWordsAskAlike, OutcomesAgree, Status0HasACommandLine};
+ghost use Rattle.outcome_laws.specs.Laws.{NoCubeJudgesAlike, OneRoundAlone, SameBytesSayTheSame, SameWordsAskAlike, OutcomesAgree, Status0HasACommandLine};
 ghost use Rattle.outcome_laws.specs.Printed.{NoBadLineShown};
 ghost use Rattle.outcome_laws.specs.Refuting.{OutcomesRefute, OutcomesRefuteUnder};
 ghost use Rattle.outcome_laws.specs.Serial.{SerialOutcomesAgree};
@@ -38,6 +38,12 @@ pub fn same_words_ask_alike()
     ensures { SameWordsAskAlike }
 {}
 
+/// If the words ask for no rounds, there is one, after which nothing is done to the files; or, without a report, the cause is one of round
+/// 1: the clause `ends` of `command` says so.
+pub fn one_round_alone<F: Machine>(files: &F)
+    ensures { OneRoundAlone (⟦<F as Viewed>⟧.view files.now) }
+{}
+
 /// In round 1 of two runs of the program, a stream that cites within itself has the same line if the tries and the sizes are the same, and
 /// the files of the formula and of the stream have the same bytes before the runs, unless a report of the stream is of memory or of a
 /// failed read. A run without rounds is its round 1.
@@ -69,8 +75,8 @@ pub fn serial_outcomes_agree<F: Machine, G: Machine>(files: &F, others: &G)
     bytes_decide();
 }
 
-/// If the words ask for rounds, or for one, in each of which before the last each stream is valid and cites only its own clauses and the
-/// formula's, and in the last one some stream is a valid refutation, the program ends with status 0; or with 7, for a report that
+/// With `--rounds`, or without it, where round 1 is the last one: if in each round before the last each stream is valid and cites only its
+/// own clauses and the formula's, and in the last one some stream is a valid refutation, the program ends with status 0; or with 7, for a report that
 /// wasn't written; or with 5 or 6, for a fault of the machine; or with 9, for a checkpoint, or a formula of the next round, that wasn't
 /// saved; or with 8, and then there are assumed literals, and the report says 'unsatisfiable under assumptions'; or with 3. With 3, and
 /// in the last round with 8 and 9 too, the report says that memory ran out, or a read failed: in the refutation's lines, or in some stream
@@ -115,16 +121,16 @@ pub fn valid_turn_rounds_say<F: Machine>(files: &F)
     valid_empty();
 }
 
-/// If the words ask for a valid refutation in round 1, which is the run if they ask for no more, the program ends with status 0; or with
+/// If a stream of round 1 (without `--rounds`, of the whole run) is a valid refutation, the program ends with status 0; or with
 /// 7, for a report that wasn't written; or with 5 or 6, for a fault of the machine; or with 3 or 8, and then memory ran out, or a read
-/// failed, in the refutation's lines; or with 9 in their place, for a checkpoint that the words ask for and that wasn't saved.
+/// failed, in the refutation's lines; or with 9 in their place, for a checkpoint, or a formula of round 2, that wasn't saved.
 pub fn valid_refutation_says<F: Machine>(files: &F)
     ensures { ValidRoundsSay (⟦<F as Viewed>⟧.view files.now) 1 }
 {
     valid_rounds_say(files);
 }
 
-/// If the words ask for a valid refutation in round 1, no bad line of its stream is printed, but with status 0, or with 7 if the report
+/// If a stream of round 1 is a valid refutation, no bad line of it is printed, but with status 0, or with 7 if the report
 /// says 'unsatisfiable'. The law `valid_refutation_says` alone says so: a status 5 or 6 leaves standard output as it was, and each other
 /// report says that the machine stopped the stream.
 pub fn no_bad_line_shown<F: Machine>(files: &F)

@@ -1,4 +1,4 @@
--- How the rounds stand while they go on: what private functions say of them (this project's own).
+-- How far the rounds have come: what private functions say of them (this project's own).
 use Rattle.std.specs.Prelude.{◌≡◌, Bool, ◌≤◌, ◌+◌, ◌++◌, ◌∷◌, ◌⊎◌, ℕ, List, Option, None, length, map}
 use Rattle.std.specs.Option.{ForSome}
 use Rattle.lrup_model.specs.Cube.{CubeValue}
@@ -18,8 +18,8 @@ use Rattle.command.specs.declared.fault.CommandFault.TheVariants as faults
 use Rattle.command.specs.declared.course.LastRound.{LastRound}
 use Rattle.command.specs.declared.course.RoundFault.{RoundFault}
 
--- The streams of a round of this formula, opened as these readers, were checked as those of a run, and this was found of them; the clauses
--- that were left were saved for what comes next.
+-- The streams of a round of this formula, opened as these readers, were checked, and this was found of them; `leaves` says what became of the
+-- clauses that they left.
 pub record WasChecked (its : Deeds) (given : CommandLine) (cube : CubeValue) (formula : Cnf)
     (readers : List its.Reader) (opened : its.State) (last : LastRound) (next : Option Cnf)
     (after : its.State) : Type 0 where
@@ -81,7 +81,7 @@ IsAlone its folder last before after =
     × AreSized its (sizes_path folder (last.number + 1)) last.sizes before sizes sized
     × its.lacks sized (stream_path folder (last.number + 1) 1) after
 
--- The round is the one of which the program has this.
+-- What the program keeps of its last round is of this round.
 pub record IsOfRound {its : Deeds} {given : CommandLine} {cube : CubeValue} (last : LastRound)
     (round : Round its given cube) : Type 0 where
   pub number : last.number ≡ round.number
@@ -125,7 +125,7 @@ pub record IsReported (files : FilesView) (given : CommandLine) (last : LastRoun
   pub is : IsOfRound last round
   pub over : RoundsEnd round after
 
--- Reads of a file gave these bytes, up to its end. Where its device tells the file's bytes, they are these.
+-- Reads of a file gave these bytes, up to its end. Where the file's bytes are known, they are these.
 pub record GaveWhole {R : Type 0} (reading : SourceView R) (first : R)
     (bytes : List ℕ) : Type 0 where
   pub gave : GaveAll R reading.reads first bytes

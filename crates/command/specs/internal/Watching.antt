@@ -1,4 +1,4 @@
--- What those who watch are told of a round that begins (this project's own).
+-- What `--watch` reports of a round that begins (this project's own).
 use Rattle.std.specs.Prelude.{◌++◌, ℕ, List, codes}
 use Rattle.std.specs.Fmt.{decimal}
 

@@ -1,5 +1,5 @@
 -- Runs of one round.
-use Rattle.std.proofs.Common.{◌≡◌, ◌∙◌, ◌∷◌, ℕ, List, [], None, Some, inl, inr, sym}
+use Rattle.std.proofs.Common.{◌≡◌, ◌∙◌, ◌∷◌, ℕ, List, [], None, Some, inl, inr, refl, subst, sym}
 use Rattle.lrup_model.specs.Cube.{CubeValue}
 use Rattle.lrup_model.specs.Formula.{Cnf}
 use Rattle.command_line.specs.CommandLine.{checkpoint_of, rounds_of}
@@ -7,7 +7,7 @@ use Rattle.command_line.specs.declared.words.CommandLine.{CommandLine}
 use Rattle.command_line.specs.declared.words.Next.{Next}
 use Rattle.command_line.specs.declared.words.Next.TheVariants.{Checkpoint, Nothing, Rounds}
 use Rattle.command.specs.Commands.{Deeds, FilesView, Text, created_path}
-use Rattle.command.specs.Rounds.{AreRounds, CarriesOn, IsFirst, Round, RoundsEnd, WereRounds}
+use Rattle.command.specs.Rounds.{AreRounds, CarriesOn, Round, RoundsEnd, WereRounds}
 
 -- the checkpoint that is asked for is the file that is created
 pub creates_checkpoint : (next : Next) (path : Text) (number : ℕ) → checkpoint_of next ≡ Some path
@@ -20,30 +20,29 @@ creates_checkpoint (Rounds folder) path number is =
 -- Words that ask for no rounds.
 module _ {given : CommandLine} (once : rounds_of given.next ≡ None) where
   -- no round goes on
-  never_on : {its : Deeds} {cube : CubeValue} (round : Round its given cube) (next : Cnf)
+  pub never_on : {its : Deeds} {cube : CubeValue} (round : Round its given cube) (next : Cnf)
       → CarriesOn round next → ⊥
   never_on round next on = let no : None ≡ Some on.folder = sym once ∙ on.asked in cc
 
   -- so there is one
-  is_first : {its : Deeds} {cube : CubeValue} (formula : Cnf) (first : its.State)
+  is_alone : {its : Deeds} {cube : CubeValue} (formula : Cnf) (first : its.State)
       (last : Round its given cube) (before : List (Round its given cube))
-      → AreRounds formula first (last ∷ before) → IsFirst formula first last
-  is_first formula first last [] rounds = rounds
-  is_first formula first last (b ∷ more) rounds =
+      → AreRounds formula first (last ∷ before) → before ≡ []
+  is_alone formula first last [] rounds = refl
+  is_alone formula first last (b ∷ more) rounds =
       absurd (never_on b last.formula rounds.0.goes_on)
+
+  pub was_alone : (files : FilesView) (cube : CubeValue) (last : Round files.its given cube)
+      (before : List (Round files.its given cube)) → WereRounds files given cube last before
+      → before ≡ []
+  was_alone files cube last before were =
+      is_alone were.formula were.later last before were.rounds
 
   pub were_one : (files : FilesView) (cube : CubeValue) (last : Round files.its given cube)
       (before : List (Round files.its given cube)) → WereRounds files given cube last before
       → WereRounds files given cube last []
-  were_one files cube last before were = record {
-    formula = were.formula;
-    next = were.next;
-    is_formula = were.is_formula;
-    later = were.later;
-    assumed = were.assumed;
-    told = were.told;
-    rounds = is_first were.formula were.later last before were.rounds;
-  }
+  were_one files cube last before were =
+      subst (WereRounds files given cube last) (was_alone files cube last before were) were
 
   -- and nothing is done to the files after it
   pub is_over : {its : Deeds} {cube : CubeValue} (last : Round its given cube) (after : its.State)

@@ -126,7 +126,7 @@ returns-clause-found g c =
       goes_on = λ next is.
           let next_is : closed.result.next ≡ Some next = some_given (λ made. closed.result.next ≡ Some made) is of.next in
           let folder = folder_of line.next
-          (sym c.goes_on-goes_on.ensures ∙ some_given (λ _. c.goes_on-goes_on.result ≡ true) next_is closed.ensures.asked) in
+          (sym c.asks_for_rounds-goes_on.ensures ∙ some_given (λ _. c.asks_for_rounds-goes_on.result ≡ true) next_is closed.ensures.asked) in
           record {
             folder = folder.0;
             asked = folder.1;
@@ -139,7 +139,7 @@ returns-clause-found g c =
         | inl nothing ↦ inl (λ folder asked. closed.ensures.none
             (creates_some its before mid path output (formula_path folder (round.number + 1)) created
             (c.requires.path ∙ created_in line.next folder round.number asked))
-            (c.goes_on-goes_on.ensures ∙ ap (λ (o : Option Text). is_some o) asked) nothing)
+            (c.asks_for_rounds-goes_on.ensures ∙ ap (λ (o : Option Text). is_some o) asked) nothing)
         | inr why ↦ inr (rw c.deref-2.ensures.value at why)
       ]);
     }
