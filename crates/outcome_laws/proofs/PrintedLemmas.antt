@@ -287,8 +287,8 @@ module _ (s count : ℕ) (out : SinkChange) (shows : ShowsBadLine s out) where
   none_of_short : {its : Deeds} {given : CommandLine} {cube : CubeValue} (round : Round its given cube) (written : ℕ) → 0 < round.number
       → SinkTook out (last_text round.number round.reports round.verdict) → ¬ FallsShort IsCutOff s count 1 round written
   none_of_short round written some took (not_kept path asked fault unsaved verdict streams is) = none_of_open round some took streams
-  none_of_short round written some took (under_cube path asked verdict streams is) = none_of_open round some took streams
-  none_of_short round written some took (stopped verdict streams is) = none_of_stopped round some took streams
+  none_of_short round written some took (under_cube path asked verdict saved streams is) = none_of_open round some took streams
+  none_of_short round written some took (stopped verdict saved streams is) = none_of_stopped round some took streams
 
   module _ (files : FilesView) (words : List Text) (after : files.its.State) (err : SinkChange) (status : ℕ) where
     some_of : (ends : EndsWithReport files words after out err status) → 0 < ends.last.number

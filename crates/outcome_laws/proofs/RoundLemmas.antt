@@ -351,9 +351,9 @@ module _ (Mode : Bool → Type 0) (Before Last : RoundAsk) (Why : StopReason) (a
         let asked = asked_under ends.given ends.command_line ends.cube ends.last ends.before ends.were v in
         let other : ¬ (ends.last.verdict ≡ Unsatisfiable) =
         λ refuted. let no : UnsatisfiableUnder ≡ Unsatisfiable = sym v ∙ refuted in cc in
-        inr (under_cube asked.0 asked.1 v (streams_of ends other) refl)
+        inr (under_cube asked.0 asked.1 v u (streams_of ends other) refl)
     short_so ends None u Unknown v =
-        inr (stopped v (lost_in ends.given ends.command_line ends.cube ends.last ends.before ends.were after ends.over v u) refl)
+        inr (stopped v u (lost_in ends.given ends.command_line ends.cube ends.last ends.before ends.were after ends.over v u) refl)
 
     reported_so : (ends : EndsWithReport files words after out err status)
         → (failed : Bool) → out.failed ≡ failed → status ≡ report_status failed ends.last.unsaved ends.last.verdict

@@ -1,5 +1,5 @@
 -- Why the program doesn't say 'unsatisfiable', although the streams of its rounds are valid (this project's own).
-use Rattle.std.specs.Prelude.{◌≡◌, ◌≢◌, ◌⊎◌, ◌<◌, ◌≤◌, ℕ, true, false, List, [], Some}
+use Rattle.std.specs.Prelude.{◌≡◌, ◌≢◌, ◌⊎◌, ◌<◌, ◌≤◌, ℕ, true, false, List, [], None, Some}
 use Rattle.lrup_model.specs.Cube.{CubeValue}
 use Rattle.lrup_model.specs.Layout.{LayoutValue}
 use Rattle.stream_check.specs.declared.report.Report.{Report}
@@ -23,21 +23,21 @@ StopReason = LayoutValue → (stream count : ℕ) → Report → Type 0
 abbrev pub IsCutOff : StopReason
 IsCutOff layout stream count report = IsCutOffIn count report
 
--- so; or the line cites a clause of another stream that wasn't there, or wasn't any more; here the cube makes no difference
+-- so; or the line cites a clause of another stream that wasn't there, or wasn't any more; here the cube and the tries make no difference
 abbrev pub IsStopped : StopReason
 IsStopped layout stream count report =
     IsCutOffIn count report
     ⊎ LacksOfAnotherIn (stream_params (record { layout = layout; cube = []; tries = 0 }) stream)
     count report
 
--- this stream of the round was stopped in one of its first lines, this many
+-- this stream of the round was stopped in one of its first `count` lines
 abbrev pub WasStopped : {its : Deeds} {given : CommandLine} {cube : CubeValue} → StopReason
     → Round its given cube → (stream count : ℕ) → Type 0
 WasStopped Why round stream count =
     (report : Report) × IsOfStream round.reports stream report
     × Why (layout_in round.formula round.sizes) stream count report
 
--- it is a round before the last, and some stream was stopped; or it is the last one, and stream s was, in one of its first lines, this many
+-- it is a round before the last, and some stream was stopped; or it is the last one, and stream s was, in one of its first `count` lines
 abbrev pub HasStopped : {its : Deeds} {given : CommandLine} {cube : CubeValue} → StopReason
     → (s count last : ℕ) → Round its given cube → Type 0
 HasStopped Why s count last round =
@@ -50,8 +50,8 @@ abbrev pub EndedOrStopped : {its : Deeds} {given : CommandLine} {cube : CubeValu
 EndedOrStopped Why s count last round =
     ((round.number < last) × HaveEnded round.reports) ⊎ HasStopped Why s count last round
 
--- Why the report of the last round that there was doesn't say 'unsatisfiable', and the status that it has once it is written. None of
--- these says that a line is wrong.
+-- Why the report of the last round that there was doesn't say 'unsatisfiable', and the status that it has once it is written; `last` is the
+-- number of the round that refutes, before which a run may end. None of these says that a line is wrong.
 pub data FallsShort {its : Deeds} {given : CommandLine} {cube : CubeValue} (Why : StopReason)
     (s count last : ℕ) (round : Round its given cube) (status : ℕ) : Type 0 where
   -- the words ask for a checkpoint or for rounds, and the file wasn't saved
@@ -64,13 +64,14 @@ pub data FallsShort {its : Deeds} {given : CommandLine} {cube : CubeValue} (Why 
   -- the words ask for assumed literals, and the report says 'unsatisfiable under assumptions'
   under_cube :
       (path : Text) (asked : assumed_at given ≡ Some path)
-      (verdict : round.verdict ≡ UnsatisfiableUnder)
+      (verdict : round.verdict ≡ UnsatisfiableUnder) (saved : round.unsaved ≡ None)
       (streams : EndedOrStopped Why s count last round) (is : status ≡ 8)
       → FallsShort Why s count last round status
   -- the report says that a stream was stopped
   stopped :
-      (verdict : round.verdict ≡ Unknown) (streams : HasStopped Why s count last round)
-      (is : status ≡ 3) → FallsShort Why s count last round status
+      (verdict : round.verdict ≡ Unknown) (saved : round.unsaved ≡ None)
+      (streams : HasStopped Why s count last round) (is : status ≡ 3)
+      → FallsShort Why s count last round status
 
 -- Why the program doesn't say 'unsatisfiable'. How it ended says what it wrote to `out` and to `err`: the text of the report of the last
 -- round that there was, or a beginning of it where `out` failed; without a report nothing, and the fault's text.
