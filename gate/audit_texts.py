@@ -380,7 +380,7 @@ RIGHT_ROWS: Rows = [
      valid_turns_say]]. [[InconclusiveBecause]] has the exceptions."""),
     ("Exception: by a fault of the machine, or if a stream's end got lost, the status is 5 or 6, and no report is begun.", """[[InconclusiveBecause:
      no_report : (ends : EndsWithFault files words after out err status) (few : ends.number ≤ last) (is : (status ≡ 5) ⊎ (status ≡
-     6))]]."""),
+     6))]]; [[status_of]] has each fault's status."""),
     ("Exception: if memory ran out or a read failed in these lines, the report says so, and the status is 3, 8 or 9.",
      """[[InconclusiveBecause: short :]] ([[FallsShort]]), [[IsCutOff: IsCutOffIn count report]]; or, in an order, another stream's
      clause lacked ([[IsStopped]]). Status 9 comes only with a checkpoint or rounds ([[FallsShort: not_kept :]])."""),
@@ -415,15 +415,15 @@ ROUNDS_ROWS: Rows = [
      "opened.",
      """[[SavesCheckpoint: checkpoint : IfOk result (WritesCheckpoint formula (its.written first) (its.written last))]],
      [[WritesCheckpoint: checkpoint : IsCheckpoint original bytes]], [[IsCheckpoint: entails : Entails original formula]];
-     [[CarriesOn: next_is : round.next ≡ Some next]], [[WritesCheckpoint: next_is : ForSome next (λ formula. formula ≡
-     checkpoint.formula)]]; [[Round: verdict opened (created_path given.next number) unsaved next after]]."""),
+     [[CarriesOn: next_is : round.next ≡ Some next]], [[ClosesSink: (next ≡ made) × its.keeps before last after]],
+     [[WritesCheckpoint: next_is : ForSome next (λ formula. formula ≡ checkpoint.formula)]]; [[Round: verdict opened (created_path
+     given.next number) unsaved next after]], [[LeavesFile: created : its.creates before path first opened]]."""),
     ("If the report was written, what each round but the last saved follows from the first formula. With status 3 or 8, so does "
      "what the last one saved.",
      """[[fn command.saved_rounds]]: [[RoundsEntailed: (status ≡ 0) ⊎ ((status ≡ 3) ⊎ ((status ≡ 8) ⊎ (status ≡ 9)))]], [[ReportsEntailed: saved :
      SaveEntailed]], [[ReportsEntailed: last_saved : (status ≡ 3) ⊎ (status ≡ 8)]]. What a round saved is a text of a formula over the same variables, and
      all its clauses follow from that of FORMULA ([[SavesEntailed]])."""),
-    ("The streams of each round are checked as those of a single run.", """[[Round: checked : AreChecked its.reading]]: with a history, or
-     with `--serial` an order of lines, of its own. Tries, assumed literals and `--serial` stay ([[Round: given.serial formula
+    ("Each round is checked by a history of its own, or with `--serial` by an order of lines.", """[[Round: checked : AreChecked its.reading]]. Tries, assumed literals and `--serial` stay ([[Round: given.serial formula
      (run_params_by given cube formula sizes)]])."""),
     ("A round is followed by another one only if the words ask for rounds, its verdict is 'unknown', its streams ended, and its "
      "formula was saved.",
@@ -443,8 +443,8 @@ ROUNDS_ROWS: Rows = [
      "lines that add the empty clause.",
      """[[AskForValidRounds]]."""),
     ("Then the status is 0.", """[[law valid_rounds_say]], [[law valid_orders_say]] and, with `--serial`, [[law
-     valid_turn_rounds_say]]. The exceptions are [[InconclusiveBecause]], as of round 1, and a file of sizes that can't be read
-     (5). Status 9 comes if a formula wasn't saved, and 8 if a round is 'unsatisfiable under assumptions'. Status
+     valid_turn_rounds_say]]. The exceptions are those of round 1 ([[InconclusiveBecause]]), and a file of sizes that can't be opened
+     or read (5). Status 9 comes if a formula wasn't saved, and 8 if a round is 'unsatisfiable under assumptions'. Status
      3 comes if a stream was cut off or, in an order, lacked another one's clause. The report says which, printed or not (7)."""),
 ]
 

@@ -25,15 +25,15 @@ use Rattle.command_line.specs.CommandLine.{rounds_of}
 use Rattle.command_line.specs.declared.words.CommandLine.{CommandLine}
 use Rattle.command_line.specs.declared.words.Next.{Next}
 use Rattle.command_line.specs.declared.words.Next.TheVariants.{Checkpoint, Nothing, Rounds}
-use Rattle.command.specs.Commands.{AreOpened, Deeds, Text, created_path, options_by, path_of, run_params_by, sizes_of}
-use Rattle.command.specs.Paths.{formula_path, sizes_path, stream_path, stream_paths}
+use Rattle.command.specs.Commands.{AreOpened, Deeds, Text, options_by, run_params_by, sizes_of}
+use Rattle.command.specs.Paths.{sizes_path, stream_path, stream_paths}
 use Rattle.command.specs.Rounds.{AreRounds, AreSized, IsRoundCause, IsSizesCause, Round, RoundsEnd, StreamsOpened}
 use Rattle.command.specs.internal.RoundProgress.{EndsAt, FailsAfter, IsAlone, IsUnsized, RoundsStand, WasFound, round_of}
 use Rattle.command.specs.declared.course.LastRound.{LastRound}
 use Rattle.command.specs.declared.course.RoundFault.{RoundFault}
 use Rattle.command.specs.declared.fault.CommandFault.{CommandFault}
 use Rattle.command.specs.declared.fault.CommandFault.TheVariants as faults
-use Rattle.command.specs.lemmas.SavedLemmas.{carried_entails, created_in}
+use Rattle.command.specs.lemmas.SavedLemmas.{carried_entails}
 
 -- the paths of one more stream
 pub paths_next : (folder : Text) (number k : ℕ)

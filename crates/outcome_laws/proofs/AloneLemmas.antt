@@ -1,9 +1,8 @@
 -- Runs of the program without rounds.
-use Rattle.std.proofs.Common.{◌≡◌, ◌∙◌, List, [], Option, None, Some, inl, inr, refl, subst, sym}
+use Rattle.std.proofs.Common.{◌≡◌, ◌∙◌, List, Option, None, Some, inl, inr, refl, sym}
 use Rattle.command_line.specs.CommandLine.{AskForRounds, IsCommandLineOf, rounds_of}
 use Rattle.command_line.specs.declared.words.CommandLine.{CommandLine}
 use Rattle.command.specs.Commands.{FilesView, Text}
-use Rattle.command.specs.Rounds.{WereRounds}
 use Rattle.command.specs.lemmas.OneRound.{is_over, never_on, was_alone, were_one}
 use Rattle.outcome_laws.specs.Laws.{OneRoundAlone}
 

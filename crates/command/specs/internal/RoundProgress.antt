@@ -1,11 +1,10 @@
 -- How far the rounds have come: what private functions say of them (this project's own).
-use Rattle.std.specs.Prelude.{◌≡◌, Bool, ◌≤◌, ◌+◌, ◌++◌, ◌∷◌, ◌⊎◌, ℕ, List, Option, None, length, map}
+use Rattle.std.specs.Prelude.{◌≡◌, ◌≤◌, ◌+◌, ◌++◌, ◌∷◌, ◌⊎◌, ℕ, List, Option, None, length, map}
 use Rattle.std.specs.Option.{ForSome}
 use Rattle.lrup_model.specs.Cube.{CubeValue}
 use Rattle.lrup_model.specs.Formula.{Cnf}
 use Rattle.lrup_text.specs.ReadOut.{SourceView}
 use Rattle.lrup_text.specs.Reads.{Gave, GaveAll}
-use Rattle.runs.specs.Streams.{RunParamsValue}
 use Rattle.command_line.specs.Sizes.{HaveNoSizes, IsSizesText}
 use Rattle.command_line.specs.declared.sizes.Sizes.{Sizes}
 use Rattle.command_line.specs.declared.words.CommandLine.{CommandLine}

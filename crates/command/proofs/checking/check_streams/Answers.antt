@@ -11,7 +11,6 @@ use Rattle.command.specs.declared.fault.CommandFault.{CommandFault}
 use Rattle.command.proofs.CheckingLemmas.{create_start, err_given, layout_start, round_start, run_start, some_given}
 use Rattle.command.proofs.RoundLemmas.{barred_by, folder_of, run_params_same, some_streams}
 use Rattle.command.proofs.SavingLemmas.{RanAndLeft, creates_some, leaves_behind, left_moved, left_unused}
-use Rattle.command.proofs.checking.check_streams.Given as given
 use Rattle.command.proofs.checking.check_streams.Goals as goal
 
 -- the cause of a fault is the round's, by what the streams were to be checked by
@@ -126,7 +125,8 @@ returns-clause-found g c =
       goes_on = λ next is.
           let next_is : closed.result.next ≡ Some next = some_given (λ made. closed.result.next ≡ Some made) is of.next in
           let folder = folder_of line.next
-          (sym c.asks_for_rounds-goes_on.ensures ∙ some_given (λ _. c.asks_for_rounds-goes_on.result ≡ true) next_is closed.ensures.asked) in
+          (sym c.asks_for_rounds-goes_on.ensures
+          ∙ some_given (λ _. c.asks_for_rounds-goes_on.result ≡ true) next_is closed.ensures.asked) in
           record {
             folder = folder.0;
             asked = folder.1;

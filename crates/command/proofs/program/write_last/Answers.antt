@@ -21,5 +21,6 @@ returns-in-Err-clause-text g c =
     let last = c.args.last.now in
     let written = g.O.Sink.written in
     let report = report_text last.reports.items last.verdict in
-    let broken = breaks_before (written c.args.out.now) (written c.write_number.new.out) (round_text last.number) report c.in-Err.ensures.text in
+    let broken = breaks_before (written c.args.out.now) (written c.write_number.new.out) (round_text last.number) report
+    c.in-Err.ensures.text in
     (broken.0, broken.1, last_of_more last.number last.reports.items last.verdict c.if-last-eq1.false ∙ broken.2, broken.3)
