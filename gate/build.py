@@ -37,7 +37,7 @@ USES = {name: [word for word in line.split() if word in LINES] for name, line in
 # Processor seconds of a crate's proofs from nothing, as rt ci spent them on four cores.
 SECONDS = {
     "lrup_model": 90, "dimacs": 80, "lrup_text": 180, "propagate": 65, "stream_check": 180, "idwords": 60, "clause_store": 60,
-    "checkpoint": 70, "portfolio": 330, "stream_ring": 80, "stream_jobs": 100, "stream_threads": 205, "runs": 20, "run_laws": 35,
+    "checkpoint": 70, "portfolio": 330, "stream_threads": 385, "run_laws": 35,
     "command_line": 95, "command": 180, "lrupd": 80}
 
 

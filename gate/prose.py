@@ -51,7 +51,7 @@ PAGES: Dict[str, int] = {
     "examples/fifo/README.md": 300,
     "docs/AUDIT.md": 5500,
     "docs/THEOREMS.md": 3500,
-    **{str(path.relative_to(ROOT)): 700 for path in sorted(ROOT.glob("crates/*/specs/README.md"))},
+    **{str(path.relative_to(ROOT)): 700 for path in sorted(ROOT.glob("crates/*/specs/*.md"))},
 }
 # Their tables don't count.
 FIGURES = {"bench/RESULTS.md"}

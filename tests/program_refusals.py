@@ -229,8 +229,8 @@ def tests() -> Iterator[Test]:
     yield Test("dimacs", "a_refused_text_can_be_parsed_again", [])
     yield Test("clause_store", "memory::a_refused_store_can_be_opened_again", [])
     yield Test("checkpoint", "worked::a_refused_save_can_be_made_again", ["AllocError"])
-    yield Test("stream_ring", "a_refused_ring_can_be_made_again", [])
-    yield Test("stream_jobs", "refused_jobs_can_be_made_again", ["AllocError"], last=20)
+    yield Test("stream_threads", "ring::a_refused_ring_can_be_made_again", [])
+    yield Test("stream_threads", "jobs::refused_jobs_can_be_made_again", ["AllocError"], last=20)
     # Some allocations are the test's own; each later one is for the set of dropped identities, and ends the stream.
     yield Test("stream_check", "memory::a_refused_growth_ends_the_reading", ["AllocError"])
     # The last allocation is the test's own, and comes after a thousand calls of each kind.

@@ -1,7 +1,7 @@
 #!/usr/bin/env python3
 """measure.py [--rounds N] [--programs FOLDER]
 
-What a byte costs through the ring between two threads (`stream_ring`), and what a pair costs whose stream is silent or trickles:
+What a byte costs through the ring between two threads (`stream_threads`), and what a pair costs whose stream is silent or trickles:
 elapsed time and processor time of a program that does nothing else. The figures are the medians of the rounds.
 A program that stands in FOLDER is taken from there, and else left there. Wants the toolchain's `rt`.
 """
@@ -18,14 +18,17 @@ import time
 sys.path.insert(0, os.path.dirname(os.path.dirname(os.path.abspath(__file__))))
 from building import build_proved
 
-CRATES = {"lrup_model": "", "lrup_text": "lrup_model memchr thiserror", "stream_ring": "lrup_text rtrb crossbeam_utils"}
+CRATES = {"lrup_model": "", "lrup_text": "lrup_model memchr thiserror", "propagate": "lrup_model",
+          "stream_check": "lrup_text propagate lrup_model", "idwords": "lrup_model atomic_table",
+          "clause_store": "idwords lrup_model",
+          "stream_threads": "clause_store stream_check lrup_text lrup_model rtrb crossbeam_utils"}
 
 
 def build(folder):
     program = os.path.join(folder, "ring_bench")
     if not os.path.exists(program):
         with tempfile.TemporaryDirectory() as work:
-            shutil.copy(build_proved(work, "ring", "ring_bench", CRATES, "stream_ring lrup_text rtrb"), program)
+            shutil.copy(build_proved(work, "ring", "ring_bench", CRATES, "stream_threads lrup_text rtrb"), program)
     return program
 
 

@@ -8,7 +8,7 @@ use Rattle.lrup_model.specs.Layout.{LayoutValue, IsFault, IsStream}
 use Rattle.lrup_model.specs.declared.layout.LayoutFault.{LayoutFault}
 use Rattle.lrup_text.specs.ReadOut.{SourceView}
 use Rattle.portfolio.specs.RingStops.{StopsAtRing}
-use Rattle.runs.specs.Streams.{RunParamsValue}
+use Rattle.stream_check.specs.Streams.{RunParamsValue}
 use Rattle.portfolio.specs.declared.outcome.RunFault.{RunFault}
 use Rattle.portfolio.specs.declared.outcome.RunFault.TheVariants as runs
 use Rattle.checkpoint.specs.Checkpoints.{IsUnsatisfiableText}

@@ -22,8 +22,8 @@ use Rattle.stream_check.specs.declared.report.Report.{Report}
 use Rattle.portfolio.specs.Histories.{IsRunOf, way_of}
 use Rattle.portfolio.specs.Outcomes.{OptionsValue, run_params_of, verdict_of}
 use Rattle.portfolio.specs.RingStops.{StopsAtRing}
-use Rattle.runs.specs.Readings.{readers_view}
-use Rattle.runs.specs.Streams.{RunParamsValue}
+use Rattle.stream_check.specs.Readings.{readers_view}
+use Rattle.stream_check.specs.Streams.{RunParamsValue}
 use Rattle.stream_check.specs.DroppedIdsValue.{DroppedIdsValue}
 use Rattle.portfolio.specs.declared.outcome.Verdict.{Verdict}
 use Rattle.portfolio.specs.declared.outcome.Verdict.TheVariants.{Unsatisfiable, UnsatisfiableUnder, Unknown}

@@ -11,7 +11,7 @@ ghost use Rattle.command.specs.Commands.{AreAssumed, AreOpened, IsAssumeCause, I
 ghost use Rattle.command.specs.internal.Running.{IsFailedRead, run_params_on, IsLayoutCause};
 ghost use Rattle.command.specs.Commands.{Text, WasReadIn, created_path, from_first, path_of};
 ghost use Rattle.command.specs.Rounds.{HaveEnded};
-ghost use Rattle.runs.specs.Readings.{readers_view};
+ghost use Rattle.stream_check.specs.Readings.{readers_view};
 ghost use Rattle.command.specs.internal.RoundProgress.{HasBegun, WasFound};
 ghost use Rattle.command.specs.internal.FaultSources.{of_cube_file};
 

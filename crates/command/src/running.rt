@@ -3,7 +3,7 @@ ghost use Rattle.std.specs.Prelude.{◌≡◌, true, false, IfErr, IfOk, length,
 ghost use Rattle.std.specs.List.{AllByRecursion};
 ghost use Rattle.portfolio.specs.Saving.{CanBeSaved};
 ghost use Rattle.command.specs.internal.Running.{run_params_on, IsRunCause, StandsBehind};
-ghost use Rattle.runs.specs.Readings.{readers_view};
+ghost use Rattle.stream_check.specs.Readings.{readers_view};
 
 use crate::fault::CommandFault;
 use crate::files::Machine;

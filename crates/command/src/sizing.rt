@@ -1,6 +1,6 @@
 //! The sizes of a round, from their file.
 ghost use Rattle.std.specs.Prelude.{◌≡◌, false, IfErr, IfNone, IfOk, IfSome, string_bytes};
-ghost use Rattle.runs.specs.Readings.{readers_view};
+ghost use Rattle.stream_check.specs.Readings.{readers_view};
 ghost use Rattle.command.specs.Paths.{sizes_path};
 ghost use Rattle.command.specs.Rounds.{AreSized, IsSizesCause};
 ghost use Rattle.command.specs.internal.RoundProgress.{IsUnsized, ReadsSizes};

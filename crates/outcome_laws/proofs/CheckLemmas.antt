@@ -14,11 +14,11 @@ use Rattle.lrup_text.specs.Lines.{StreamLine, line_text}
 use Rattle.lrup_text.specs.ReadOut.{SourceView}
 use Rattle.stream_check.specs.declared.report.Report.{Report}
 use Rattle.stream_check.specs.Laws.{EmptyCubeReported}
-use Rattle.runs.specs.SequentialConsistency.{AreJudgedIn}
-use Rattle.runs.specs.Closed.{IsOfStream}
-use Rattle.runs.specs.Streams.{Stream, InputObservation, RunParamsValue, stream_params, observations}
-use Rattle.runs.specs.lemmas.StreamLemmas.{judged_count, same_at, observed_as_many, observation_at, some_end}
-use Rattle.runs.specs.Turns.{IsOrderedByTurns}
+use Rattle.stream_check.specs.SequentialConsistency.{AreJudgedIn}
+use Rattle.stream_check.specs.Closed.{IsOfStream}
+use Rattle.stream_check.specs.Streams.{Stream, InputObservation, RunParamsValue, stream_params, observations}
+use Rattle.stream_check.specs.lemmas.StreamLemmas.{judged_count, same_at, observed_as_many, observation_at, some_end}
+use Rattle.stream_check.specs.Turns.{IsOrderedByTurns}
 use Rattle.run_laws.specs.AnyRun.{LacksOfAnotherIn}
 use Rattle.run_laws.specs.Groups.{IsRun}
 use Rattle.run_laws.specs.Valid.{AddsEmpty, IsCutOffIn, IsValidPrefix}

@@ -16,7 +16,7 @@ use Rattle.stream_check.specs.declared.fault.Fault.TheVariants as faults
 use Rattle.stream_check.specs.declared.report.Ending.{Ending}
 use Rattle.stream_check.specs.declared.report.Ending.TheVariants as endings
 use Rattle.stream_check.specs.declared.report.Report.{Report}
-use Rattle.runs.specs.Closed.{IsOfStream}
+use Rattle.stream_check.specs.Closed.{IsOfStream}
 use Rattle.run_laws.specs.Valid.{IsCutOffIn}
 use Rattle.portfolio.specs.ReportText.{ending_text, report_text, stream_line, stream_lines, verdict_line}
 use Rattle.portfolio.specs.declared.outcome.Verdict.{Verdict}

@@ -6,10 +6,10 @@ use Rattle.lrup_model.specs.Event.{History}
 use Rattle.lrup_model.specs.Formula.{Cnf}
 use Rattle.stream_check.specs.declared.report.Report.{Report}
 use Rattle.stream_check.specs.StreamParams.{StreamParams}
-use Rattle.runs.specs.Closed.{IsOfStream}
-use Rattle.runs.specs.lemmas.EachLemmas.{each_map}
-use Rattle.runs.specs.SequentialConsistency.{AreJudgedIn}
-use Rattle.runs.specs.Streams.{Stream, InputObservation, JudgesStream, RunParamsValue, stream_params}
+use Rattle.stream_check.specs.Closed.{IsOfStream}
+use Rattle.stream_check.specs.lemmas.EachLemmas.{each_map}
+use Rattle.stream_check.specs.SequentialConsistency.{AreJudgedIn}
+use Rattle.stream_check.specs.Streams.{Stream, InputObservation, JudgesStream, RunParamsValue, stream_params}
 use Rattle.run_laws.specs.Groups.{IsRun}
 use Rattle.run_laws.specs.GroupLaws.{SameBytesAgree}
 use Rattle.outcome_laws.specs.Outcomes.{bare_params, bare_report}

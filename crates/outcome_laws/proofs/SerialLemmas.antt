@@ -12,9 +12,9 @@ use Rattle.stream_check.specs.declared.report.Ending.{Ending}
 use Rattle.stream_check.specs.declared.report.Ending.TheVariants as endings
 use Rattle.stream_check.specs.declared.report.Report.{Report}
 use Rattle.stream_check.specs.Laws.{IsOfMemory, IsOfFailure}
-use Rattle.runs.specs.Turns.{IsByTurns, IsOrderedByTurns}
-use Rattle.runs.specs.Closed.{IsOfStream}
-use Rattle.runs.specs.Streams.{InputObservation, RunParamsValue}
+use Rattle.stream_check.specs.Turns.{IsByTurns, IsOrderedByTurns}
+use Rattle.stream_check.specs.Closed.{IsOfStream}
+use Rattle.stream_check.specs.Streams.{InputObservation, RunParamsValue}
 use Rattle.run_laws.specs.Groups.{IsRun}
 use Rattle.run_laws.specs.Valid.{AddsEmpty, IsCutOffIn, valid_report}
 use Rattle.run_laws.specs.ValidLaws.{ValidEmpty}

@@ -12,8 +12,8 @@ use Rattle.lrup_text.specs.ReadOut.{SourceView}
 use Rattle.stream_check.specs.declared.fault.Fault.TheVariants as stream_faults
 use Rattle.stream_check.specs.declared.report.Ending.TheVariants as endings
 use Rattle.stream_check.specs.declared.report.Report.{Report}
-use Rattle.runs.specs.Closed.{IsOfStream}
-use Rattle.runs.specs.lemmas.StreamLemmas.{judged_count}
+use Rattle.stream_check.specs.Closed.{IsOfStream}
+use Rattle.stream_check.specs.lemmas.StreamLemmas.{judged_count}
 use Rattle.run_laws.specs.Valid.{IsCutOffIn}
 use Rattle.run_laws.specs.ValidLaws.{ValidBegins, ValidEmpty, ValidReported}
 use Rattle.run_laws.specs.Together.{Step, TogetherBegins, ValidTogether, lines_by}

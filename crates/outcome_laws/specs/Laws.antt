@@ -9,8 +9,8 @@ use Rattle.stream_check.specs.declared.report.Report.{Report}
 use Rattle.stream_check.specs.Judging.{JudgesBlocks}
 use Rattle.stream_check.specs.Laws.{IsOfMemory, IsOfFailure}
 use Rattle.stream_check.specs.StreamParams.{StreamParams}
-use Rattle.runs.specs.Closed.{IsOfStream, CiteWithin}
-use Rattle.runs.specs.Streams.{InputObservation, RunParamsValue}
+use Rattle.stream_check.specs.Closed.{IsOfStream, CiteWithin}
+use Rattle.stream_check.specs.Streams.{InputObservation, RunParamsValue}
 use Rattle.run_laws.specs.Groups.{one, IsRun}
 use Rattle.portfolio.specs.ReportText.{stream_line}
 use Rattle.command_line.specs.CommandLine.{AskForRounds, IsCommandLineOf}

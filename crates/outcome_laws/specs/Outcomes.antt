@@ -5,7 +5,7 @@ use Rattle.lrup_model.specs.Layout.{LayoutValue}
 use Rattle.stream_check.specs.declared.report.Report.{Report}
 use Rattle.stream_check.specs.Laws.{IsOfMemory, IsOfFailure}
 use Rattle.stream_check.specs.StreamParams.{StreamParams}
-use Rattle.runs.specs.Closed.{IsOfStream}
+use Rattle.stream_check.specs.Closed.{IsOfStream}
 use Rattle.portfolio.specs.Outcomes.{layout_of}
 use Rattle.command_line.specs.declared.sizes.Sizes.{Sizes}
 use Rattle.command_line.specs.declared.words.CommandLine.{CommandLine}

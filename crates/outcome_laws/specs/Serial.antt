@@ -1,7 +1,7 @@
 -- Round 1 of runs on one thread, and the law of it (this project's own).
 use Rattle.std.specs.Prelude.{◌≡◌, ℕ, true, List, [], Some}
 use Rattle.lrup_model.specs.Cube.{CubeValue}
-use Rattle.runs.specs.Closed.{IsOfStream}
+use Rattle.stream_check.specs.Closed.{IsOfStream}
 use Rattle.run_laws.specs.TurnsLaws.{NoneCutShort}
 use Rattle.command_line.specs.declared.words.CommandLine.{CommandLine}
 use Rattle.command.specs.Commands.{FilesView, Text, sizes_of}

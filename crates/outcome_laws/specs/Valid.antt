@@ -10,8 +10,8 @@ use Rattle.lrup_text.specs.Cubes.{IsCubeFault}
 use Rattle.lrup_text.specs.declared.cube.CubeFault.{CubeFault}
 use Rattle.lrup_text.specs.declared.cube.CubeFault.TheVariants as cubes
 use Rattle.dimacs.specs.FormulaText.{IsFormulaText}
-use Rattle.runs.specs.Closed.{IsOfStream}
-use Rattle.runs.specs.Turns.{IsByTurns}
+use Rattle.stream_check.specs.Closed.{IsOfStream}
+use Rattle.stream_check.specs.Turns.{IsByTurns}
 use Rattle.run_laws.specs.Valid.{AddsEmpty, IsValidRefutation, IsValidProof}
 use Rattle.run_laws.specs.Together.{Step, IsValidOrder, lines_by}
 use Rattle.command_line.specs.CommandLine.{IsCommandLineOf, rounds_of}

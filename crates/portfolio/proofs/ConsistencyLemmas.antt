@@ -35,17 +35,17 @@ use Rattle.portfolio.specs.Dropping.{HasDropped, HaveDropped}
 use Rattle.portfolio.specs.Outcomes.{OptionsValue, layout_of, run_params_of, verdict_of}
 use Rattle.portfolio.specs.Histories.{InThreads, IsRunOf, IsRunOfSome}
 use Rattle.portfolio.specs.RingStops.{StopsAtRing, WasReadOut}
-use Rattle.runs.specs.Each.{Each, EachOfThree}
-use Rattle.runs.specs.lemmas.EachLemmas.{each_count, each_take, zip_count}
-use Rattle.runs.specs.lemmas.StreamLemmas.{IsJudgedBy, observed_as_many, observed_count}
-use Rattle.runs.specs.SequentialConsistency.{HaveOneHistory, AreJudgedIn, seen_by}
+use Rattle.stream_check.specs.Each.{Each, EachOfThree}
+use Rattle.stream_check.specs.lemmas.EachLemmas.{each_count, each_take, zip_count}
+use Rattle.stream_check.specs.lemmas.StreamLemmas.{IsJudgedBy, observed_as_many, observed_count}
+use Rattle.stream_check.specs.SequentialConsistency.{HaveOneHistory, AreJudgedIn, seen_by}
 use Rattle.stream_threads.specs.Faults.{IsFaultOf}
 use Rattle.stream_threads.specs.Jobs.{StreamJobsValue, StreamResultValue, StreamResultsValue, CanBegin, Finishes, AllFinish, AreResults}
 use Rattle.stream_threads.specs.Jobs.{AreJobs, MissesMark}
-use Rattle.stream_threads.specs.declared.jobs.ThreadFault.TheVariants as thread_faults
+use Rattle.stream_threads.specs.declared.stream_jobs.ThreadFault.TheVariants as thread_faults
 use Rattle.lrup_text.specs.ReadOut.{SourceView}
-use Rattle.runs.specs.Readings.{AreRead, IsStreamOf}
-use Rattle.runs.specs.Streams.{Stream, InputObservation, observations, MatchesInput, JudgesStream, RunParamsValue, stream_params}
+use Rattle.stream_check.specs.Readings.{AreRead, IsStreamOf}
+use Rattle.stream_check.specs.Streams.{Stream, InputObservation, observations, MatchesInput, JudgesStream, RunParamsValue, stream_params}
 use Rattle.run_laws.specs.Groups.{IsRun}
 use Rattle.portfolio.proofs.DroppingLemmas.{job_drops}
 use Rattle.portfolio.proofs.EmptyLemmas.{sound}

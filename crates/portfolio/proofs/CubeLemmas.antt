@@ -21,10 +21,10 @@ use Rattle.stream_check.specs.StreamContext.{is_within}
 use Rattle.stream_check.specs.lemmas.CubeLemmas.{is_within-decides}
 use Rattle.stream_check.specs.Judging.{joined, JudgesBlocks}
 use Rattle.stream_check.specs.lemmas.ReportLemmas.{said_within}
-use Rattle.runs.specs.lemmas.StreamLemmas.{some_end}
-use Rattle.runs.specs.Streams.{Stream, JudgesStream, InputObservation, RunParamsValue, stream_params}
+use Rattle.stream_check.specs.lemmas.StreamLemmas.{some_end}
+use Rattle.stream_check.specs.Streams.{Stream, JudgesStream, InputObservation, RunParamsValue, stream_params}
 use Rattle.run_laws.specs.Groups.{IsRun}
-use Rattle.runs.specs.SequentialConsistency.{AreJudgedIn}
+use Rattle.stream_check.specs.SequentialConsistency.{AreJudgedIn}
 use Rattle.run_laws.specs.lemmas.PublishLemmas.{publishes_within}
 use Rattle.portfolio.specs.declared.outcome.Verdict.{Verdict}
 use Rattle.portfolio.specs.declared.outcome.Verdict.TheVariants.{Unsatisfiable, UnsatisfiableUnder, Unknown}

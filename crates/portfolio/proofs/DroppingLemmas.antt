@@ -16,8 +16,8 @@ use Rattle.stream_check.specs.StreamParams.{StreamParams}
 use Rattle.stream_check.specs.StreamContext.{is_among, context_of}
 use Rattle.stream_check.specs.Stopping.{DropsUntilStop, IsFullAtMemory}
 use Rattle.stream_check.specs.lemmas.StoppingLemmas.{drops_none}
-use Rattle.stream_jobs.specs.Judged.{DropsBy, ending_with}
-use Rattle.runs.specs.Streams.{Stream, RunParamsValue}
+use Rattle.stream_threads.specs.Judged.{DropsBy, ending_with}
+use Rattle.stream_check.specs.Streams.{Stream, RunParamsValue}
 use Rattle.portfolio.specs.Dropping.{AreDroppedBy, HasDropped, HaveDropped}
 
 -- where a checker isn't over, all lines were good

@@ -26,8 +26,8 @@ use Rattle.stream_check.specs.Additions.{published_by}
 use Rattle.stream_check.specs.Judging.{JudgesLine, AreGood, joined, JudgesBlocks}
 use Rattle.stream_check.specs.lemmas.ReportLemmas.{said_empty}
 use Rattle.run_laws.specs.lemmas.PublishLemmas.{publishes_empty}
-use Rattle.runs.specs.lemmas.StreamLemmas.{some_end}
-use Rattle.runs.specs.Streams.{Stream, JudgesStream}
+use Rattle.stream_check.specs.lemmas.StreamLemmas.{some_end}
+use Rattle.stream_check.specs.Streams.{Stream, JudgesStream}
 
 -- ---- some element of a list
 

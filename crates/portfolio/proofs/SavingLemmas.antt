@@ -19,7 +19,7 @@ use Rattle.lrup_model.specs.State.{State, Answers, opening, state}
 use Rattle.stream_check.specs.internal.Checking.{IsFetch}
 use Rattle.checkpoint.specs.Live.{fetches}
 use Rattle.clause_store.specs.Passes.{AreOf, PassValue, StoreValue, store_of}
-use Rattle.runs.specs.SequentialConsistency.{HaveOneHistory}
+use Rattle.stream_check.specs.SequentialConsistency.{HaveOneHistory}
 use Rattle.run_laws.specs.lemmas.OwnLemmas.{own_all}
 
 -- ---- histories of fetches

@@ -30,13 +30,14 @@ use Rattle.portfolio.proofs.RoundLemmas.{round_passed, round_over}
 use Rattle.portfolio.proofs.WorkingLemmas.{not_over}
 use Rattle.portfolio.specs.Dropping.{HasDropped, HaveDropped}
 use Rattle.lrup_text.specs.ReadOut.{SourceView}
-use Rattle.runs.specs.Readings.{AreRead, IsStreamOf}
-use Rattle.runs.specs.Streams.{Stream, observations, MatchesInput, JudgesStream, Block, blocks_of, events_in, IsBlockWithin, stream_params}
-use Rattle.runs.specs.Streams.{AreJudged}
-use Rattle.runs.specs.Streams.{RunParamsValue}
-use Rattle.runs.specs.lemmas.EachLemmas.{each_count, each_push, each_second, each_set, each_within}
-use Rattle.runs.specs.lemmas.StreamLemmas.{observed_as_many, observed_count}
-use Rattle.runs.specs.Turns.{IsOrderedByTurns, streams_of}
+use Rattle.stream_check.specs.Readings.{AreRead, IsStreamOf}
+use Rattle.stream_check.specs.Streams.{Stream, observations, MatchesInput, JudgesStream, Block, blocks_of, events_in, IsBlockWithin}
+use Rattle.stream_check.specs.Streams.{stream_params}
+use Rattle.stream_check.specs.Streams.{AreJudged}
+use Rattle.stream_check.specs.Streams.{RunParamsValue}
+use Rattle.stream_check.specs.lemmas.EachLemmas.{each_count, each_push, each_second, each_set, each_within}
+use Rattle.stream_check.specs.lemmas.StreamLemmas.{observed_as_many, observed_count}
+use Rattle.stream_check.specs.Turns.{IsOrderedByTurns, streams_of}
 use Rattle.run_laws.specs.lemmas.OwnLemmas.{ordered_judged, own-blocks}
 use Rattle.portfolio.proofs.DroppingLemmas.{dropped_more}
 use Rattle.portfolio.specs.Histories.{IsRunOf, OnOneThread}

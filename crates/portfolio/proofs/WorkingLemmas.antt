@@ -22,7 +22,7 @@ use Rattle.stream_check.specs.Checker.{AreBlocksOf, state_by, checker_state, Ext
 use Rattle.lrup_text.specs.lemmas.ReadLemmas.{gave_more}
 use Rattle.lrup_text.specs.ReadOut.{EndsSo, IsLastRead, SourceView}
 use Rattle.lrup_text.specs.Reads.{Gave}
-use Rattle.runs.specs.lemmas.StreamLemmas.{judged_out}
+use Rattle.stream_check.specs.lemmas.StreamLemmas.{judged_out}
 use Rattle.portfolio.specs.Dropping.{HasDropped}
 use Rattle.portfolio.specs.internal.Working.{AreBlocksOfTurn, WorkerValue, WorkerInvariantBy, WorkerInvariant, WorkerStep}
 use Rattle.portfolio.proofs.DroppingLemmas.{going_drops, stopped_drops}

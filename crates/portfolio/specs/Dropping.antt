@@ -10,8 +10,8 @@ use Rattle.stream_check.specs.StreamParams.{StreamParams}
 use Rattle.stream_check.specs.StreamContext.{is_among, context_of}
 use Rattle.stream_check.specs.Judging.{AreGood}
 use Rattle.stream_check.specs.Stopping.{DropsUntilStop}
-use Rattle.runs.specs.Each.{EachOfThree}
-use Rattle.runs.specs.Streams.{Stream, RunParamsValue, stream_params}
+use Rattle.stream_check.specs.Each.{EachOfThree}
+use Rattle.stream_check.specs.Streams.{Stream, RunParamsValue, stream_params}
 
 -- These are the identities that the lines of the bytes, which are good by these blocks of events, drop: of those that a deletion among them
 -- names, the formula's and other streams'.

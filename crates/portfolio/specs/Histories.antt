@@ -7,9 +7,9 @@ use Rattle.lrup_text.specs.ReadOut.{SourceView}
 use Rattle.stream_check.specs.DroppedIdsValue.{DroppedIdsValue}
 use Rattle.stream_check.specs.Judging.{joined}
 use Rattle.stream_check.specs.declared.report.Report.{Report}
-use Rattle.runs.specs.Readings.{AreRead}
-use Rattle.runs.specs.Streams.{Stream, RunParamsValue, events_in, observations}
-use Rattle.runs.specs.Turns.{IsOrderedByTurns}
+use Rattle.stream_check.specs.Readings.{AreRead}
+use Rattle.stream_check.specs.Streams.{Stream, RunParamsValue, events_in, observations}
+use Rattle.stream_check.specs.Turns.{IsOrderedByTurns}
 use Rattle.run_laws.specs.Groups.{IsRun, IsRunOfFirst}
 use Rattle.portfolio.specs.Dropping.{HaveDropped}
 

@@ -7,7 +7,7 @@ use Rattle.lrup_model.specs.Layout.{LayoutValue}
 use Rattle.stream_check.specs.declared.report.Report.{Report}
 use Rattle.portfolio.specs.declared.outcome.Verdict.{Verdict}
 use Rattle.portfolio.specs.declared.outcome.Verdict.TheVariants.{Unsatisfiable, UnsatisfiableUnder, Unknown}
-use Rattle.runs.specs.Streams.{RunParamsValue}
+use Rattle.stream_check.specs.Streams.{RunParamsValue}
 
 -- how often an identity of another stream is fetched again while it is vacant; and for each stream, identities and room in literals
 pub record OptionsValue : Type 0 where

@@ -7,7 +7,7 @@ use Rattle.lrup_model.specs.Formula.{Cnf}
 use Rattle.lrup_model.specs.Layout.{Fits, LayoutValue, last_identity}
 use Rattle.lrup_model.specs.Plain.{formula_of, plain_state}
 use Rattle.lrup_model.specs.State.{State, Answers, state}
-use Rattle.runs.specs.SequentialConsistency.{HaveOneHistory}
+use Rattle.stream_check.specs.SequentialConsistency.{HaveOneHistory}
 use Rattle.stream_check.specs.DroppedIdsValue.{DroppedIdsValue}
 use Rattle.stream_check.specs.StreamContext.{is_among}
 use Rattle.checkpoint.specs.Checkpoints.{Saves}

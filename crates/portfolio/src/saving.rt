@@ -6,7 +6,7 @@ ghost use Rattle.lrup_model.specs.Layout.{Fits};
 ghost use Rattle.lrup_model.specs.Plain.{PlainMoves, formula_of, plain_state};
 ghost use Rattle.lrup_model.specs.State.{state};
 ghost use Rattle.clause_store.specs.Passes.{AreOf, views};
-ghost use Rattle.runs.specs.SequentialConsistency.{HaveOneHistory};
+ghost use Rattle.stream_check.specs.SequentialConsistency.{HaveOneHistory};
 ghost use Rattle.checkpoint.specs.Checkpoints.{WritesCheckpoint};
 ghost use Rattle.checkpoint.specs.Live.{fetches};
 ghost use Rattle.portfolio.specs.Saving.{CanBeSaved, SavesState, WereLeftBy, is_wanted, layout_left};

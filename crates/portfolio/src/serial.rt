@@ -13,7 +13,7 @@ ghost use Rattle.stream_check.specs.Judging.{joined};
 ghost use Rattle.run_laws.specs.Groups.{AreIsolated};
 ghost use Rattle.portfolio.specs.Histories.{IsOfRun, OnOneThread};
 ghost use Rattle.portfolio.specs.Outcomes.{layout_of, run_params_of, verdict_of};
-ghost use Rattle.runs.specs.Readings.{readers_view};
+ghost use Rattle.stream_check.specs.Readings.{readers_view};
 ghost use Rattle.portfolio.specs.internal.Turns.{AreOver, SerialEnd, AreStarted, SerialStep, HaveReports, IsOverAt, IsInSerialRun};
 ghost use Rattle.portfolio.specs.internal.Working.{AreBlocksOfTurn, WorkerStep};
 
@@ -23,11 +23,10 @@ use crate::worker::Worker;
 use lrup_model::{Cube, Formula, PlainMap};
 use lrup_text::Source;
 use run_laws::groups::run_isolated;
-use runs::RunParams;
 use std::alloc::{AllocError, Global};
 use std::sync::Wait;
 use stream_check::laws::ready_beside;
-use stream_check::{DroppedIds, Gate, Report};
+use stream_check::{DroppedIds, Gate, Report, RunParams};
 
 /// Checks all streams of a formula on this thread, in turn, stream 1 first: in its turn a stream is read until one line was taken, or the
 /// stream is over. The outcome has a report for each stream, and the verdict of these: whether a stream added the empty clause, or one

@@ -7,8 +7,8 @@ ghost use Rattle.lrup_model.specs.Layout.{IsFault, IsStream};
 ghost use Rattle.lrup_model.specs.declared.layout.LayoutFault.{LayoutFault};
 ghost use Rattle.lrup_model.specs.Pass.{AreSynced};
 ghost use Rattle.clause_store.specs.Passes.{AreOf, ShareHistory, views};
-ghost use Rattle.runs.specs.Readings.{readers_view};
-ghost use Rattle.runs.specs.SequentialConsistency.{HaveOneHistory, seen_by};
+ghost use Rattle.stream_check.specs.Readings.{readers_view};
+ghost use Rattle.stream_check.specs.SequentialConsistency.{HaveOneHistory, seen_by};
 ghost use Rattle.portfolio.specs.Histories.{InThreads, IsOfRun};
 ghost use Rattle.portfolio.specs.Outcomes.{layout_of, run_params_of, verdict_of};
 ghost use Rattle.portfolio.specs.RingStops.{StopsAtRing};
@@ -22,11 +22,10 @@ use lrup_model::{Cube, Formula};
 use lrup_text::Source;
 use run_laws::groups::run_isolated;
 use run_laws::orders::run_serializable;
-use runs::RunParams;
 use std::alloc::Global;
 use std::sync::Wait;
 use std::thread::Threads;
-use stream_check::Gate;
+use stream_check::{Gate, RunParams};
 use stream_threads::{StartSignal, StreamResults, ThreadFault, ThreadLists, check_all, jobs_of};
 
 /// Checks all streams of a formula, with two threads for each: one reads the stream's bytes to the end, and the other checks them, against

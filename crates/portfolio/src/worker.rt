@@ -6,16 +6,15 @@ ghost use Rattle.lrup_model.specs.Layout.{IsStream};
 ghost use Rattle.stream_check.specs.CheckerValue.{report_of_tally};
 ghost use Rattle.stream_check.specs.Checker.{AreBlocksOf, IsReadyAt};
 ghost use Rattle.stream_check.specs.Judging.{joined};
-ghost use Rattle.runs.specs.Readings.{readers_view};
+ghost use Rattle.stream_check.specs.Readings.{readers_view};
 ghost use Rattle.portfolio.specs.internal.Working.{AreBlocksOfTurn, IsStarted, WorkerStep};
 
 use lrup_model::ClauseMap;
 use lrup_text::{PIECE, Source, StreamEnd};
-use runs::RunParams;
 use std::alloc::{AllocError, Global};
 use std::marker::Model;
 use std::sync::Wait;
-use stream_check::{CheckStatus, Checker, DroppedIds, Gate, Report};
+use stream_check::{CheckStatus, Checker, DroppedIds, Gate, Report, RunParams};
 
 /// What a run on one thread has of a stream: its reader, its gate and its checker, and a buffer of what was read. The bytes that aren't
 /// checked yet lie in the buffer between `from` and `to`.

@@ -27,11 +27,12 @@ use Rattle.portfolio.specs.Dropping.{HasDropped, HasDroppedBy, HaveDropped}
 use Rattle.portfolio.specs.Outcomes.{OptionsValue, run_params_of, verdict_of}
 use Rattle.run_laws.specs.Serializable.{ComeToVerdict, IsSerializable}
 use Rattle.run_laws.specs.Premises.{FoundStays}
-use Rattle.runs.specs.lemmas.StreamLemmas.{same_at}
+use Rattle.stream_check.specs.lemmas.StreamLemmas.{same_at}
 use Rattle.lrup_text.specs.ReadOut.{SourceView}
-use Rattle.runs.specs.Readings.{AreRead}
-use Rattle.runs.specs.Streams.{Stream, InputObservation, RunParamsValue, observation_of, observations, IsOrdered, events_in, stream_params}
-use Rattle.runs.specs.Closed.{IsOfStream, IsOwnedWithin, CiteWithin}
+use Rattle.stream_check.specs.Readings.{AreRead}
+use Rattle.stream_check.specs.Streams.{Stream, InputObservation, RunParamsValue, observation_of, observations, IsOrdered, events_in}
+use Rattle.stream_check.specs.Streams.{stream_params}
+use Rattle.stream_check.specs.Closed.{IsOfStream, IsOwnedWithin, CiteWithin}
 use Rattle.run_laws.specs.Groups.{one, AreIsolated, IsRun}
 use Rattle.run_laws.specs.lemmas.ReportLemmas.{only}
 use Rattle.run_laws.specs.GroupLaws.{ReadersClosed, MatchIsReading}

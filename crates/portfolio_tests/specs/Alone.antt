@@ -11,8 +11,8 @@ use Rattle.lrup_text.specs.declared.device.StreamEnd.TheVariants as stream_ends
 use Rattle.portfolio.specs.Outcomes.{OptionsValue, layout_of, run_params_of}
 use Rattle.portfolio.specs.declared.outcome.Verdict.{Verdict}
 use Rattle.portfolio.specs.declared.outcome.Verdict.TheVariants.{Unsatisfiable}
-use Rattle.runs.specs.Closed.{IsOfStream}
-use Rattle.runs.specs.Streams.{Block, RunParamsValue, events_in}
+use Rattle.stream_check.specs.Closed.{IsOfStream}
+use Rattle.stream_check.specs.Streams.{Block, RunParamsValue, events_in}
 use Rattle.run_laws.specs.Groups.{IsReportAlone}
 use Rattle.test_support.specs.Worked.{four}
 

@@ -10,8 +10,8 @@ use Rattle.lrup_model.specs.State.{State}
 use Rattle.lrup_model.specs.History.{LegalFrom}
 use Rattle.stream_check.specs.Judging.{joined}
 use Rattle.stream_check.specs.Reducing.{reduced}
-use Rattle.runs.specs.Streams.{Block, blocks_of, events_in}
-use Rattle.runs.specs.lemmas.StreamLemmas.{blocks-same, blocks-other}
+use Rattle.stream_check.specs.Streams.{Block, blocks_of, events_in}
+use Rattle.stream_check.specs.lemmas.StreamLemmas.{blocks-same, blocks-other}
 use Rattle.run_laws.specs.Lines.{IsLineBlock}
 use Rattle.run_laws.proofs.BlockLemmas.{IsSettled}
 use Rattle.run_laws.proofs.SwapLemmas.{Settles}

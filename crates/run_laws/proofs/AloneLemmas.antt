@@ -13,8 +13,8 @@ use Rattle.stream_check.specs.declared.report.Report.{Report}
 use Rattle.stream_check.specs.StreamParams.{StreamParams}
 use Rattle.stream_check.specs.Judging.{JudgesBlocks, Judges}
 use Rattle.stream_check.specs.Laws.{cited_by, OverStays, AloneDecides}
-use Rattle.runs.specs.Streams.{Stream, RunParamsValue, stream_params}
-use Rattle.runs.specs.Closed.{IsOfStream, IsOwnedWithin}
+use Rattle.stream_check.specs.Streams.{Stream, RunParamsValue, stream_params}
+use Rattle.stream_check.specs.Closed.{IsOfStream, IsOwnedWithin}
 use Rattle.run_laws.specs.Groups.{one, IsGroup, IsReadingOf}
 use Rattle.run_laws.specs.GroupLaws.{AloneHasOneReport, BeginningsWithin}
 use Rattle.run_laws.proofs.Places.{judged_at}

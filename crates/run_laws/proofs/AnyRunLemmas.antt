@@ -29,10 +29,10 @@ use Rattle.stream_check.specs.Laws.{CitedFetched, IsOfMemory, IsOfFailure}
 use Rattle.stream_check.specs.lemmas.ReportLemmas.{additions-append, joined-append, split_first}
 use Rattle.stream_check.specs.StreamParams.{StreamParams}
 use Rattle.stream_check.specs.StreamContext.{additions_of}
-use Rattle.runs.specs.Closed.{IsOfStream, IsClosed}
-use Rattle.runs.specs.SequentialConsistency.{AreJudgedIn}
-use Rattle.runs.specs.Streams.{Stream, InputObservation, RunParamsValue, stream_params}
-use Rattle.runs.specs.lemmas.StreamLemmas.{judged_count, same_at, some_end, observed_count}
+use Rattle.stream_check.specs.Closed.{IsOfStream, IsClosed}
+use Rattle.stream_check.specs.SequentialConsistency.{AreJudgedIn}
+use Rattle.stream_check.specs.Streams.{Stream, InputObservation, RunParamsValue, stream_params}
+use Rattle.stream_check.specs.lemmas.StreamLemmas.{judged_count, same_at, some_end, observed_count}
 use Rattle.run_laws.specs.AnyRun.{HaveBytesOf, LacksOfAnother, LacksOfAnotherIn, ValidInAnyRun}
 use Rattle.run_laws.specs.Valid.{IsCutOffIn, TellsAtLeast}
 use Rattle.run_laws.specs.Groups.{IsRun}

@@ -17,7 +17,7 @@ use Rattle.stream_check.specs.Judging.{EndsAfter, joined}
 use Rattle.stream_check.specs.Laws.{EndJudged, FreshLeft, GoodLineTaken}
 use Rattle.stream_check.specs.lemmas.ReportLemmas.{joined-append}
 use Rattle.stream_check.specs.StreamParams.{StreamParams, ownership_of}
-use Rattle.runs.specs.Streams.{stream_params}
+use Rattle.stream_check.specs.Streams.{stream_params}
 use Rattle.run_laws.specs.Valid.{valid_report}
 use Rattle.run_laws.specs.ValidLaws.{ValidBegins}
 use Rattle.run_laws.proofs.AnyRunLemmas.{foreign_by, IsReadIn, read_in}

@@ -11,8 +11,8 @@ use Rattle.lrup_model.specs.History.{LegalFrom}
 use Rattle.lrup_model.specs.lemmas.RunningLemmas.{legal-append}
 use Rattle.lrup_model.specs.lemmas.HistoryLemmas.{legal-front, legal-back}
 use Rattle.stream_check.specs.Reducing.{is_vacant}
-use Rattle.runs.specs.Streams.{Block, blocks_of, events_in}
-use Rattle.runs.specs.lemmas.StreamLemmas.{blocks-same, blocks-other}
+use Rattle.stream_check.specs.Streams.{Block, blocks_of, events_in}
+use Rattle.stream_check.specs.lemmas.StreamLemmas.{blocks-same, blocks-other}
 use Rattle.stream_check.specs.internal.Checking.{IsFetch}
 use Rattle.stream_check.specs.Deletions.{IsRetire}
 use Rattle.run_laws.proofs.SwapLemmas.{Settles, goes-behind, comes-before}

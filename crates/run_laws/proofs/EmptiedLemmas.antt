@@ -11,9 +11,9 @@ use Rattle.stream_check.specs.StreamParams.{StreamParams}
 use Rattle.stream_check.specs.StreamContext.{context_of}
 use Rattle.stream_check.specs.Reaching.{GoingState}
 use Rattle.stream_check.specs.Laws.{FreshLeft, EndJudged}
-use Rattle.runs.specs.Streams.{Stream, JudgesStream, RunParamsValue, stream_params}
-use Rattle.runs.specs.lemmas.StreamLemmas.{IsJudgedBy, judged_out}
-use Rattle.runs.specs.SequentialConsistency.{AreJudgedIn}
+use Rattle.stream_check.specs.Streams.{Stream, JudgesStream, RunParamsValue, stream_params}
+use Rattle.stream_check.specs.lemmas.StreamLemmas.{IsJudgedBy, judged_out}
+use Rattle.stream_check.specs.SequentialConsistency.{AreJudgedIn}
 use Rattle.run_laws.specs.Groups.{empty_stream, empty_report, with_others}
 use Rattle.run_laws.specs.GroupLaws.{OthersEmpty}
 

@@ -19,11 +19,11 @@ use Rattle.stream_check.specs.declared.report.Report.{Report}
 use Rattle.stream_check.specs.StreamParams.{StreamParams}
 use Rattle.stream_check.specs.Judging.{joined}
 use Rattle.stream_check.specs.Laws.{cited_by, FetchesOnly, CitedFetched}
-use Rattle.runs.specs.lemmas.EachLemmas.{each_within}
-use Rattle.runs.specs.lemmas.StreamLemmas.{IsJudgedBy, some_end, judged_count}
-use Rattle.runs.specs.Streams.{Stream, JudgesStream, RunParamsValue, stream_params}
-use Rattle.runs.specs.SequentialConsistency.{AreJudgedIn}
-use Rattle.runs.specs.Closed.{IsOwnedWithin, CiteWithin, IsClosed}
+use Rattle.stream_check.specs.lemmas.EachLemmas.{each_within}
+use Rattle.stream_check.specs.lemmas.StreamLemmas.{IsJudgedBy, some_end, judged_count}
+use Rattle.stream_check.specs.Streams.{Stream, JudgesStream, RunParamsValue, stream_params}
+use Rattle.stream_check.specs.SequentialConsistency.{AreJudgedIn}
+use Rattle.stream_check.specs.Closed.{IsOwnedWithin, CiteWithin, IsClosed}
 use Rattle.run_laws.specs.GroupLaws.{ClosedIsGroup}
 use Rattle.run_laws.proofs.Places.{has_place, judged_at}
 

@@ -15,10 +15,10 @@ use Rattle.stream_check.specs.declared.report.Report.{Report}
 use Rattle.stream_check.specs.Judging.{JudgesBlocks}
 use Rattle.stream_check.specs.Laws.{BlocksGoAlike, GoAlike, IsOfMemory, LegalNeverFork}
 use Rattle.stream_check.specs.StreamParams.{StreamParams}
-use Rattle.runs.specs.Streams.{Block, blocks_of, events_in, IsBlockWithin, RunParamsValue, stream_params}
-use Rattle.runs.specs.lemmas.StreamLemmas.{blocks-same, blocks-other}
-use Rattle.runs.specs.lemmas.TurnLemmas.{blocks_of-append, lines_before, lines_beside, lines_pushed, streams_of-push}
-use Rattle.runs.specs.Turns.{AreTurns, IsByTurns, IsTurnOf, line_count, streams_of}
+use Rattle.stream_check.specs.Streams.{Block, blocks_of, events_in, IsBlockWithin, RunParamsValue, stream_params}
+use Rattle.stream_check.specs.lemmas.StreamLemmas.{blocks-same, blocks-other}
+use Rattle.stream_check.specs.lemmas.TurnLemmas.{blocks_of-append, lines_before, lines_beside, lines_pushed, streams_of-push}
+use Rattle.stream_check.specs.Turns.{AreTurns, IsByTurns, IsTurnOf, line_count, streams_of}
 
 -- Turns
 

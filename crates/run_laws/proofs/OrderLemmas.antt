@@ -21,8 +21,8 @@ use Rattle.lrup_model.specs.declared.clause_map.Retired.TheVariants as retiring
 use Rattle.stream_check.specs.Judging.{joined}
 use Rattle.stream_check.specs.Reducing.{is_vacant, reduced}
 use Rattle.stream_check.specs.lemmas.ReducingLemmas.{reduced_kept, reduced_left_out}
-use Rattle.runs.specs.Streams.{Block, blocks_of, events_in, IsBlockWithin}
-use Rattle.runs.specs.lemmas.StreamLemmas.{blocks-same, blocks-other}
+use Rattle.stream_check.specs.Streams.{Block, blocks_of, events_in, IsBlockWithin}
+use Rattle.stream_check.specs.lemmas.StreamLemmas.{blocks-same, blocks-other}
 use Rattle.run_laws.specs.Lines.{IsLineBlock, IsOrder}
 use Rattle.run_laws.specs.Premises.{FindsKept, FoundStays}
 use Rattle.run_laws.specs.OrderLaws.{LinesOrdered}

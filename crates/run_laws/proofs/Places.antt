@@ -4,11 +4,11 @@ use Rattle.std.specs.Prelude.{IsTrue}
 use Rattle.std.proofs.lemmas.Option.{slice_get_cases}
 use Rattle.lrup_model.specs.Event.{History, own}
 use Rattle.stream_check.specs.declared.report.Report.{Report}
-use Rattle.runs.specs.Streams.{Stream, RunParamsValue, stream_params}
-use Rattle.runs.specs.lemmas.EachLemmas.{each_at, each_more}
-use Rattle.runs.specs.lemmas.StreamLemmas.{IsJudgedBy}
-use Rattle.runs.specs.SequentialConsistency.{AreJudgedIn}
-use Rattle.runs.specs.Closed.{IsOfStream}
+use Rattle.stream_check.specs.Streams.{Stream, RunParamsValue, stream_params}
+use Rattle.stream_check.specs.lemmas.EachLemmas.{each_at, each_more}
+use Rattle.stream_check.specs.lemmas.StreamLemmas.{IsJudgedBy}
+use Rattle.stream_check.specs.SequentialConsistency.{AreJudgedIn}
+use Rattle.stream_check.specs.Closed.{IsOfStream}
 
 pub has_place : {X : Type 0} (xs : List X) (s : ℕ) → 0 < s → s ≤ length xs → (x : X) × IsOfStream xs s x
 has_place xs s first last =

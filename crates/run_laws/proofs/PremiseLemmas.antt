@@ -20,9 +20,9 @@ use Rattle.lrup_text.specs.Lines.{StreamLine}
 use Rattle.lrup_text.specs.Laws.{BeginningCut, EveryCut}
 use Rattle.stream_check.specs.StreamContext.{is_among, deleted_by}
 use Rattle.stream_check.specs.Laws.{cited_by, FetchesOnly, CitedFetched}
-use Rattle.runs.specs.Streams.{stream_params}
-use Rattle.runs.specs.lemmas.StreamLemmas.{observed_from, observed_begins}
-use Rattle.runs.specs.Closed.{CiteWithin}
+use Rattle.stream_check.specs.Streams.{stream_params}
+use Rattle.stream_check.specs.lemmas.StreamLemmas.{observed_from, observed_begins}
+use Rattle.stream_check.specs.Closed.{CiteWithin}
 use Rattle.run_laws.specs.Premises.{FindsKept, FindsUnretired, MeetsUnretired, IsRetireOf, HistoryRetires, cites, deletes, Cites}
 use Rattle.run_laws.specs.Premises.{SomeLineDeletes}
 use Rattle.run_laws.specs.OrderLaws.{KeptByEvents, OwnersAloneSuffices, SharedStays, BeginningsCite, ReadersShare, RetiresOnly}

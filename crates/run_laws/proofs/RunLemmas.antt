@@ -17,9 +17,9 @@ use Rattle.stream_check.specs.declared.report.Report.{Report}
 use Rattle.stream_check.specs.StreamParams.{StreamParams}
 use Rattle.stream_check.specs.Judging.{JudgesBlocks, Judges}
 use Rattle.stream_check.specs.Laws.{AloneDecides, DecidedBeforeFailure, IsOfMemory, IsOfFailure}
-use Rattle.runs.specs.Streams.{Stream, InputObservation, MatchesInput, RunParamsValue, stream_params}
-use Rattle.runs.specs.Closed.{IsOfStream, CiteWithin, IsClosed}
-use Rattle.runs.specs.lemmas.StreamLemmas.{observed_from, observed_begins, same_at, judged_count}
+use Rattle.stream_check.specs.Streams.{Stream, InputObservation, MatchesInput, RunParamsValue, stream_params}
+use Rattle.stream_check.specs.Closed.{IsOfStream, CiteWithin, IsClosed}
+use Rattle.stream_check.specs.lemmas.StreamLemmas.{observed_from, observed_begins, same_at, judged_count}
 use Rattle.run_laws.specs.Groups.{one, IsGroup, IsRun, NoneOutOfMemory}
 use Rattle.run_laws.specs.GroupLaws.{BeginningsWithin, ReadersClosed, ClosedIsGroup, AloneHasOneReport, RunIsolated}
 use Rattle.run_laws.specs.GroupLaws.{MatchIsReading, FailedIsReading, SameReadingAgrees, SameBytesAgree}

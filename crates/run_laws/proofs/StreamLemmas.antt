@@ -19,12 +19,12 @@ use Rattle.stream_check.specs.StreamParams.{StreamParams}
 use Rattle.stream_check.specs.Judging.{joined, JudgesBlocks}
 use Rattle.stream_check.specs.Reducing.{reduced}
 use Rattle.stream_check.specs.Laws.{cited_by, FetchesOnly, CitedFetched, ReducedStream}
-use Rattle.runs.specs.Streams.{Stream, JudgesStream, Block, blocks_of, IsBlockWithin, AreJudged, RunParamsValue, stream_params}
-use Rattle.runs.specs.SequentialConsistency.{AreJudgedIn}
-use Rattle.runs.specs.Closed.{IsOfStream, IsOwnedWithin, CiteWithin}
-use Rattle.runs.specs.Each.{Each}
-use Rattle.runs.specs.lemmas.EachLemmas.{each_at, each_count, each_more, each_within}
-use Rattle.runs.specs.lemmas.StreamLemmas.{IsJudgedBy, some_end}
+use Rattle.stream_check.specs.Streams.{Stream, JudgesStream, Block, blocks_of, IsBlockWithin, AreJudged, RunParamsValue, stream_params}
+use Rattle.stream_check.specs.SequentialConsistency.{AreJudgedIn}
+use Rattle.stream_check.specs.Closed.{IsOfStream, IsOwnedWithin, CiteWithin}
+use Rattle.stream_check.specs.Each.{Each}
+use Rattle.stream_check.specs.lemmas.EachLemmas.{each_at, each_count, each_more, each_within}
+use Rattle.stream_check.specs.lemmas.StreamLemmas.{IsJudgedBy, some_end}
 use Rattle.run_laws.specs.Lines.{IsOrder}
 use Rattle.run_laws.specs.OrderLaws.{JudgedBlocks, LinesOrdered, ClosedOrdered, AllClosed, AllOrdered, RunSerializable}
 use Rattle.run_laws.proofs.OrderLemmas.{streams_in, streams_are, are_streams, own_each}

@@ -23,12 +23,12 @@ use Rattle.stream_check.specs.Judging.{joined, JudgesBlocks}
 use Rattle.stream_check.specs.Laws.{cited_by, CitedFetched, EndJudged, FreshLeft, GoodLineTaken}
 use Rattle.stream_check.specs.Reaching.{GoingState, Going, ReachesState}
 use Rattle.stream_check.specs.StreamContext.{is_among, context_of}
-use Rattle.runs.specs.Closed.{IsOfStream, IsOwnedWithin, CiteWithin, IsClosed}
-use Rattle.runs.specs.SequentialConsistency.{AreJudgedIn}
-use Rattle.runs.specs.Streams.{Stream, Block, blocks_of, events_in, IsBlockWithin, JudgesStream, AreJudged, InputObservation}
-use Rattle.runs.specs.Streams.{RunParamsValue, stream_params}
-use Rattle.runs.specs.lemmas.StreamLemmas.{IsJudgedBy, blocks-same, blocks-other, judged_count, judged_out}
-use Rattle.runs.specs.Turns.{streams_of}
+use Rattle.stream_check.specs.Closed.{IsOfStream, IsOwnedWithin, CiteWithin, IsClosed}
+use Rattle.stream_check.specs.SequentialConsistency.{AreJudgedIn}
+use Rattle.stream_check.specs.Streams.{Stream, Block, blocks_of, events_in, IsBlockWithin, JudgesStream, AreJudged, InputObservation}
+use Rattle.stream_check.specs.Streams.{RunParamsValue, stream_params}
+use Rattle.stream_check.specs.lemmas.StreamLemmas.{IsJudgedBy, blocks-same, blocks-other, judged_count, judged_out}
+use Rattle.stream_check.specs.Turns.{streams_of}
 use Rattle.run_laws.specs.AnyRun.{HaveBytesOf, LacksOfAnotherIn, ValidInAnyRun}
 use Rattle.run_laws.specs.Groups.{IsRun}
 use Rattle.run_laws.specs.Valid.{Database, first_database, after_line, IsValidLine, valid_report, IsCutOffIn, TellsAtLeast}

@@ -10,11 +10,11 @@ use Rattle.lrup_text.specs.declared.device.StreamEnd.TheVariants as stream_ends
 use Rattle.stream_check.specs.declared.report.Report.{Report}
 use Rattle.stream_check.specs.Judging.{joined}
 use Rattle.stream_check.specs.Laws.{BlocksGoAlike, DecidedBeforeFailure, LegalNeverFork, OneReport, OverStays}
-use Rattle.runs.specs.Closed.{IsOfStream}
-use Rattle.runs.specs.Streams.{Stream, JudgesStream, blocks_of, AreJudged, RunParamsValue, stream_params}
-use Rattle.runs.specs.lemmas.EachLemmas.{each_at, each_count}
-use Rattle.runs.specs.lemmas.StreamLemmas.{observed_count}
-use Rattle.runs.specs.Turns.{IsOrderedByTurns}
+use Rattle.stream_check.specs.Closed.{IsOfStream}
+use Rattle.stream_check.specs.Streams.{Stream, JudgesStream, blocks_of, AreJudged, RunParamsValue, stream_params}
+use Rattle.stream_check.specs.lemmas.EachLemmas.{each_at, each_count}
+use Rattle.stream_check.specs.lemmas.StreamLemmas.{observed_count}
+use Rattle.stream_check.specs.Turns.{IsOrderedByTurns}
 use Rattle.run_laws.specs.TurnsLaws.{BytesDecide, TurnsDecide}
 use Rattle.run_laws.proofs.AloneLemmas.{judged_whole}
 use Rattle.run_laws.proofs.OneOrder.{JudgedTwice, same_order}

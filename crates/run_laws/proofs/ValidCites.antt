@@ -15,7 +15,7 @@ use Rattle.lrup_text.specs.Laws.{EmptyCut}
 use Rattle.lrup_text.specs.Lines.{StreamLine, Addition, Deletion, Import, line_text}
 use Rattle.stream_check.specs.Laws.{cited_by}
 use Rattle.stream_check.specs.StreamContext.{additions_of, is_among}
-use Rattle.runs.specs.Closed.{IsOwnedWithin}
+use Rattle.stream_check.specs.Closed.{IsOwnedWithin}
 use Rattle.run_laws.specs.Groups.{one}
 use Rattle.run_laws.specs.Valid.{Database, first_database, after_line, AreValid, AddsEmpty}
 use Rattle.run_laws.specs.ValidLaws.{ValidCiteWithin, ValidEmpty}

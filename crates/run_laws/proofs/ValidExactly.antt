@@ -37,8 +37,8 @@ use Rattle.stream_check.specs.lemmas.ContextLemmas.{context_of-snoc}
 use Rattle.stream_check.specs.StreamParams.{StreamParams, ownership_of, is_shared}
 use Rattle.stream_check.specs.StreamContext.{StreamContext, context_of, deleted_by, is_among}
 use Rattle.stream_check.specs.Verdicts.{Good}
-use Rattle.runs.specs.Streams.{stream_params}
-use Rattle.runs.specs.Closed.{IsOwnedWithin}
+use Rattle.stream_check.specs.Streams.{stream_params}
+use Rattle.stream_check.specs.Closed.{IsOwnedWithin}
 use Rattle.run_laws.specs.Groups.{one}
 use Rattle.run_laws.specs.Valid.{Database, first_database, after_line, database_context, AreValid, AreDistinct, IsValidDeletion}
 use Rattle.run_laws.specs.ValidLaws.{EndedIsValid}

@@ -27,10 +27,10 @@ use Rattle.stream_check.specs.Laws.{IsOfMemory}
 use Rattle.stream_check.specs.Reaching.{GoingState, Going, ReachesState, context_after, tally_after}
 use Rattle.stream_check.specs.StreamParams.{StreamParams, ownership_of, is_shared}
 use Rattle.stream_check.specs.StreamContext.{context_of, capped, deleted_by}
-use Rattle.runs.specs.Closed.{IsOfStream}
-use Rattle.runs.specs.SequentialConsistency.{AreJudgedIn}
-use Rattle.runs.specs.Streams.{Stream, RunParamsValue, stream_params}
-use Rattle.runs.specs.lemmas.StreamLemmas.{IsJudgedBy, same_at, judged_out}
+use Rattle.stream_check.specs.Closed.{IsOfStream}
+use Rattle.stream_check.specs.SequentialConsistency.{AreJudgedIn}
+use Rattle.stream_check.specs.Streams.{Stream, RunParamsValue, stream_params}
+use Rattle.stream_check.specs.lemmas.StreamLemmas.{IsJudgedBy, same_at, judged_out}
 use Rattle.run_laws.specs.GroupLaws.{AloneHasOneReport, BeginningsWithin, ClosedIsGroup}
 use Rattle.run_laws.specs.Groups.{one, empty_stream, empty_report}
 use Rattle.run_laws.specs.lemmas.ReportLemmas.{only}

@@ -12,10 +12,10 @@ use Rattle.stream_check.specs.declared.report.Report.{Report}
 use Rattle.stream_check.specs.Judging.{JudgesBlocks}
 use Rattle.stream_check.specs.Laws.{BlocksGoAlike, DecidedBeforeFailure, EndJudged, FreshLeft, GoodLineTaken, IsOfMemory}
 use Rattle.stream_check.specs.Laws.{LegalNeverFork, OneReport}
-use Rattle.runs.specs.Closed.{IsOfStream}
-use Rattle.runs.specs.Streams.{Block, blocks_of, RunParamsValue, stream_params}
-use Rattle.runs.specs.lemmas.StreamLemmas.{judged_out, observed_count}
-use Rattle.runs.specs.Turns.{IsByTurns, IsOrderedByTurns}
+use Rattle.stream_check.specs.Closed.{IsOfStream}
+use Rattle.stream_check.specs.Streams.{Block, blocks_of, RunParamsValue, stream_params}
+use Rattle.stream_check.specs.lemmas.StreamLemmas.{judged_out, observed_count}
+use Rattle.stream_check.specs.Turns.{IsByTurns, IsOrderedByTurns}
 use Rattle.run_laws.specs.Valid.{valid_report}
 use Rattle.run_laws.specs.Together.{Step, lines_by}
 use Rattle.run_laws.specs.TurnsLaws.{ValidByTurns}

@@ -25,9 +25,10 @@ use Rattle.stream_check.specs.Additions.{published_by}
 use Rattle.stream_check.specs.lemmas.EventLemmas.{addition_all, import_all}
 use Rattle.stream_check.specs.Judging.{JudgesLine, AreGood, EndsAfter, at_bad_line, at_bad_text, at_memory, at_end, joined, JudgesBlocks}
 use Rattle.stream_check.specs.lemmas.ReportLemmas.{additions-append, said_empty, said_within, joined-append}
-use Rattle.runs.specs.Streams.{Stream, JudgesStream, Block, blocks_of, events_in, IsBlockWithin, AreJudged, RunParamsValue, stream_params}
-use Rattle.runs.specs.Streams.{IsOrdered}
-use Rattle.runs.specs.lemmas.StreamLemmas.{blocks-same, blocks-other, some_end}
+use Rattle.stream_check.specs.Streams.{Stream, JudgesStream, Block, blocks_of, events_in, IsBlockWithin, AreJudged, RunParamsValue}
+use Rattle.stream_check.specs.Streams.{stream_params}
+use Rattle.stream_check.specs.Streams.{IsOrdered}
+use Rattle.stream_check.specs.lemmas.StreamLemmas.{blocks-same, blocks-other, some_end}
 use Rattle.run_laws.specs.lemmas.PublishLemmas.{publishes_empty, publishes_within, published_some}
 use Rattle.run_laws.specs.OrderLaws.{ClosedOrdered, AllClosed, AllOrdered}
 use Rattle.run_laws.proofs.KindLemmas.{identities_all}

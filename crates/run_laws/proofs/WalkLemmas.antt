@@ -14,7 +14,7 @@ use Rattle.lrup_model.specs.lemmas.HistoryLemmas.{own-mine, own-other}
 use Rattle.stream_check.specs.Judging.{joined}
 use Rattle.stream_check.specs.Reducing.{is_vacant, IsEarly, StartsWithFetchOf, TriesAgain, reduced}
 use Rattle.stream_check.specs.lemmas.ReducingLemmas.{reduced_kept, reduced_left_out, all_vacant_stay}
-use Rattle.runs.specs.Streams.{Block, blocks_of}
+use Rattle.stream_check.specs.Streams.{Block, blocks_of}
 use Rattle.stream_check.specs.internal.Checking.{IsFetch}
 use Rattle.stream_check.specs.Deletions.{IsRetire}
 use Rattle.run_laws.specs.Lines.{IsLineBlock, RetiresLast}

@@ -10,9 +10,9 @@ use Rattle.stream_check.specs.declared.report.Report.{Report}
 use Rattle.stream_check.specs.declared.params.Ownership.TheVariants as ownerships
 use Rattle.stream_check.specs.Laws.{IsOfMemory, IsOfFailure}
 use Rattle.stream_check.specs.StreamParams.{StreamParams, ownership_of}
-use Rattle.runs.specs.Closed.{IsOfStream, IsClosed}
-use Rattle.runs.specs.SequentialConsistency.{AreJudgedIn}
-use Rattle.runs.specs.Streams.{Stream, InputObservation, RunParamsValue, stream_params}
+use Rattle.stream_check.specs.Closed.{IsOfStream, IsClosed}
+use Rattle.stream_check.specs.SequentialConsistency.{AreJudgedIn}
+use Rattle.stream_check.specs.Streams.{Stream, InputObservation, RunParamsValue, stream_params}
 use Rattle.run_laws.specs.Groups.{IsRun}
 
 -- the readers of the set have the bytes of these streams left at first, and maybe more behind them

@@ -11,9 +11,9 @@ use Rattle.lrup_text.specs.declared.device.StreamEnd.TheVariants as stream_ends
 use Rattle.stream_check.specs.Laws.{IsOfMemory, IsOfFailure}
 use Rattle.stream_check.specs.declared.report.Ending.TheVariants as endings
 use Rattle.stream_check.specs.StreamParams.{StreamParams}
-use Rattle.runs.specs.Streams.{Stream, InputObservation, RunParamsValue, MatchesInput, JudgesStream}
-use Rattle.runs.specs.SequentialConsistency.{AreJudgedIn}
-use Rattle.runs.specs.Closed.{IsOfStream, CiteWithin, IsClosed}
+use Rattle.stream_check.specs.Streams.{Stream, InputObservation, RunParamsValue, MatchesInput, JudgesStream}
+use Rattle.stream_check.specs.SequentialConsistency.{AreJudgedIn}
+use Rattle.stream_check.specs.Closed.{IsOfStream, CiteWithin, IsClosed}
 use Rattle.run_laws.specs.Groups.{one, AreClosedReaders, NoneOutOfMemory, IsGroup, AreIsolated, empty_stream, empty_report, with_others, IsRun, IsReadingOf}
 
 -- Closed sets

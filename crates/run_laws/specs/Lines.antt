@@ -7,7 +7,7 @@ use Rattle.lrup_model.specs.Event.{History}
 use Rattle.lrup_model.specs.History.{IsLegal}
 use Rattle.stream_check.specs.Deletions.{IsRetire}
 use Rattle.stream_check.specs.Reducing.{AreEarly, TriesAgain, reduced}
-use Rattle.runs.specs.Streams.{Block, blocks_of, events_in, IsBlockWithin}
+use Rattle.stream_check.specs.Streams.{Block, blocks_of, events_in, IsBlockWithin}
 
 -- after a retire there are only retires
 abbrev pub RetiresLast : History → Type 0

@@ -14,9 +14,9 @@ use Rattle.stream_check.specs.declared.report.Report.{Report}
 use Rattle.stream_check.specs.StreamParams.{StreamParams}
 use Rattle.stream_check.specs.StreamContext.{deleted_by}
 use Rattle.stream_check.specs.Judging.{joined, JudgesBlocks}
-use Rattle.runs.specs.Streams.{Stream, Block, events_in, InputObservation, RunParamsValue, MatchesInput, IsOrdered}
-use Rattle.runs.specs.SequentialConsistency.{AreJudgedIn}
-use Rattle.runs.specs.Closed.{IsClosed}
+use Rattle.stream_check.specs.Streams.{Stream, Block, events_in, InputObservation, RunParamsValue, MatchesInput, IsOrdered}
+use Rattle.stream_check.specs.SequentialConsistency.{AreJudgedIn}
+use Rattle.stream_check.specs.Closed.{IsClosed}
 use Rattle.run_laws.specs.Groups.{IsRun}
 use Rattle.run_laws.specs.Lines.{IsLineBlock, IsOrder}
 use Rattle.run_laws.specs.Premises.{FindsKept, FoundStays, FindsUnretired, MeetsUnretired, Cites, SomeLineDeletes, KeepShared, ReadersKeepShared}

@@ -11,8 +11,8 @@ use Rattle.lrup_model.specs.declared.clause_map.Retired.TheVariants as retiring
 use Rattle.lrup_text.specs.Lines.{StreamLine, Cut}
 use Rattle.stream_check.specs.StreamContext.{is_among, deleted_by}
 use Rattle.stream_check.specs.Laws.{cited_by}
-use Rattle.runs.specs.Streams.{Stream, InputObservation}
-use Rattle.runs.specs.Closed.{IsOfStream}
+use Rattle.stream_check.specs.Streams.{Stream, InputObservation}
+use Rattle.stream_check.specs.Closed.{IsOfStream}
 
 -- By what the history leaves
 

@@ -6,8 +6,8 @@ use Rattle.lrup_model.specs.Formula.{Cnf}
 use Rattle.lrup_model.specs.Event.{History, published}
 use Rattle.stream_check.specs.declared.report.Report.{Report}
 use Rattle.stream_check.specs.StreamContext.{is_within}
-use Rattle.runs.specs.Streams.{InputObservation, RunParamsValue, IsOrdered, events_in}
-use Rattle.runs.specs.Closed.{IsClosed}
+use Rattle.stream_check.specs.Streams.{InputObservation, RunParamsValue, IsOrdered, events_in}
+use Rattle.stream_check.specs.Closed.{IsClosed}
 use Rattle.run_laws.specs.Groups.{IsRun}
 use Rattle.run_laws.specs.Premises.{FoundStays}
 

@@ -11,8 +11,8 @@ use Rattle.lrup_text.specs.Lines.{StreamLine, Addition, Deletion, Import, IsWith
 use Rattle.stream_check.specs.declared.report.Report.{Report}
 use Rattle.stream_check.specs.Laws.{IsOfMemory, IsOfFailure}
 use Rattle.stream_check.specs.StreamContext.{is_among}
-use Rattle.runs.specs.Closed.{IsOfStream}
-use Rattle.runs.specs.Streams.{InputObservation, RunParamsValue, stream_params}
+use Rattle.stream_check.specs.Closed.{IsOfStream}
+use Rattle.stream_check.specs.Streams.{InputObservation, RunParamsValue, stream_params}
 use Rattle.run_laws.specs.AnyRun.{LacksOfAnother, LacksOfAnotherIn}
 use Rattle.run_laws.specs.Groups.{IsRun}
 use Rattle.run_laws.specs.Valid.{Database, first_database, after_line, IsValidLine, valid_report, IsCutOffIn, TellsAtLeast}

@@ -7,9 +7,9 @@ use Rattle.lrup_text.specs.Lines.{line_text}
 use Rattle.lrup_text.specs.declared.device.StreamEnd.{StreamEnd}
 use Rattle.stream_check.specs.declared.report.Report.{Report}
 use Rattle.stream_check.specs.Laws.{IsOfMemory, IsOfFailure}
-use Rattle.runs.specs.Closed.{IsOfStream}
-use Rattle.runs.specs.Streams.{Stream, InputObservation, RunParamsValue}
-use Rattle.runs.specs.Turns.{IsByTurns, IsOrderedByTurns}
+use Rattle.stream_check.specs.Closed.{IsOfStream}
+use Rattle.stream_check.specs.Streams.{Stream, InputObservation, RunParamsValue}
+use Rattle.stream_check.specs.Turns.{IsByTurns, IsOrderedByTurns}
 use Rattle.run_laws.specs.Groups.{IsReadingOf, IsRun, NoneOutOfMemory}
 use Rattle.run_laws.specs.Valid.{valid_report}
 use Rattle.run_laws.specs.Together.{Step, IsValidOrder, lines_by}

@@ -15,7 +15,7 @@ use Rattle.stream_check.specs.Additions.{IsValidAddition}
 use Rattle.stream_check.specs.Imports.{IsValidImport}
 use Rattle.stream_check.specs.StreamContext.{LineContext, is_among}
 use Rattle.stream_check.specs.Judging.{report_of}
-use Rattle.runs.specs.Streams.{RunParamsValue, stream_params}
+use Rattle.stream_check.specs.Streams.{RunParamsValue, stream_params}
 
 -- What the lines so far leave: the clauses that may be cited, imported and deleted, by identity; the greatest identity that was
 -- added, or the formula's last one; and the room that is left, in literals.

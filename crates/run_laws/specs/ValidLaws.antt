@@ -9,8 +9,8 @@ use Rattle.stream_check.specs.declared.report.Ending.TheVariants as endings
 use Rattle.stream_check.specs.declared.report.Report.{Report}
 use Rattle.stream_check.specs.Laws.{IsOfMemory, IsOfFailure}
 use Rattle.stream_check.specs.StreamContext.{deleted_by}
-use Rattle.runs.specs.Closed.{IsOfStream, IsOwnedWithin, CiteWithin}
-use Rattle.runs.specs.Streams.{InputObservation, RunParamsValue}
+use Rattle.stream_check.specs.Closed.{IsOfStream, IsOwnedWithin, CiteWithin}
+use Rattle.stream_check.specs.Streams.{InputObservation, RunParamsValue}
 use Rattle.run_laws.specs.Groups.{one, IsReportAlone, IsRun}
 use Rattle.run_laws.specs.Valid.{AddsEmpty, IsCutOffIn, IsValidPrefix, IsValidProof, TellsAtLeast, valid_report}
 

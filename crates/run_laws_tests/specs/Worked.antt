@@ -7,8 +7,8 @@ use Rattle.lrup_text.specs.Lines.{StreamLine, Addition, Deletion, Import}
 use Rattle.stream_check.specs.declared.report.Ending.TheVariants as endings
 use Rattle.stream_check.specs.declared.report.Report.{Report}
 use Rattle.stream_check.specs.Laws.{IsOfMemory, IsOfFailure}
-use Rattle.runs.specs.Closed.{IsOfStream}
-use Rattle.runs.specs.Streams.{InputObservation, RunParamsValue, stream_params}
+use Rattle.stream_check.specs.Closed.{IsOfStream}
+use Rattle.stream_check.specs.Streams.{InputObservation, RunParamsValue, stream_params}
 use Rattle.run_laws.specs.AnyRun.{LacksOfAnother}
 use Rattle.run_laws.specs.Groups.{IsRun}
 use Rattle.run_laws.specs.Valid.{Database, IsCutOffIn, first_database, after_line}

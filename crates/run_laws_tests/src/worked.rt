@@ -2,7 +2,7 @@
 ghost use Rattle.std.specs.Prelude.{◌≡◌, ◌++◌, ℕ, true, List, [], ◌∷◌, pos, negsuc, Some, codes};
 ghost use Rattle.lrup_text.specs.Lines.{Addition, Deletion, Import};
 ghost use Rattle.stream_check.specs.declared.report.Ending.TheVariants as endings;
-ghost use Rattle.runs.specs.Turns.{IsByTurns};
+ghost use Rattle.stream_check.specs.Turns.{IsByTurns};
 ghost use Rattle.run_laws.specs.Valid.{IsCutOffIn, IsValidLine, IsValidRefutation, IsValidProof, TellsAtLeast, first_database};
 ghost use Rattle.run_laws.specs.Together.{IsValidOrder};
 ghost use Rattle.run_laws_tests.specs.Worked.{at_first, at_roomy, crossed, one_added, one_stream, retired_first, roomy, shared, two_streams, with_five, with_repeat, without_five, without_one, BeginningCounted, RefutationCounted, SharedCounted};

@@ -16,5 +16,11 @@ pub mod Forks
 pub mod Reducing
 pub mod Finding
 pub mod Laws
+pub mod Each
+pub mod Streams
+pub mod Readings
+pub mod Closed
+pub mod SequentialConsistency
+pub mod Turns
 pub mod internal
 pub mod lemmas

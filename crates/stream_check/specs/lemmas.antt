@@ -7,3 +7,6 @@ pub mod ReportLemmas
 pub mod ContextLemmas
 pub mod StoppingLemmas
 pub mod ReducingLemmas
+pub mod EachLemmas
+pub mod StreamLemmas
+pub mod TurnLemmas

@@ -1,5 +1,6 @@
 //! The checker of one proof stream, over any clause map: it cuts the stream's bytes into lines, checks each line, and reports how the
-//! stream is judged.
+//! stream is judged. Besides, what a run over several streams has read and judged: the definitions, for the crates that promise runs
+//! and for laws of runs, and the parameters by which all its streams are checked.
 #![tactic(auto)]
 
 mod addition;
@@ -17,6 +18,7 @@ mod lookup;
 mod params;
 mod progress;
 mod report;
+mod run_params;
 mod stream_state;
 
 pub use checker::Checker;
@@ -25,3 +27,4 @@ pub use fault::Fault;
 pub use gate::Gate;
 pub use progress::{CheckStatus, Progress};
 pub use report::{Ending, Report};
+pub use run_params::RunParams;

@@ -1,1 +1,3 @@
+mod Through
+mod JudgingLemmas
 mod ThreadLemmas

@@ -15,16 +15,16 @@ use Rattle.stream_check.specs.declared.report.Report.{Report}
 use Rattle.stream_check.specs.CheckerValue.{CheckerValue}
 use Rattle.stream_check.specs.DroppedIdsValue.{DroppedIdsValue}
 use Rattle.stream_check.specs.Judging.{joined}
-use Rattle.stream_jobs.specs.Judged.{JudgesAtMark}
+use Rattle.stream_threads.specs.Judged.{JudgesAtMark}
 use Rattle.lrup_text.specs.ReadOut.{SourceView}
 use Rattle.stream_threads.specs.Faults.{IsFaultOf}
 use Rattle.stream_threads.specs.internal.Workers.{JudgesAtPass, StartedValue, started_with}
 use Rattle.stream_threads.specs.Jobs.{AllFinish, AreResults, AreJobs, Finishes, IsJob, MissesMark, StreamJobsValue, StreamResultValue}
 use Rattle.stream_threads.specs.Jobs.{StreamResultsValue}
 use Rattle.stream_threads.specs.internal.Workers.{more_results, no_results}
-use Rattle.stream_threads.specs.declared.jobs.ThreadFault.TheVariants.{Ring}
-use Rattle.runs.specs.lemmas.EachLemmas.{zip_count}
-use Rattle.runs.specs.Streams.{RunParamsValue}
+use Rattle.stream_threads.specs.declared.stream_jobs.ThreadFault.TheVariants.{Ring}
+use Rattle.stream_check.specs.lemmas.EachLemmas.{zip_count}
+use Rattle.stream_check.specs.Streams.{RunParamsValue}
 
 -- what was judged at a desk was judged at its pass
 pub judged_at : (v : CheckerValue) (old new : Desk) (from to : PassValue) (items : List ℕ) (dropped : DroppedIdsValue)

@@ -2,8 +2,8 @@
 use Rattle.std.specs.Prelude.{◌≤◌, ◌<◌, List, IsSomeAnd, length, slice_get, take}
 use Rattle.lrup_text.specs.ReadOut.{SourceView}
 use Rattle.stream_threads.specs.Jobs.{AreResults, StreamJobsValue, MissesMark}
-use Rattle.stream_threads.specs.declared.jobs.ThreadFault.{ThreadFault}
-use Rattle.stream_threads.specs.declared.jobs.ThreadFault.TheVariants.{Spawn, Ring}
+use Rattle.stream_threads.specs.declared.stream_jobs.ThreadFault.{ThreadFault}
+use Rattle.stream_threads.specs.declared.stream_jobs.ThreadFault.TheVariants.{Spawn, Ring}
 
 -- A fault of these streams' threads. It is of one of them, from 1 on. At a ring's fault the streams before it have these results, and
 -- it missed its mark.

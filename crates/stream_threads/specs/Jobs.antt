@@ -11,11 +11,11 @@ use Rattle.stream_check.specs.DroppedIdsValue.{DroppedIdsValue}
 use Rattle.stream_check.specs.Judging.{joined}
 use Rattle.stream_check.specs.Reaching.{ReachesState}
 use Rattle.lrup_text.specs.ReadOut.{SourceView}
-use Rattle.runs.specs.Each.{EachOfThree}
-use Rattle.runs.specs.Readings.{IsStreamOf}
-use Rattle.runs.specs.Streams.{Stream, JudgesStream, RunParamsValue}
-use Rattle.stream_jobs.specs.Judged.{DropsBy}
-use Rattle.stream_ring.specs.Items.{EndsBeforeMark, SendsAll}
+use Rattle.stream_check.specs.Each.{EachOfThree}
+use Rattle.stream_check.specs.Readings.{IsStreamOf}
+use Rattle.stream_check.specs.Streams.{Stream, JudgesStream, RunParamsValue}
+use Rattle.stream_threads.specs.Judged.{DropsBy}
+use Rattle.stream_threads.specs.Items.{EndsBeforeMark, SendsAll}
 
 -- what a stream's threads start with: its reader, its checker, and its pass
 pub record StreamJobsValue (S : Type 0) : Type 0 where

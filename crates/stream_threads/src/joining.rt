@@ -2,15 +2,17 @@
 ghost use Rattle.std.specs.Prelude.{◌≡◌, ◌↔◌, ◌<◌, ◌≤◌, true, false, [], IfErr, IfNone, IfOk, IfSome, IsNone, OnOk, map, vec_capacity, vec_len};
 ghost use Rattle.std.specs.List.{AllByRecursion};
 ghost use Rattle.rtrb.specs.Ring.{received, IsPair};
-ghost use Rattle.stream_ring.specs.Items.{EndsBeforeMark, SendsAll};
-ghost use Rattle.runs.specs.Readings.{readers_view};
+ghost use Rattle.stream_threads.specs.Items.{EndsBeforeMark, SendsAll};
+ghost use Rattle.stream_check.specs.Readings.{readers_view};
 ghost use Rattle.stream_threads.specs.Faults.{IsFaultOf};
 ghost use Rattle.stream_threads.specs.internal.Workers.{IsEndOf, JudgesAtPass};
 ghost use Rattle.stream_threads.specs.Jobs.{AreResults, CanBegin, StreamJobsValue};
 
-use crate::jobs::{HalfStarted, Started, StreamJobs, ThreadFault};
+use crate::pair::jobs_agree;
+use crate::reading::Sent;
 use crate::results::{StreamResult, StreamResults};
 use crate::starting::{start_all_checking, start_all_reading};
+use crate::stream_jobs::{HalfStarted, Started, StreamJobs, ThreadFault};
 use crate::tasks::{CheckedPass, result_after_start};
 use clause_store::Store;
 use lrup_text::Source;
@@ -20,7 +22,6 @@ use std::sync::{OnceLock, OnceToken, Wait};
 use std::thread;
 use std::thread::{Scope, Threads};
 use stream_check::Gate;
-use stream_jobs::{Sent, jobs_agree};
 
 /// The start signal of a run, for which its threads wait before they do anything. It says once to start (`true`), or to leave (`false`).
 #[derive(Drop)]

@@ -5,7 +5,8 @@ ghost use Rattle.std.specs.List.{AllByRecursion};
 ghost use Rattle.stream_threads.specs.Jobs.{CanBegin};
 ghost use Rattle.stream_threads.specs.internal.Workers.{started_with};
 
-use crate::jobs::{HalfStarted, Started, StreamJobs};
+use crate::reading::read_on_signal;
+use crate::stream_jobs::{HalfStarted, Started, StreamJobs};
 use crate::tasks::{CheckTask, ReadTask, check};
 use clause_store::Store;
 use lrup_text::Source;
@@ -13,7 +14,6 @@ use std::snapshot::Snapshot;
 use std::sync::{OnceLock, Wait};
 use std::thread::Scope;
 use stream_check::Gate;
-use stream_jobs::read_on_signal;
 
 /// Starts a checking thread, or returns none if it can't be started. The task is for the proof alone: it says with what the thread starts.
 fn start_checking<'s, 'a: 's, E, W: Wait + Sync, R: Source + Drop, G: Gate + Send + Drop + 's>(

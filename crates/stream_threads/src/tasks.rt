@@ -5,17 +5,18 @@ ghost use Rattle.clause_store.specs.Passes.{store_of};
 ghost use Rattle.lrup_model.specs.Pass.{pass_caller_view};
 ghost use Rattle.rtrb.specs.Ring.{received, SameConsumer, SameProducer};
 ghost use Rattle.stream_check.specs.Checker.{IsReadyAt};
-ghost use Rattle.stream_ring.specs.Items.{EndsBeforeMark, SendsAll};
-ghost use Rattle.runs.specs.Readings.{readers_view};
+ghost use Rattle.stream_threads.specs.Items.{EndsBeforeMark, SendsAll};
+ghost use Rattle.stream_check.specs.Readings.{readers_view};
 ghost use Rattle.stream_threads.specs.internal.Workers.{JudgesAtPass};
 
+use crate::checking::{Checked, CheckingJob, check_on_signal};
+use crate::reading::{ReadingJob, Sent, read_on_signal};
 use clause_store::{Desk, Pass, Store};
 use lrup_text::Source;
 use std::snapshot::Snapshot;
 use std::sync::{OnceLock, OnceToken, Wait};
 use std::thread::Promise;
 use stream_check::Gate;
-use stream_jobs::{Checked, CheckingJob, ReadingJob, Sent, check_on_signal, read_on_signal};
 
 /// What a checking thread gives back, if it was told to start: what it checked, and its pass.
 #[derive(Drop)]

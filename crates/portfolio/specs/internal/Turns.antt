@@ -12,10 +12,10 @@ use Rattle.stream_check.specs.declared.report.Report.{Report}
 use Rattle.stream_check.specs.CheckerValue.{report_of_tally}
 use Rattle.stream_check.specs.Checker.{IsReadyAt}
 use Rattle.stream_check.specs.DroppedIdsValue.{DroppedIdsValue}
-use Rattle.runs.specs.Closed.{IsOfStream}
-use Rattle.runs.specs.Each.{Each}
-use Rattle.runs.specs.Streams.{Block, blocks_of, events_in, IsBlockWithin, RunParamsValue, stream_params}
-use Rattle.runs.specs.Turns.{IsByTurns, line_count, streams_of}
+use Rattle.stream_check.specs.Closed.{IsOfStream}
+use Rattle.stream_check.specs.Each.{Each}
+use Rattle.stream_check.specs.Streams.{Block, blocks_of, events_in, IsBlockWithin, RunParamsValue, stream_params}
+use Rattle.stream_check.specs.Turns.{IsByTurns, line_count, streams_of}
 use Rattle.lrup_text.specs.ReadOut.{SourceView}
 use Rattle.portfolio.specs.internal.Working.{WorkerValue, WorkerInvariant, IsStarted}
 

@@ -8,8 +8,8 @@ use Rattle.stream_check.specs.Checker.{checker_state}
 use Rattle.stream_check.specs.Reaching.{ReachesState}
 use Rattle.lrup_text.specs.ReadOut.{SourceView}
 use Rattle.lrup_text.specs.Reads.{Gave}
-use Rattle.runs.specs.Readings.{IsStreamOf}
-use Rattle.runs.specs.Streams.{Stream, JudgesStream, RunParamsValue, stream_params}
+use Rattle.stream_check.specs.Readings.{IsStreamOf}
+use Rattle.stream_check.specs.Streams.{Stream, JudgesStream, RunParamsValue, stream_params}
 use Rattle.portfolio.specs.Dropping.{HasDropped}
 
 -- the reader, the bytes read and not checked yet, and the checker

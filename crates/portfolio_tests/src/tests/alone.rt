@@ -2,9 +2,9 @@
 ghost use Rattle.std.specs.Prelude.{◌≡◌, [], Some, false, true, codes, length, map, IfOk};
 ghost use Rattle.std.specs.List.{AllByRecursion};
 ghost use Rattle.stream_check.specs.Laws.{IsOfMemory};
-ghost use Rattle.runs.specs.Closed.{CiteWithin, IsOfStream};
+ghost use Rattle.stream_check.specs.Closed.{CiteWithin, IsOfStream};
 ghost use Rattle.run_laws.specs.Groups.{one};
-ghost use Rattle.runs.specs.SequentialConsistency.{seen_by};
+ghost use Rattle.stream_check.specs.SequentialConsistency.{seen_by};
 ghost use Rattle.clause_store.specs.Passes.{views};
 ghost use Rattle.run_laws.specs.Premises.{FoundStays};
 ghost use Rattle.test_support.specs.Worked.{four};

@@ -10,10 +10,10 @@ use Rattle.lrup_model.specs.lemmas.HistoryLemmas.{own-all, own-mine, own-none, o
 use Rattle.lrup_model.specs.lemmas.RunningLemmas.{own-append}
 use Rattle.stream_check.specs.declared.report.Report.{Report}
 use Rattle.stream_check.specs.Judging.{joined}
-use Rattle.runs.specs.lemmas.EachLemmas.{each_more}
-use Rattle.runs.specs.SequentialConsistency.{AreJudgedIn}
-use Rattle.runs.specs.lemmas.StreamLemmas.{blocks-other, blocks-same}
-use Rattle.runs.specs.Streams.{AreJudged, Block, IsBlockWithin, Stream, RunParamsValue, blocks_of, events_in}
+use Rattle.stream_check.specs.lemmas.EachLemmas.{each_more}
+use Rattle.stream_check.specs.SequentialConsistency.{AreJudgedIn}
+use Rattle.stream_check.specs.lemmas.StreamLemmas.{blocks-other, blocks-same}
+use Rattle.stream_check.specs.Streams.{AreJudged, Block, IsBlockWithin, Stream, RunParamsValue, blocks_of, events_in}
 
 -- what holds of all events holds of a stream's
 pub own_all : (P : Event → Type 0) (h : History) (s : ℕ) → AllByRecursion P h

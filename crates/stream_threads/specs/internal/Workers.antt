@@ -9,7 +9,7 @@ use Rattle.stream_check.specs.declared.report.Report.{Report}
 use Rattle.stream_check.specs.CheckerValue.{CheckerValue}
 use Rattle.stream_check.specs.DroppedIdsValue.{DroppedIdsValue}
 use Rattle.stream_check.specs.Judging.{joined}
-use Rattle.stream_jobs.specs.Judged.{JudgesAtMark}
+use Rattle.stream_threads.specs.Judged.{JudgesAtMark}
 
 -- the results of no streams, with room for so many
 abbrev pub no_results : {S : Type 0} → ℕ → StreamResultsValue S

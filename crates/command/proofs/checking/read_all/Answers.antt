@@ -6,7 +6,7 @@ use Rattle.lrup_text.specs.ReadOut.{SourceView}
 use Rattle.lrup_text.specs.Reads.{Gave}
 use Rattle.command.specs.Commands.{HasBrokenOff}
 use Rattle.command.specs.internal.Running.{IsFailedRead}
-use Rattle.runs.specs.Readings.{readers_view}
+use Rattle.stream_check.specs.Readings.{readers_view}
 use Rattle.command.specs.declared.fault.CommandFault.{CommandFault}
 use Rattle.command.specs.declared.fault.CommandFault.TheVariants as faults
 use Rattle.command.proofs.CheckingLemmas.{err_given}

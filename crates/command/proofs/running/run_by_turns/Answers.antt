@@ -1,5 +1,5 @@
 use Rattle.std.proofs.Common.{length, refl, subst, sym, true}
-use Rattle.runs.specs.Readings.{readers_view}
+use Rattle.stream_check.specs.Readings.{readers_view}
 use Rattle.command.specs.internal.Running.{run_params_on, IsRunCause}
 use Rattle.command.proofs.CheckingLemmas.{err_given, has_layout, run_cause}
 use Rattle.command.proofs.running.run_by_turns.Goals as goal

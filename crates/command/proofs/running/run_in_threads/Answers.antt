@@ -2,8 +2,8 @@ use Rattle.std.proofs.Common.{false, length, refl, subst, sym}
 use Rattle.clause_store.specs.Passes.{views}
 use Rattle.lrup_model.specs.Event.{History}
 use Rattle.lrup_model.specs.Layout.{LayoutValue}
-use Rattle.runs.specs.Readings.{readers_view}
-use Rattle.runs.specs.SequentialConsistency.{HaveOneHistory, seen_by}
+use Rattle.stream_check.specs.Readings.{readers_view}
+use Rattle.stream_check.specs.SequentialConsistency.{HaveOneHistory, seen_by}
 use Rattle.command.specs.internal.Running.{run_params_on, IsRunCause}
 use Rattle.command.proofs.CheckingLemmas.{err_given, has_layout, run_cause}
 use Rattle.command.proofs.running.run_in_threads.Goals as goal

@@ -2,7 +2,7 @@ use Rattle.std.proofs.Common.{arith, inr, length, subst, ℕ, ◌≡◌, ◌≤�
 use Rattle.std.proofs.lemmas.List.{length-take-le}
 use Rattle.lrup_text.specs.lemmas.ReadLemmas.{gave_more}
 use Rattle.command.specs.Commands.{HasBrokenOff}
-use Rattle.runs.specs.Readings.{readers_view}
+use Rattle.stream_check.specs.Readings.{readers_view}
 use Rattle.command.proofs.ReadingLemmas.{consumed_begins, consumed_more}
 use Rattle.command.proofs.sizing.sizes_in.Goals as goal
 

@@ -6,7 +6,7 @@ use Rattle.lrup_model.specs.Layout.{LayoutValue}
 use Rattle.lrup_model.specs.Pass.{View, AreSynced}
 use Rattle.lrup_model.specs.CallerView.{Caller}
 use Rattle.clause_store.specs.Passes.{PassValue, StoreValue, AreOf, store_of, views}
-use Rattle.runs.specs.SequentialConsistency.{HaveOneHistory}
+use Rattle.stream_check.specs.SequentialConsistency.{HaveOneHistory}
 use Rattle.checkpoint.specs.Checkpoints.{WritesCheckpoint}
 use Rattle.portfolio.specs.Saving.{SavesFound, is_wanted}
 use Rattle.portfolio.proofs.SavingLemmas.{fetched_so, last_at, other_last}

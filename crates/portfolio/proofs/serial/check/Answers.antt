@@ -1,6 +1,6 @@
 use Rattle.std.proofs.Common.{◌∙◌, List, length, map, drop, sym, ap, subst}
 use Rattle.lrup_model.specs.Plain.{Plain}
-use Rattle.runs.specs.Readings.{readers_view}
+use Rattle.stream_check.specs.Readings.{readers_view}
 use Rattle.portfolio.specs.internal.Turns.{AreOver, SerialStep, HaveReports, IsInSerialRun}
 use Rattle.portfolio.specs.internal.Working.{WorkerValue}
 use Rattle.portfolio.proofs.TurnsLemmas.{written_back}

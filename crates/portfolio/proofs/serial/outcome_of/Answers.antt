@@ -2,7 +2,7 @@ use Rattle.std.proofs.Common.{◌≡◌, ◌∷◌, ◌∙◌, List, map, ap, su
 use Rattle.std.specs.Vec.Iter.{into_iter_items}
 use Rattle.lrup_model.specs.lemmas.ListLemmas.{whole_end}
 use Rattle.stream_check.specs.declared.report.Report.{Report}
-use Rattle.runs.specs.Readings.{readers_view}
+use Rattle.stream_check.specs.Readings.{readers_view}
 use Rattle.portfolio.specs.Outcomes.{verdict_of}
 use Rattle.portfolio.specs.internal.Turns.{AreOver, HaveReports}
 use Rattle.portfolio.specs.internal.Working.{WorkerValue}

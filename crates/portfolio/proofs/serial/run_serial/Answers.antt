@@ -3,8 +3,8 @@ use Rattle.std.specs.Prelude.{◌↔◌}
 use Rattle.std.proofs.lemmas.Result.{IfOk-weaker}
 use Rattle.lrup_model.specs.Layout.{Fits, IsFault, LayoutValue}
 use Rattle.lrup_model.specs.declared.layout.LayoutFault.{LayoutFault}
-use Rattle.runs.specs.Readings.{readers_view}
-use Rattle.runs.specs.Streams.{RunParamsValue}
+use Rattle.stream_check.specs.Readings.{readers_view}
+use Rattle.stream_check.specs.Streams.{RunParamsValue}
 use Rattle.portfolio.specs.Outcomes.{layout_of, run_params_of}
 use Rattle.portfolio.specs.declared.outcome.RunFault.{RunFault}
 use Rattle.portfolio.specs.declared.outcome.RunFault.TheVariants.{Layout, Memory}

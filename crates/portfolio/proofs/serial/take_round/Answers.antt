@@ -1,5 +1,5 @@
 use Rattle.std.proofs.Common.{◌≡◌, ◌+◌, ℕ, length, refl, subst, arith}
-use Rattle.runs.specs.Readings.{readers_view}
+use Rattle.stream_check.specs.Readings.{readers_view}
 use Rattle.portfolio.specs.internal.Turns.{SerialInvariant}
 use Rattle.portfolio.proofs.TurnsLemmas.{step_twice, over_each, over_more, serial_round, running_on}
 use Rattle.portfolio.proofs.serial.take_round.Goals as goal

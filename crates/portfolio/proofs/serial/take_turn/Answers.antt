@@ -1,6 +1,6 @@
 use Rattle.std.proofs.Common.{ap, arith}
 use Rattle.lrup_model.specs.Layout.{LayoutValue}
-use Rattle.runs.specs.Readings.{readers_view}
+use Rattle.stream_check.specs.Readings.{readers_view}
 use Rattle.portfolio.proofs.TurnsLemmas.{going_at, ready_at, serial_more, serial_past}
 use Rattle.portfolio.proofs.serial.take_turn.Goals as goal
 

@@ -1,5 +1,5 @@
 use Rattle.std.proofs.Common.{◌≡◌, false, true}
-use Rattle.runs.specs.Readings.{readers_view}
+use Rattle.stream_check.specs.Readings.{readers_view}
 use Rattle.portfolio.proofs.TurnsLemmas.{running_on}
 use Rattle.portfolio.proofs.serial.take_turns.Goals as goal
 

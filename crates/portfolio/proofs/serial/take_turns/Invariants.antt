@@ -1,4 +1,4 @@
-use Rattle.runs.specs.Readings.{readers_view}
+use Rattle.stream_check.specs.Readings.{readers_view}
 use Rattle.portfolio.specs.internal.Turns.{SerialStep}
 use Rattle.portfolio.proofs.serial.take_turns.Given as goal
 

@@ -3,7 +3,7 @@ use Rattle.std.specs.Iterator.Adapters.{zip_first}
 use Rattle.std.specs.List.{AllByRecursion}
 use Rattle.std.specs.Vec.Iter.{into_iter_items}
 use Rattle.lrup_model.specs.lemmas.ListLemmas.{taken_next}
-use Rattle.runs.specs.Readings.{readers_view}
+use Rattle.stream_check.specs.Readings.{readers_view}
 use Rattle.portfolio.proofs.TurnsLemmas.{started_pushed}
 use Rattle.portfolio.proofs.serial.workers_of.Goals as goal
 

@@ -2,8 +2,8 @@ use Rattle.std.proofs.Common.{◌≡◌, ◌+◌, ◌∙◌, Result, Err, length
 use Rattle.std.specs.Prelude.{◌↔◌, ◌<◌, ◌≤◌}
 use Rattle.lrup_model.specs.Layout.{Fits, IsFault, IsLayout, LayoutValue}
 use Rattle.lrup_model.specs.declared.layout.LayoutFault.{LayoutFault}
-use Rattle.runs.specs.Readings.{readers_view}
-use Rattle.runs.specs.Streams.{RunParamsValue}
+use Rattle.stream_check.specs.Readings.{readers_view}
+use Rattle.stream_check.specs.Streams.{RunParamsValue}
 use Rattle.stream_threads.specs.Faults.{IsFaultOf}
 use Rattle.stream_threads.specs.Jobs.{StreamResultsValue}
 use Rattle.portfolio.specs.Outcomes.{layout_of, run_params_of}

@@ -1,7 +1,7 @@
 use Rattle.std.proofs.Common.{◌≡◌, ◌≤◌, ◌+◌, ◌++◌, ℕ, List, [], ◌∷◌, inl, inr, subst, arith}
 use Rattle.std.proofs.lemmas.Bool.{cases_eq}
-use Rattle.runs.specs.lemmas.TurnLemmas.{lines_beside, lines_pushed}
-use Rattle.runs.specs.Turns.{line_count}
+use Rattle.stream_check.specs.lemmas.TurnLemmas.{lines_beside, lines_pushed}
+use Rattle.stream_check.specs.Turns.{line_count}
 use Rattle.run_laws_tests.proofs.worked.lines_go_round.Goals as goal
 
 -- one line is one more of its stream's

@@ -2,7 +2,7 @@ use Rattle.std.proofs.Common.{◌≡◌, ◌++◌, [], ◌∷◌, ◌∙◌, ap,
 use Rattle.std.specs.List.{AllByRecursion}
 use Rattle.std.proofs.lemmas.List.{map-append}
 use Rattle.std.specs.Vec.Iter.{into_iter_items}
-use Rattle.runs.specs.Readings.{readers_view}
+use Rattle.stream_check.specs.Readings.{readers_view}
 use Rattle.stream_threads.specs.internal.Workers.{StartedValue}
 use Rattle.stream_threads.proofs.ThreadLemmas.{found_more, moved_more, ring_behind}
 use Rattle.stream_threads.proofs.joining.join_all.Goals as goal

@@ -1,8 +1,8 @@
 use Rattle.std.proofs.Common.{◌∙◌, sym, subst}
 use Rattle.lrup_model.specs.Pass.{pass_caller_view}
-use Rattle.runs.specs.Readings.{IsStreamOf, readers_view}
+use Rattle.stream_check.specs.Readings.{IsStreamOf, readers_view}
 use Rattle.stream_check.specs.DroppedIdsValue.{DroppedIdsValue}
-use Rattle.stream_jobs.specs.Judged.{DropsBy}
+use Rattle.stream_threads.specs.Judged.{DropsBy}
 use Rattle.stream_threads.specs.internal.Workers.{IsEndOf}
 use Rattle.stream_threads.specs.Jobs.{MissesMark}
 use Rattle.stream_threads.proofs.joining.result_of.Goals as goal

@@ -1,7 +1,7 @@
 use Rattle.std.proofs.Common.{◌≡◌, ℕ, List, [], length, vec_capacity, vec_len, ◌∙◌, sym, ap, arith, refl, subst, eqb-true}
 use Rattle.std.specs.List.{AllByRecursion}
 use Rattle.std.specs.Prelude.{IfErr, IfOk}
-use Rattle.runs.specs.Readings.{readers_view}
+use Rattle.stream_check.specs.Readings.{readers_view}
 use Rattle.stream_threads.specs.Faults.{IsFaultOf}
 use Rattle.stream_threads.specs.Jobs.{AreResults, StreamJobsValue, StreamResultsValue}
 use Rattle.stream_threads.specs.internal.Workers.{StartedValue}

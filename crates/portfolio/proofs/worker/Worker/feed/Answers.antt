@@ -1,5 +1,5 @@
 use Rattle.std.proofs.Common.{◌≡◌, ◌+◌, ◌-◌, ◌∙◌, None, ap, subst, take, drop}
-use Rattle.runs.specs.Readings.{readers_view}
+use Rattle.stream_check.specs.Readings.{readers_view}
 use Rattle.portfolio.specs.internal.Working.{WorkerValue, WorkerStep}
 use Rattle.portfolio.proofs.WorkingLemmas.{worker_of, worker_fed, unread_split}
 use Rattle.portfolio.proofs.worker.Worker.feed.Goals as goal

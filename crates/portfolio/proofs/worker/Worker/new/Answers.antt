@@ -5,7 +5,7 @@ use Rattle.lrup_model.specs.Layout.{LayoutValue}
 use Rattle.lrup_text.specs.lemmas.ReadLemmas.{gave_none}
 use Rattle.stream_check.specs.declared.report.Ending.{Ending}
 use Rattle.stream_check.specs.Checker.{IsNew}
-use Rattle.runs.specs.Readings.{readers_view}
+use Rattle.stream_check.specs.Readings.{readers_view}
 use Rattle.portfolio.specs.internal.Working.{WorkerInvariantBy}
 use Rattle.portfolio.proofs.worker.Worker.new.Goals as goal
 

@@ -5,7 +5,7 @@ use Rattle.std.proofs.lemmas.List.{length-take-le, with_items_is}
 use Rattle.std.proofs.KnownBytes.{Consumes-nil, Consumes-kept}
 use Rattle.lrup_text.specs.declared.device.StreamEnd.TheVariants as stream_ends
 use Rattle.lrup_text.specs.ReadOut.{EndsSo}
-use Rattle.runs.specs.Readings.{readers_view}
+use Rattle.stream_check.specs.Readings.{readers_view}
 use Rattle.portfolio.specs.internal.Working.{WorkerValue, WorkerStep}
 use Rattle.portfolio.proofs.WorkingLemmas.{worker_of, worker_read, worker_over, none_between}
 use Rattle.portfolio.proofs.worker.Worker.read.Goals as goal

@@ -5,7 +5,7 @@ use Rattle.stream_check.specs.Judging.{joined}
 use Rattle.stream_check.specs.declared.progress.CheckStatus.{CheckStatus}
 use Rattle.stream_check.specs.declared.progress.CheckStatus.TheVariants as statuses
 use Rattle.stream_check.specs.Checker.{AreBlocksOf}
-use Rattle.runs.specs.Readings.{readers_view}
+use Rattle.stream_check.specs.Readings.{readers_view}
 use Rattle.portfolio.specs.internal.Working.{WorkerStep}
 use Rattle.portfolio.proofs.WorkingLemmas.{over_without, turn_blocks, worker_append, worker_none, worker_turn}
 use Rattle.portfolio.proofs.worker.Worker.turn.Goals as goal

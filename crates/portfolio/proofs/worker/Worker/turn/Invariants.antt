@@ -1,6 +1,6 @@
 use Rattle.std.proofs.Common.{◌≡◌, [], None}
 use Rattle.stream_check.specs.Checker.{IsReadyAt}
-use Rattle.runs.specs.Readings.{readers_view}
+use Rattle.stream_check.specs.Readings.{readers_view}
 use Rattle.portfolio.specs.internal.Working.{WorkerStep}
 use Rattle.portfolio.proofs.worker.Worker.turn.Given as goal
 

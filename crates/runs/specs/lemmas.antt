@@ -1,4 +1,0 @@
--- Lemmas, which other crates' proofs may cite.
-pub mod EachLemmas
-pub mod StreamLemmas
-pub mod TurnLemmas

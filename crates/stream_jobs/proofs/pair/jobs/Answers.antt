@@ -1,4 +1,0 @@
-use Rattle.stream_jobs.proofs.pair.jobs.Goals as goal
-
-pub returns-clause-checker : goal.returns-clause-checker
-returns-clause-checker g c = c.in_ok-checking.ensures.checker

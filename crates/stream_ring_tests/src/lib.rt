@@ -1,5 +1,0 @@
-//! Tests of `stream_ring`, by its public calls alone.
-#![tactic(auto)]
-
-#[cfg(test)]
-mod tests;

@@ -1,0 +1,33 @@
+// What the tests of the ring and those of the jobs have in common.
+use std::fmt;
+use std::process::Abort;
+use std::sync::atomic::{AtomicU64, Ordering};
+use std::thread::{self, yield_now};
+use std::time::{Clock, Duration};
+
+mod jobs;
+mod ring;
+
+/// Stops the test where two values differ: an assertion that is proved once for all tests.
+fn same<T: PartialEq + fmt::Debug + Drop>(rt: &impl Abort, value: T, wanted: T) {
+    assert_eq!(rt; value, wanted);
+}
+
+/// How often a thread looks for what another does, before it gives up.
+const TURNS: u64 = 10_000_000;
+
+/// Waits until the counter is there, and says whether it was in time.
+fn waits_for(counter: &AtomicU64, wanted: u64) -> bool {
+    for _ in 0..TURNS {
+        if counter.load(Ordering::SeqCst) >= wanted {
+            return true;
+        }
+        yield_now();
+    }
+    false
+}
+
+/// Long enough for the other thread to have fallen asleep.
+fn pause(clock: &impl Clock) {
+    thread::sleep(clock, Duration::from_micros(300));
+}
