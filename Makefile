@@ -220,7 +220,7 @@ explain-test: $(BUILT) solver explain ## check: lrup-explain, on 2,000 faulty st
 # the gate.
 MPI ?= yes
 SOLVE_TESTS := lrup_solve_rounds lrup_solve lrup_solve_inputs lrup_solve_solvers lrup_check lrup_solve_kept lrup_solve_front \
-	lrup_solve_trusted lrup_solve_hostile lrup_solve_kills lrup_solve_cubes lrup_solve_mpi
+	lrup_solve_trusted lrup_solve_hostile lrup_solve_kills lrup_solve_cubes lrup_solve_resume lrup_solve_mpi
 .PHONY: $(SOLVE_TESTS)
 solve-test: $(SOLVE_TESTS) ## check: lrup-solve, and what may happen to it, with 300 random formulas
 
@@ -304,7 +304,8 @@ packages: ## check: install, as root, Debian's packages that the tests want
 # rt's own, 'N passed, M failed'.
 # Tests of programs run side by side, those that take longest first, and two more than there are cores, since most of them wait now and
 # then; what each one prints comes when it has ended. That each has a rule is seen before the proofs begin.
-TESTS := lrup_solve_rounds sweep filter_mutants lrup_solve lrup_solve_solvers lrup_solve_cubes filter_rounds explain-test trim-test lrup_solve_front \
+TESTS := lrup_solve_rounds sweep filter_mutants lrup_solve lrup_solve_solvers lrup_solve_cubes filter_rounds lrup_solve_resume explain-test \
+	trim-test lrup_solve_front \
 	lrup_solve_hostile lrup_solve_mpi lrup_solve_inputs lrup_solve_kept lrup_solve_kills lrup_solve_trusted lrup_check leaks filter_chains \
 	filter_streams filter_solvers checkpoints rounds examples solver-test instructions neighbours live warnings builds shown
 SIDE_BY_SIDE := --output-sync=target -j $(shell expr $$(nproc) + 2)

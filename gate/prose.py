@@ -48,6 +48,7 @@ PAGES: Dict[str, int] = {
     "examples/smt/README.md": 200,
     "examples/hol/README.md": 200,
     "examples/cubes/README.md": 250,
+    "examples/resume/README.md": 300,
     "examples/fifo/README.md": 300,
     "docs/AUDIT.md": 5500,
     "docs/THEOREMS.md": 3500,

@@ -127,7 +127,8 @@ def earlier_run(work: Path) -> None:
         running.terminate()
         out = running.communicate(timeout=LIMIT)[0]
     want((out.splitlines()[-1], running.returncode), ("s UNKNOWN", -signal.SIGTERM), "the answer of a run that was ended")
-    want(sorted(os.listdir(kept)), sorted([*others, "files", "formula.sha256", *one]), "what is there after 's UNKNOWN'")
+    saved = ["checkpoint-2.cnf", "rounds.sha256"]
+    want(sorted(os.listdir(kept)), sorted([*others, "files", "formula.sha256", *one, *saved]), "what is there after 's UNKNOWN'")
     want([path.read_text() for path in map(kept.joinpath, others)], ["of an earlier run\n"] * len(others), "what others have")
 
 

@@ -33,6 +33,7 @@ struct Filter {
     Formula formula;
     uint64_t stream, streams;
     uint64_t last;                  // the identity of the last line written
+    uint64_t spared;                // so many of the formula's clauses, from the first one on, no round leaves out
     bool keeps_identities;          // those of LRAT
     bool renumbered;                // some clause has another identity in the stream than in the proof
     bool frat;                      // names aren't identities, not even the formula's

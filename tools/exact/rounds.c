@@ -19,8 +19,8 @@ static void mark(const Filter *filter, unsigned char *marks, uint64_t identity) 
     else if (identity <= filter->last && is_own(filter, identity)) marks[formula + (identity - formula - 1) / filter->streams] = 1;
 }
 
-// All clauses of the formula and of the stream that the filter doesn't hold, or all where it doesn't go on, but for these. The stream
-// has deleted none so far.
+// All clauses of the formula and of the stream that the filter doesn't hold, or all where it doesn't go on, but for these, and for
+// those that are spared. The stream has deleted none so far.
 void round_delete(Filter *filter, const Identities *kept, bool goes_on) {
     uint64_t formula = filter->formula.clauses, first = formula + filter->stream;
     uint64_t own = filter->last ? (filter->last - first) / filter->streams + 1 : 0;
@@ -29,7 +29,7 @@ void round_delete(Filter *filter, const Identities *kept, bool goes_on) {
         mark(filter, marks, clause_at(&filter->clauses, ref)->identity);
     for (size_t k = 0; k < kept->length; k++) mark(filter, marks, kept->items[k]);
     filter->chain.length = 0;
-    for (uint64_t k = 0; k < formula + own; k++)
+    for (uint64_t k = filter->spared; k < formula + own; k++)
         if (!marks[k]) PUSH(&filter->chain, k < formula ? k + 1 : first + (k - formula) * filter->streams);
     grow(marks, 0);
     filter_write_deletion(filter);

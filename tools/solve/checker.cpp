@@ -166,10 +166,17 @@ void Checker::open_streams(const std::vector<int> &files) {
     for (const Stream &stream : streams) opener.ask(stream.path);
 }
 
+// Of the round whose streams are open.
+std::string Checker::sizes_of(Row row) {
+    std::string text = sizes_text(streams.size(), row), name = next.substr(next.rfind('/') + 1) + ".sizes";
+    if (keeps_digests) digests.push_back(digest_of(text) + "  " + name);
+    return text;
+}
+
 void Checker::start(Row row, const std::vector<int> &files) {
     next = Folder::name() + "/round-1";
     open_streams(files);
-    std::string text = sizes_text(files.size(), row);
+    std::string text = sizes_of(row);
     front.say("check " + text.substr(0, text.size() - 1) + " " + tries() + " " + Folder::numbers());
     expect(front.output_of_lrupd);
 }
@@ -201,7 +208,7 @@ std::vector<pollfd> Checker::full_pipes() const {
 // Where lrupd has ended meanwhile that is seen soon.
 void Checker::begin_round(Row row, const std::vector<int> &files) {
     open_streams(files);
-    std::string text = sizes_text(files.size(), row);
+    std::string text = sizes_of(row);
     if (write(sizes, text.data(), text.size()) < 0 && errno != EPIPE) refuse("cannot write the sizes of a round: " + error_text());
     close_file(sizes);
 }
@@ -241,6 +248,7 @@ void Checker::end_stream(size_t number) {
 }
 
 uint64_t Checker::read_of(size_t number) const {
+    if (number >= streams.size()) return 0;
     const Stream &stream = streams[number];
     int waiting = 0;
     if (stream.pipe < 0 || ioctl(stream.pipe, FIONREAD, &waiting) != 0) return stream.fed;

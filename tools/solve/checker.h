@@ -36,7 +36,7 @@ public:
     Opener opener;
     std::string report, said;           // lines of its standard output, and of standard error
     bool keeps_digests = false;
-    std::vector<std::string> digests;   // of each stream that it got whole, as sha256sum has them
+    std::vector<std::string> digests;   // of each round's sizes, and of each stream that it got whole, as sha256sum has them
 
     void expect(const std::string &path);   // it is at work, or will be; what it writes stands there
     void start(Row row, const std::vector<int> &files);     // asks for one; the streams of round 1 are fed from these files
@@ -76,6 +76,7 @@ private:
     size_t told = 0;
 
     void open_streams(const std::vector<int> &files);
+    std::string sizes_of(Row row);
 };
 
 // The front, which believes nothing that it is told here (front/front.c), by a pipe. All is given by names of its open files.

@@ -112,15 +112,17 @@ double Display::fullness() const {
 std::string Display::progress() const {
     double time = now() - started;
     uint64_t bytes = teams.all(&EngineStatus::bytes), lines = teams.all(&EngineStatus::round_lines), read = 0;
-    for (size_t k = 0; k < teams.size() && checker.child.pid; k++)
+    for (size_t k = 0; k < teams.size() && checker.child.pid && !rounds.is_behind(); k++)
         if (uint64_t number = LOAD(teams.engine_status(k).stream)) read += checker.read_of(number - 1);
     double share = bytes > 0 ? std::min(1.0, double(read) / double(bytes)) : 0;
     uint64_t checked = rounds.lines_before + uint64_t(share * double(lines));
     uint64_t conflicts = uint64_t(double(teams.all(&EngineStatus::conflicts)) / time);
     std::string work = inputs.options.check ? proofs_read() : grouped(conflicts) + " conflicts/s";
     std::string room = inputs.options.proofs ? ", " + sizes_of_record() : "";
-    return format("%.1f s, %s, %s checked, %s kB behind, round %llu at %.0f %%", time, (cubes_to_come() + work).c_str(),
-                  grouped(checked).c_str(), grouped(teams.all(&EngineStatus::behind) / 1000).c_str(),
+    std::string of_lrupd = grouped(checked) + " checked";
+    if (rounds.checked > 0 && rounds.is_behind()) of_lrupd = format("lrupd at round %llu", (unsigned long long)rounds.checked);
+    return format("%.1f s, %s, %s, %s kB behind, round %llu at %.0f %%", time, (cubes_to_come() + work).c_str(),
+                  of_lrupd.c_str(), grouped(teams.all(&EngineStatus::behind) / 1000).c_str(),
                   (unsigned long long)rounds.number, 100 * fullness()) + room;
 }
 

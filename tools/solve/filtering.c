@@ -308,7 +308,7 @@ void filter_process(const Filtering *filtering, const void *formula) {
     own = filtering;
     errors_handle(end);
     engine_status = &own->shared->engine_statuses[own->engine - 1];
-    round_number = 1;
+    round_number = LOAD(own->shared->round);
     input_open(&input, NULL);
     input.file = own->proof;
     input.await = await_proof;
@@ -316,6 +316,7 @@ void filter_process(const Filtering *filtering, const void *formula) {
     filter.formula = *(const Formula *)formula;
     filter.stream = (uint64_t)own->engine;
     filter.streams = (uint64_t)own->shared->engines;
+    filter.spared = own->spared;
     filter.keeps_clauses = !test_hooks.without_keeping;
     filter.hooks = &hooks;
     assumed = zeroed(2 * (size_t)filter.formula.variables, 1);

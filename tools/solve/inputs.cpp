@@ -69,11 +69,42 @@ void Inputs::find() {
     if (options.cubes) inputs.push_back(options.cubes);
     if (options.check) inputs.insert(inputs.end(), options.solvers.begin(), options.solvers.end());
     for (const std::string &path : inputs) check_input(path);
-    if (options.proofs) open_record(options.proofs, inputs, options.replace);
+    if (options.resumed) find_again();
+    else if (options.proofs) open_record(options.proofs, inputs, options.replace);
     formula_path = again(inputs[0], front.formula, "formula.cnf");
     if (options.assume) assume_path = again(inputs[1], front.assumptions, "assumptions");
     if (!options.proofs) return;
-    clear_record(options.proofs, { formula_path, assume_path });
+    std::vector<std::string> kept = { formula_path, assume_path };
+    if (options.resumed) kept.push_back(path_of_digests());
+    for (const std::string &path : saved.paths()) kept.push_back(path);
+    clear_record(options.proofs, kept);
+}
+
+std::string Inputs::path_of_digests() const { return std::string(options.proofs) + "/formula.sha256"; }
+
+// The record is of this formula, and of these assumptions, or nothing of it is touched. A run that was ended as it read them has
+// left no digests.
+void Inputs::check_digests() {
+    const std::string path = path_of_digests(), name[] = { "formula", "assumptions" };
+    if (saved.count() == 0 && !is_there(path)) return;
+    const std::string *const files[] = { &front.formula, &front.assumptions };
+    std::string line;
+    std::ifstream lines(path);
+    for (size_t k = 0; k < 1 + size_t(options.assume != nullptr); k++) {
+        int file = open_input(*files[k]);
+        std::string digest = digest_of(file, name[k]);
+        close(file);
+        if (!std::getline(lines, line)) refuse(path + " doesn't have the SHA-256 of the " + name[k] + ": the run can't go on");
+        if (line.compare(line[0] == '\\', DIGEST_DIGITS + 2, digest + "  ") != 0)
+            refuse(title(k == 0 ? options.formula : options.assume) + " isn't the " + name[k] + " of " + options.resumed + ", or was changed since");
+    }
+    if (std::getline(lines, line)) refuse(std::string(options.resumed) + " is the record of a run with --assume");
+}
+
+void Inputs::find_again() {
+    open_record_again(options.resumed);
+    saved.read(options.resumed);
+    check_digests();
 }
 
 void Inputs::read(const Meanwhile &meanwhile) {
@@ -84,7 +115,7 @@ void Inputs::read(const Meanwhile &meanwhile) {
     if (options.assume) read_assumptions();
     if (options.cubes) read_cubes();
     if (!options.proofs) return;
-    std::string unwritten = write_file(std::string(options.proofs) + "/formula.sha256", digests);
+    std::string unwritten = write_file(path_of_digests(), digests);
     if (!unwritten.empty()) refuse(unwritten);
 }
 
@@ -109,9 +140,21 @@ void Inputs::read_formula() {
     int file = open_input(formula_path);
     formula_read(&formula, (OPEN_FILES + std::to_string(file)).c_str());
     close(file);
+    first_formula = formula;
+    if (saved.count() > 0) read_first_formula();
     if (!options.proofs) return;
     digests = digest_line(formula_path);
     if (options.assume) digests += digest_line(assume_path);
+}
+
+// It begins with the formula's own clauses, which no round leaves out.
+void Inputs::read_first_formula() {
+    const std::string path = saved.checkpoint();
+    saved.check(path);
+    first_formula = Formula();
+    formula_read(&first_formula, path.c_str());
+    if (first_formula.variables != formula.variables || first_formula.clauses < formula.clauses)
+        refuse(path + " isn't of this formula: the run can't go on");
 }
 
 // How they are separated is lrupd's to judge.

@@ -4,12 +4,14 @@
 
 #include <functional>
 
-#include "solve.h"
+#include "saved.h"
 
 class Inputs {
 public:
     Options options;
     Formula formula = {};
+    SavedRounds saved;                          // of an earlier run, with which this one goes on
+    Formula first_formula = {};                 // of this run's first round: the formula, where none was saved
     std::vector<Literal> assumed;
     std::vector<Cube> cubes;                    // but those that contradict themselves, or what is assumed
     std::string formula_path, assume_path;      // by which they are read again
@@ -30,6 +32,10 @@ public:
 private:
     double started = now();
 
+    void find_again();
+    std::string path_of_digests() const;
+    void check_digests();
+    void read_first_formula();
     void read_in_thread(const Meanwhile &meanwhile);
     std::string again(const std::string &path, const std::string &fronts, const char *kept_as) const;
     void read_assumptions();

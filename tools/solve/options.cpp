@@ -12,6 +12,8 @@ const char *program_name = "lrup-solve";
 
 namespace {
 
+const double USUAL_SAVING = 300;        // seconds
+
 const char check_summary[] =
     "usage: lrup-check [OPTIONS] FORMULA PROOF...\n"
     "\n"
@@ -55,6 +57,8 @@ const char summary[] =
     "  --proofs DIR       keep the streams of all rounds there, the report, and the command that checks them again:\n"
     "                     sh DIR/command. Those of an earlier run without a proof are removed\n"
     "  --replace          those of one with a proof, too\n"
+    "  --resume DIR       go on with the record that a run on FORMULA has left in DIR, from the last round that was saved\n"
+    "  --save-every SECONDS   with --proofs or --resume, end a round and save it after so long; 300 if not said\n"
     "  --core FILE        write an unsatisfiable core, and have lrupd check it\n"
     "  --lrat FILE        write the proof as LRAT text, without what isn't needed, and have lrupd check it\n"
     "  --re-hint          find hints anew for both, which are smaller then; it takes longer\n"
@@ -171,6 +175,8 @@ bool read_of_engines(Options &options, Words &words, const char *word) {
     else if (words.option(word, name = "--share-size", value)) options.share_size = int(number(name, value, 0, 1000));
     else if (words.option(word, name = "--seed", value)) options.seed = int(number(name, value, 0, 1000000000));
     else if (words.option(word, name = "--cubes", value)) options.cubes = name_of_file(name, "a file", value);
+    else if (words.option(word, name = "--resume", value)) options.resumed = name_of_file(name, "a folder", value);
+    else if (words.option(word, name = "--save-every", value)) options.save_every = seconds(name, value);
     else return false;
     if (options.check) refuse(std::string(name) + " is lrup-solve's: lrup-check starts no engine");
     return true;
@@ -215,6 +221,14 @@ void check_proofs(const Options &options) {
     if (count + is_standard_input(options.formula) > 1) refuse("standard input is read once");
 }
 
+// Its record is that of --proofs, and goes on.
+void check_resumed(Options &options) {
+    if (options.proofs) refuse("--resume and --proofs: a run that goes on keeps its streams where the one before did");
+    if (options.replace) refuse("--resume and --replace: nothing is replaced");
+    if (options.mpi) refuse("--resume and --mpi: a run goes on with engines on one host");
+    options.proofs = options.resumed;
+}
+
 }
 
 std::string version() {
@@ -249,11 +263,14 @@ Options read_words(int count, char **list) {
         else if (word[0] == '-' && word[1] != 0) refuse(std::string("no such option: ") + word + " (--help lists them)");
         else take_file(options, word);
     }
+    if (options.resumed) check_resumed(options);
     options.record = options.proofs;
     if (!options.formula) options.formula = "-";
     if (options.check) check_proofs(options);
     if (options.rehint && !options.core && !options.lrat) refuse("--re-hint without --core or --lrat");
     if (options.replace && !options.proofs) refuse("--replace without --proofs");
+    if (options.save_every > 0 && !options.proofs) refuse("--save-every without --proofs or --resume");
+    if (options.save_every == 0) options.save_every = USUAL_SAVING;
     if (options.solvers.size() + size_t(options.engines) > MOST_ENGINES) refuse("more than 64 engines, with those of --solver");
     if (options.cubes && options.engines == 0 && !options.solvers.empty()) refuse("--cubes without engines: -j says how many");
     if (options.cubes && !options.share && options.engines != 1) refuse("--cubes and --no-share: refuted cubes are shared");

@@ -20,6 +20,9 @@
 
 namespace {
 
+const double ENDING = 10;       // seconds that the processes of a run have to end
+const useconds_t PAUSE = 20000;
+
 std::string record_name;        // absolute, with a slash
 
 bool is_same(const struct stat &one, const struct stat &other) {
@@ -37,11 +40,11 @@ bool is_standard_input(const std::string &path) {
 }
 
 // Beside what rounds leave.
-const char *const NAMES[] = { "about",       "assumptions",    "command",
-                              "formula.cnf", "formula.sha256", "report" };
+const char *const NAMES[] = { "about",          "assumptions", "command",      "formula.cnf",
+                              "formula.sha256", "report",      "rounds.sha256" };
 
 // The record's list of its files, itself the first one. A name is there before its file is made.
-const char LIST[] = "files";
+const char LIST[] = "files", NEW_LIST[] = ".files.new";
 int list_file = -1;
 std::set<std::string> listed;
 
@@ -54,15 +57,18 @@ std::string without_ending(const std::string &name) {
     return name;
 }
 
-// round-R.stream-K, which somebody may have packed, or round-R.sizes.
+// round-R.stream-K, which somebody may have packed, round-R.sizes, or checkpoint-R.cnf.
 bool is_of_a_round(const std::string &name) {
     auto is_number = [](const std::string &word) {
         return !word.empty() && word[0] != '0' && word.find_first_not_of("0123456789") == std::string::npos;
     };
-    size_t dot = name.find('.');
-    if (name.rfind("round-", 0) != 0 || dot == std::string::npos || !is_number(name.substr(6, dot - 6))) return false;
+    size_t line = name.find('-'), dot = name.find('.');
+    if (line == std::string::npos || dot == std::string::npos || dot < line) return false;
+    if (!is_number(name.substr(line + 1, dot - line - 1))) return false;
     std::string rest = name.substr(dot + 1);
-    return rest == "sizes" || (rest.rfind("stream-", 0) == 0 && is_number(without_ending(rest).substr(7)));
+    if (name.compare(0, line, "checkpoint") == 0) return rest == "cnf";
+    bool is_stream = rest.rfind("stream-", 0) == 0 && is_number(without_ending(rest).substr(7));
+    return name.compare(0, line, "round") == 0 && (rest == "sizes" || is_stream);
 }
 
 // A name that a run gives a file, also while that is written.
@@ -114,6 +120,7 @@ void read_list(const std::string &path) {
         listed.insert(name);
     }
     if (begin == 0 || ftruncate(list_file, off_t(begin)) != 0) refuse_own(path);
+    kept_open(list_file);
 }
 
 // By its report, which is lrupd's.
@@ -125,13 +132,24 @@ bool has_proof() {
     return report.find("\ns UNSATISFIABLE") != std::string::npos;
 }
 
-void list_anew(const std::string &path, const std::set<std::string> &names) {
+// In the place of the one before as soon as it is whole.
+bool list_anew(const std::set<std::string> &names) {
     std::string text = std::string(LIST) + "\n";
-    for (const std::string &name : names) text += name + "\n";
-    if (ftruncate(list_file, 0) != 0 || !write_list(text))
-        refuse("cannot write " + path + ": " + error_text());
+    for (const std::string &name : names)
+        if (name != LIST) text += name + "\n";
+    unlinkat(record_folder, NEW_LIST, 0);
+    int file = kept_open(openat(record_folder, NEW_LIST, O_RDWR | O_APPEND | O_CREAT | O_EXCL | O_CLOEXEC, 0666));
+    if (file < 0 || !write_all(file, text.data(), text.size())) return false;
+    if (renameat(record_folder, NEW_LIST, record_folder, LIST) != 0) return false;
+    close_file(list_file);
+    list_file = file;
     listed = names;
     listed.insert(LIST);
+    return true;
+}
+
+[[noreturn]] void refuse_unlisted(const std::string &folder) {
+    refuse("cannot write " + folder + "/" + LIST + ": " + error_text());
 }
 
 }
@@ -259,38 +277,47 @@ void check_plain(const std::string &path, const std::string &name) {
 
 // No other run has it until this process ends, however it does; where the system has no locks nobody is told. Where others may
 // remove files and make new ones, streams that are opened again by their names may be anything.
-static void hold_folder(const std::string &folder) {
+// A run that is over may have processes that end only now.
+static void hold_folder(const std::string &folder, double seconds) {
     int file = open(folder.c_str(), O_RDONLY | O_DIRECTORY | O_CLOEXEC);
     if (file < 0) refuse(folder + ": " + error_text());
     if (others_may_write(file)) refuse(folder + ": others may write there: another --proofs");
-    if (flock(kept_open(file), LOCK_EX | LOCK_NB) != 0 && errno == EWOULDBLOCK)
-        refuse(folder + ": another run that goes on has its files there: another --proofs");
+    kept_open(file);
+    for (double until = now() + seconds; flock(file, LOCK_EX | LOCK_NB) != 0 && errno == EWOULDBLOCK; usleep(PAUSE))
+        if (now() >= until) refuse(folder + ": another run that goes on has its files there: another --proofs");
     record_folder = kept_open(openat(file, ".", O_PATH | O_DIRECTORY | O_CLOEXEC));     // a child that has it doesn't hold the lock
     record_name = absolute(folder) + "/";
 }
 
 // A file with a name of a record's that no list names is somebody's own, but a packed stream isn't.
+static void check_own(const std::string &folder, const std::vector<std::string> &paths) {
+    for (const std::string &path : paths)
+        if (listed.count(without_ending(path.substr(folder.size() + 1))) == 0) refuse_own(path);
+}
+
 void open_record(const std::string &folder, const std::vector<std::string> &inputs, bool replaces) {
     struct stat input, found;
-    std::string list = folder + "/" + LIST;
     if (mkdir(folder.c_str(), 0775) != 0 && errno != EEXIST) refuse("cannot make " + folder + ": " + error_text());
-    hold_folder(folder);
+    hold_folder(folder, 0);
     std::vector<std::string> paths = files_of(folder);
     for (const std::string &path : paths)
         for (const std::string &name : inputs)
             if (find(path, found) && find(name, input) && is_same(found, input))
                 refuse(path + " would be written over: another --proofs");
-    read_list(list);
+    read_list(folder + "/" + LIST);
     if (!replaces && has_proof())
         refuse(folder + " has the proof of an earlier run: --replace, or another --proofs");
-    for (const std::string &path : paths)
-        if (listed.count(without_ending(path.substr(folder.size() + 1))) == 0) refuse_own(path);
-    if (list_file < 0) {
-        const int how = O_RDWR | O_APPEND | O_CREAT | O_EXCL | O_CLOEXEC;
-        list_file = openat(record_folder, LIST, how, 0666);
-        list_anew(list, {});
-    }
-    kept_open(list_file);
+    check_own(folder, paths);
+    if (list_file < 0 && !list_anew({})) refuse_unlisted(folder);
+}
+
+// Of a run that didn't come to its end.
+void open_record_again(const std::string &folder) {
+    hold_folder(folder, ENDING);
+    read_list(folder + "/" + LIST);
+    if (list_file < 0) refuse(folder + " has no record: --proofs makes one");
+    if (has_proof() && is_there(folder + "/command")) refuse(folder + " has its proof: sh " + quoted(folder + "/command") + " checks it");
+    check_own(folder, files_of(folder));
 }
 
 bool claim(const Place &place) {
@@ -314,7 +341,22 @@ void clear_record(const std::string &folder, const std::vector<std::string> &kep
         else if (name != LIST && !remove_file(path))
             refuse("cannot remove " + path + ": " + error_text());
     }
-    list_anew(folder + "/" + LIST, left);
+    if (!list_anew(left)) refuse_unlisted(folder);
+}
+
+// To be read.
+int open_in_record(const std::string &name) {
+    return openat(record_folder, name.c_str(), O_RDONLY | O_NOFOLLOW | O_NONBLOCK | O_CLOEXEC);
+}
+
+// By which a run could go on, which has its proof.
+void remove_checkpoints(const std::string &folder) {
+    std::set<std::string> left;
+    for (const std::string &name : listed) {
+        bool is_one = name.find("checkpoint-") != std::string::npos || name.find(LIST_OF_ROUNDS) != std::string::npos;
+        if (!is_one || !remove_file(folder + "/" + name)) left.insert(name);
+    }
+    if (left.size() < listed.size()) list_anew(left);
 }
 
 std::string digests_of_record(const std::vector<std::string> &known) {
@@ -325,13 +367,10 @@ std::string digests_of_record(const std::vector<std::string> &known) {
         left.erase(line.substr(DIGEST_DIGITS + 2));
     }
     for (const std::string &name : left) {
-        char digest[DIGEST_DIGITS + 1];
-        const int how = O_RDONLY | O_NOFOLLOW | O_NONBLOCK | O_CLOEXEC;
-        int file = openat(record_folder, name.c_str(), how);
+        int file = open_in_record(name);
         if (file < 0 || name == LIST || name == "about") continue;
-        digest_file(file, name.c_str(), digest);
+        lines += digest_of(file, name) + "  " + name + "\n";
         close(file);
-        lines += std::string(digest) + "  " + name + "\n";
     }
     return lines;
 }
@@ -350,14 +389,28 @@ uint64_t free_bytes() {
     return fstatvfs(record_folder, &found) == 0 ? uint64_t(found.f_bavail) * found.f_frsize : 0;
 }
 
+// Of an open file, and of a text.
+std::string digest_of(int file, const std::string &path) {
+    char digest[DIGEST_DIGITS + 1];
+    digest_file(file, path.c_str(), digest);
+    return digest;
+}
+
+std::string digest_of(const std::string &text) {
+    char found[DIGEST_DIGITS + 1];
+    Digest digest;
+    digest_begin(&digest);
+    digest_add(&digest, text.data(), text.size());
+    digest_end(&digest, found);
+    return found;
+}
+
 // As sha256sum writes it: it marks a name that has such bytes in it.
 std::string digest_line(const std::string &path) {
-    char digest[DIGEST_DIGITS + 1];
     int file = open_input(path);
-    digest_file(file, path.c_str(), digest);
+    std::string name, whole = absolute(path), digest = digest_of(file, path);
     close(file);
-    std::string name, whole = absolute(path);
     for (char letter : whole)
         name += letter == '\\' ? "\\\\" : letter == '\n' ? "\\n" : letter == '\r' ? "\\r" : std::string(1, letter);
-    return (name == whole ? "" : "\\") + std::string(digest) + "  " + name + "\n";
+    return (name == whole ? "" : "\\") + digest + "  " + name + "\n";
 }

@@ -1,6 +1,9 @@
 // Unverified, as all of this solver. From round to round; and what is kept of them.
 #include <algorithm>
+#include <cmath>
+#include <csignal>
 
+#include <sys/stat.h>
 #include <unistd.h>
 
 #include "rounds.h"
@@ -41,15 +44,24 @@ bool Rounds::size(uint64_t clauses, uint64_t literals) {
     return fits;
 }
 
-// The formula has room for as much again, whatever --memory says.
+// The formula has room for as much again, whatever --memory says. Rows of a run that goes on are as large as they were.
 void Rounds::begin(const std::string &program) {
-    uint64_t clauses = inputs.formula.clauses, literals = literals_of(inputs.formula);
+    uint64_t clauses = inputs.first_formula.clauses, literals = literals_of(inputs.first_formula), last = inputs.saved.count();
+    number = last + 1;
+    saver.saved = last > 0 ? number : 0;
     checker_program = program;
     rows_open(&rows, inputs.options.memory, inputs.options.most_memory, teams.size());
+    if (last > 0) rows.words = std::max(rows.words, inputs.saved.streams(last) * (inputs.saved.row(last).lines + inputs.saved.row(last).room));
     rows.words = std::min(hooked(test_hooks.first_words, rows.words), MOST_WORDS);
     rows.largest = hooked(test_hooks.largest, rows.largest);
     rows.most = std::min(rows.largest, std::max(rows.most, 2 * (1 + clauses + literals)));
     if (!size(clauses, literals)) refuse("the formula leaves no room" + in_a_row_of(rows.largest));
+}
+
+std::string Rounds::beginning() const {
+    const std::string folder = quoted(inputs.options.record);
+    if (inputs.saved.count() == 0) return folder + ": no round was saved, so the run begins anew";
+    return folder + format(": round %llu begins, with ", (unsigned long long)number) + counted(inputs.first_formula.clauses, "clause");
 }
 
 // For the clauses of all, in the largest row. First no engine gives away what others can do without. Where that isn't enough one
@@ -101,9 +113,12 @@ std::string Rounds::command_of(Row sizes, const std::string &folder) const {
     const std::string assume = within(folder, absolute(inputs.assume_path));
     if (inputs.options.assume) line += " --assume" + word_in_command(assume, 4, opened);
     line += word_in_command(within(folder, absolute(inputs.formula_path)), 3, opened);
-    for (size_t k = 0; k < teams.size(); k++) line += " " + quoted(within(folder, teams.stream_path(k, 1)));
+    for (size_t k = 1; k <= first_streams(); k++)
+        line += " " + quoted(within(folder, teams.record + name_of_round(1) + ".stream-" + std::to_string(k)));
     return line + opened;
 }
+
+size_t Rounds::first_streams() const { return inputs.saved.count() > 0 ? inputs.saved.streams(1) : teams.size(); }
 
 // Of all rounds, wherever the record is by now: of each input the path from there comes first. Names
 // are values of variables, and stand nowhere else. lrupd reads open files, as what checks the
@@ -235,7 +250,7 @@ std::string Rounds::command_again() const {
     std::string text = "lrupd=" + quoted(checker_program) + "\n";
     text += named("formula", inputs.formula_path);
     text += named("assume", inputs.options.assume ? inputs.assume_path : "");
-    text += "rounds=" + std::to_string(number) + "\nstreams=" + std::to_string(teams.size());
+    text += "rounds=" + std::to_string(number) + "\nstreams=" + std::to_string(first_streams());
     return text + "\nsizes='" + sizes_in_command(first).substr(1) + "'" + CHECK_AGAIN;
 }
 
@@ -256,19 +271,66 @@ std::string Rounds::keep_report() const {
 
 // lrupd.
 
+// It gets first what was saved, by a run that goes on.
 void Rounds::start_checker(Row wanted) {
-    rows.row = wanted;
     const std::string &record = teams.record;
-    first = wanted;
+    bool goes_on = inputs.saved.count() > 0;
+    if (!goes_on) rows.row = wanted;
+    wanted = first = goes_on ? inputs.saved.row(1) : wanted;
+    checked = 1;
     keep_sizes();
     display.tell_more(is_utf8(record) ? command_of(wanted, "") :
                       "cd " + quoted(record) + " && " + command_of(wanted, record));
-    checker.start(wanted, teams.stream_files());
+    if (goes_on) open_saved();
+    checker.start(wanted, goes_on ? saved_streams : teams.stream_files());
+    if (goes_on) checker.expect_round(Folder::name() + "/" + name_of_round(checked + 1));
+}
+
+void Rounds::open_saved() {
+    saved_streams = inputs.saved.open(checked);
+    saved_bytes.clear();
+    for (int file : saved_streams) {
+        struct stat found = {};
+        fstat(file, &found);
+        saved_bytes.push_back(uint64_t(found.st_size));
+    }
+}
+
+// Meanwhile filters don't wait for it.
+std::string Rounds::feed_saved() {
+    for (size_t k = 0; k < teams.size(); k++) teams.tell_fed(k, UINT64_MAX);
+    for (size_t k = 0; k < saved_streams.size(); k++)
+        if (checker.feed(k, saved_bytes[k], false)) checker.end_stream(k);
+    for (; compared < checker.digests.size(); compared++) {
+        const std::string &line = checker.digests[compared];
+        if (inputs.saved.is_changed(line)) return teams.record + line.substr(DIGEST_DIGITS + 2) + " was changed since it was saved";
+    }
+    if (checker.awaits_sizes()) begin_next();
+    return "";
+}
+
+// It has saved what the round came to, as it had for the run before.
+void Rounds::begin_next() {
+    for (int &file : saved_streams) close_file(file);
+    unlink((Folder::name() + "/" + name_of_round(++checked) + ".cnf").c_str());
+    if (!is_behind()) {
+        display.tell_more("lrupd has read what was saved");
+        return checker.begin_round(rows.row, teams.stream_files());
+    }
+    open_saved();
+    checker.begin_round(inputs.saved.row(checked), saved_streams);
+    checker.expect_round(Folder::name() + "/" + name_of_round(checked + 1));
+}
+
+std::string Rounds::feed(bool is_last) {
+    if (!checker.child.pid) return "";
+    if (is_behind()) return feed_saved();
+    feed_teams(is_last);
+    return "";
 }
 
 // While filters come to the next round their counts are of either.
-void Rounds::feed(bool is_last) {
-    if (!checker.child.pid) return;
+void Rounds::feed_teams(bool is_last) {
     for (size_t k = 0; k < teams.size(); k++) {
         uint64_t stream = LOAD(teams.engine_status(k).stream);
         if (stream == 0) continue;
@@ -293,15 +355,19 @@ void Rounds::end_streams() {
 
 // From round to round. The first lrupd starts once streams aren't short any more.
 std::string Rounds::look() {
-    uint64_t least = test_hooks.first_words ? 1 : SHORT_STREAMS;
+    bool is_short_no_more = teams.all(&EngineStatus::bytes) >= (test_hooks.first_words ? 1 : SHORT_STREAMS);
     teams.look_at_record();
     if (!teams.lost.empty() && !has_told_loss) display.tell("the record is lost: " + teams.lost);
     has_told_loss = !teams.lost.empty();
-    if (!checker.child.pid && teams.all(&EngineStatus::bytes) >= least) start_checker(rows.row);
+    if (!checker.child.pid && (is_short_no_more || inputs.saved.count() > 0)) start_checker(rows.row);
+    std::string unsaved = saver.look();
+    if (!unsaved.empty()) display.tell(unsaved);
     for (size_t k = 0; k < teams.size() && state == OPEN; k++)
-        if (LOAD(teams.engine_status(k).ended_round) == number) end_round();
-    if (state == ENDING && teams.have_all(&EngineStatus::ended_round, number)) {
-        if (!checker.child.pid) start_checker(rows.row);
+        if (LOAD(teams.engine_status(k).ended_round) == number) end_round(true);
+    if (state == OPEN && ends_here && !has_more()) state = SAVED;
+    if (state == OPEN && (ends_here || now() >= next_saving())) end_round(false);
+    if (state == ENDING && !checker.child.pid) start_checker(rows.row);
+    if (state == ENDING && !is_behind() && teams.have_all(&EngineStatus::ended_round, number)) {
         checker.expect_round(Folder::name() + "/" + name_of_round(number + 1));
         state = SAVING;
     }
@@ -310,8 +376,42 @@ std::string Rounds::look() {
     return cause;
 }
 
-// One has no room for a line more: all streams end. Those that stand still go on to their ends.
-void Rounds::end_round() {
+// That can be saved.
+bool Rounds::has_more() const {
+    bool is_wanted = inputs.options.may_be_resumed() && teams.lost.empty() && (checked == 0 || !is_behind());
+    return is_wanted && teams.all(&EngineStatus::lines) > lines_before;
+}
+
+double Rounds::next_saving() const { return state == OPEN && has_more() ? begun + inputs.options.save_every : INFINITY; }
+
+// Engines leave the cores to the others.
+void Rounds::save_last() {
+    ends_here = true;
+    if (!inputs.options.may_be_resumed()) return;
+    for (size_t k = 0; k < teams.size(); k++) teams[k].engine.signal(SIGSTOP);
+}
+
+bool Rounds::is_saving() const { return state != SAVED || saver.is_busy(); }
+
+void Rounds::keep_checkpoint() {
+    if (!inputs.options.may_be_resumed() || !teams.lost.empty()) return;
+    saver.save(number + 1, inputs.options.record, teams.shared->checkpoint, checker.digests);
+}
+
+// None, where nothing was saved.
+std::string Rounds::how_to_go_on() {
+    saver.end();
+    if (!inputs.options.may_be_resumed() || saver.saved == 0) return "";
+    bool is_all = saver.saved == number + 1 || (saver.saved == number && teams.all(&EngineStatus::lines) == lines_before);
+    std::string line = quoted(inputs.options.record) + " has " + counted(saver.saved - 1, "round") + (is_all ? "" : ", and nothing of what came then");
+    line += ": lrup-solve --resume " + quoted(inputs.options.record);
+    if (inputs.options.assume) line += " --assume " + quoted(inputs.assume_path);
+    return line + " " + quoted(inputs.formula_path) + " goes on";
+}
+
+// All streams end. Those that stand still go on to their ends.
+void Rounds::end_round(bool full) {
+    is_full = full;
     teams.start_others();       // they begin with round 1
     STORE(teams.shared->ending_round, number);
     teams.tell_filters();
@@ -332,8 +432,11 @@ std::string Rounds::map_round() {
     state = MAPPING;
     checkpoint_read(&saved, teams.shared->checkpoint);
     said = words(streams);
+    keep_checkpoint();
+    if (ends_here) state = SAVED;
+    if (ends_here) return "";
     uint64_t before = rows.words;
-    rows_grow(&rows);
+    if (is_full) rows_grow(&rows);
     if (test_hooks.same_words) rows.words = before;
     if (!make_room(size(saved.old.length, saved.literals)))
         return "the clauses that are left leave no room" + in_a_row_of(rows.largest);
@@ -342,7 +445,7 @@ std::string Rounds::map_round() {
 }
 
 void Rounds::begin_round() {
-    number++;
+    checked = ++number;
     lines_before = teams.all(&EngineStatus::lines);
     literals_before = teams.all(&EngineStatus::literals);
     teams.open_streams(number);
@@ -358,6 +461,7 @@ void Rounds::go_on() {
     paused += pause;
     display.tell_more(said + format("; a pause of %.2f s", pause));
     state = OPEN;
+    begun = now();
     STORE(teams.shared->round, number);
     teams.tell_filters();
 }

@@ -6,15 +6,19 @@
 
 #include "checker.h"
 #include "display.h"
+#include "saved.h"
 #include "teams.h"
 
 class Rounds {
 public:
-    // Solving, until a filter finds the row full; then all streams end, lrupd saves what it has, and filters take its identities.
-    enum State { OPEN, ENDING, SAVING, MAPPING };
+    // Solving, until a filter finds the row full; then all streams end, lrupd saves what it has, and filters take its identities. A run
+    // that is to end saves its last round.
+    enum State { OPEN, ENDING, SAVING, MAPPING, SAVED };
 
     State state = OPEN;
     uint64_t number = 1;
+    uint64_t checked = 0;               // the one that lrupd is at: before `number` an earlier run's; 0: it hasn't begun
+    Saver saver;
     uint64_t lines_before = 0;          // of the rounds before
     double paused = 0;                  // seconds in all
     Rows rows = {};
@@ -23,8 +27,14 @@ public:
     Rounds(const Inputs &its_inputs, Teams &its_teams, Checker &its_checker, const Display &its_display)
         : inputs(its_inputs), teams(its_teams), checker(its_checker), display(its_display) {}
     void begin(const std::string &program);     // the one that lrupd's command names
+    std::string beginning() const;              // of a run that goes on, in words
     std::string look();                         // goes on; why it can't, where it can't
-    void feed(bool is_last);                    // of the streams to lrupd
+    std::string feed(bool is_last);             // of the streams to lrupd; why it can't, where it can't
+    bool is_behind() const { return checked < number; }     // lrupd
+    void save_last();                           // round, so that the run may go on
+    bool is_saving() const;
+    std::string how_to_go_on();                 // in words
+    double next_saving() const;                 // when the round ends, though there is room; INFINITY: it doesn't
     void end_streams();                         // of the last round; they are whole
     std::string keep_report() const;            // why it can't, where it can't
 
@@ -35,15 +45,27 @@ private:
     const Display &display;
     std::string checker_program, said;
     Row first = {};                             // of round 1
+    std::vector<int> saved_streams;             // of the saved round that lrupd is at, and how many bytes each has
+    std::vector<uint64_t> saved_bytes;
+    size_t compared = 0;                        // of its digests
     uint64_t literals_before = 0;
-    double pause_begun = 0;
+    double pause_begun = 0, begun = now();      // the last pause, and the round
+    bool is_full = false;                       // its row, and it ends
+    bool ends_here = false;                     // the run, with the round that is on
     bool has_told_loss = false;
 
     bool size(uint64_t clauses, uint64_t literals);
     bool make_room(bool fits);
     Row needed_row() const;
+    size_t first_streams() const;
+    void open_saved();
+    std::string feed_saved();
+    void feed_teams(bool is_last);
+    void begin_next();
     void start_checker(Row wanted);
-    void end_round();
+    bool has_more() const;
+    void keep_checkpoint();
+    void end_round(bool full);
     std::string map_round();
     void begin_round();
     void go_on();

@@ -13,6 +13,7 @@
 namespace {
 
 const double ENDING = 10;       // seconds that a filter has for the line that it is at
+const double SAVING = 6;        // seconds for the round that is on, where the run is to end; the front waits a bit longer
 
 }
 
@@ -37,6 +38,7 @@ void Run::prepare() {
     for (size_t k = 0; k < inputs.cubes.size(); k++) teams.dealer.queue.push_back(k);
     if (others) others->begin();
     teams.start(!others);
+    if (inputs.options.resumed) display.tell(rounds.beginning());
     for (size_t k = 0; k < teams.size(); k++)
         if (teams.is_solver(k)) display.tell_more(teams.title(k) + ": " + teams[k].command);
 }
@@ -64,9 +66,9 @@ void Run::await_formula(int file) {
 
 double Run::next_look() const {
     if (phase == DONE) return inputs.deadline();
-    double time = std::min(display.next_show(), inputs.deadline());
+    double time = std::min(display.next_show(), asked.empty() ? inputs.deadline() : saving);
     if (others) time = std::min(time, others->next_look());
-    if (phase == SOLVING && rounds.state == Rounds::OPEN) time = std::min(time, teams.next_start());
+    if (phase == SOLVING && rounds.state == Rounds::OPEN) time = std::min({ time, teams.next_start(), rounds.next_saving() });
     if (phase == ENDING_STREAMS) time = std::min(time, ending);
     return time;
 }
@@ -74,6 +76,7 @@ double Run::next_look() const {
 std::vector<Child *> Run::children() {
     std::vector<Child *> list = teams.children();
     list.push_back(&checker.opener.child);
+    list.push_back(&rounds.saver.child);
     if (others) list.push_back(others->carrier);
     return list;
 }
@@ -93,10 +96,25 @@ std::string Run::why_it_ends() {
     std::string why = others ? others->look() : "";
     if (!why.empty()) return why;
     if (loop.ended_by) return std::string("ended by a signal: ") + strsignal(loop.ended_by);
-    if (!front.stopped.empty()) return front.stopped;
     if (front.probe.child.ended() && WIFSIGNALED(front.probe.child.status)) return "lrupd " + front.probe.child.end();
-    if (now() >= inputs.deadline()) return "time is up";
-    return opener.ended() ? "the process that opens lrupd's pipes " + opener.end() : "";
+    if (opener.ended()) return "the process that opens lrupd's pipes " + opener.end();
+    if (asked.empty()) asked = why_it_is_asked();
+    return asked.empty() || saves_first() ? "" : asked;
+}
+
+std::string Run::why_it_is_asked() const {
+    if (!front.stopped.empty()) return front.stopped;
+    return now() >= inputs.deadline() ? "time is up" : "";
+}
+
+// A record gets what was found since its last round, as far as that takes some seconds; or the verdict, where a proof is there.
+bool Run::saves_first() {
+    if (saving == 0) {
+        saving = now() + SAVING;
+        rounds.save_last();
+    }
+    if (!inputs.options.may_be_resumed() || now() >= saving) return false;
+    return phase == SOLVING ? rounds.is_saving() : !rounds.is_behind();
 }
 
 void Run::look() {
@@ -109,7 +127,8 @@ void Run::look() {
     if (phase == SOLVING && rounds.state == Rounds::OPEN) look_at_solving();
     if (phase == SOLVING) look_at_checker();
     if (phase == ENDING_STREAMS) end_streams();
-    if (phase != DONE) rounds.feed(phase == CHECKING);
+    if (phase != DONE) why = rounds.feed(phase == CHECKING);
+    if (!why.empty()) finish(UNKNOWN_ANSWER, why);
     if (phase == CHECKING && checker.child.ended()) verdict();
     loop.looks_again = phase != DONE && (phase != phase_before || rounds.state != state_before);
 }
@@ -232,7 +251,8 @@ void Run::look_at_model(size_t k) {
 }
 
 void Run::look_at_checker() {
-    if (checker.child.ended() && rounds.state == Rounds::SAVING) return verdict();
+    bool is_proved = checker.child.ended_with(0) || checker.child.ended_with(8);
+    if (is_proved || (checker.child.ended() && rounds.state == Rounds::SAVING)) return verdict();
     if (checker.child.ended()) return finish(UNKNOWN_ANSWER, end_of_checker());
     std::string why = rounds.look();
     if (!why.empty()) finish(UNKNOWN_ANSWER, why);
@@ -250,7 +270,7 @@ void Run::end_streams() {
 void Run::verdict() {
     display.show_lines();
     bool is_proved = checker.child.ended_with(0) || checker.child.ended_with(8);
-    bool is_unknown = checker.child.ended_with(UNKNOWN_STATUS);
+    bool is_unknown = checker.child.ended_with(UNKNOWN_STATUS) && !rounds.is_behind();
     if (is_proved || is_unknown) unkept = rounds.keep_report();
     has_report = (is_proved || is_unknown) && unkept.empty();
     if (is_proved) return finish(UNSATISFIABLE, "");
@@ -259,7 +279,8 @@ void Run::verdict() {
 
 std::string Run::end_of_checker() const {
     bool is_unsaved = checker.child.ended_with(UNSAVED_STATUS);
-    return "lrupd " + checker.child.end() + (is_unsaved ? ": " + Folder::room() : "");
+    std::string where = rounds.is_behind() && rounds.checked > 0 ? ", in round " + std::to_string(rounds.checked) + " of " + inputs.options.record : "";
+    return "lrupd " + checker.child.end() + where + (is_unsaved ? ": " + Folder::room() : "");
 }
 
 // The end.
@@ -302,6 +323,7 @@ void Run::end_all() {
     for (Child *child : children()) child->signal(SIGKILL);
     for (Child *child : children()) wait_for(*child);
     Keeping::Wait wait_for_end = [this](Child &child) { return await_end(child); };
+    if (has_report && answer == UNSATISFIABLE && inputs.options.record) remove_checkpoints(inputs.options.record);
     if (has_report) unkept = keeping.describe(checker, rounds.number, wait_for_end);
     std::string why = keeping.keep(answer == UNSATISFIABLE, teams.lost, wait_for_end);
     if (unkept.empty()) unkept = why;
@@ -318,6 +340,8 @@ void Run::send_answer() {
     if (inputs.options.verbose && others) others->details();
     display.lost();
     if (answer == UNKNOWN_ANSWER) display.causes(cause);
+    std::string next = rounds.how_to_go_on();
+    if (answer == UNKNOWN_ANSWER && !next.empty()) display.tell(next);
     display.record();
     display.summary();
     if (answer == SATISFIABLE) tell_model(model);

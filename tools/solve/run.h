@@ -43,6 +43,8 @@ private:
     Keeping keeping{ inputs, display };
     const Elsewhere *others = nullptr;
     double ending = 0;
+    std::string asked;          // why it is to end, once its record is saved
+    double saving = 0;          // when it ends at the latest then
 
     void prepare();
     void await_formula(int file);
@@ -51,6 +53,8 @@ private:
     std::vector<Child *> children();
     bool is_ended() const { return loop.ended_by || !front.stopped.empty(); }
     std::string why_it_ends();
+    std::string why_it_is_asked() const;
+    bool saves_first();
     void look();
     void look_at_reading();
     void look_at_solving();

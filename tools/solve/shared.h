@@ -129,6 +129,7 @@ typedef struct {
     const char *const *cited;       // by engine, from 0: the streams of one run, each of which may cite the others; or NULL
     const int *assumed;             // literals
     size_t assumed_length;
+    uint64_t spared;                // clauses of the user's formula, with which a run may go on that was ended
 } Filtering;
 
 #ifdef __cplusplus

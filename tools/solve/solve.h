@@ -26,12 +26,15 @@ struct Options {
     int seed = 0;
     const char *proofs = nullptr, *assume = nullptr, *cubes = nullptr, *mpi = nullptr, *formula = nullptr;
     const char *record = nullptr;       // the folder of --proofs, where the user names one
+    const char *resumed = nullptr;      // the same, of a run that goes on
+    double save_every = 0;              // seconds, after which a round ends
     std::string words;          // all of them, for a shell
     const char *core = nullptr, *lrat = nullptr;     // to be written
     bool rehint = false;        // for both
     bool replace = false;       // a record with a proof
     bool verbose = false, quiet = false;
 
+    bool may_be_resumed() const { return record && !check; }
     bool shares() const { return share && size_t(engines) > solvers.size() + 1; }
 };
 
@@ -120,13 +123,19 @@ int open_input(const std::string &path);
 void check_plain(const std::string &path, const std::string &name);     // refuses where it is compressed
 struct Place { int folder; std::string name; };         // for openat and the like
 
+const char LIST_OF_ROUNDS[] = "rounds.sha256";
 extern int record_folder;                               // open; -1: none
 Place place_of(const std::string &path);                // what is in the record is in that folder, whatever has its name by now
 // Refuses to write over these inputs.
 void open_record(const std::string &folder, const std::vector<std::string> &inputs, bool replaces);
+void open_record_again(const std::string &folder);      // of a run that goes on
 void clear_record(const std::string &folder, const std::vector<std::string> &kept);     // of an earlier run
+int open_in_record(const std::string &name);            // -1: it can't be
+void remove_checkpoints(const std::string &folder);     // of a run that needs none any more
 bool claim(const Place &place);                         // before a file is made; false: another's
 bool is_there(const std::string &path);
+std::string digest_of(int file, const std::string &path);
+std::string digest_of(const std::string &text);
 std::string digest_line(const std::string &path);       // of the file, for a record
 std::string digests_of_record(const std::vector<std::string> &known);   // of all its files
 uint64_t bytes_of_record();

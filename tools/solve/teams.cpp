@@ -82,7 +82,7 @@ void Teams::open() {
     shared = shared_memory<Shared>(1);
     shared->engines = shared->engines_here = options.engines;
     shared->outbox_words = options.shares() ? hooked(test_hooks.outbox, OUTBOX_WORDS) : 1;
-    shared->round = 1;
+    shared->round = inputs.saved.count() + 1;
     shared->events.file = event_file();
     if (options.proofs) record = absolute(options.proofs) + "/";
     list.resize(size_t(options.engines));
@@ -90,7 +90,7 @@ void Teams::open() {
         STORE(engine_status(k).stream, k + 1);
         engine_status(k).events.file = event_file();
         if (is_solver(k)) std::fill_n(engine_status(k).floors, MOST_ENGINES, UINT64_MAX);
-        list[k].stream = options.proofs ? create_file(stream_path(k, 1)) : file_in_memory();
+        list[k].stream = options.proofs ? create_file(stream_path(k, shared->round)) : file_in_memory();
         if (options.proofs) list[k].spare = file_in_memory();
         outboxes.push_back(shared_memory<uint32_t>(shared->outbox_words));
     }
@@ -183,16 +183,20 @@ void Teams::start_filter(size_t k) {
                             team.spare, record_folder,
                             is_solver(k) ? UNKNOWN_FORM : SHARING_DRAT,
                             inputs.options.shares() && !is_solver(k), cited.empty() ? nullptr : cited.data(),
-                            inputs.assumed.data(), inputs.assumed.size() };
-    filter_process(&filtering, &inputs.formula);
+                            inputs.assumed.data(), inputs.assumed.size(),
+                            inputs.options.may_be_resumed() ? inputs.formula.clauses : 0 };
+    filter_process(&filtering, &inputs.first_formula);
 }
 
-// The formula has a name that no shell takes for anything else.
+// The formula has a name that no shell takes for anything else, and that stays its own: a checkpoint is removed once there is
+// another one.
 std::string Teams::solver_line(size_t k, int &renamed) const {
     const std::vector<const char *> &solvers = inputs.options.solvers;
-    if (!is_plain(inputs.formula_path)) renamed = kept_open(open_input(inputs.formula_path));
+    bool goes_on = inputs.saved.count() > 0;
+    const std::string path = goes_on ? inputs.saved.checkpoint() : inputs.formula_path;
+    if (goes_on || !is_plain(path)) renamed = kept_open(open_input(path));
     return solver_command(solvers[k + solvers.size() - list.size()],
-                          renamed < 0 ? inputs.formula_path : OPEN_FILES + std::to_string(renamed),
+                          renamed < 0 ? path : OPEN_FILES + std::to_string(renamed),
                           OPEN_FILES + std::to_string(list[k].proof.write));
 }
 
@@ -210,7 +214,7 @@ void Teams::look_at_proof(size_t k) {
 void Teams::start_engine(size_t k) {
     Team &team = list[k];
     int number = int(k) + 1, renamed = -1;
-    Engine engine = { &inputs.options, &inputs.formula, &inputs.assumed, &inputs.cubes, shared,
+    Engine engine = { &inputs.options, &inputs.first_formula, &inputs.assumed, &inputs.cubes, shared,
                       outboxes.data(), team.model, number, team.proof.write };
     std::vector<int> files = { team.proof.write };
     bool is_proof = inputs.options.check;

@@ -89,11 +89,11 @@ static char *text(const char *format, ...) {
 static bool read_words(int count, char **words) {
     static const struct option list[] = {       // 1: a value follows
         { "assume", 1, NULL, 'a' },   { "check", 0, NULL, 'p' },    { "core", 1, NULL, 'c' },
-        { "cubes", 1, NULL, 'o' },
-        { "engines", 1, NULL, 'e' },  { "expect", 1, NULL, 'x' },   { "help", 0, NULL, 'h' },
-        { "lrat", 1, NULL, 'c' },     { "lrupd", 1, NULL, 'l' },    { "memory", 1, NULL, 'o' },
-        { "mpi", 1, NULL, 'm' },      { "no-share", 0, NULL, 'o' }, { "proofs", 1, NULL, 'o' },
-        { "quiet", 0, NULL, 'q' },    { "re-hint", 0, NULL, 'o' },  { "replace", 0, NULL, 'o' },
+        { "cubes", 1, NULL, 'o' },    { "engines", 1, NULL, 'e' },  { "expect", 1, NULL, 'x' },
+        { "help", 0, NULL, 'h' },     { "lrat", 1, NULL, 'c' },     { "lrupd", 1, NULL, 'l' },
+        { "memory", 1, NULL, 'o' },   { "mpi", 1, NULL, 'm' },      { "no-share", 0, NULL, 'o' },
+        { "proofs", 1, NULL, 'o' },   { "quiet", 0, NULL, 'q' },    { "re-hint", 0, NULL, 'o' },
+        { "replace", 0, NULL, 'o' },  { "resume", 1, NULL, 'o' },   { "save-every", 1, NULL, 'o' },
         { "seed", 1, NULL, 'o' },     { "share-size", 1, NULL, 'o' }, { "solver", 1, NULL, 'o' },
         { "time", 1, NULL, 't' },     { "verbose", 0, NULL, 'v' },  { "version", 0, NULL, 'h' },
         { NULL, 0, NULL, 0 } };
@@ -350,6 +350,7 @@ static void handle_signal(void) {
         raise(SIGSTOP);
         signal_group(SUPERVISOR, SIGCONT);
     }
+    if (found.ssi_signo != SIGTSTP && ended_by != 0) stop_solving_within(0);    // the second one
     if (found.ssi_signo == SIGTSTP || ended_by != 0) return;
     ended_by = (int)found.ssi_signo;
     stop_solving_within(GRACE);

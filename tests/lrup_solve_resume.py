@@ -1,0 +1,528 @@
+#!/usr/bin/env python3
+"""Kills runs of lrup-solve that keep a record, and goes on with them, until there is a verdict.
+
+    lrup_solve_resume.py PROGRAM [FLAGS [COUNT]]
+
+Whatever is killed, and however often, the answer is that of a run that is left alone; the record is checked again as a whole, and lrup-trim
+takes it. COUNT formulas are solved so, 12 if it isn't said. A record that was changed, cut or swapped, also with digests that fit, leads to
+the right answer, to 's UNKNOWN', or to a message that names the file; one of another formula is refused, and nothing of it is touched. It
+builds as lrup_solve.py does. It shows what is off; the last line is 'N passed, M failed'. The status is 1 where a run failed.
+"""
+import hashlib
+import os
+import random
+import re
+import shutil
+import signal
+import subprocess
+import sys
+import time
+from pathlib import Path
+from typing import Callable, Dict, List, Mapping, Optional, Sequence, Tuple
+
+sys.dont_write_bytecode = True
+from harness import (LIMIT, ROOT, TRIM, Failure, Ran, Row, dimacs, generated, left_out, random_clauses, run, run_all, started, until, want,
+                     words_given, written)
+from lrat import lrat_fault
+from proof_forms import read_formula
+from solving import (ANSWERS, EARLY, PROGRAM, SOLVE, Answer, before_lrupd, build, check_again, children_of, command, end_all, end_group,
+                     in_environment, marked, none_left, solve, want_answer)
+
+COUNT = int((words_given(__doc__, most=3) + ["-O2", "12"][len(sys.argv) - 2:])[2])
+SMALL = {"SAME_WORDS": 1, "SLICE": 20, "FIRST_WORDS": 4000}
+UNKNOWN, PROVED = "s UNKNOWN", "s UNSATISFIABLE"
+TRIES = 20
+SCRIPT = ROOT / "examples" / "resume" / "slurm.sh"
+SOON = 20       # seconds, after which a run should have ended
+
+
+def ended(words: Sequence[object], tested: Mapping[str, object], after: float, number: int = signal.SIGKILL) -> Answer:
+    """A run that gets a signal so many seconds after its start, unless it has ended by then. No process is left."""
+    mark = f"LRUP_MARK={os.environ['LRUP_MARK']}"
+    with started(command(words, tested), env=in_environment(tested), text=True, stdout=subprocess.PIPE, stderr=subprocess.PIPE) as running:
+        try:
+            out, said = running.communicate(timeout=after)
+        except subprocess.TimeoutExpired:
+            running.send_signal(number)
+            out, said = running.communicate(timeout=LIMIT)
+    none_left(mark)
+    return Answer(Ran(out, said, running.returncode))
+
+
+def saved_rounds(kept: Path) -> int:
+    """The round that a run would begin with, or 1."""
+    found = re.search(r"  checkpoint-(\d+)\.cnf\n$", (kept / "rounds.sha256").read_text()) if (kept / "rounds.sha256").exists() else None
+    return int(found[1]) if found else 1
+
+
+def recorded(words: Sequence[object], kept: Path, least: int, tested: Mapping[str, object]) -> None:
+    """The record of a run that was killed once it had saved so many rounds. One that has ended by then is tried again."""
+    for _ in range(TRIES):
+        with started(command(["--proofs", kept, "--replace", *words], tested), env=in_environment(tested), stdout=subprocess.DEVNULL) as running:
+            until(f"{least} rounds are saved", lambda: saved_rounds(kept) > least or running.poll() is not None)
+            running.kill()
+        none_left(f"LRUP_MARK={os.environ['LRUP_MARK']}")
+        if running.returncode == -signal.SIGKILL and saved_rounds(kept) > least:
+            return
+    raise Failure(f"it has ended {TRIES} times before it had saved {least} rounds")
+
+
+def checkpoints(kept: Path) -> List[str]:
+    return sorted(path.name for path in kept.iterdir() if re.match(r"\.|checkpoint|rounds", path.name))
+
+
+def whole(kept: Path, formula: Path, work: Path) -> None:
+    """The record of a run that has proved it."""
+    check_again(kept)
+    lrat = work / "lrat"
+    want(run([TRIM, "--lrat", lrat, formula, kept]).status, 0, "the status of lrup-trim")
+    want(lrat_fault(read_formula(formula), lrat.read_text()), "", "what the LRAT checker says")
+    lrat.unlink()
+
+
+# Runs that are killed.
+
+
+def killed(seed: int, work: Path) -> None:
+    """Again and again, each time with as many engines as come."""
+    numbers = random.Random(f"{seed} resumed")
+    marked(work)
+    size = numbers.randrange(130, 190)
+    formula = written(dimacs(size, random_clauses(numbers, size, round(numbers.uniform(4.1, 4.6) * size))), work)
+    tested = {"SET": EARLY, "SAME_WORDS": 1, "SLICE": numbers.choice((20, 50)), "FIRST_WORDS": numbers.choice((1000, 3000, 10000))}
+    begun, kept = time.monotonic(), work / "kept"
+    right = solve([formula], tested=tested)
+    lasts, words = time.monotonic() - begun, ["--proofs", kept]
+    want_answer(right, right.status if right.status in (10, 20) else 20, formula)
+    for count in range(1, 60):
+        options = ["-j", numbers.randint(1, 3), *["--no-share"] * (numbers.random() < 0.2), "--seed", numbers.randrange(5)]
+        answer = ended([*options, *words, formula], tested, numbers.uniform(0, lasts) * (0.3 + count / 10))
+        if answer.said.endswith(" checks it\n") and right.status == 20:
+            return whole(kept, formula, work)       # it was killed once it had the proof
+        want((answer.answers in ([], right.answers), answer.said), (True, ""), f"whether this is right:\n{answer.out[-2000:]}")
+        if answer.answers:
+            break
+        if (kept / "files").exists():
+            words = ["--resume", kept]
+    want_answer(answer, right.status, formula)
+    if right.status == 20:
+        want(checkpoints(kept), [], "what is left in the record")
+        whole(kept, formula, work)
+
+
+def with_others(first: Sequence[str], second: Sequence[str], text: str, work: Path) -> None:
+    """Other options than before, and more or fewer streams."""
+    marked(work)
+    kept, formula, cube = work / "kept", generated("pigeons 7", work), written("1 0\n", work, "cube")
+    words = [[word.replace("CUBE", str(cube)) for word in some] for some in (first, second)]
+    recorded([*words[0], formula], kept, 3, SMALL)
+    answer = solve(["-v", *words[1], "--resume", kept, formula], tested=SMALL)
+    want_answer(answer, 20, verdict=text)
+    begun = re.search(r"^c \S+: round (\d+) begins, with ", answer.out, re.M)
+    want(begun is not None and int(begun[1]) > 3, True, f"whether it goes on, in\n{answer.out[:2000]}")
+    want("lrupd has read what was saved" in answer.comments, True, f"whether that is told in\n{answer.out[-2000:]}")
+    if text == PROVED:
+        whole(kept, formula, work)
+    else:
+        done = run(["sh", kept / "command"], cwd="/")
+        want((done.out.splitlines()[-1], done.status), (text, 8), f"what is said when it is checked again, with {done.err}")
+
+
+def by_a_pipe(work: Path) -> None:
+    """The formula is named again by a pipe, or as the record has it."""
+    marked(work)
+    text, kept = generated("pigeons 7", work).read_text(), work / "kept"
+    for given, words in ((text, []), (None, [kept / "formula.cnf"])):
+        how = {"given": text}
+        with started(command(["--proofs", kept, "--replace"], SMALL), env=in_environment(SMALL), stdin=subprocess.PIPE, stdout=subprocess.DEVNULL) as running:
+            assert running.stdin
+            running.stdin.write(text.encode())
+            running.stdin.close()
+            until("a round is saved", lambda: saved_rounds(kept) > 1 or running.poll() is not None)
+        none_left(f"LRUP_MARK={os.environ['LRUP_MARK']}")
+        answer = solve(["--resume", kept, *words], tested=SMALL, **(how if given else {}))
+        want_answer(answer, 20)
+        whole(kept, kept / "formula.cnf", work)
+
+
+def moved(work: Path) -> None:
+    """The record and the formula have other names by now."""
+    marked(work)
+    formula, kept = generated("pigeons 7", work), work / "kept"
+    recorded(["-j", "2", formula], kept, 2, SMALL)
+    formula, kept = formula.rename(work / "an other;name"), kept.rename(work / "-d")
+    want_answer(solve(["-j", "2", "--resume", "-d", "--", formula.name], tested=SMALL, cwd=work), 20)
+    whole(kept, formula, work)
+
+
+def nothing_saved(work: Path) -> None:
+    marked(work)
+    formula, kept = generated("pigeons 7", work), work / "kept"
+    with started(command(["--proofs", kept, formula]), stdout=subprocess.DEVNULL) as running:
+        until("streams are there", lambda: (kept / "formula.sha256").exists())
+        running.kill()
+    answer = solve(["--resume", kept, formula])
+    want_answer(answer, 20)
+    want(answer.comments[0], f"{kept}: no round was saved, so the run begins anew", "the first line")
+    whole(kept, formula, work)
+
+
+def lasting(work: Path) -> None:
+    """lrupd gets what was saved late: meanwhile engines fill a row, and wait for it."""
+    marked(work)
+    formula, kept = generated("pigeons 7", work), work / "kept"
+    recorded(["-j", "2", formula], kept, 3, SMALL)
+    lrupd = before_lrupd("sleep 1", work)
+    answer = solve(["-v", "-j", "2", "--lrupd", lrupd, "--resume", kept, formula], tested={**SMALL, "AHEAD": 1000})
+    want_answer(answer, 20)
+    whole(kept, formula, work)
+
+
+# Runs that are to end.
+
+ENDS = {signal.SIGTERM: "Terminated", signal.SIGINT: "Interrupt", signal.SIGHUP: "Hangup", None: "time is up"}
+
+
+def way_on(answer: Answer, kept: Path, formula: Path) -> Tuple[int, bool]:
+    """By the comment: how many rounds there are, and whether something is lost; and the words to go on by."""
+    said = [re.fullmatch(rf"{kept} has (\d+) rounds?(, and nothing of what came then)?: lrup-solve --resume {kept} {formula} goes on", line)
+            for line in answer.comments]
+    found = [one for one in said if one]
+    want(len(found), 1, f"whether it is told how to go on, in\n{answer.out}{answer.said}")
+    return int(found[0][1]), found[0][2] is not None
+
+
+def saved_at_the_end(number: Optional[signal.Signals], tested: Mapping[str, object], work: Path) -> None:
+    """The round in hand is saved, within some seconds, and the run goes on from there."""
+    marked(work)
+    formula, kept, words = generated("pigeons 10", work), work / "kept", ["--proofs"]
+    rounds = 0
+    for _ in range(3):
+        limit = ["--time", "1.5"] if number is None else []
+        with started(command(["-j", "2", *limit, *words, kept, formula], tested), env=in_environment(tested), text=True, stdout=subprocess.PIPE,
+                     stderr=subprocess.PIPE) as running:
+            if number is not None:
+                until("there is something to save", lambda: any(path.stat().st_size > 0 for path in kept.glob(f"round-{rounds + 1}.stream-*")))
+                time.sleep(1)
+                running.send_signal(number)
+            answer = Answer(Ran(*running.communicate(timeout=SOON), running.returncode))
+        none_left(f"LRUP_MARK={os.environ['LRUP_MARK']}")
+        want((answer.answers, answer.status), ([UNKNOWN], -number if number else 0), f"the answer of\n{answer.out}{answer.said}")
+        before, (rounds, is_lost) = rounds, way_on(answer, kept, formula)
+        want((is_lost, rounds > before, saved_rounds(kept) - 1), (False, True, rounds), f"what is saved, in\n{answer.out}")
+        words = ["--resume"]
+
+
+def second_signal(work: Path) -> None:
+    """While lrupd stands still nothing can be saved: the second one ends the run at once."""
+    marked(work)
+    formula, kept = generated("pigeons 11", work), work / "kept"
+    recorded(["-j", "2", formula], kept, 1, SMALL)
+    for count in (1, 2):
+        before = saved_rounds(kept)
+        with started(command(["-j", "2", "--resume", kept, formula], SMALL), env=in_environment(SMALL), text=True, stdout=subprocess.PIPE,
+                     stderr=subprocess.PIPE) as running:
+            until("a round more is saved", lambda: saved_rounds(kept) > before)
+            os.kill(children_of(running.pid)["lrupd"], signal.SIGSTOP)
+            running.send_signal(signal.SIGTERM)
+            begun = time.monotonic()
+            if count == 2:
+                time.sleep(0.5)
+                running.send_signal(signal.SIGINT)
+            answer = Answer(Ran(*running.communicate(timeout=SOON), running.returncode))
+        lasted = time.monotonic() - begun
+        want((answer.answers, answer.status), ([UNKNOWN], -signal.SIGTERM), f"the answer of\n{answer.out}{answer.said}")
+        want((lasted < 4) if count == 2 else 4 < lasted < 12, True, f"{lasted} seconds after the first signal")
+        want(saved_rounds(kept) > before, True, "whether what was saved is still there")
+
+
+def by_the_clock(work: Path) -> None:
+    """A round ends every so many seconds, though its row has room."""
+    marked(work)
+    formula, kept = generated("pigeons 11", work), work / "kept"
+    answer = solve(["-v", "-j", "2", "--time", "3", "--save-every", "0.25", "--proofs", kept, formula])
+    want_answer(answer, 0)
+    rounds, is_lost = way_on(answer, kept, formula)
+    want((4 <= rounds <= 13, is_lost), (True, False), f"{rounds} rounds in\n{answer.out}")
+    rows = [int(row.replace(",", "")) for row in re.findall(r"^c round \d+: .* in a row of ([\d,]+) words", answer.out, re.M)]
+    want(max(rows) < 1.5 * min(rows), True, f"whether rows grow that aren't full: {rows}")
+    answer = solve(["-j", "2", "--time", "2", "--resume", kept, formula])
+    want((answer.comments[0].startswith(f"{kept}: round {rounds + 1} begins, with "), answer.status), (True, 0), f"the first line of\n{answer.out}")
+
+
+def in_jobs(work: Path) -> None:
+    """The script for Slurm, with a batch system that ends each job after its time: it tells the script before, or kills all at once."""
+    numbers, mark = random.Random(3), marked(work)
+    formula, kept = generated("pigeons 9", work), work / "it's kept"
+    path = ":".join([str(SOLVE.parent), str(Path(PROGRAM).parent), os.environ["PATH"]])
+    for count in range(1, 100):
+        with started(["sh", SCRIPT, formula, kept], env={**os.environ, "PATH": path, "SLURM_CPUS_PER_TASK": "4"}, stdout=subprocess.DEVNULL, stderr=subprocess.DEVNULL,
+                     start_new_session=True) as job:
+            try:
+                job.wait(0.7 + 0.2 * count)
+            except subprocess.TimeoutExpired:
+                is_told = numbers.random() < 0.7
+                if is_told:
+                    job.terminate()
+                    want(job.wait(SOON), 0, "the status of a job that is told to end")
+                end_group(job)
+        end_all(mark)
+        if (work / "it's kept.answer").exists():
+            break
+    want((work / "it's kept.answer").read_text().splitlines()[-1], PROVED, "the answer")
+    want(count > 2, True, f"jobs, of which there were {count}")
+    whole(kept, formula, work)
+
+
+# Records that aren't what they were.
+
+Change = Callable[[Path, random.Random], str]
+
+
+def any_of(kept: Path, numbers: random.Random, pattern: str) -> Path:
+    """Of the rounds that are saved."""
+    named = [line[66:] for line in (kept / "rounds.sha256").read_text().splitlines()]
+    return kept / numbers.choice([name for name in named if re.fullmatch(pattern, name)])
+
+
+def flipped(pattern: str) -> Change:
+    def change(kept: Path, numbers: random.Random) -> str:
+        path = any_of(kept, numbers, pattern)
+        data = bytearray(path.read_bytes())
+        data[numbers.randrange(len(data))] ^= 1 << numbers.randrange(8)
+        path.write_bytes(data)
+        return path.name
+    return change
+
+
+def cut(pattern: str) -> Change:
+    def change(kept: Path, numbers: random.Random) -> str:
+        path = any_of(kept, numbers, pattern)
+        os.truncate(path, numbers.randrange(path.stat().st_size))
+        return path.name
+    return change
+
+
+def swapped(pattern: str) -> Change:
+    def change(kept: Path, numbers: random.Random) -> str:
+        one = any_of(kept, numbers, pattern)
+        other = one
+        while other == one:
+            other = any_of(kept, numbers, pattern)
+        texts = one.read_bytes(), other.read_bytes()
+        one.write_bytes(texts[1])
+        other.write_bytes(texts[0])
+        return f"{one.name}|{other.name}"
+    return change
+
+
+def removed(pattern: str, then: Callable[[Path], object] = lambda path: None) -> Change:
+    def change(kept: Path, numbers: random.Random) -> str:
+        path = any_of(kept, numbers, pattern)
+        path.unlink()
+        then(path)
+        return path.name
+    return change
+
+
+def written_anew(name: str, text: str) -> Change:
+    def change(kept: Path, numbers: random.Random) -> str:
+        (kept / name).write_text(text)
+        return name
+    return change
+
+
+def list_changed(pattern: str, by: str) -> Change:
+    def change(kept: Path, numbers: random.Random) -> str:
+        path = kept / "rounds.sha256"
+        path.write_text(re.sub(pattern, by, path.read_text(), flags=re.M))
+        return "rounds.sha256|round-1"
+    return change
+
+
+STREAM, SIZES, CHECKPOINT = r"round-\d+\.stream-\d+", r"round-\d+\.sizes", r"checkpoint-\d+\.cnf"
+CHANGES: Dict[str, Change] = {
+    **{f"{what} of {pattern}": made for pattern in (STREAM, SIZES, CHECKPOINT) for what, made in (
+        ("a bit", flipped(pattern)), ("another bit", flipped(pattern)), ("the end", cut(pattern)), ("all", removed(pattern)))},
+    "streams swapped": swapped(STREAM), "sizes swapped": swapped(SIZES), "a pipe as a stream": removed(STREAM, os.mkfifo),
+    "a folder as sizes": removed(SIZES, os.mkdir), "a link as a checkpoint": removed(CHECKPOINT, lambda path: path.symlink_to("/dev/zero")),
+    "an empty list": written_anew("rounds.sha256", ""), "a list of nothing": written_anew("rounds.sha256", "x\n"),
+    "a list without its end": list_changed(r"\n\Z", ""), "a list without its last line": list_changed(r"^.*checkpoint.*\n", ""),
+    "a list with a stream less": list_changed(r"^.*round-1.stream-1\n", ""), "a list with two of one": list_changed(r"stream-2$", "stream-1"),
+    "another folder's file": list_changed(r"checkpoint-", "../checkpoint-"), "another digest": list_changed(r"^[0-9a-f]", "g"),
+    "digests of nothing": list_changed(r"^[0-9a-f]{64}", "0" * 64)}
+
+
+def want_no_other(answer: Answer, status: int, formula: Path, kept: Path, names: str) -> None:
+    """The right answer, none, or a message; and one of these files is named where there is none."""
+    if answer.status == status:
+        answer.said = ""
+        return want_answer(answer, status, formula)
+    want((answer.answers, answer.status in (0, 1)), ([UNKNOWN] if answer.status == 0 else [], True), f"the answer of\n{answer.out}{answer.said}")
+    said = answer.said if answer.status == 1 else answer.out
+    want(any(f"{kept}/{name}" in said for name in names.split("|")), True, f"whether one of {names} is named in\n{answer.out}{answer.said}")
+
+
+def changed(status: int, seed: int, work: Path) -> None:
+    """One record, and each change of it."""
+    marked(work)
+    numbers, first = random.Random(seed), work / "first"
+    formula = hard(status, work)
+    recorded(["-j", "2", formula], first, 3, SMALL)
+    for name, change in CHANGES.items():
+        kept = work / "kept"
+        shutil.copytree(first, kept)
+        names = change(kept, numbers)
+        answer = solve(["-j", "2", "--resume", kept, formula], tested=SMALL)
+        try:
+            want_no_other(answer, status, formula, kept, names)
+        except Failure as found:
+            raise Failure(f"{name}, {names}: {found}") from found
+        shutil.rmtree(kept)
+
+
+def hard(status: int, work: Path) -> Path:
+    """For some rounds of small rows."""
+    return generated("pigeons 7", work) if status == 20 else written(dimacs(230, random_clauses(random.Random(17), 230, 975)), work)
+
+
+def with_digests(kept: Path) -> None:
+    """The list is that of the files that are there."""
+    lines = (kept / "rounds.sha256").read_text().splitlines()
+    names = [line[66:] for line in lines if (kept / line[66:]).exists()]
+    (kept / "rounds.sha256").write_text("".join(f"{hashlib.sha256((kept / name).read_bytes()).hexdigest()}  {name}\n" for name in names))
+
+
+def contradictory(kept: Path) -> None:
+    """Each engine refutes what the checkpoint says."""
+    checkpoint = kept / f"checkpoint-{saved_rounds(kept)}.cnf"
+    text = checkpoint.read_text()
+    found = re.match(r"p cnf (\d+) (\d+)\n", text)
+    assert found
+    checkpoint.write_text(f"p cnf {found[1]} {int(found[2]) + 2}\n{text[found.end():]}1 0\n-1 0\n")
+
+
+def another_beginning(kept: Path) -> None:
+    """The formula's first clauses are others, so that an assignment is one of another formula."""
+    checkpoint = kept / f"checkpoint-{saved_rounds(kept)}.cnf"
+    lines = checkpoint.read_text().splitlines(True)
+    checkpoint.write_text("".join([lines[0], *("1 -1 0\n" if line[0] != "c" else line for line in lines[1:])]))
+
+
+def refuting_stream(kept: Path) -> None:
+    path = kept / f"round-{saved_rounds(kept) - 1}.stream-1"
+    first = path.read_text().split(" ", 1)[0]
+    path.write_text(f"{first} 0 1 2 0\n" + path.read_text())
+
+
+def empty_streams(kept: Path) -> None:
+    for path in kept.glob("round-*.stream-*"):
+        path.write_text("")
+
+
+def large_sizes(kept: Path) -> None:
+    (kept / "round-1.sizes").write_text("64 268435456 268435456\n")
+
+
+FORGED = [contradictory, another_beginning, refuting_stream, empty_streams, large_sizes]
+
+
+def forged(status: int, change: Callable[[Path], None], work: Path) -> None:
+    """Whoever forges a record may choose its digests."""
+    marked(work)
+    kept, formula = work / "kept", hard(status, work)
+    recorded(["-j", "2", formula], kept, 3, SMALL)
+    change(kept)
+    with_digests(kept)
+    answer = solve(["-j", "2", "--resume", kept, formula], tested={**SMALL, "TRIES": 1000})
+    answer.said = answer.said if answer.status == 1 else ""
+    want((answer.answers in ([], [UNKNOWN], [ANSWERS[status]]), answer.status in (0, 1, status)), (True, True), f"the answer of\n{answer.out}{answer.said}")
+    if answer.status == status:
+        want_answer(answer, status, formula)
+
+
+# What is refused.
+
+
+def refused(words: Sequence[object], said: str, work: Path) -> None:
+    """Nothing is touched."""
+    before = {path: path.read_bytes() for path in work.rglob("*") if path.is_file()}
+    answer = solve(words, tested=SMALL, cwd=work)
+    want((answer.out, answer.said, answer.status), ("", f"lrup-solve: {said}\n", 1), "what is said")
+    want({path: path.read_bytes() for path in work.rglob("*") if path.is_file()}, before, "the files")
+
+
+def of_another(work: Path) -> None:
+    """Another formula, and other assumptions, than the record's; and no record that could go on."""
+    marked(work)
+    formula, cube, other = generated("pigeons 8", work), written("1 0\n", work, "cube"), written("2 0\n", work, "other")
+    recorded(["-j", "2", "--assume", cube, formula], work / "d", 2, SMALL)
+    more = written(formula.read_text() + "c more\n", work, "more.cnf")
+    under = ["--assume", cube, "--resume", "d"]
+    refused([*under, more], f"{more} isn't the formula of d, or was changed since", work)
+    refused([*under, work / "d" / "round-1.stream-1"], f"{work}/d/round-1.stream-1 isn't the formula of d, or was changed since", work)
+    refused(["--assume", other, "--resume", "d", formula], f"{other} isn't the assumptions of d, or was changed since", work)
+    refused(["--resume", "d", formula], "d is the record of a run with --assume", work)
+    refused(["--proofs", "d", *under, formula], "--resume and --proofs: a run that goes on keeps its streams where the one before did", work)
+    refused(["--replace", *under, formula], "--resume and --replace: nothing is replaced", work)
+    refused(["--mpi", "mpirun", *under, formula], "--resume and --mpi: a run goes on with engines on one host", work)
+    refused(["--save-every", "0", *under, formula], "--save-every takes seconds above 0, not 0", work)
+    refused(["--save-every", "1", formula], "--save-every without --proofs or --resume", work)
+    refused(["--resume", "none", formula], "none: No such file or directory", work)
+    (work / "empty").mkdir()
+    refused(["--resume", "empty", formula], "empty has no record: --proofs makes one", work)
+    digest = (work / "d" / "formula.sha256").read_text()
+    (work / "d" / "formula.sha256").write_text("x\n")
+    refused([*under, formula], f"{formula} isn't the formula of d, or was changed since", work)
+    (work / "d" / "formula.sha256").unlink()
+    refused([*under, formula], "d/formula.sha256 doesn't have the SHA-256 of the formula: the run can't go on", work)
+    (work / "d" / "formula.sha256").write_text(digest)
+    want_answer(solve([*under, formula], tested=SMALL, cwd=work), 20, verdict="s UNSATISFIABLE UNDER ASSUMPTIONS")
+    refused([*under, formula], "d has its proof: sh d/command checks it", work)
+
+
+def of_two(work: Path) -> None:
+    """Another run has the record; and one that has just been killed ends first."""
+    marked(work)
+    formula, kept = generated("pigeons 11", work), work / "d"
+    with started(command(["-j", "1", "--proofs", kept, formula]), stdout=subprocess.DEVNULL) as running:
+        until("it has begun", lambda: (kept / "formula.sha256").exists())
+        answer = solve(["--resume", kept, formula])
+        want((answer.said, answer.status), (f"lrup-solve: {kept}: another run that goes on has its files there: another --proofs\n", 1), "what is said")
+        running.kill()
+        answer = solve(["--resume", kept, "--time", "1", formula])
+        want_answer(answer, 0)
+
+
+def unsaved(work: Path) -> None:
+    """What can't be saved is told, and the run goes on."""
+    marked(work)
+    formula, kept = generated("pigeons 7", work), work / "kept"
+    lrupd = before_lrupd(f"mkdir -p {kept}/checkpoint-2.cnf", work)
+    answer = solve(["-j", "2", "--lrupd", lrupd, "--proofs", kept, formula], tested=SMALL)
+    want_answer(answer, 20)
+    told = f"round 1 isn't saved: cannot write {kept}/checkpoint-2.cnf: "
+    want(any(line.startswith(told) for line in answer.comments), True, f"whether that is told in\n{answer.out}")
+    check_again(kept)
+
+
+def rows() -> List[Row]:
+    found: List[Row] = [(f"killed {seed}", killed, seed) for seed in range(COUNT)]
+    under = "s UNSATISFIABLE UNDER ASSUMPTIONS"
+    found += [(f"{' '.join(first)}, then {' '.join(second)}", with_others, first, second, text) for first, second, text in (
+        (["-j", "1"], ["-j", "3"], PROVED), (["-j", "3"], ["-j", "1"], PROVED), (["-j", "2", "--no-share"], ["-j", "2"], PROVED),
+        (["-j", "2"], ["-j", "2", "--no-share"], PROVED),
+        (["-j", "2", "--assume", "CUBE"], ["-j", "3", "--assume", "CUBE"], under))]
+    if shutil.which("cadical"):
+        found += [("a solver goes on", with_others, ["-j", "1"], ["--solver", "cadical -q %formula %proof"], PROVED)]
+    found += [(f"saved at the end, {ENDS[number]}, {name}", saved_at_the_end, number, tested) for number in ENDS
+              for name, tested in (("small rows", SMALL), ("one row", {}))]
+    found += [("in jobs", in_jobs), ("a second signal", second_signal), ("saved by the clock", by_the_clock)]
+    found += [("by a pipe", by_a_pipe), ("moved", moved), ("nothing saved", nothing_saved), ("a slow lrupd", lasting)]
+    found += [(f"changed, {ANSWERS[status]}", changed, status, seed) for status in (10, 20) for seed in range(1 + COUNT // 50)]
+    found += [(f"forged, {change.__name__}, {ANSWERS[status]}", forged, status, change) for change in FORGED for status in (10, 20)]
+    return found + [("another formula", of_another), ("of two runs", of_two), ("can't be saved", unsaved)]
+
+
+cause = build("solve", for_tests=True)
+sys.exit(left_out(f"all of lrup-solve: {cause}") if cause else run_all(rows()))     # none is tried again

@@ -1,0 +1,215 @@
+// Unverified, as all of this solver. What a record has of rounds that a run may go on from: reading it, and writing it.
+#include <algorithm>
+#include <cerrno>
+#include <cstdio>
+#include <cstring>
+#include <sstream>
+
+#include <fcntl.h>
+#include <sys/stat.h>
+#include <unistd.h>
+
+#include "../exact/digest.h"
+#include "saved.h"
+#include "teams.h"
+
+namespace {
+
+const size_t BEFORE_NAME = DIGEST_DIGITS + 2, PIECE = 1 << 16;
+
+std::string checkpoint_name(uint64_t round) { return "checkpoint-" + std::to_string(round) + ".cnf"; }
+
+std::string stream_name(uint64_t round, size_t number) {
+    return name_of_round(round) + ".stream-" + std::to_string(number);
+}
+
+[[noreturn]] void refuse_changed(const std::string &path) { refuse(path + " was changed since it was saved: the run can't go on"); }
+
+// That is a regular file.
+int open_regular(const std::string &path) {
+    struct stat found;
+    int file = open_in_record(path.substr(path.rfind('/') + 1));
+    if (file < 0) refuse(path + ": " + error_text() + ": the run can't go on");
+    if (fstat(file, &found) != 0 || !S_ISREG(found.st_mode)) refuse(path + " is no regular file: the run can't go on");
+    return file;
+}
+
+std::string read_text(const std::string &path) {
+    int file = open_regular(path);
+    std::string text = text_of(file);
+    close(file);
+    return text;
+}
+
+}
+
+// Reading.
+
+void SavedRounds::read_list(const std::string &text) {
+    const std::string path = folder + LIST_OF_ROUNDS;
+    std::istringstream lines(text);
+    std::string line, name;
+    for (uint64_t number = 1; std::getline(lines, line); number++) {
+        bool is_digest = line.find_first_not_of("0123456789abcdef") == DIGEST_DIGITS && line.compare(DIGEST_DIGITS, 2, "  ") == 0;
+        name = is_digest ? line.substr(BEFORE_NAME) : "";
+        bool is_right = !name.empty() && name.find('/') == std::string::npos && digests.count(name) == 0;
+        if (!is_right) refuse(path + ", line " + std::to_string(number) + ", isn't as it was written: the run can't go on");
+        digests[name] = line.substr(0, DIGEST_DIGITS);
+    }
+    if (text.empty() || text.back() != '\n') refuse(path + " is cut: the run can't go on");
+}
+
+SavedRounds::Sizes SavedRounds::read_sizes(uint64_t round) const {
+    unsigned long long streams = 0, lines = 0, room = 0;
+    const std::string path = folder + name_of_round(round) + ".sizes", text = read_text(path);
+    bool is_read = sscanf(text.c_str(), "%llu %llu %llu", &streams, &lines, &room) == 3;
+    bool is_right = is_read && streams >= 1 && streams <= MOST_ENGINES && lines <= MOST_WORDS && room <= MOST_WORDS;
+    if (!is_right || is_changed(digest_of(text) + "  " + name_of_round(round) + ".sizes")) refuse_changed(path);
+    return { size_t(streams), { lines, room } };
+}
+
+// All that it names has to be there; streams are compared with their digests as lrupd gets them.
+void SavedRounds::read(const std::string &record) {
+    folder = record + "/";
+    if (!is_there(folder + LIST_OF_ROUNDS)) return;
+    read_list(read_text(folder + LIST_OF_ROUNDS));
+    size_t named = 1;       // the checkpoint
+    for (uint64_t round = 1; digests.count(name_of_round(round) + ".sizes") != 0; round++) {
+        sizes.push_back(read_sizes(round));
+        for (size_t k = 1; k <= streams(round); k++) close(open_stream(round, k));
+        named += 1 + streams(round);
+    }
+    bool is_whole = count() > 0 && digests.count(checkpoint_name(count() + 1)) != 0 && digests.size() == named;
+    if (!is_whole) refuse(folder + LIST_OF_ROUNDS + " names other files than a run saves: the run can't go on");
+}
+
+int SavedRounds::open_stream(uint64_t round, size_t number) const {
+    const std::string path = folder + stream_name(round, number);
+    if (digests.count(stream_name(round, number)) == 0) refuse(folder + LIST_OF_ROUNDS + " doesn't name " + path + ": the run can't go on");
+    return open_regular(path);
+}
+
+std::vector<int> SavedRounds::open(uint64_t round) const {
+    std::vector<int> files;
+    for (size_t k = 1; k <= streams(round); k++) files.push_back(kept_open(open_stream(round, k)));
+    return files;
+}
+
+std::string SavedRounds::checkpoint() const { return folder + checkpoint_name(count() + 1); }
+
+bool SavedRounds::is_changed(const std::string &line) const {
+    auto found = digests.find(line.substr(BEFORE_NAME));
+    return found == digests.end() || line.compare(0, DIGEST_DIGITS, found->second) != 0;
+}
+
+void SavedRounds::check(const std::string &path) const {
+    int file = open_regular(path);
+    std::string digest = digest_of(file, path);
+    close(file);
+    if (is_changed(digest + "  " + path.substr(folder.size()))) refuse_changed(path);
+}
+
+std::vector<std::string> SavedRounds::paths() const {
+    std::vector<std::string> found;
+    if (count() > 0) found.push_back(folder + LIST_OF_ROUNDS);
+    for (const auto &entry : digests) found.push_back(folder + entry.first);
+    return found;
+}
+
+// Writing.
+
+namespace {
+
+void bring_to_disk(const std::string &name) {
+    int file = open_in_record(name);
+    if (file < 0) return;
+    fdatasync(file);
+    close(file);
+}
+
+// Of the file that is written there until it is whole.
+std::string written(const std::string &path, int file, bool is_whole) {
+    const std::string begun = unfinished(path);
+    if (is_whole && file >= 0 && fsync(file) == 0 && rename_file(begun, path)) return "";
+    std::string cause = "cannot write " + path + ": " + error_text();
+    if (file >= 0) remove_file(begun);
+    return cause;
+}
+
+// With its digest.
+std::string copy_checkpoint(int file, const std::string &path, std::string &digest) {
+    static char bytes[PIECE];
+    char text[DIGEST_DIGITS + 1];
+    Digest found;
+    int copy = create_if_possible(unfinished(path));
+    bool is_whole = copy >= 0;
+    digest_begin(&found);
+    for (ssize_t count = 1; is_whole && count > 0;) {
+        count = read(file, bytes, PIECE);
+        is_whole = count >= 0 && write_all(copy, bytes, size_t(count));
+        if (count > 0) digest_add(&found, bytes, size_t(count));
+    }
+    digest_end(&found, text);
+    digest = text;
+    return written(path, copy, is_whole);
+}
+
+}
+
+void Saver::save(uint64_t round, const std::string &record, const std::string &checkpoint, const std::vector<std::string> &all) {
+    if (!cause) cause = shared_memory<char>(LONGEST_CAUSE);
+    folder = record + "/";
+    digests = &all;
+    close_file(next.file);
+    next = { round, kept_open(::open(checkpoint.c_str(), O_RDONLY | O_CLOEXEC)), all.size() };
+    if (!child.running) start();
+}
+
+// Names are listed here: the process has no list.
+void Saver::start() {
+    now = next;
+    next = Work();
+    const std::string path = folder + checkpoint_name(now.round), list = folder + LIST_OF_ROUNDS;
+    for (const std::string &name : { path, unfinished(path), list, unfinished(list) }) claim(place_of(name));
+    child = Child();
+    if (begin(child, "saver", { now.file, record_folder })) {
+        give_way();
+        std::string why = write();
+        snprintf(cause, LONGEST_CAUSE, "%s", why.c_str());
+        _exit(!why.empty());
+    }
+    close_file(now.file);
+}
+
+// Once it is named, the one before isn't needed.
+std::string Saver::write() const {
+    const std::string path = folder + checkpoint_name(now.round), list = folder + LIST_OF_ROUNDS;
+    for (size_t k = on_disk; k < now.named; k++) bring_to_disk((*digests)[k].substr(BEFORE_NAME));
+    std::string text, digest, why = copy_checkpoint(now.file, path, digest);
+    if (!why.empty()) return why;
+    for (size_t k = 0; k < now.named; k++) text += (*digests)[k] + "\n";
+    text += digest + "  " + checkpoint_name(now.round) + "\n";
+    int file = create_if_possible(unfinished(list));
+    why = written(list, file, file >= 0 && write_all(file, text.data(), text.size()));
+    if (!why.empty()) return why;
+    bring_to_disk(".");
+    if (saved != 0 && saved != now.round) remove_file(folder + checkpoint_name(saved));
+    return "";
+}
+
+void Saver::end() {
+    close_file(next.file);
+    next = Work();
+    look();
+}
+
+std::string Saver::look() {
+    if (now.round == 0 || child.running) return "";
+    bool is_saved = child.ended_with(0);
+    std::string why = child.ended_with(1) ? cause : "its process " + child.end();
+    std::string line = "round " + std::to_string(now.round - 1) + " isn't saved: " + why;
+    if (is_saved) saved = now.round, on_disk = now.named;
+    now = Work();
+    if (next.round != 0) start();
+    return is_saved ? "" : line;
+}
