@@ -44,9 +44,9 @@ abbrev pub HaveEnded : List Report → Type 0
 HaveEnded reports = AllByRecursion (λ report. report.ending ≡ endings.Ended) reports
 
 -- What became of the saving of a checkpoint to a sink, which is `first` before it and `last` after it, once streams of the formula with this
--- layout were checked, whose history and dropped identities these are. What was written whole is a text of a formula over the same variables, each clause of which
--- follows from this one, and it is the next formula, if one is given. It is that of the clauses that the history leaves live, but for those
--- that all streams dropped, and no others. Just where the sink failed, the result is that a write failed.
+-- layout were checked, whose history and dropped identities these are. What was written whole is a text of a formula over the same
+-- variables, each clause of which follows from this one, and it is the next formula, if one is given. It is that of the clauses that the
+-- history leaves live, but for those that all streams dropped, and no others. Just where the sink failed, the result is that a write failed.
 pub record SavesCheckpoint (its : Deeds) (formula : Cnf) (layout : LayoutValue) (history : History)
     (dropped : List DroppedIdsValue) (result : Result (Option Cnf) SaveFault)
     (first last : its.Output) : Type 0 where
