@@ -268,7 +268,7 @@ HISTORY_ROWS: Rows = [
      reply]] with [[fn Store::fetch.calls: reply = reply_of (pass_caller_view pass.new.view) result]]; [[fn Store::publish.calls:
      events.publish stream id clause.now result]]; [[fn Store::retire.calls: events.retire stream id result]]."""),
     ("Each call comes after all that its stream had seen.", """[[PassMoves: seen : (more : History) × (new.seen ≡ old.seen ++
-     more)]], and the call is the last event of this ([[Calls: last : EndsWith new.seen event]]). In the end each pass has
+     more)]], and the call is the last event of this ([[Calls: last : (before : History) × (new.seen ≡ before ++ event ∷ [])]]). In the end each pass has
      seen the whole history: [[HaveOneHistory: pass.seen ≡ history]]."""),
     ("Each published clause has an identity that its stream owns, and follows from the formula.", """[[IsAllowed: Owns layout
      s id × IsPublishable formula clause]], with [[IsPublishable: follows : Follows formula candidate]]."""),
@@ -280,14 +280,14 @@ HISTORY_ROWS: Rows = [
      keeps are then the clauses of what it has seen ([[Calls: fair : IsFair new]], [[IsFair: spelt : IsSpelt
      view.caller.formula view.seen view.spelt]]). A known clip keeps its clause ([[law known_stays]], [[law pass_steps]])."""),
     ("Each report is right by the rules, for its stream's calls in this history and its bytes.", """[[fn run.reports]]: it is
-     a run ([[IsRun]]) by this history ([[fn run.reports: run.history ≡ seen_by (views outcome.passes.items)]]). Each
+     a run ([[IsRun]]) by this history ([[fn run.reports: ran.run.history ≡ seen_by (views outcome.passes.items)]]). Each
      stream is judged by blocks of events, one for each line. Together they are the stream's events ([[AreJudgedIn: own
      history t ≡ joined blocks]]). Good lines come first, and then what ended the stream ([[JudgesBlocks]]). If memory ran
      out, events and bytes don't decide the report: any deletion that drops something may have stopped for that
      ([[StopsDeletion]])."""),
     ("The bytes are those that the reads of the stream gave, up to its end or to a failed read.", """[[IsRunOfSome: read : AreRead S view.reads
      firsts lasts run.streams]]: [[ReadOut: given : Gave S reads first bytes last]], then [[ReadOut: ends : IsLastRead S reads end last after]]. With
-     threads each stream has an end ([[InThreads: AllByRecursion (λ stream. IsSome stream.end) streams]]). If the reader tells its bytes, the stream's bytes begin these ([[MatchesInput]])."""),
+     threads each stream has an end ([[RanSo: AllByRecursion (λ stream. IsSome stream.end) streams]]). If the reader tells its bytes, the stream's bytes begin these ([[MatchesInput]])."""),
     ("'Unsatisfiable' means that no assignment satisfies the formula; 'unsatisfiable under assumptions', that none makes the "
      "assumed literals true besides.",
      """[[fn run.sound: IsUnsatisfiable formula.now]]; [[fn run.sound_under: IsUnsatisfiableUnder formula.now cube.now]]. The
@@ -300,8 +300,8 @@ their calls through the passes that the run gives back is a clause below `run`: 
 PassMoves jobs.pass.view found.pass.view (joined blocks)]]. There is no other way to make or copy a pass: its fields are
 private."""
 
-ISOLATION_TOP = """[[fn run.reports: AreIsolated run]], of the run by the history that the passes have seen; [[fn run_serial.ordered: AreIsolated
-run]], of the one whose history leaves the clauses in the map. [[law run_isolated]] says it of every run:"""
+ISOLATION_TOP = """[[fn run.reports: AreIsolated ran.run]], of the run by the history that the passes have seen; [[fn run_serial.ordered: AreIsolated
+ran.run]], of the one whose history leaves the clauses in the map. [[law run_isolated]] says it of every run:"""
 
 ISOLATION_ROWS: Rows = [
     ("Streams are a closed set if they hint and import only clauses of each other and the formula.", """[[IsClosed]]:
@@ -312,7 +312,7 @@ ISOLATION_ROWS: Rows = [
      AllByRecursion (λ event. IsTrue (set (stream_of event))) history]]. [[law others_empty]] puts empty streams in the
      others' places."""),
     ("That holds whatever the others are and however the threads ran, unless memory ran out for one of the set.", """[[IsGroup]]
-     speaks of no other stream; [[AreIsolated: NoneOutOfMemory set reports]]."""),
+     speaks of no other stream; [[AreIsolated: NoneExcused set OutOfMemory reports]]."""),
     ("If one stream is a closed set, it has one report with the same formula, options, assumptions and number of streams, "
      "unless memory ran out or a read failed.",
      """[[AreIsolated: alone : (s : ℕ) (stream : Stream) (report : Report)]]: alone ([[IsReportAlone]]), a stream of the same
@@ -321,7 +321,7 @@ ISOLATION_ROWS: Rows = [
      and [[law same_bytes_agree]] say it of two runs. The assumptions have to be the same list."""),
 ]
 
-SERIALIZABLE_TOP = """[[fn run.reports: IsSerializable run]], of that run, too; [[law run_serializable]] says it of every
+SERIALIZABLE_TOP = """[[fn run.reports: IsSerializable ran.run]], of that run, too; [[law run_serializable]] says it of every
 run. Of all streams [[fn run_serial.ordered]] has it without the premise."""
 
 SERIALIZABLE_ROWS: Rows = [
@@ -344,7 +344,7 @@ RIGHT_TOP = """The theorems above speak of the reports that came. These laws say
 RIGHT_ROWS: Rows = [
     ("A line is valid by the formula and the lines before it.", """[[IsValidLine]] holds with the [[Database]] that these
      lines leave. An addition has an own identity above the last one, literals over the variables, and room. Its hints name
-     clauses that are there ([[database_context]]), and these show its clause ([[IsValidAddition]], [[Accepts]]). An import
+     clauses that are there ([[IsValidLine: base.clauses named ≡ Some clause]]), and these show its clause ([[IsValidAddition]], [[Accepts]]). An import
      has just the literals of a clause that isn't the stream's own ([[IsValidImport: other : ¬ Owns layout stream id]]). By the
      same relations streams are judged. A deletion names clauses that are there, each once ([[IsValidDeletion: there :
      AllByRecursion (λ id. IsSome (base.clauses id)) ids]])."""),
@@ -366,12 +366,12 @@ RIGHT_ROWS: Rows = [
      "stream's clause that isn't there yet or was retired.",
      """[[law valid_together]]. The premise is [[IsValidOrder: valid : AreValidTogether layout (λ t. first_database formula
      layout) steps]]: each stream has a database, and an addition reaches each one ([[beside_line]]). The conclusion is
-     [[ValidTogether: (report ≡ valid_report run_params s (lines_by s steps)) ⊎ LacksOfAnother (stream_params run_params s) report]], with
+     [[ValidTogether: (report ≡ valid_report run_params s (lines_by s steps)) ⊎ IsExcused (Lacking (stream_params run_params s)) report]], with
      the same exceptions. If more follows: [[law together_begins]]. [[law valid_in_any_run]] needs no order: it suffices that
      some legal history judges the streams, which are a closed set, and this one ended there."""),
     ("With `--serial`, if the order takes a line of each stream in turn, none stops.", """[[law valid_by_turns]], of orders
      that are [[IsByTurns]], as [[fn run_serial.ordered]] has them: if nothing follows the lines ([[ValidByTurns:
-     HaveJustTexts steps observed]]), memory suffices and no read fails ([[ValidByTurns: NoneCutShort reports]]). Unless memory ran
+     observation.entry ≡ Some (flat_map line_text (lines_by t steps))]]), memory suffices and no read fails ([[ValidByTurns: NoneExcused (λ s. true) CutOff reports]]). Unless memory ran
      out or a read failed, the bytes decide order and reports ([[law turns_decide]], [[law bytes_decide]])."""),
     ("If words, formula and assumptions are accepted, and a stream of round 1 begins with valid lines that add the empty clause, the "
      "status is 0.",
@@ -382,8 +382,8 @@ RIGHT_ROWS: Rows = [
      no_report : (ends : EndsWithFault files words after out err status) (few : ends.number ≤ last) (is : (status ≡ 5) ⊎ (status ≡
      6))]]; [[status_of]] has each fault's status."""),
     ("Exception: if memory ran out or a read failed in these lines, the report says so, and the status is 3, 8 or 9.",
-     """[[InconclusiveBecause: short :]] ([[FallsShort]]), [[IsCutOff: IsCutOffIn count report]]; or, in an order, another stream's
-     clause lacked ([[IsStopped]]). Status 9 comes only with a checkpoint or rounds ([[FallsShort: not_kept :]])."""),
+     """[[InconclusiveBecause: short :]] ([[FallsShort]]), [[HasStopped: excused : IsExcusedAt]]; or, in an order, another stream's
+     clause lacked ([[IsExcusedAt: IsExcusedAt (Lacking params) report line]]). Status 9 comes only with a checkpoint or rounds ([[FallsShort: not_kept :]])."""),
     ("Exception: if the report can't be written, the status is 7.", """[[InconclusiveBecause: unwritten :]]: the report says
      'unsatisfiable', or what the exception before has. So a bad line of the stream is shown only with status 0, or with 7 and
      'unsatisfiable' ([[law no_bad_line_shown]])."""),

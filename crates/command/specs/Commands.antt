@@ -19,7 +19,7 @@ use Rattle.lrup_text.specs.Reads.{GaveAll, ReadsOf}
 use Rattle.lrup_text.specs.Cubes.{IsCubeFault, IsCubeText}
 use Rattle.lrup_text.specs.declared.cube.CubeFault.TheVariants as cubes
 use Rattle.stream_check.specs.declared.report.Report.{Report}
-use Rattle.portfolio.specs.Histories.{IsRunOf, way_of}
+use Rattle.portfolio.specs.Histories.{IsRunOf}
 use Rattle.portfolio.specs.Outcomes.{OptionsValue, run_params_of, verdict_of}
 use Rattle.portfolio.specs.RingStops.{StopsAtRing}
 use Rattle.stream_check.specs.Readings.{readers_view}
@@ -186,7 +186,7 @@ pub record AreChecked {R : Type 0} (reading : SourceView R) (serial : Bool) (for
   pub layout : (fault : LayoutFault) → IsFault run_params.layout fault → ⊥
   pub lasts : List R
   pub dropped : List DroppedIdsValue
-  pub ran : IsRunOf (way_of serial) reading formula run_params firsts lasts reports dropped
+  pub ran : IsRunOf serial reading formula run_params firsts lasts reports dropped
   pub is_verdict : verdict ≡ verdict_of reports
   pub sound : verdict ≡ Unsatisfiable → IsUnsatisfiable formula
   pub sound_under : verdict ≡ UnsatisfiableUnder → IsUnsatisfiableUnder formula run_params.cube

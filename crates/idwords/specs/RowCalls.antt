@@ -11,14 +11,10 @@ use Rattle.lrup_model.specs.Literal.{code_of}
 use Rattle.idwords.specs.Words.{words_for, half_of}
 use Rattle.idwords.specs.Spelling.{LieWithin}
 
--- the history ends with the event
-abbrev pub EndsWith : History → Event → Type 0
-EndsWith history event = (before : History) × (history ≡ before ++ event ∷ [])
-
 -- a fair pass that moved by one call, which is the last that it has seen; its clauses lie inside the row
 pub record Calls (old new : View) (event : Event) : Type 0 where
   pub moves : PassMoves old new (event ∷ [])
-  pub last : EndsWith new.seen event
+  pub last : (before : History) × (new.seen ≡ before ++ event ∷ [])
   pub fair : IsFair new
   pub within : LieWithin (row_words new.caller.layout) new.spelt
 

@@ -1,5 +1,5 @@
 -- A check of streams, as an outcome has one, and each round.
-use Rattle.std.proofs.Common.{◌≡◌, ◌⊎◌, ◌<◌, ◌-◌, ◌++◌, ℕ, eqb, ne_eqb, Bool, true, false, List, [], ◌∷◌, length, map, zero, suc, ◌+◌}
+use Rattle.std.proofs.Common.{◌≡◌, ◌⊎◌, ◌<◌, ◌≤◌, ◌-◌, ◌++◌, ℕ, eqb, ne_eqb, Bool, true, false, List, [], ◌∷◌, length, map, zero, suc, ◌+◌}
 use Rattle.std.proofs.Common.{Option, Some, refl, inl, inr, sym, ap, ap₂, subst, ◌∙◌, arith}
 use Rattle.std.specs.Prelude.{IsTrue, option_map, slice_get, ◌||◌, if◌then◌else◌}
 use Rattle.std.specs.List.{AllByRecursion, Any, flat_map, list_any}
@@ -15,16 +15,17 @@ use Rattle.lrup_text.specs.ReadOut.{SourceView}
 use Rattle.stream_check.specs.declared.report.Report.{Report}
 use Rattle.stream_check.specs.Laws.{EmptyCubeReported}
 use Rattle.stream_check.specs.SequentialConsistency.{AreJudgedIn}
+use Rattle.stream_check.specs.Excuses.{CutOff, Lacking, IsExcusedAt}
 use Rattle.stream_check.specs.Closed.{IsOfStream}
 use Rattle.stream_check.specs.Streams.{Stream, InputObservation, RunParamsValue, stream_params, observations}
 use Rattle.stream_check.specs.lemmas.StreamLemmas.{judged_count, same_at, observed_as_many, observation_at, some_end}
 use Rattle.stream_check.specs.Turns.{IsOrderedByTurns}
-use Rattle.run_laws.specs.AnyRun.{LacksOfAnotherIn}
 use Rattle.run_laws.specs.Groups.{IsRun}
-use Rattle.run_laws.specs.Valid.{AddsEmpty, IsCutOffIn, IsValidPrefix}
+use Rattle.run_laws.specs.Valid.{AddsEmpty, IsValidProof}
 use Rattle.run_laws.specs.ValidLaws.{ValidBegins, ValidEmpty}
-use Rattle.run_laws.specs.Together.{Step, IsValidOrder, HaveTexts, lines_by, TogetherBegins}
-use Rattle.portfolio.specs.Histories.{OnOneThread, way_of}
+use Rattle.run_laws.specs.Valid.{Step}
+use Rattle.run_laws.specs.Together.{IsValidOrder, HaveTexts, lines_by, TogetherBegins}
+use Rattle.portfolio.specs.Histories.{RanSo}
 use Rattle.portfolio.specs.Outcomes.{verdict_of}
 use Rattle.portfolio.specs.declared.outcome.Verdict.{Verdict}
 use Rattle.portfolio.specs.declared.outcome.Verdict.TheVariants.{Unsatisfiable, UnsatisfiableUnder, Unknown}
@@ -137,8 +138,8 @@ module _ {R : Type 0} (reading : SourceView R) (c : Check reading) where
   -- those on one thread have an order by turns
   pub turns_of : c.serial ≡ true → IsOrderedByTurns c.formula c.run_params run_of.streams c.reports
   turns_of on_one =
-      let way : OnOneThread c.formula c.run_params run_of.history run_of.streams c.reports =
-      subst (λ (b : Bool). way_of b c.formula c.run_params run_of.history run_of.streams c.reports) on_one c.checked.ran.way in
+      let way : RanSo true c.formula c.run_params run_of.history run_of.streams c.reports =
+      subst (λ (b : Bool). RanSo b c.formula c.run_params run_of.history run_of.streams c.reports) on_one c.checked.ran.way in
       way.0
 
   -- without a cube there is nothing under it
@@ -174,16 +175,18 @@ module _ {R : Type 0} (reading : SourceView R) (c : Check reading) where
       ap (λ (x : InputObservation). x.entry) (same_at observed_of s observation here.0 at here.1) ∙ here.2
 
   -- A stream with a valid refutation comes to 'unsatisfiable', or was cut off in it.
-  pub refutation_says : ValidBegins → ValidEmpty → IsCnf c.formula → (s : ℕ) (path : Text) (bytes : List ℕ)
-      (lines : List StreamLine) → IsOfStream c.paths s path → c.tells path ≡ Some bytes
-      → IsValidPrefix c.formula c.run_params.layout s bytes lines → Any AddsEmpty lines
-      → (c.verdict ≡ Unsatisfiable) ⊎ ((report : Report) × IsOfStream c.reports s report × IsCutOffIn (length lines) report)
-  refutation_says begins empty cnf s path bytes lines names tells valid refutes =
-      let here = observation_of_file s path bytes names tells in
+  pub refutation_says : ValidBegins → ValidEmpty → IsCnf c.formula → (s : ℕ) (path : Text) (bytes more : List ℕ)
+      (lines : List StreamLine) → IsOfStream c.paths s path → c.tells path ≡ Some (bytes ++ more)
+      → IsValidProof c.formula c.run_params.layout s bytes lines → Any AddsEmpty lines
+      → (c.verdict ≡ Unsatisfiable) ⊎ ((report : Report) × IsOfStream c.reports s report
+      × ((line : ℕ) × (line ≤ length lines) × IsExcusedAt CutOff report line))
+  refutation_says begins empty cnf s path bytes more lines names tells valid refutes =
+      let here = observation_of_file s path (bytes ++ more) names tells in
       let within = slice_get_within c.paths (s - 1) path names.1 in
       let stream : IsStream c.run_params.layout s = (names.0, omega (arith, within, names.0, c.count)) in
       let report = has_report c.formula c.run_params observed_of c.reports run_of s stream in
-      elim (begins c.formula c.run_params s bytes lines observed_of here.0 c.reports report.0 cnf c.fits stream valid run_of here.1 here.2
+      elim (begins c.formula c.run_params s bytes more lines observed_of here.0 c.reports report.0 cnf c.fits stream valid run_of here.1
+      here.2
       report.1) [
         | inl least ↦
             inl (comes_to c.reports c.verdict s report.0 c.checked.is_verdict report.1
@@ -207,8 +210,8 @@ module _ {R : Type 0} (reading : SourceView R) (c : Check reading) where
       → IsValidOrder c.formula c.run_params.layout steps → AllByRecursion (λ step. IsTrue (set step.stream)) steps
       → BeginSo set steps → Any AddsEmpty (lines_by s steps)
       → (c.verdict ≡ Unsatisfiable)
-      ⊎ ((report : Report) × IsOfStream c.reports s report × (IsCutOffIn (length (lines_by s steps)) report
-      ⊎ LacksOfAnotherIn (stream_params c.run_params s) (length (lines_by s steps)) report))
+      ⊎ ((report : Report) × IsOfStream c.reports s report
+      × ((line : ℕ) × (line ≤ length (lines_by s steps)) × IsExcusedAt (Lacking (stream_params c.run_params s)) report line))
   order_says together empty cnf s set steps order members begin refutes =
       let some : 0 < length (lines_by s steps) = omega (arith, refutes.2) in
       let stream : IsStream c.run_params.layout s = of_some s (IsStream c.run_params.layout) steps order.streams some in

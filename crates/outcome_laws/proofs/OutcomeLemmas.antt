@@ -73,4 +73,4 @@ outcomes_agree one_formula same files others given other_given cube other_cube r
     (run_of files.its.reading mine) (subst (λ (g : Cnf). IsRun g theirs.run_params
     (observed_of others.its.reading theirs) other.reports) formulas (run_of others.its.reading theirs))
     here.1 here.2 over.1 over.2
-    on.says there.says on.memory on.failure there.memory there.failure)
+    on.says there.says on.fine there.fine)

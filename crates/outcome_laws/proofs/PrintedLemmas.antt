@@ -1,5 +1,5 @@
 -- What is printed of a valid refutation.
-use Rattle.std.proofs.Common.{◌≡◌, ◌≢◌, ◌++◌, ◌+◌, ◌-◌, ◌<◌, ◌≤◌, ◌/◌, ◌%◌, ◌==◌, ℕ, Bool, true, false, List, [], ◌∷◌, length, Option}
+use Rattle.std.proofs.Common.{◌≡◌, ◌≢◌, ◌⊎◌, ◌++◌, ◌+◌, ◌-◌, ◌<◌, ◌≤◌, ◌/◌, ◌%◌, ◌==◌, ℕ, Bool, true, false, List, [], ◌∷◌, length, Option}
 use Rattle.std.proofs.Common.{suc, zero, None, Some, inl, inr, refl, sym, ap, subst, ◌∙◌, arith, append_assoc, length-append}
 use Rattle.std.proofs.lemmas.Bool.{cases_eq, cond_both, cond-false, cond-true, eq-eqb, lt-ltb, ne_eqb}
 use Rattle.std.proofs.lemmas.List.{append_cancel_left, append-nil}
@@ -16,19 +16,20 @@ use Rattle.stream_check.specs.declared.fault.Fault.TheVariants as faults
 use Rattle.stream_check.specs.declared.report.Ending.{Ending}
 use Rattle.stream_check.specs.declared.report.Ending.TheVariants as endings
 use Rattle.stream_check.specs.declared.report.Report.{Report}
+use Rattle.stream_check.specs.Excuses.{CutOff, IsExcused}
 use Rattle.stream_check.specs.Closed.{IsOfStream}
-use Rattle.run_laws.specs.Valid.{IsCutOffIn}
 use Rattle.portfolio.specs.ReportText.{ending_text, report_text, stream_line, stream_lines, verdict_line}
 use Rattle.portfolio.specs.declared.outcome.Verdict.{Verdict}
 use Rattle.portfolio.specs.declared.outcome.Verdict.TheVariants.{Unsatisfiable}
 use Rattle.command_line.specs.declared.words.CommandLine.{CommandLine}
 use Rattle.command.specs.Commands.{Deeds, FilesView, IsUntouched, SinkChange, SinkTook, TakesUnlessFailed, Text}
-use Rattle.command.specs.Rounds.{EndsWithReport, Round, last_text}
-use Rattle.outcome_laws.specs.Inconclusive.{EndedOrStopped, FallsShort, HasStopped, InconclusiveBecause, IsCutOff, no_report, not_kept}
+use Rattle.command.specs.Rounds.{EndsWithReport, HaveEnded, Round, last_text}
+use Rattle.outcome_laws.specs.Inconclusive.{FallsShort, HasStopped, InconclusiveBecause, no_report, not_kept}
 use Rattle.outcome_laws.specs.Inconclusive.{short, stopped, under_cube, unwritten}
 use Rattle.outcome_laws.specs.ValidLaws.{ValidRoundsSay}
 use Rattle.outcome_laws.specs.Printed.{NoBadLineShown, ShowsBadLine}
 use Rattle.outcome_laws.proofs.RoundLemmas.{some_number}
+use Rattle.outcome_laws.proofs.StreamLemmas.{Cut}
 
 -- Bytes before a mark
 
@@ -173,13 +174,13 @@ first_of [] = 0
 first_of (b ∷ bytes) = b
 
 -- a stream that was cut off has no bad line
-never_bad : (count : ℕ) (report : Report) (ending : Ending) (line : ℕ) (fault : Fault) (rest more : List ℕ)
-    → IsCutOffIn count report → ending ≡ endings.Bad line fault
+never_bad : (report : Report) (ending : Ending) (line : ℕ) (fault : Fault) (rest more : List ℕ)
+    → IsExcused CutOff report → ending ≡ endings.Bad line fault
     → ending_text report.ending ++ (10 ∷ rest) ≡ ending_text ending ++ (10 ∷ more) → ⊥
-never_bad count report ending line fault rest more cut bad same =
+never_bad report ending line fault rest more cut bad same =
     let blames : ending_text report.ending ++ (10 ∷ rest) ≡ ending_text (endings.Bad line fault) ++ (10 ∷ more) =
     same ∙ ap (λ (e : Ending). ending_text e ++ (10 ∷ more)) bad in
-    elim cut.2 [
+    elim cut.1 [
       | inl memory ↦
           let no : 111 ≡ 98 = ap first_of (ap (λ (e : Ending). ending_text e ++ (10 ∷ rest)) (sym memory) ∙ blames) in omega (arith, no)
       | inr failed ↦
@@ -240,7 +241,7 @@ module _ (s count : ℕ) (out : SinkChange) (shows : ShowsBadLine s out) where
 
   -- no report of a stream that was cut off is one of which this is seen
   none_of_lost : (reports : List Report) (verdict : Verdict) → SinkTook out (report_text reports verdict)
-      → (report : Report) → IsOfStream reports s report → ¬ IsCutOffIn count report
+      → (report : Report) → IsOfStream reports s report → ¬ IsExcused CutOff report
   none_of_lost reports verdict took report says cut =
       let seen = went_out out.failed out.before out.after (report_text reports verdict) shows.before Shown took shows.was shows.is in
       let place : s - 1 ≡ length shows.others = omega (arith, shows.place) in
@@ -249,7 +250,7 @@ module _ (s count : ℕ) (out : SinkChange) (shows : ShowsBadLine s out) where
       seen.1 ∙ append_assoc (stream_lines 1 shows.others) (stream_line s shows.blamed ++ shows.more) seen.0 in
       let here = same_place 1 s shows.others reports report (verdict_line verdict) (stream_line s shows.blamed ++ shows.more ++ seen.0)
       (omega (arith, shows.place)) (subst (λ (k : ℕ). slice_get reports k ≡ Some report) place says.1) begins in
-      never_bad count report shows.blamed.ending shows.line shows.fault here.0 (shows.more ++ seen.0) cut shows.bad
+      never_bad report shows.blamed.ending shows.line shows.fault here.0 (shows.more ++ seen.0) cut shows.bad
       (same_ending s report shows.blamed here.0 (shows.more ++ seen.0)
       (here.1 ∙ append_assoc (stream_line s shows.blamed) shows.more seen.0))
 
@@ -274,18 +275,22 @@ module _ (s count : ℕ) (out : SinkChange) (shows : ShowsBadLine s out) where
 
   -- the report of such a stream isn't one of which this is seen
   none_of_stopped : {its : Deeds} {given : CommandLine} {cube : CubeValue} (round : Round its given cube) → 0 < round.number
-      → SinkTook out (last_text round.number round.reports round.verdict) → ¬ HasStopped IsCutOff s count 1 round
-  none_of_stopped round some took (inl early) = omega (arith, some, early.0)
-  none_of_stopped round some took (inr (first, (report, says, why))) =
-      none_of_lost round.reports round.verdict (printed_so round.number round.reports round.verdict first took) report says why
+      → SinkTook out (last_text round.number round.reports round.verdict) → ¬ HasStopped Cut s count 1 round
+  none_of_stopped round some took stops = elim stops.place [
+    | inl early ↦ omega (arith, some, early)
+    | inr (first, stream, below) ↦
+        none_of_lost round.reports round.verdict (printed_so round.number round.reports round.verdict first took) stops.report
+        (subst (λ (t : ℕ). IsOfStream round.reports t stops.report) stream stops.says) (stops.line, stops.excused)
+  ]
 
   none_of_open : {its : Deeds} {given : CommandLine} {cube : CubeValue} (round : Round its given cube) → 0 < round.number
-      → SinkTook out (last_text round.number round.reports round.verdict) → ¬ EndedOrStopped IsCutOff s count 1 round
+      → SinkTook out (last_text round.number round.reports round.verdict)
+      → ¬ (((round.number < 1) × HaveEnded round.reports) ⊎ HasStopped Cut s count 1 round)
   none_of_open round some took (inl early) = omega (arith, some, early.0)
   none_of_open round some took (inr lost) = none_of_stopped round some took lost
 
   none_of_short : {its : Deeds} {given : CommandLine} {cube : CubeValue} (round : Round its given cube) (written : ℕ) → 0 < round.number
-      → SinkTook out (last_text round.number round.reports round.verdict) → ¬ FallsShort IsCutOff s count 1 round written
+      → SinkTook out (last_text round.number round.reports round.verdict) → ¬ FallsShort Cut s count 1 round written
   none_of_short round written some took (not_kept path asked fault unsaved verdict streams is) = none_of_open round some took streams
   none_of_short round written some took (under_cube path asked verdict saved streams is) = none_of_open round some took streams
   none_of_short round written some took (stopped verdict saved streams is) = none_of_stopped round some took streams
@@ -294,7 +299,7 @@ module _ (s count : ℕ) (out : SinkChange) (shows : ShowsBadLine s out) where
     some_of : (ends : EndsWithReport files words after out err status) → 0 < ends.last.number
     some_of ends = some_number files ends.given ends.cube ends.last ends.before ends.were
 
-    pub shown_so : InconclusiveBecause files words IsCutOff s count 1 after out err status
+    pub shown_so : InconclusiveBecause files words Cut s count 1 after out err status
         → (ends : EndsWithReport files words after out err status) × (ends.last.verdict ≡ Unsatisfiable) × (status ≡ 7)
     shown_so (no_report ends few is) = absurd (none_untouched ends.untouched)
     shown_so (short ends written why) = absurd (none_of_short ends.last status (some_of ends) ends.printed why)

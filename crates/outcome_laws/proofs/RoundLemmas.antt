@@ -4,11 +4,11 @@ use Rattle.std.proofs.Common.{refl, sym, ap, subst, drop, ◌∙◌, arith}
 use Rattle.std.proofs.lemmas.Bool.{cases_lt}
 use Rattle.lrup_model.specs.Cube.{CubeValue}
 use Rattle.lrup_model.specs.Formula.{Cnf, IsCnf}
-use Rattle.lrup_model.specs.Layout.{LayoutValue}
 use Rattle.dimacs.specs.FormulaText.{IsFormulaText}
-use Rattle.stream_check.specs.declared.report.Ending.TheVariants as endings
 use Rattle.stream_check.specs.declared.report.Report.{Report}
+use Rattle.stream_check.specs.Excuses.{Lacking}
 use Rattle.stream_check.specs.Laws.{EmptyCubeReported}
+use Rattle.stream_check.specs.Streams.{stream_params}
 use Rattle.run_laws.specs.ValidLaws.{ValidBegins, ValidEmpty, ValidReported}
 use Rattle.run_laws.specs.TurnsLaws.{ValidByTurns}
 use Rattle.run_laws.specs.Together.{ValidTogether, TogetherBegins}
@@ -29,15 +29,16 @@ use Rattle.command.specs.declared.fault.CommandFault.{CommandFault}
 use Rattle.command.specs.declared.fault.CommandFault.TheVariants as faults
 use Rattle.outcome_laws.specs.Laws.{SameWordsAskAlike}
 use Rattle.outcome_laws.specs.Outcomes.{layout_in}
-use Rattle.outcome_laws.specs.Inconclusive.{EndedOrStopped, FallsShort, HasStopped, InconclusiveBecause, IsCutOff, IsStopped, StopReason}
-use Rattle.outcome_laws.specs.Inconclusive.{WasStopped, no_report, not_kept, short, stopped, under_cube, unwritten}
+use Rattle.outcome_laws.specs.Inconclusive.{FallsShort, HasStopped, InconclusiveBecause}
+use Rattle.outcome_laws.specs.Inconclusive.{no_report, not_kept, short, stopped, under_cube, unwritten}
 use Rattle.outcome_laws.specs.Valid.{AreValidAlone, AreValidByTurns, AreValidInOrder, AskForValidRounds, IsAskedOf, IsProvided}
 use Rattle.outcome_laws.specs.Valid.{IsRefutedAlone, IsRefutedByTurns, IsRefutedInOrder, RoundAsk}
 use Rattle.outcome_laws.specs.ValidLaws.{ValidOrdersSay, ValidRoundsSay, ValidTurnsSay}
 use Rattle.outcome_laws.proofs.CheckLemmas.{Check, check_of, never_under}
 use Rattle.outcome_laws.proofs.OutcomeLemmas.{OneFormula, first_text}
 use Rattle.outcome_laws.proofs.ValidLemmas.{IsOfMachine, NoFormulaFault, of_machine, text_cnf}
-use Rattle.outcome_laws.proofs.StreamLemmas.{Either, EndsSo, Lines, OnOne, RefutesSo, cut_first, cut_is_open, ended_at, ends_alone}
+use Rattle.outcome_laws.proofs.StreamLemmas.{Cut, Either, EndsSo, IsLost, Lines, Lost, OnOne, Reason, RefutesSo, cut_first, ended_at}
+use Rattle.outcome_laws.proofs.StreamLemmas.{ends_alone}
 use Rattle.outcome_laws.proofs.StreamLemmas.{ends_by_turns, ends_in_order, refutes_alone, refutes_by_turns, refutes_in_order}
 use Rattle.outcome_laws.proofs.StreamLemmas.{stopped_is_open}
 
@@ -78,7 +79,7 @@ module _ (its : Deeds) (given : CommandLine) (cube : CubeValue) (folder : Text) 
     of_round (faults.NotOpened stream) cause = inl refl
     of_round (faults.Layout fault) cause =
         absurd (none_so (faults.Layout fault) (λ x. x) (λ b p x. x) (λ n p x. x)
-        (λ sizes sized are readers opened path wrong. (provided.ready sizes sized are).layout fault wrong.0) cause)
+        (λ sizes sized are readers opened path wrong. (provided.ready sizes sized are).1 fault wrong.0) cause)
     of_round (faults.Spawn stream) cause = inr refl
     of_round (faults.Ring stream) cause = inr refl
     of_round faults.Memory cause = inr refl
@@ -170,9 +171,8 @@ module _ {its : Deeds} {given : CommandLine} {cube : CubeValue} (round : Round i
   unsaved_asked : (asked : Text) × (left_at ≡ Some asked)
   unsaved_asked = asked_for its Saves round.verdict round.opened left_at fault round.next round.after leaves_unsaved
 
-module _ (Mode : Bool → Type 0) (Before Last : RoundAsk) (Why : StopReason) (at : List Report → Lines) (ends_so : EndsSo Mode Before Why)
+module _ (Mode : Bool → Type 0) (Before Last : RoundAsk) (Why : Reason) (at : List Report → Lines) (ends_so : EndsSo Mode Before Why)
     (refutes_so : RefutesSo Mode Last Why at)
-    (is_open : (layout : LayoutValue) (s n : ℕ) (report : Report) → Why layout s n report → ¬ (report.ending ≡ endings.Ended))
     (bare : EmptyCubeReported)
     (one_formula : OneFormula) (no_fault : NoFormulaFault) (alike : SameWordsAskAlike) (files : FilesView) (words : List Text)
     (last : ℕ) (ask : AskForValidRounds Before Last files words last)
@@ -182,14 +182,33 @@ module _ (Mode : Bool → Type 0) (Before Last : RoundAsk) (Why : StopReason) (a
   Stops round = HasStopped Why (at round.reports).0 (at round.reports).1 last round
 
   -- who was stopped hasn't ended
-  unended_at : {given : CommandLine} {cube : CubeValue} (round : Round files.its given cube) (s n : ℕ) → WasStopped Why round s n
-      → ¬ HaveEnded round.reports
-  unended_at round s n (report, says, why) ended =
-      is_open (layout_in round.formula round.sizes) s n report why (ended_at round.reports (s - 1) report says.1 ended)
-
   unended : {given : CommandLine} {cube : CubeValue} (round : Round files.its given cube) → Stops round → ¬ HaveEnded round.reports
-  unended round (inl (below, (s, n, why))) ended = unended_at round s n why ended
-  unended round (inr (at_last, why)) ended = unended_at round (at round.reports).0 (at round.reports).1 why ended
+  unended {given} {cube} round stops ended =
+      stopped_is_open (Why (stream_params (run_params_by given cube round.formula round.sizes) stops.stream)) stops.report
+      (stops.line, stops.excused) (ended_at round.reports (stops.stream - 1) stops.report stops.says.1 ended)
+
+  stops_early : {given : CommandLine} {cube : CubeValue} (round : Round files.its given cube) → round.number < last
+      → IsLost Why (run_params_by given cube round.formula round.sizes) round.reports → Stops round
+  stops_early round below lost = record {
+    stream = lost.0;
+    report = lost.1;
+    says = lost.2;
+    line = lost.3.0;
+    excused = lost.3.1;
+    place = inl below;
+  }
+
+  stops_last : {given : CommandLine} {cube : CubeValue} (round : Round files.its given cube) → round.number ≡ last
+      → Lost Why (run_params_by given cube round.formula round.sizes) round.reports (at round.reports).0 (at round.reports).1
+      → Stops round
+  stops_last round at_last lost = record {
+    stream = (at round.reports).0;
+    report = lost.0;
+    says = lost.1;
+    line = lost.2.0;
+    excused = lost.2.2;
+    place = inr (at_last, refl, lost.2.1);
+  }
 
   module _ (given : CommandLine) (line : IsCommandLineOf words given) (cube : CubeValue) where
     -- a round that was reached was asked for
@@ -226,7 +245,7 @@ module _ (Mode : Bool → Type 0) (Before Last : RoundAsk) (Why : StopReason) (a
           tells = files.its.tells comes.sized;
           paths = stream_paths on.folder round.number round.sizes.streams;
           left = comes.opened.left;
-          asked = (provided.ready round.sizes comes.sized comes.sizes).streams;
+          asked = (provided.ready round.sizes comes.sized comes.sizes).2;
         }
 
     -- what became of it
@@ -239,13 +258,13 @@ module _ (Mode : Bool → Type 0) (Before Last : RoundAsk) (Why : StopReason) (a
         elim (cases_lt round.number last) [
           | inl below ↦ elim (ends_so files.its.Reader files.its.reading check (mode given line) is.cnf (is.asked.earlier below)) [
             | inl ended ↦ inl (below, ended)
-            | inr lost ↦ inr (inr (inl (below, lost)))
+            | inr lost ↦ inr (inr (stops_early round below lost))
           ]
           | inr above ↦
               let at_last : round.number ≡ last = omega (arith, above, few) in
               elim (refutes_so files.its.Reader files.its.reading check (mode given line) is.cnf (is.asked.at_last at_last)) [
                 | inl refuted ↦ inr (inl refuted)
-                | inr lost ↦ inr (inr (inr (at_last, lost)))
+                | inr lost ↦ inr (inr (stops_last round at_last lost))
               ]
         ]
 
@@ -312,7 +331,7 @@ module _ (Mode : Bool → Type 0) (Before Last : RoundAsk) (Why : StopReason) (a
               | inr (inr (inr not_ended)) ↦ not_ended ended
             ]
             | inr (next, on, inl (sizes, sized, are, lacks)) ↦
-                ((provided_for round before were next on).ready sizes sized are).there after lacks
+                ((provided_for round before were next on).ready sizes sized are).0 after lacks
             | inr (next, on, inr (high, same)) ↦ omega (arith, high, below, ask.few)
           ])
         ]
@@ -329,7 +348,8 @@ module _ (Mode : Bool → Type 0) (Before Last : RoundAsk) (Why : StopReason) (a
 
     -- what the report says of the streams
     streams_of : (ends : EndsWithReport files words after out err status) → ¬ (ends.last.verdict ≡ Unsatisfiable)
-        → EndedOrStopped Why (at ends.last.reports).0 (at ends.last.reports).1 last ends.last
+        → ((ends.last.number < last) × HaveEnded ends.last.reports)
+        ⊎ HasStopped Why (at ends.last.reports).0 (at ends.last.reports).1 last ends.last
     streams_of ends other =
         elim (fate ends.given ends.command_line ends.cube ends.last ends.before ends.were (few_of ends)) [
           | inl ended ↦ inl ended
@@ -396,15 +416,15 @@ module _ (Mode : Bool → Type 0) (Before Last : RoundAsk) (Why : StopReason) (a
 pub valid_rounds_say : OneFormula → NoFormulaFault → EmptyCubeReported → SameWordsAskAlike → ValidReported → ValidBegins
     → ValidEmpty → (files : FilesView) (last : ℕ) → ValidRoundsSay files last
 valid_rounds_say one_formula no_fault bare alike reported begins empty files last words s count after out err status ask =
-    rounds_say Either AreValidAlone (IsRefutedAlone s count) IsCutOff (λ reports. (s, count)) (ends_alone reported)
-    (refutes_alone begins empty s count) cut_is_open bare one_formula no_fault alike files words last ask (λ given line. tt) after out err
+    rounds_say Either AreValidAlone (IsRefutedAlone s count) Cut (λ reports. (s, count)) (ends_alone reported)
+    (refutes_alone begins empty s count) bare one_formula no_fault alike files words last ask (λ given line. tt) after out err
     status
 
 pub valid_orders_say : OneFormula → NoFormulaFault → EmptyCubeReported → SameWordsAskAlike → ValidTogether → TogetherBegins
     → ValidEmpty → (files : FilesView) (last : ℕ) → ValidOrdersSay files last
 valid_orders_say one_formula no_fault bare alike together begins empty files last words s count after out err status ask =
-    rounds_say Either AreValidInOrder (IsRefutedInOrder s count) IsStopped (λ reports. (s, count)) (ends_in_order together)
-    (refutes_in_order begins empty s count) stopped_is_open bare one_formula no_fault alike files words last ask (λ given line. tt) after
+    rounds_say Either AreValidInOrder (IsRefutedInOrder s count) Lacking (λ reports. (s, count)) (ends_in_order together)
+    (refutes_in_order begins empty s count) bare one_formula no_fault alike files words last ask (λ given line. tt) after
     out err status
 
 pub valid_turn_rounds_say : OneFormula → NoFormulaFault → EmptyCubeReported → SameWordsAskAlike → ValidByTurns → ValidEmpty
@@ -412,8 +432,8 @@ pub valid_turn_rounds_say : OneFormula → NoFormulaFault → EmptyCubeReported 
 valid_turn_rounds_say one_formula no_fault bare alike by_turns empty files last words s after out err status ask on_one ending =
     let on_one_so : (given : CommandLine) → IsCommandLineOf words given → given.serial ≡ true =
     λ given line. line.said.serial ∙ sym ask.asks.command_line.said.serial ∙ on_one in
-    elim (rounds_say OnOne AreValidByTurns (IsRefutedByTurns s) IsCutOff cut_first (ends_by_turns by_turns)
-    (refutes_by_turns by_turns empty s) cut_is_open bare one_formula no_fault alike files words last ask on_one_so after out err status
+    elim (rounds_say OnOne AreValidByTurns (IsRefutedByTurns s) Cut cut_first (ends_by_turns by_turns)
+    (refutes_by_turns by_turns empty s) bare one_formula no_fault alike files words last ask on_one_so after out err status
     ending) [
       | inl is ↦ inl is
       | inr inconclusive ↦ inr (_, _, inconclusive)

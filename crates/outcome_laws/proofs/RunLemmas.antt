@@ -54,7 +54,7 @@ same_run_params run_params other layout tries =
 pub same_bytes_say_the_same : NoCubeJudgesAlike → SameBytesAgree → SameBytesSayTheSame
 same_bytes_say_the_same law agree f run_params other_run_params s whole told other_observed observation other_observation reports
     other_reports report other
-    fits layout tries cites a b here entry there known says too memory failure none never =
+    fits layout tries cites a b here entry there known says too fine good =
     let mine = run_bare law f run_params told reports a in
     let theirs = subst (λ (t : RunParamsValue). IsRun f t other_observed (map bare_report other_reports))
     (same_run_params run_params other_run_params layout tries) (run_bare law f other_run_params other_observed other_reports b) in
@@ -63,7 +63,7 @@ same_bytes_say_the_same law agree f run_params other_run_params s whole told oth
     (map bare_report other_reports)
     (bare_report report) (bare_report other) fits cites mine theirs here entry there known (at_bare reports s report says)
     (at_bare other_reports s other too)
-    memory failure none never in
+    fine good in
     record {
       added = ap (λ (r : Report). r.added) same;
       deleted = ap (λ (r : Report). r.deleted) same;

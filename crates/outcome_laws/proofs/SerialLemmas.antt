@@ -11,15 +11,16 @@ use Rattle.lrup_text.specs.Lines.{line_text}
 use Rattle.stream_check.specs.declared.report.Ending.{Ending}
 use Rattle.stream_check.specs.declared.report.Ending.TheVariants as endings
 use Rattle.stream_check.specs.declared.report.Report.{Report}
-use Rattle.stream_check.specs.Laws.{IsOfMemory, IsOfFailure}
+use Rattle.stream_check.specs.Excuses.{CutOff, IsExcused}
 use Rattle.stream_check.specs.Turns.{IsByTurns, IsOrderedByTurns}
 use Rattle.stream_check.specs.Closed.{IsOfStream}
 use Rattle.stream_check.specs.Streams.{InputObservation, RunParamsValue}
-use Rattle.run_laws.specs.Groups.{IsRun}
-use Rattle.run_laws.specs.Valid.{AddsEmpty, IsCutOffIn, valid_report}
+use Rattle.run_laws.specs.Groups.{IsRun, NoneExcused}
+use Rattle.run_laws.specs.Valid.{AddsEmpty, valid_report}
 use Rattle.run_laws.specs.ValidLaws.{ValidEmpty}
-use Rattle.run_laws.specs.Together.{Step, IsValidOrder, lines_by}
-use Rattle.run_laws.specs.TurnsLaws.{BytesDecide, HaveJustTexts, HaveSameBytes, NoneCutShort, ValidByTurns}
+use Rattle.run_laws.specs.Valid.{Step}
+use Rattle.run_laws.specs.Together.{IsValidOrder, lines_by}
+use Rattle.run_laws.specs.TurnsLaws.{BytesDecide, ValidByTurns}
 use Rattle.portfolio.specs.Outcomes.{verdict_of}
 use Rattle.portfolio.specs.declared.outcome.Verdict.TheVariants.{Unsatisfiable}
 use Rattle.command_line.specs.declared.sizes.Sizes.{Sizes}
@@ -54,7 +55,9 @@ serial_outcomes_agree one_formula decide files others given other_given cube oth
     subst (λ (t : RunParamsValue). IsRunInTurns round.formula t other_observed other.reports) same_run_params
     (subst (λ (g : Cnf). IsRunInTurns g theirs.run_params other_observed other.reports) formulas
     (run_of others.its.reading theirs, turns_of others.its.reading theirs ask.too)) in
-    let bytes : HaveSameBytes observed other_observed = λ s observation another at there.
+    let bytes : (s : ℕ) (observation another : InputObservation) → IsOfStream observed s observation → IsOfStream other_observed s another
+    → (whole : List ℕ) × (observation.entry ≡ Some whole) × (another.entry ≡ Some whole) =
+    λ s observation another at there.
     let path = path_at files.its.reading mine s observation at in
     let other_path = path_at others.its.reading theirs s another there in
     let both = ask.streams s path.0 other_path.0 path.1 other_path.1 in (
@@ -70,62 +73,64 @@ serial_outcomes_agree one_formula decide files others given other_given cube oth
 -- Valid proofs, by turns
 
 by_ending : (ending : Ending) (report : Report) → report.ending ≡ ending
-    → ((n : ℕ) × IsCutOffIn n report) ⊎ ((¬ IsOfMemory report) × ¬ IsOfFailure report)
-by_ending endings.Ended report is = inr (
-  λ memory. let no : endings.Ended ≡ endings.Memory memory.0 = sym is ∙ memory.1 in cc,
-  λ failed. let no : endings.Ended ≡ endings.ReadFailed failed.0 = sym is ∙ failed.1 in cc,
-)
-by_ending (endings.Bad line fault) report is = inr (
-  λ memory. let no : endings.Bad line fault ≡ endings.Memory memory.0 = sym is ∙ memory.1 in cc,
-  λ failed. let no : endings.Bad line fault ≡ endings.ReadFailed failed.0 = sym is ∙ failed.1 in cc,
-)
-by_ending (endings.ReadFailed line) report is = inl (line, (line, omega arith, inr is))
-by_ending (endings.Memory line) report is = inl (line, (line, omega arith, inl is))
+    → IsExcused CutOff report ⊎ ¬ IsExcused CutOff report
+by_ending endings.Ended report is = inr (λ cut. elim cut.1 [
+  | inl memory ↦ let no : endings.Ended ≡ endings.Memory cut.0 = sym is ∙ memory in cc
+  | inr failed ↦ let no : endings.Ended ≡ endings.ReadFailed cut.0 = sym is ∙ failed in cc
+])
+by_ending (endings.Bad line fault) report is = inr (λ cut. elim cut.1 [
+  | inl memory ↦ let no : endings.Bad line fault ≡ endings.Memory cut.0 = sym is ∙ memory in cc
+  | inr failed ↦ let no : endings.Bad line fault ≡ endings.ReadFailed cut.0 = sym is ∙ failed in cc
+])
+by_ending (endings.ReadFailed line) report is = inl (line, inr is)
+by_ending (endings.Memory line) report is = inl (line, inl is)
 
 -- what became of one stream
-pub said_of : (report : Report) → ((n : ℕ) × IsCutOffIn n report) ⊎ ((¬ IsOfMemory report) × ¬ IsOfFailure report)
+pub said_of : (report : Report) → IsExcused CutOff report ⊎ ¬ IsExcused CutOff report
 said_of report = by_ending report.ending report refl
 
-all_fine : (r : Report) (reports : List Report) → (¬ IsOfMemory r) × (¬ IsOfFailure r)
-    → ((k : ℕ) (report : Report) → slice_get reports k ≡ Some report → (¬ IsOfMemory report) × (¬ IsOfFailure report))
-    → (k : ℕ) (report : Report) → slice_get (r ∷ reports) k ≡ Some report → (¬ IsOfMemory report) × (¬ IsOfFailure report)
+all_fine : (r : Report) (reports : List Report) → ¬ IsExcused CutOff r
+    → ((k : ℕ) (report : Report) → slice_get reports k ≡ Some report → ¬ IsExcused CutOff report)
+    → (k : ℕ) (report : Report) → slice_get (r ∷ reports) k ≡ Some report → ¬ IsExcused CutOff report
 all_fine r reports fine none zero report at =
-    let same : r ≡ report = cc in subst (λ (x : Report). (¬ IsOfMemory x) × (¬ IsOfFailure x)) same fine
+    let same : r ≡ report = cc in subst (λ (x : Report). ¬ IsExcused CutOff x) same fine
 all_fine r reports fine none (suc k) report at = none k report at
 
 -- some report tells that its stream was cut off, or none does
 cut_at : (reports : List Report)
-    → ((k n : ℕ) × (report : Report) × (slice_get reports k ≡ Some report) × IsCutOffIn n report)
-    ⊎ ((k : ℕ) (report : Report) → slice_get reports k ≡ Some report → (¬ IsOfMemory report) × (¬ IsOfFailure report))
+    → ((k : ℕ) × (report : Report) × (slice_get reports k ≡ Some report) × IsExcused CutOff report)
+    ⊎ ((k : ℕ) (report : Report) → slice_get reports k ≡ Some report → ¬ IsExcused CutOff report)
 cut_at [] = inr (λ k report at. absurd (cc))
 cut_at (r ∷ reports) = elim (said_of r) [
-  | inl why ↦ inl (0, why.0, r, refl, why.1)
+  | inl why ↦ inl (0, r, refl, why)
   | inr fine ↦ elim (cut_at reports) [
-    | inl later ↦ inl (suc later.0, later.1, later.2, later.3, later.4)
+    | inl later ↦ inl (suc later.0, later.1, later.2, later.3)
     | inr none ↦ inr (all_fine r reports fine none)
   ]
 ]
 
--- a stream that was cut off, by its number and how many first lines of it suffice to say so
+-- a stream that was cut off, by its number
 abbrev pub SomeCut : List Report → Type 0
-SomeCut reports = (s n : ℕ) × (report : Report) × IsOfStream reports s report × IsCutOffIn n report
+SomeCut reports = (s : ℕ) × (report : Report) × IsOfStream reports s report × IsExcused CutOff report
 
-pub some_cut : (reports : List Report) → SomeCut reports ⊎ NoneCutShort reports
+pub some_cut : (reports : List Report) → SomeCut reports ⊎ NoneExcused (λ s. true) CutOff reports
 some_cut reports = elim (cut_at reports) [
   | inl cut ↦
       let place : cut.0 ≡ cut.0 + 1 - 1 = omega arith in
-      inl (cut.0 + 1, cut.1, cut.2, (omega arith, subst (λ (k : ℕ). slice_get reports k ≡ Some cut.2) place cut.3), cut.4)
-  | inr none ↦ inr (λ t report at. none (t - 1) report at.1)
+      inl (cut.0 + 1, cut.1, (omega arith, subst (λ (k : ℕ). slice_get reports k ≡ Some cut.1) place cut.2), cut.3)
+  | inr none ↦ inr (λ t report member at. none (t - 1) report at.1)
 ]
 
 -- Lines that have a valid order by turns, where no stream was cut off.
 module _ {R : Type 0} (reading : SourceView R) (c : Check reading) (cnf : IsCnf c.formula) (valid : ValidByTurns) (on_one : c.serial ≡ true)
     (steps : List Step) (order : IsValidOrder c.formula c.run_params.layout steps) (turns : IsByTurns (map (λ step. step.stream) steps))
     (tells : (t : ℕ) (path : Text) → IsOfStream c.paths t path → c.tells path ≡ Some (flat_map line_text (lines_by t steps)))
-    (fine : NoneCutShort c.reports) where
+    (fine : NoneExcused (λ s. true) CutOff c.reports) where
   pub valid_by_turns : (s : ℕ) (report : Report) → IsOfStream c.reports s report → report ≡ valid_report c.run_params s (lines_by s steps)
   valid_by_turns s report says =
-      let texts : HaveJustTexts steps (observed_of reading c) = λ t observation at.
+      let texts : (t : ℕ) (observation : InputObservation) → IsOfStream (observed_of reading c) t observation
+      → observation.entry ≡ Some (flat_map line_text (lines_by t steps)) =
+      λ t observation at.
       let path = path_at reading c t observation at in
       entry_at reading c t observation path.0 (flat_map line_text (lines_by t steps)) at path.1 (tells t path.0 path.1) in
       valid c.formula c.run_params steps (observed_of reading c) c.reports s report cnf c.fits order turns texts

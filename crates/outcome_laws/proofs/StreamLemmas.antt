@@ -1,27 +1,30 @@
 -- What valid proofs of a round come to.
-use Rattle.std.proofs.Common.{◌≡◌, ◌⊎◌, ◌≤◌, ◌-◌, ◌+◌, ℕ, Bool, true, List, [], ◌∷◌, length, zero, suc, Some, inl, inr, refl, sym, ap}
+use Rattle.std.proofs.Common.{◌≡◌, ◌⊎◌, ◌≤◌, ◌-◌, ◌+◌, ℕ, Bool, true, List, [], ◌∷◌, zero, suc, Some, inl, inr, refl, sym, ap}
 use Rattle.std.proofs.Common.{subst, ◌∙◌, arith}
 use Rattle.std.specs.Prelude.{IsTrue, slice_get}
 use Rattle.std.specs.List.{AllByRecursion, flat_map}
 use Rattle.std.proofs.lemmas.List.{append-nil}
 use Rattle.std.proofs.lemmas.Option.{slice_get_within, slice_get_cases}
 use Rattle.lrup_model.specs.Formula.{IsCnf}
-use Rattle.lrup_model.specs.Layout.{LayoutValue, IsStream}
+use Rattle.lrup_model.specs.Layout.{IsStream}
 use Rattle.lrup_text.specs.Lines.{line_text}
 use Rattle.lrup_text.specs.ReadOut.{SourceView}
 use Rattle.stream_check.specs.declared.fault.Fault.TheVariants as stream_faults
 use Rattle.stream_check.specs.declared.report.Ending.TheVariants as endings
 use Rattle.stream_check.specs.declared.report.Report.{Report}
+use Rattle.stream_check.specs.Excuses.{CutOff, Excuse, Lacking, OutOfMemory, ReadFailed, IsExcused, IsExcusedAt}
+use Rattle.stream_check.specs.StreamParams.{StreamParams}
 use Rattle.stream_check.specs.Closed.{IsOfStream}
+use Rattle.stream_check.specs.Streams.{RunParamsValue, stream_params}
 use Rattle.stream_check.specs.lemmas.StreamLemmas.{judged_count}
-use Rattle.run_laws.specs.Valid.{IsCutOffIn}
+use Rattle.run_laws.specs.Groups.{NoneExcused}
 use Rattle.run_laws.specs.ValidLaws.{ValidBegins, ValidEmpty, ValidReported}
-use Rattle.run_laws.specs.Together.{Step, TogetherBegins, ValidTogether, lines_by}
-use Rattle.run_laws.specs.TurnsLaws.{NoneCutShort, ValidByTurns}
+use Rattle.run_laws.specs.Valid.{Step}
+use Rattle.run_laws.specs.Together.{TogetherBegins, ValidTogether, lines_by}
+use Rattle.run_laws.specs.TurnsLaws.{ValidByTurns}
 use Rattle.portfolio.specs.declared.outcome.Verdict.TheVariants.{Unsatisfiable}
 use Rattle.command.specs.Commands.{Text}
 use Rattle.command.specs.Rounds.{HaveEnded}
-use Rattle.outcome_laws.specs.Inconclusive.{IsCutOff, IsStopped, StopReason}
 use Rattle.outcome_laws.specs.Valid.{AreValidAlone, AreValidByTurns, AreValidInOrder, IsRefutedAlone, IsRefutedByTurns}
 use Rattle.outcome_laws.specs.Valid.{IsRefutedInOrder, RoundAsk}
 use Rattle.outcome_laws.proofs.CheckLemmas.{Check, have_texts, order_says, refutation_says, run_of, observation_of_file, observed_of}
@@ -35,25 +38,39 @@ Either serial = Unit {0}
 abbrev pub OnOne : Bool → Type 0
 OnOne serial = serial ≡ true
 
+-- by a stream's parameters, what it may be stopped by
+abbrev pub Reason : Type 0
+Reason = StreamParams → Excuse
+
+-- memory, or a failed read
+abbrev pub Cut : Reason
+Cut params = CutOff
+
 -- a stream was stopped in one of its first lines, this many
-abbrev pub Lost : StopReason → LayoutValue → List Report → ℕ → ℕ → Type 0
-Lost Why layout reports s n = (report : Report) × IsOfStream reports s report × Why layout s n report
+abbrev pub Lost : Reason → RunParamsValue → List Report → ℕ → ℕ → Type 0
+Lost Why run_params reports s n = (report : Report) × IsOfStream reports s report
+    × ((line : ℕ) × (line ≤ n) × IsExcusedAt (Why (stream_params run_params s)) report line)
+
+-- some stream was
+abbrev pub IsLost : Reason → RunParamsValue → List Report → Type 0
+IsLost Why run_params reports = (s : ℕ) × (report : Report) × IsOfStream reports s report
+    × IsExcused (Why (stream_params run_params s)) report
 
 -- streams of which this is asked have ended, or some was stopped
-abbrev pub EndsSo : (Bool → Type 0) → RoundAsk → StopReason → Type 1
+abbrev pub EndsSo : (Bool → Type 0) → RoundAsk → Reason → Type 1
 EndsSo Mode Before Why = (R : Type 0) (reading : SourceView R) (c : Check reading) → Mode c.serial → IsCnf c.formula
     → Before c.formula c.run_params.layout c.tells c.paths
-    → HaveEnded c.reports ⊎ ((s n : ℕ) × Lost Why c.run_params.layout c.reports s n)
+    → HaveEnded c.reports ⊎ IsLost Why c.run_params c.reports
 
 -- a stream, and how many first lines of it
 abbrev pub Lines : Type 0
 Lines = ℕ × ℕ
 
 -- they come to 'unsatisfiable', or the one was stopped that the reports point at
-abbrev pub RefutesSo : (Bool → Type 0) → RoundAsk → StopReason → (List Report → Lines) → Type 1
+abbrev pub RefutesSo : (Bool → Type 0) → RoundAsk → Reason → (List Report → Lines) → Type 1
 RefutesSo Mode Last Why at = (R : Type 0) (reading : SourceView R) (c : Check reading) → Mode c.serial → IsCnf c.formula
     → Last c.formula c.run_params.layout c.tells c.paths
-    → (c.verdict ≡ Unsatisfiable) ⊎ Lost Why c.run_params.layout c.reports (at c.reports).0 (at c.reports).1
+    → (c.verdict ≡ Unsatisfiable) ⊎ Lost Why c.run_params c.reports (at c.reports).0 (at c.reports).1
 
 -- All streams ended, or one didn't.
 all_ended : (P : ℕ → Report → Type 0) (reports : List Report)
@@ -104,7 +121,7 @@ module _ {R : Type 0} (reading : SourceView R) (c : Check reading) (cnf : IsCnf 
       ]
 
   alone_ends : ValidReported → AreValidAlone c.formula c.run_params.layout c.tells c.paths → (s : ℕ) (report : Report)
-      → IsOfStream c.reports s report → (report.ending ≡ endings.Ended) ⊎ ((n : ℕ) × IsCutOffIn n report)
+      → IsOfStream c.reports s report → (report.ending ≡ endings.Ended) ⊎ IsExcused CutOff report
   alone_ends reported valid s report says =
       let at = path_of s report says in
       let asked = valid s at.1.0 at.1.1 in
@@ -113,7 +130,7 @@ module _ {R : Type 0} (reading : SourceView R) (c : Check reading) (cnf : IsCnf 
         | inl cut ↦ inr cut
         | inr fine ↦ inl (ap (λ (r : Report). r.ending)
             (reported c.formula c.run_params s asked.0 asked.1 (observed_of reading c) here.0 c.reports report cnf c.fits at.0 asked.3
-            (run_of reading c) here.1 here.2 says fine.0 fine.1))
+            (run_of reading c) here.1 here.2 says fine))
       ]
 
 all_true : (steps : List Step) → AllByRecursion (λ step. IsTrue true) steps
@@ -122,7 +139,7 @@ all_true (step ∷ steps) = (refl, all_true steps)
 
 module _ {R : Type 0} (reading : SourceView R) (c : Check reading) (cnf : IsCnf c.formula) where
   order_ends : ValidTogether → AreValidInOrder c.formula c.run_params.layout c.tells c.paths → (s : ℕ) (report : Report)
-      → IsOfStream c.reports s report → (report.ending ≡ endings.Ended) ⊎ ((n : ℕ) × IsStopped c.run_params.layout s n report)
+      → IsOfStream c.reports s report → (report.ending ≡ endings.Ended) ⊎ IsExcused (Lacking (stream_params c.run_params s)) report
   order_ends together valid s report says =
       let at = path_of reading c cnf s report says in
       let steps = valid.0 in
@@ -134,68 +151,56 @@ module _ {R : Type 0} (reading : SourceView R) (c : Check reading) (cnf : IsCnf 
             c.fits valid.1
             (all_true steps) (run_of reading c) (have_texts reading c (λ t. true) steps (λ t path member names.
             ([], valid.2 t path names ∙ ap (λ (b : List ℕ). Some b) (sym (append-nil (flat_map line_text (lines_by t steps)))))))
-            refl here.1 here.2 says fine.0 fine.1) [
+            refl here.1 here.2 says fine) [
               | inl same ↦ inl (ap (λ (r : Report). r.ending) same)
-              | inr lacks ↦ inr (lacks.0, inr lacks.1)
+              | inr held ↦ inr held
             ]
       ]
 
 -- some stream was stopped, of those that didn't end
-some_lost : (Why : StopReason) (layout : LayoutValue) (reports : List Report)
-    → ((s : ℕ) (report : Report) → IsOfStream reports s report → (report.ending ≡ endings.Ended) ⊎ ((n : ℕ) × Why layout s n report))
-    → HaveEnded reports ⊎ ((s n : ℕ) × Lost Why layout reports s n)
-some_lost Why layout reports each =
-    elim (all_streams (λ s report. (n : ℕ) × Why layout s n report) reports each) [
-      | inl all ↦ inl all
-      | inr lost ↦ inr (lost.0, lost.3.0, (lost.1, lost.2, lost.3.1))
-    ]
+some_lost : (Why : Reason) (run_params : RunParamsValue) (reports : List Report)
+    → ((s : ℕ) (report : Report) → IsOfStream reports s report
+    → (report.ending ≡ endings.Ended) ⊎ IsExcused (Why (stream_params run_params s)) report)
+    → HaveEnded reports ⊎ IsLost Why run_params reports
+some_lost Why run_params reports each =
+    all_streams (λ s report. IsExcused (Why (stream_params run_params s)) report) reports each
 
-pub ends_alone : ValidReported → EndsSo Either AreValidAlone IsCutOff
+pub ends_alone : ValidReported → EndsSo Either AreValidAlone Cut
 ends_alone reported R reading c mode cnf valid =
-    some_lost IsCutOff c.run_params.layout c.reports (alone_ends reading c cnf reported valid)
+    some_lost Cut c.run_params c.reports (alone_ends reading c cnf reported valid)
 
-pub ends_in_order : ValidTogether → EndsSo Either AreValidInOrder IsStopped
+pub ends_in_order : ValidTogether → EndsSo Either AreValidInOrder Lacking
 ends_in_order together R reading c mode cnf valid =
-    some_lost IsStopped c.run_params.layout c.reports (order_ends reading c cnf together valid)
-
--- who was cut off in some first lines was so in more
-cut_in : (few many : ℕ) (report : Report) → few ≤ many → IsCutOffIn few report → IsCutOffIn many report
-cut_in few many report more cut = (cut.0, omega (arith, cut.1, more), cut.2)
+    some_lost Lacking c.run_params c.reports (order_ends reading c cnf together valid)
 
 pub refutes_alone : ValidBegins → ValidEmpty → (s count : ℕ)
-    → RefutesSo Either (IsRefutedAlone s count) IsCutOff (λ reports. (s, count))
+    → RefutesSo Either (IsRefutedAlone s count) Cut (λ reports. (s, count))
 refutes_alone begins empty s count R reading c mode cnf valid =
     let refutation = valid.4.0 in
-    elim (refutation_says reading c begins empty cnf s valid.0 valid.1 refutation.lines valid.2 valid.3 refutation.valid
-    refutation.empty) [
+    elim (refutation_says reading c begins empty cnf s valid.0 refutation.proof refutation.more refutation.lines valid.2
+    (valid.3 ∙ ap (λ (b : List ℕ). Some b) refutation.begins) refutation.valid refutation.empty) [
       | inl says ↦ inl says
-      | inr cut ↦ inr (cut.0, cut.1, cut_in (length refutation.lines) count cut.0 valid.4.1 cut.2)
+      | inr (report, says, cut) ↦ inr (report, says, (cut.0, omega (arith, cut.1, valid.4.1), cut.2))
     ]
 
 pub refutes_in_order : TogetherBegins → ValidEmpty → (s count : ℕ)
-    → RefutesSo Either (IsRefutedInOrder s count) IsStopped (λ reports. (s, count))
+    → RefutesSo Either (IsRefutedInOrder s count) Lacking (λ reports. (s, count))
 refutes_in_order together empty s count R reading c mode cnf valid =
-    let lines = length (lines_by s valid.1) in
     elim (order_says reading c together empty cnf s valid.0 valid.1 valid.2 valid.3 valid.4 valid.5) [
       | inl says ↦ inl says
-      | inr (report, says, inl cut) ↦ inr (report, says, inl (cut_in lines count report valid.6 cut))
-      | inr (report, says, inr lacks) ↦ inr (
-        report,
-        says,
-        inr (lacks.0, lacks.1, omega (arith, lacks.2, valid.6), lacks.3, lacks.4),
-      )
+      | inr (report, says, held) ↦ inr (report, says, (held.0, omega (arith, held.1, valid.6), held.2))
     ]
 
-pub ends_by_turns : ValidByTurns → EndsSo OnOne AreValidByTurns IsCutOff
+pub ends_by_turns : ValidByTurns → EndsSo OnOne AreValidByTurns Cut
 ends_by_turns by_turns R reading c on_one cnf valid = elim (some_cut c.reports) [
-  | inl cut ↦ inr (cut.0, cut.1, (cut.2, cut.3, cut.4))
-  | inr fine ↦ some_lost IsCutOff c.run_params.layout c.reports (λ s report says. inl (ap (λ (r : Report). r.ending)
+  | inl cut ↦ inr cut
+  | inr fine ↦ some_lost Cut c.run_params c.reports (λ s report says. inl (ap (λ (r : Report). r.ending)
       (valid_by_turns reading c cnf by_turns on_one valid.0.0 valid.0.1 valid.1 valid.0.2 fine s report says)))
 ]
 
 -- the stream that was cut off, if there is one
-abbrev cut_lines : (reports : List Report) → SomeCut reports ⊎ NoneCutShort reports → Lines
-cut_lines reports (inl cut) = (cut.0, cut.1)
+abbrev cut_lines : (reports : List Report) → SomeCut reports ⊎ NoneExcused (λ s. true) CutOff reports → Lines
+cut_lines reports (inl cut) = (cut.0, cut.3.0)
 cut_lines reports (inr fine) = (0, 0)
 
 abbrev pub cut_first : List Report → Lines
@@ -203,30 +208,30 @@ cut_first reports = cut_lines reports (some_cut reports)
 
 module _ (by_turns : ValidByTurns) (empty : ValidEmpty) (s : ℕ) (R : Type 0) (reading : SourceView R) (c : Check reading)
     (on_one : OnOne c.serial) (cnf : IsCnf c.formula) (valid : IsRefutedByTurns s c.formula c.run_params.layout c.tells c.paths) where
-  turns_refute : (found : SomeCut c.reports ⊎ NoneCutShort c.reports)
+  turns_refute : (found : SomeCut c.reports ⊎ NoneExcused (λ s. true) CutOff c.reports)
       → (c.verdict ≡ Unsatisfiable)
-      ⊎ Lost IsCutOff c.run_params.layout c.reports (cut_lines c.reports found).0 (cut_lines c.reports found).1
-  turns_refute (inl cut) = inr (cut.2, cut.3, cut.4)
+      ⊎ Lost Cut c.run_params c.reports (cut_lines c.reports found).0 (cut_lines c.reports found).1
+  turns_refute (inl cut) = inr (cut.1, cut.2, (cut.3.0, omega arith, cut.3.1))
   turns_refute (inr fine) =
       let order = valid.0.0 in
       inl (by_turns_refutes reading c cnf by_turns on_one order.0 order.1 valid.0.1 order.2 fine empty s valid.1)
 
-pub refutes_by_turns : ValidByTurns → ValidEmpty → (s : ℕ) → RefutesSo OnOne (IsRefutedByTurns s) IsCutOff cut_first
+pub refutes_by_turns : ValidByTurns → ValidEmpty → (s : ℕ) → RefutesSo OnOne (IsRefutedByTurns s) Cut cut_first
 refutes_by_turns by_turns empty s R reading c on_one cnf valid =
     turns_refute by_turns empty s R reading c on_one cnf valid (some_cut c.reports)
 
--- who was stopped hasn't ended
-pub cut_is_open : (layout : LayoutValue) (s count : ℕ) (report : Report) → IsCutOff layout s count report
-    → ¬ (report.ending ≡ endings.Ended)
-cut_is_open layout s count report (line, below, inl memory) ended =
-    let no : endings.Memory line ≡ endings.Ended = sym memory ∙ ended in cc
-cut_is_open layout s count report (line, below, inr failed) ended =
-    let no : endings.ReadFailed line ≡ endings.Ended = sym failed ∙ ended in cc
+-- who was cut off hasn't ended
+cut_is_open : (report : Report) → IsExcused CutOff report → ¬ (report.ending ≡ endings.Ended)
+cut_is_open report (line, inl memory) ended = let no : endings.Memory line ≡ endings.Ended = sym memory ∙ ended in cc
+cut_is_open report (line, inr failed) ended = let no : endings.ReadFailed line ≡ endings.Ended = sym failed ∙ ended in cc
 
-pub stopped_is_open : (layout : LayoutValue) (s count : ℕ) (report : Report) → IsStopped layout s count report
-    → ¬ (report.ending ≡ endings.Ended)
-stopped_is_open layout s count report (inl cut) ended = cut_is_open layout s count report cut ended
-stopped_is_open layout s count report (inr (line, id, below, other, inl missing)) ended =
+-- who was stopped hasn't ended
+pub stopped_is_open : (excuse : Excuse) (report : Report) → IsExcused excuse report → ¬ (report.ending ≡ endings.Ended)
+stopped_is_open OutOfMemory report (line, memory) ended = let no : endings.Memory line ≡ endings.Ended = sym memory ∙ ended in cc
+stopped_is_open ReadFailed report (line, failed) ended = let no : endings.ReadFailed line ≡ endings.Ended = sym failed ∙ ended in cc
+stopped_is_open CutOff report cut ended = cut_is_open report cut ended
+stopped_is_open (Lacking params) report (line, inl cut) ended = cut_is_open report (line, cut) ended
+stopped_is_open (Lacking params) report (line, inr (id, other, inl missing)) ended =
     let no : endings.Bad line (stream_faults.Missing id) ≡ endings.Ended = sym missing ∙ ended in cc
-stopped_is_open layout s count report (inr (line, id, below, other, inr retired)) ended =
+stopped_is_open (Lacking params) report (line, inr (id, other, inr retired)) ended =
     let no : endings.Bad line (stream_faults.Retired id) ≡ endings.Ended = sym retired ∙ ended in cc

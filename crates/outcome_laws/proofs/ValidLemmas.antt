@@ -1,6 +1,7 @@
 -- What a fault of round 1 is, where the words ask well.
-use Rattle.std.proofs.Common.{◌≡◌, ◌⊎◌, ◌≤◌, ℕ, ℤ, List, [], ◌∷◌, length, map, Option, None, Some}
+use Rattle.std.proofs.Common.{◌≡◌, ◌≢◌, ◌⊎◌, ◌≤◌, ℕ, ℤ, List, [], ◌∷◌, length, map, Option, None, Some}
 use Rattle.std.proofs.Common.{inl, inr, refl, sym, ap, subst, ◌∙◌, arith}
+use Rattle.std.specs.Prelude.{IfSome}
 use Rattle.std.specs.List.{AllByRecursion}
 use Rattle.lrup_model.specs.Distinct.{distinct}
 use Rattle.lrup_model.specs.lemmas.DistinctLemmas.{IsClause-distinct, length-distinct}
@@ -9,6 +10,7 @@ use Rattle.lrup_model.specs.Layout.{LayoutValue, IsFault}
 use Rattle.lrup_model.specs.Literal.{IsLiteral}
 use Rattle.lrup_text.specs.Cubes.{IsCubeFault}
 use Rattle.lrup_text.specs.declared.cube.CubeFault.{CubeFault}
+use Rattle.lrup_text.specs.declared.cube.CubeFault.TheVariants as cubes
 use Rattle.dimacs.specs.FormulaText.{IsFormulaText}
 use Rattle.dimacs.specs.FormulaFault.{IsFormulaFault}
 use Rattle.dimacs.specs.declared.fault.DimacsFault.{DimacsFault}
@@ -21,7 +23,7 @@ use Rattle.command.specs.Faults.{status_of}
 use Rattle.command.specs.declared.fault.CommandFault.{CommandFault}
 use Rattle.command.specs.declared.fault.CommandFault.TheVariants as faults
 use Rattle.outcome_laws.specs.Outcomes.{layout_in}
-use Rattle.outcome_laws.specs.Valid.{AreValidAssumptions, AskWell}
+use Rattle.outcome_laws.specs.Valid.{AskWell}
 use Rattle.outcome_laws.specs.Laws.{SameWordsAskAlike}
 use Rattle.outcome_laws.proofs.OutcomeLemmas.{OneFormula, text_of, is_text}
 
@@ -61,7 +63,9 @@ module _ (one_formula : OneFormula) (no_fault : NoFormulaFault) (alike : SameWor
       no_fault cause.1.0 f fault (subst (λ (b : List ℕ). IsFormulaText b f) same is) cause.1.2
 
   not_assumed : (vars : ℕ) (before : files.its.State) (path : Option Text) (fault : CubeFault) (after : files.its.State)
-      → AreValidAssumptions files vars path → ¬ IsAssumeCause files vars before path (faults.CubeRefused fault) after
+      → IfSome path (λ at. (bytes : List ℕ) × (files.tells at ≡ Some bytes)
+      × ((its : CubeFault) → its ≢ cubes.Memory → ¬ IsCubeFault vars bytes its))
+      → ¬ IsAssumeCause files vars before path (faults.CubeRefused fault) after
   not_assumed vars before None fault after valid cause = cause
   not_assumed vars before (Some path) fault after valid cause =
       let same = text_of (files.tells path) valid.0 cause.1.0 valid.1 cause.1.1.told in

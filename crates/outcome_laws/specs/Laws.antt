@@ -7,7 +7,7 @@ use Rattle.lrup_model.specs.Layout.{Fits}
 use Rattle.lrup_text.specs.declared.device.StreamEnd.{StreamEnd}
 use Rattle.stream_check.specs.declared.report.Report.{Report}
 use Rattle.stream_check.specs.Judging.{JudgesBlocks}
-use Rattle.stream_check.specs.Laws.{IsOfMemory, IsOfFailure}
+use Rattle.stream_check.specs.Excuses.{CutOff, IsExcused}
 use Rattle.stream_check.specs.StreamParams.{StreamParams}
 use Rattle.stream_check.specs.Closed.{IsOfStream, CiteWithin}
 use Rattle.stream_check.specs.Streams.{InputObservation, RunParamsValue}
@@ -44,8 +44,7 @@ SameBytesSayTheSame =
     → IsOfStream observed s observation → observation.entry ≡ Some whole
     → IsOfStream other_observed s other_observation → other_observation.entry ≡ Some whole
     → IsOfStream reports s report → IsOfStream other_reports s other_report
-    → ¬ IsOfMemory report → ¬ IsOfFailure report → ¬ IsOfMemory other_report
-    → ¬ IsOfFailure other_report
+    → ¬ IsExcused CutOff report → ¬ IsExcused CutOff other_report
     → SayTheSame report other_report
 
 -- Two command lines of the same words ask for the same.

@@ -3,7 +3,7 @@ use Rattle.std.specs.Prelude.{◌≡◌, ℕ, List, [], Some}
 use Rattle.lrup_model.specs.Formula.{Cnf}
 use Rattle.lrup_model.specs.Layout.{LayoutValue}
 use Rattle.stream_check.specs.declared.report.Report.{Report}
-use Rattle.stream_check.specs.Laws.{IsOfMemory, IsOfFailure}
+use Rattle.stream_check.specs.Excuses.{CutOff, IsExcused}
 use Rattle.stream_check.specs.StreamParams.{StreamParams}
 use Rattle.stream_check.specs.Closed.{IsOfStream}
 use Rattle.portfolio.specs.Outcomes.{layout_of}
@@ -47,5 +47,4 @@ pub record ReportsOn (files : FilesView) (given : CommandLine)
   pub names : IsOfStream given.streams s path
   pub tells : files.tells path ≡ Some whole
   pub says : IsOfStream reports s report
-  pub memory : ¬ IsOfMemory report
-  pub failure : ¬ IsOfFailure report
+  pub fine : ¬ IsExcused CutOff report

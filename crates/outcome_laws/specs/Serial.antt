@@ -1,8 +1,9 @@
 -- Round 1 of runs on one thread, and the law of it (this project's own).
 use Rattle.std.specs.Prelude.{◌≡◌, ℕ, true, List, [], Some}
 use Rattle.lrup_model.specs.Cube.{CubeValue}
+use Rattle.stream_check.specs.Excuses.{CutOff}
 use Rattle.stream_check.specs.Closed.{IsOfStream}
-use Rattle.run_laws.specs.TurnsLaws.{NoneCutShort}
+use Rattle.run_laws.specs.Groups.{NoneExcused}
 use Rattle.command_line.specs.declared.words.CommandLine.{CommandLine}
 use Rattle.command.specs.Commands.{FilesView, Text, sizes_of}
 use Rattle.command.specs.Rounds.{Round, WereRounds}
@@ -32,5 +33,6 @@ SerialOutcomesAgree files others =
     → WereRounds files given cube round [] → WereRounds others other_given other_cube other []
     → AskForSameTurns files others given other_given
     → other_cube ≡ cube
-    → NoneCutShort round.reports → NoneCutShort other.reports
+    → NoneExcused (λ s. true) CutOff round.reports
+    → NoneExcused (λ s. true) CutOff other.reports
     → (round.reports ≡ other.reports) × (round.verdict ≡ other.verdict)

@@ -1,5 +1,5 @@
 -- What words may ask for whose streams are valid proofs (this project's own).
-use Rattle.std.specs.Prelude.{◌≡◌, ◌≢◌, ◌++◌, ◌+◌, ◌<◌, ◌≤◌, ◌^◌, ℕ, Bool, IsTrue, List, length, map, Option, None, Some}
+use Rattle.std.specs.Prelude.{◌≡◌, ◌≢◌, ◌++◌, ◌+◌, ◌<◌, ◌≤◌, ◌^◌, ℕ, Bool, IsTrue, IfSome, List, length, map, Option, Some}
 use Rattle.std.specs.List.{AllByRecursion, Any, flat_map}
 use Rattle.lrup_model.specs.Cube.{CubeValue}
 use Rattle.lrup_model.specs.Formula.{Cnf}
@@ -13,7 +13,8 @@ use Rattle.dimacs.specs.FormulaText.{IsFormulaText}
 use Rattle.stream_check.specs.Closed.{IsOfStream}
 use Rattle.stream_check.specs.Turns.{IsByTurns}
 use Rattle.run_laws.specs.Valid.{AddsEmpty, IsValidRefutation, IsValidProof}
-use Rattle.run_laws.specs.Together.{Step, IsValidOrder, lines_by}
+use Rattle.run_laws.specs.Valid.{Step}
+use Rattle.run_laws.specs.Together.{IsValidOrder, lines_by}
 use Rattle.command_line.specs.CommandLine.{IsCommandLineOf, rounds_of}
 use Rattle.command_line.specs.declared.sizes.Sizes.{Sizes}
 use Rattle.command_line.specs.declared.words.CommandLine.{CommandLine}
@@ -22,15 +23,8 @@ use Rattle.command.specs.Paths.{sizes_path, stream_path, stream_paths}
 use Rattle.command.specs.Rounds.{AreSized, CarriesOn, HoldsNoSizes, Round, WereRounds}
 use Rattle.outcome_laws.specs.Outcomes.{layout_in}
 
--- there are no assumed literals, or the file at their path has bytes that have no fault
-abbrev pub AreValidAssumptions : FilesView → ℕ → Option Text → Type 0
-AreValidAssumptions files vars None = Unit {0}
-AreValidAssumptions files vars (Some path) =
-    (bytes : List ℕ) × (files.tells path ≡ Some bytes)
-    × ((fault : CubeFault) → fault ≢ cubes.Memory → ¬ IsCubeFault vars bytes fault)
-
--- The words ask for a formula whose file has a text of it, for assumed literals that have no fault, if any, and for streams that there is
--- a layout for. Nothing is asked of the streams.
+-- The words ask for a formula whose file has a text of it; for assumed literals, if any, whose file has bytes that have no fault; and for
+-- streams that there is a layout for. Nothing is asked of the streams.
 pub record AskWell (files : FilesView) (words : List Text) : Type 0 where
   pub given : CommandLine
   pub command_line : IsCommandLineOf words given
@@ -39,7 +33,9 @@ pub record AskWell (files : FilesView) (words : List Text) : Type 0 where
   pub formula : Cnf
   pub is_text : IsFormulaText text formula
   pub layout : (fault : LayoutFault) → ¬ IsFault (layout_in formula (sizes_of given)) fault
-  pub assumptions : AreValidAssumptions files formula.vars (assumed_at given)
+  pub assumptions : IfSome (assumed_at given) (λ path. (bytes : List ℕ)
+      × (files.tells path ≡ Some bytes)
+      × ((fault : CubeFault) → fault ≢ cubes.Memory → ¬ IsCubeFault formula.vars bytes fault))
 
 -- What may be asked of the streams of a round: by its formula and its layout; by the bytes that files are known to have before the streams
 -- are opened; and by the paths of the streams.
@@ -93,22 +89,17 @@ pub record IsAskedOf (Before Last : RoundAsk) (last number : ℕ) (formula : Cnf
   pub earlier : number < last → Before formula (layout_in formula sizes) tells paths
   pub at_last : number ≡ last → Last formula (layout_in formula sizes) tells paths
 
--- A later round, whose sizes are known, is ready: there is a file of its stream 1, there is a layout, and its streams are as is asked.
-pub record IsRoundReady (Before Last : RoundAsk) (last : ℕ) (its : Deeds) (folder : Text)
-    (number : ℕ) (formula : Cnf) (sizes : Sizes) (sized : its.State) : Type 0 where
-  pub there : (after : its.State) → ¬ its.lacks sized (stream_path folder number 1) after
-  pub layout : (fault : LayoutFault) → ¬ IsFault (layout_in formula sizes) fault
-  pub streams : IsAskedOf Before Last last number formula sizes (its.tells sized)
-      (stream_paths folder number sizes.streams)
-
--- All is provided for a later round, whose sizes aren't known yet: its file of sizes, if there is one, holds some; and the round is ready
--- with these, or with those before if there is no such file.
+-- All is provided for a later round, whose sizes aren't known yet: its file of sizes, if there is one, holds some; and with these, or with
+-- those before if there is no such file, there is a file of its stream 1, there is a layout, and its streams are as is asked.
 pub record IsProvided (Before Last : RoundAsk) (last : ℕ) (its : Deeds) (folder : Text) (number : ℕ)
     (old : Sizes) (formula : Cnf) (before : its.State) : Type 0 where
   pub sizes : (after : its.State) → ¬ HoldsNoSizes its before (sizes_path folder number) after
   pub ready : (sizes : Sizes) (sized : its.State)
       → AreSized its (sizes_path folder number) old before sizes sized
-      → IsRoundReady Before Last last its folder number formula sizes sized
+      → ((after : its.State) → ¬ its.lacks sized (stream_path folder number 1) after)
+      × ((fault : LayoutFault) → ¬ IsFault (layout_in formula sizes) fault)
+      × IsAskedOf Before Last last number formula sizes (its.tells sized)
+      (stream_paths folder number sizes.streams)
 
 -- The words ask well, and for rounds of a folder unless round 1 is the last one. The last one has one of the numbers 1 to 2 ^ 64 - 2. The
 -- streams of round 1 are as is asked. And for each round after it, up to the last, that some run of these words comes to, all is

@@ -1,8 +1,9 @@
 -- What the program says of valid proofs, and the laws that say so. A run without rounds is the case that round 1 is the last one.
 use Rattle.std.specs.Prelude.{◌≡◌, ◌⊎◌, ℕ, true, List}
+use Rattle.stream_check.specs.Excuses.{CutOff, Lacking}
 use Rattle.command.specs.Commands.{FilesView, SinkChange, Text}
 use Rattle.command.specs.Rounds.{ProgramEnds}
-use Rattle.outcome_laws.specs.Inconclusive.{InconclusiveBecause, IsCutOff, IsStopped}
+use Rattle.outcome_laws.specs.Inconclusive.{InconclusiveBecause}
 use Rattle.outcome_laws.specs.Valid.{AreValidAlone, AreValidByTurns, AreValidInOrder, AskForValidRounds, IsRefutedAlone, IsRefutedByTurns, IsRefutedInOrder}
 
 -- Where in each round before the last each stream is valid and cites only its own clauses and the formula's, and in the last one
@@ -15,7 +16,8 @@ ValidRoundsSay files last = (words : List Text) (s count : ℕ) (after : files.i
     (out err : SinkChange) (status : ℕ)
     → AskForValidRounds AreValidAlone (IsRefutedAlone s count) files words last
     → ProgramEnds files words after out err status
-    → (status ≡ 0) ⊎ InconclusiveBecause files words IsCutOff s count last after out err status
+    → (status ≡ 0)
+    ⊎ InconclusiveBecause files words (λ params. CutOff) s count last after out err status
 
 -- Where in each round before the last lines of all streams have a valid order, and in the last one lines of a set of streams, of which
 -- stream s adds the empty clause, the program ends so too, with one more reason for a stream to stop: such a line cites a clause of
@@ -25,7 +27,7 @@ ValidOrdersSay files last = (words : List Text) (s count : ℕ) (after : files.i
     (out err : SinkChange) (status : ℕ)
     → AskForValidRounds AreValidInOrder (IsRefutedInOrder s count) files words last
     → ProgramEnds files words after out err status
-    → (status ≡ 0) ⊎ InconclusiveBecause files words IsStopped s count last after out err status
+    → (status ≡ 0) ⊎ InconclusiveBecause files words Lacking s count last after out err status
 
 -- Where the words ask for one thread, and in each round lines of all streams have a valid order that takes one of each in turn, and in the
 -- last one some line of stream s adds the empty clause, the program ends as where all are valid alone; but in the last round too any
@@ -38,4 +40,4 @@ ValidTurnsSay files last = (words : List Text) (s : ℕ) (after : files.its.Stat
     → ProgramEnds files words after out err status
     → (status ≡ 0)
     ⊎ ((stream count : ℕ)
-    × InconclusiveBecause files words IsCutOff stream count last after out err status)
+    × InconclusiveBecause files words (λ params. CutOff) stream count last after out err status)

@@ -33,8 +33,8 @@ use Rattle.portfolio.specs.declared.outcome.Verdict.{Verdict}
 use Rattle.portfolio.specs.declared.outcome.Verdict.TheVariants.{Unsatisfiable, UnsatisfiableUnder, Unknown}
 use Rattle.portfolio.specs.Dropping.{HasDropped, HaveDropped}
 use Rattle.portfolio.specs.Outcomes.{OptionsValue, layout_of, run_params_of, verdict_of}
-use Rattle.portfolio.specs.Histories.{InThreads, IsRunOf, IsRunOfSome}
-use Rattle.portfolio.specs.RingStops.{StopsAtRing, WasReadOut}
+use Rattle.portfolio.specs.Histories.{IsRunOf, IsRunOfSome}
+use Rattle.portfolio.specs.RingStops.{StopsAtRing}
 use Rattle.stream_check.specs.Each.{Each, EachOfThree}
 use Rattle.stream_check.specs.lemmas.EachLemmas.{each_count, each_take, zip_count}
 use Rattle.stream_check.specs.lemmas.StreamLemmas.{IsJudgedBy, observed_as_many, observed_count}
@@ -424,7 +424,7 @@ module _ {S : Type 0} (view : SourceView S) where
       (results : StreamResultsValue S) (vs : List View)
       → (so : AreResults view js results) → Judged run_params 1 firsts so.found vs → IsLegal f run_params.layout h
       → ((k : ℕ) (v : View) → slice_get vs k ≡ Some v → v.mine ≡ own h (1 + k))
-      → (ran : IsRunOfSome (length firsts) InThreads view f run_params firsts results.readers results.reports results.dropped)
+      → (ran : IsRunOfSome (length firsts) false view f run_params firsts results.readers results.reports results.dropped)
       × (ran.run.history ≡ h)
   first_run f run_params h firsts js results vs so j legal calls =
       rw (so.readers, so.reports, so.dropped) (
@@ -475,12 +475,12 @@ module _ {S : Type 0} (view : SourceView S) where
       → IsBegun f run_params store firsts js
       → (results : StreamResultsValue S) (vs : List View) → AreResults view js results → AreSynced (views results.passes) vs
       → ShareHistory vs
-      → (ran : IsRunOf InThreads view f run_params firsts results.readers results.reports results.dropped)
+      → (ran : IsRunOf false view f run_params firsts results.readers results.reports results.dropped)
       × (ran.run.history ≡ seen_by vs)
   run_reports {f} {run_params} {store} {firsts} {js} begun results vs so synced one =
       let one = run_history begun results vs so synced one in
       let j = judged_by f run_params store begun.store_is 1 firsts js so.found vs begun.ready so.finish (met js results vs so synced) in
-      subst (λ (n : ℕ). (ran : IsRunOfSome n InThreads view f run_params firsts results.readers results.reports results.dropped)
+      subst (λ (n : ℕ). (ran : IsRunOfSome n false view f run_params firsts results.readers results.reports results.dropped)
       × (ran.run.history ≡ seen_by vs)) begun.count
       (first_run f run_params (seen_by vs) firsts js results vs so j one.legal (mine_at f run_params.layout vs one))
 
@@ -490,7 +490,7 @@ module _ {S : Type 0} (view : SourceView S) where
       → (results : StreamResultsValue S) (vs : List View) → AreResults view js results → AreSynced (views results.passes) vs
       → ShareHistory vs
       → (lasts : List S) × (reports : List Report) × (dropped : List DroppedIdsValue)
-      × IsRunOfSome (length firsts) InThreads view f run_params firsts lasts reports dropped
+      × IsRunOfSome (length firsts) false view f run_params firsts lasts reports dropped
   run_before f run_params store same [] [] ready results vs so synced one = (
     [],
     [],
@@ -525,19 +525,23 @@ module _ {S : Type 0} (view : SourceView S) where
       )
 
   -- whose mark was missed was read out
+  -- the reader was read to its end, or to the read that failed, and a stream matches it
+  abbrev WasReadOut : S → Type 0
+  WasReadOut reader = (last : S) × (its : Stream) × IsSome its.end × IsStreamOf view reader last its
+
   pub read_out_of : (one : Option (StreamJobsValue S)) → IsSomeAnd one (λ j. MissesMark view j.reader)
-      → IsSomeAnd one (λ j. WasReadOut view j.reader)
+      → IsSomeAnd one (λ j. WasReadOut j.reader)
   read_out_of None missed = absurd missed
-  read_out_of (Some j) missed = record { last = missed.last; stream = missed.stream; ended = missed.ended; read = missed.read }
+  read_out_of (Some j) missed = (missed.last, missed.stream, missed.ended, missed.read)
 
   reader_read_out : (f : Cnf) (run_params : RunParamsValue) (store : StoreValue) (s : ℕ) (firsts : List S) (js : List (StreamJobsValue S))
       (n : ℕ)
-      → HaveReadyJobs store f run_params s firsts js → IsSomeAnd (slice_get js n) (λ one. WasReadOut view one.reader)
-      → IsSomeAnd (slice_get firsts n) (WasReadOut view)
+      → HaveReadyJobs store f run_params s firsts js → IsSomeAnd (slice_get js n) (λ one. WasReadOut one.reader)
+      → IsSomeAnd (slice_get firsts n) WasReadOut
   reader_read_out f run_params store s [] [] n ready read = absurd read
   reader_read_out f run_params store s [] (j ∷ js) n ready read = absurd ready
   reader_read_out f run_params store s (e ∷ es) [] n ready read = absurd ready
-  reader_read_out f run_params store s (e ∷ es) (j ∷ js) zero ready read = subst (WasReadOut view) ready.0.reader_is read
+  reader_read_out f run_params store s (e ∷ es) (j ∷ js) zero ready read = subst WasReadOut ready.0.reader_is read
   reader_read_out f run_params store s (e ∷ es) (j ∷ js) (suc n) ready read =
       reader_read_out f run_params store (s + 1) es js n ready.1 read
 
@@ -565,7 +569,7 @@ module _ {S : Type 0} (view : SourceView S) where
         lasts = ran.0;
         reports = ran.1;
         dropped = ran.2;
-        before = subst (λ (k : ℕ). IsRunOfSome k InThreads view f run_params (take (stream - 1) firsts) ran.0 ran.1 ran.2) many ran.3;
+        before = subst (λ (k : ℕ). IsRunOfSome k false view f run_params (take (stream - 1) firsts) ran.0 ran.1 ran.2) many ran.3;
         read_out = reader_read_out f run_params store 1 firsts js (stream - 1) begun.ready
             (read_out_of (slice_get js (stream - 1)) at.1);
       }

@@ -13,8 +13,8 @@ use Rattle.stream_check.specs.Judging.{joined}
 use Rattle.stream_check.specs.Closed.{IsOfStream}
 use Rattle.stream_check.specs.Streams.{Block, blocks_of, events_in, IsBlockWithin}
 use Rattle.stream_check.specs.lemmas.StreamLemmas.{same_at}
-use Rattle.stream_check.specs.lemmas.TurnLemmas.{blocks_of-append, lines_beside, lines_pushed, streams_of-push, turns-pushed}
-use Rattle.stream_check.specs.Turns.{IsByTurns, IsTurnOf, line_count, streams_of}
+use Rattle.stream_check.specs.lemmas.TurnLemmas.{blocks_of-append, lines_beside, lines_pushed, streams_of, streams_of-push, turns-pushed}
+use Rattle.stream_check.specs.Turns.{IsByTurns, IsTurnOf, line_count}
 use Rattle.portfolio.specs.internal.Turns.{IsInRound}
 use Rattle.portfolio.specs.internal.Working.{AreBlocksOfTurn, WorkerValue}
 

@@ -1,6 +1,6 @@
 -- What the fetches after a run are answered by: the state that the run's history leaves.
 use Rattle.std.proofs.Common.{◌≡◌, ℕ, suc, zero, ◌+◌, ◌-◌, ◌<◌, ◌≤◌, List, [], ◌∷◌, ◌++◌, length, Some, refl, sym, ap, ap₂, subst, ◌∙◌, inl}
-use Rattle.std.proofs.Common.{inr, arith, append-nil, append_assoc}
+use Rattle.std.proofs.Common.{◌⊎◌, Bool, Err, Option, Result, inr, arith, append-nil, append_assoc}
 use Rattle.std.specs.Prelude.{slice_get}
 use Rattle.std.specs.List.{AllByRecursion}
 use Rattle.std.proofs.lemmas.Bool.{cases_eq, cases_lt}
@@ -10,17 +10,27 @@ use Rattle.lrup_model.specs.Event.{Event, History, Reply, own, stream_of}
 use Rattle.lrup_model.specs.Formula.{Cnf}
 use Rattle.lrup_model.specs.History.{IsLegal, LegalFrom}
 use Rattle.lrup_model.specs.lemmas.HistoryLemmas.{legal-back, own-mine, own-other}
-use Rattle.lrup_model.specs.Layout.{LayoutValue, Owns}
+use Rattle.lrup_model.specs.Layout.{LayoutValue, Owns, last_identity}
 use Rattle.lrup_model.specs.lemmas.OwnerLemmas.{owned}
 use Rattle.lrup_model.specs.Pass.{View, IsFair, PassMoves, AreSynced, AllSaw}
 use Rattle.lrup_model.specs.CallerView.{Caller}
 use Rattle.lrup_model.specs.lemmas.RunningLemmas.{own-append}
 use Rattle.lrup_model.specs.State.{State, Answers, opening, state}
 use Rattle.stream_check.specs.internal.Checking.{IsFetch}
-use Rattle.checkpoint.specs.Live.{fetches}
+use Rattle.checkpoint.specs.Checkpoints.{Saves}
+use Rattle.checkpoint.specs.Live.{fetches, wanted_of}
+use Rattle.checkpoint.specs.declared.saving.SaveFault.{SaveFault}
+use Rattle.checkpoint.specs.declared.saving.SaveFault.TheVariants as saves
 use Rattle.clause_store.specs.Passes.{AreOf, PassValue, StoreValue, store_of}
 use Rattle.stream_check.specs.SequentialConsistency.{HaveOneHistory}
 use Rattle.run_laws.specs.lemmas.OwnLemmas.{own_all}
+
+-- these replies answered fetches of the identities from 1 on, and what was found live and is wanted was saved, or memory ran out
+abbrev pub SavesFound : {S : Type 0} → (S → Option (List ℕ)) → Result (Option Cnf) SaveFault → LayoutValue → (ℕ → Bool) → List Reply
+    → S → S → Type 0
+SavesFound written result layout wants replies old new = (length replies ≤ last_identity layout)
+    × ((length replies ≡ last_identity layout) × Saves result layout.vars (wanted_of wants 1 replies) (written old) (written new)
+    ⊎ (result ≡ Err saves.Memory) × (new ≡ old))
 
 -- ---- histories of fetches
 

@@ -37,10 +37,11 @@ use Rattle.stream_check.specs.Streams.{AreJudged}
 use Rattle.stream_check.specs.Streams.{RunParamsValue}
 use Rattle.stream_check.specs.lemmas.EachLemmas.{each_count, each_push, each_second, each_set, each_within}
 use Rattle.stream_check.specs.lemmas.StreamLemmas.{observed_as_many, observed_count}
-use Rattle.stream_check.specs.Turns.{IsOrderedByTurns, streams_of}
+use Rattle.stream_check.specs.Turns.{IsOrderedByTurns}
+use Rattle.stream_check.specs.lemmas.TurnLemmas.{streams_of}
 use Rattle.run_laws.specs.lemmas.OwnLemmas.{ordered_judged, own-blocks}
 use Rattle.portfolio.proofs.DroppingLemmas.{dropped_more}
-use Rattle.portfolio.specs.Histories.{IsRunOf, OnOneThread}
+use Rattle.portfolio.specs.Histories.{IsRunOf}
 use Rattle.portfolio.specs.internal.Working.{AreBlocksOfTurn, WorkerValue, WorkerInvariantBy, WorkerInvariant, WorkerStep, IsStarted}
 use Rattle.portfolio.specs.internal.Turns.{HasRun, IsWorking, AreWorking, SerialInvariant, IsInSerialRun, SerialStep, IsOver, AreOver}
 use Rattle.portfolio.specs.internal.Turns.{IsOverAt, AreStarted}
@@ -424,7 +425,7 @@ module _ {S : Type 0} (view : SourceView S) where
 pub run_ordered : {S : Type 0} (view : SourceView S) (f : Cnf) (run_params : RunParamsValue) (firsts : List S) (m : Plain)
     (ws : List (WorkerValue S)) → length firsts ≡ run_params.layout.streams → SerialInvariant view f run_params firsts 0 m ws
     → (n : Plain) (reports : List Report) (lasts : List S) (dropped : List DroppedIdsValue) → SerialEnd view m ws n reports lasts dropped
-    → (ran : IsRunOf OnOneThread view f run_params firsts lasts reports dropped) × (plain_state n ≡ state f ran.run.history)
+    → (ran : IsRunOf true view f run_params firsts lasts reports dropped) × (plain_state n ≡ state f ran.run.history)
 run_ordered {S} view f run_params firsts m ws count begun n reports lasts dropped so =
     let over = ordered_over view f run_params firsts n so.ended reports count (so.goes f run_params firsts begun) so.reports_are in
     let streams = over.0 in

@@ -1,5 +1,5 @@
 -- A run that the ring of a stream stopped (this project's own).
-use Rattle.std.specs.Prelude.{◌-◌, ℕ, List, IsSome, IsSomeAnd, slice_get, take}
+use Rattle.std.specs.Prelude.{◌-◌, ℕ, false, List, IsSome, IsSomeAnd, slice_get, take}
 use Rattle.lrup_model.specs.Formula.{Cnf}
 use Rattle.lrup_model.specs.Layout.{IsStream}
 use Rattle.lrup_text.specs.ReadOut.{SourceView}
@@ -7,23 +7,18 @@ use Rattle.stream_check.specs.Readings.{IsStreamOf}
 use Rattle.stream_check.specs.Streams.{Stream, RunParamsValue}
 use Rattle.stream_check.specs.DroppedIdsValue.{DroppedIdsValue}
 use Rattle.stream_check.specs.declared.report.Report.{Report}
-use Rattle.portfolio.specs.Histories.{InThreads, IsRunOfSome}
-
--- the reader was read to its end, or to the read that failed, and the stream matches what is observed of it and is what its reads gave
-pub record WasReadOut {S : Type 0} (view : SourceView S) (reader : S) : Type 0 where
-  pub last : S
-  pub stream : Stream
-  pub ended : IsSome stream.end
-  pub read : IsStreamOf view reader last stream
+use Rattle.portfolio.specs.Histories.{IsRunOfSome}
 
 -- A run that the ring of this stream stopped: as far as the streams before it go, it is a run of what their readers told, which were
--- read out, with some reports; and its own reader was read out.
+-- read out, with some reports; and its own reader was read to its end, or to the read that failed, and a stream matches what is observed of
+-- it and is what its reads gave.
 pub record StopsAtRing {S : Type 0} (view : SourceView S) (formula : Cnf)
     (run_params : RunParamsValue) (firsts : List S) (stream : ℕ) : Type 0 where
   pub is_stream : IsStream run_params.layout stream
   pub lasts : List S
   pub reports : List Report
   pub dropped : List DroppedIdsValue
-  pub before : IsRunOfSome (stream - 1) InThreads view formula run_params
+  pub before : IsRunOfSome (stream - 1) false view formula run_params
       (take (stream - 1) firsts) lasts reports dropped
-  pub read_out : IsSomeAnd (slice_get firsts (stream - 1)) (WasReadOut view)
+  pub read_out : IsSomeAnd (slice_get firsts (stream - 1)) (λ reader. (last : S) × (its : Stream)
+      × IsSome its.end × IsStreamOf view reader last its)

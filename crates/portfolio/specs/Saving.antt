@@ -21,25 +21,19 @@ use Rattle.portfolio.specs.declared.saving.Clauses.TheVariants as clauses
 abbrev pub is_wanted : List DroppedIdsValue → ℕ → Bool
 is_wanted dropped id = length dropped == 0 || list_any (λ d. not (is_among d.ids id)) dropped
 
--- These replies answered fetches of the identities from 1 on. All were fetched, and what was found live and is wanted was saved,
--- as the result says; or memory ran out before the first write.
-abbrev pub SavesFound : {S : Type 0} → (S → Option (List ℕ)) → Result (Option Cnf) SaveFault
-    → LayoutValue → (ℕ → Bool) → List Reply → S → S → Type 0
-SavesFound written result layout wants replies old new =
-    (length replies ≤ last_identity layout)
-    × ((length replies ≡ last_identity layout)
-    × Saves result layout.vars (wanted_of wants 1 replies) (written old) (written new)
-    ⊎ (result ≡ Err faults.Memory) × (new ≡ old))
-
--- What became of the saving of what is live in this state of the clause map, and wanted: the replies are the state's answers,
--- whichever stream fetches, and what they found was saved so.
+-- What became of the saving of what is live in this state of the clause map, and wanted. The replies are the state's answers, whichever
+-- stream fetches, to fetches of the identities from 1 on. All were fetched, and what was found live and is wanted was saved, as the result
+-- says; or memory ran out before the first write.
 pub record SavesState {S : Type 0} (written : S → Option (List ℕ))
     (result : Result (Option Cnf) SaveFault) (slots : State) (layout : LayoutValue)
     (wants : ℕ → Bool)
     (old new : S) : Type 0 where
   pub replies : List Reply
   pub answers : (s : ℕ) → AllByRecursion (Answers slots) (fetches s 1 replies)
-  pub saves : SavesFound written result layout wants replies old new
+  pub saves : (length replies ≤ last_identity layout)
+      × ((length replies ≡ last_identity layout)
+      × Saves result layout.vars (wanted_of wants 1 replies) (written old) (written new)
+      ⊎ (result ≡ Err faults.Memory) × (new ≡ old))
 
 -- the layout of the clauses that a run left
 abbrev pub layout_left : Clauses → LayoutValue

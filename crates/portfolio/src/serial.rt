@@ -11,7 +11,7 @@ ghost use Rattle.lrup_model.specs.State.{state};
 ghost use Rattle.stream_check.specs.Checker.{IsReadyAt};
 ghost use Rattle.stream_check.specs.Judging.{joined};
 ghost use Rattle.run_laws.specs.Groups.{AreIsolated};
-ghost use Rattle.portfolio.specs.Histories.{IsOfRun, OnOneThread};
+ghost use Rattle.portfolio.specs.Histories.{IsRunOf};
 ghost use Rattle.portfolio.specs.Outcomes.{layout_of, run_params_of, verdict_of};
 ghost use Rattle.stream_check.specs.Readings.{readers_view};
 ghost use Rattle.portfolio.specs.internal.Turns.{AreOver, SerialEnd, AreStarted, SerialStep, HaveReports, IsOverAt, IsInSerialRun};
@@ -48,13 +48,14 @@ pub fn run_serial<W: Wait, R: Source + Drop, G: Gate + Drop>(
         ↔ IsFault (layout_of options formula.now (length readers.items)) fault }
     ensures no_threads { (stream : ℕ) → (result ≢ Err (RunFault.Spawn stream))
         × (result ≢ Err (RunFault.Ring stream)) }
-    // It is a run of what the readers told and their reads gave, and its history is that of an order of
-    // lines, which is by turns. The map has what this leaves. Its groups of streams are isolated.
+    // It is a run on one thread (`true`) of what the readers told and their reads gave, and its history
+    // is that of an order of lines, which is by turns. The map has what this leaves. Its groups of streams are isolated.
     ensures ordered { let run_params = run_params_of options cube.now formula.now
         (length readers.items) in
-        IfOk result (λ outcome. IsOfRun OnOneThread (readers_view R.Source) formula.now run_params
-        readers.items outcome.readers.items outcome.reports.items outcome.dropped.items
-        (λ run. (plain_state outcome.map ≡ state formula.now run.history) × AreIsolated run)) }
+        IfOk result (λ outcome. (ran : IsRunOf true (readers_view R.Source) formula.now run_params
+        readers.items outcome.readers.items outcome.reports.items outcome.dropped.items)
+        × ((plain_state outcome.map ≡ state formula.now ran.run.history)
+        × AreIsolated ran.run)) }
     ensures verdict { IfOk result (λ outcome.
         outcome.verdict ≡ verdict_of outcome.reports.items) }
     // The clauses stay, for whoever saves them.

@@ -9,7 +9,7 @@ ghost use Rattle.lrup_model.specs.Pass.{AreSynced};
 ghost use Rattle.clause_store.specs.Passes.{AreOf, ShareHistory, views};
 ghost use Rattle.stream_check.specs.Readings.{readers_view};
 ghost use Rattle.stream_check.specs.SequentialConsistency.{HaveOneHistory, seen_by};
-ghost use Rattle.portfolio.specs.Histories.{InThreads, IsOfRun};
+ghost use Rattle.portfolio.specs.Histories.{IsRunOf};
 ghost use Rattle.portfolio.specs.Outcomes.{layout_of, run_params_of, verdict_of};
 ghost use Rattle.portfolio.specs.RingStops.{StopsAtRing};
 ghost use Rattle.run_laws.specs.Groups.{AreIsolated};
@@ -62,14 +62,14 @@ pub fn run<T: Threads + Wait + Sync, R: Source + Send + Drop, G: Gate + Send + D
     ensures history { IfOk result (λ outcome. let passes = views outcome.passes.items in
         HaveOneHistory formula.now (layout_of options formula.now (length readers.items))
         (seen_by passes) passes) }
-    // It is a run by that history, of what the readers told and their reads gave. Its groups of
-    // streams are isolated, and its lines are serializable.
+    // It is a run by that history, with threads (`false`), of what the readers told and their reads
+    // gave. Its groups of streams are isolated, and its lines are serializable.
     ensures reports { let run_params = run_params_of options cube.now formula.now
         (length readers.items) in
-        IfOk result (λ outcome. IsOfRun InThreads (readers_view R.Source) formula.now run_params
-        readers.items outcome.readers.items outcome.reports.items outcome.dropped.items
-        (λ run. (run.history ≡ seen_by (views outcome.passes.items)) × AreIsolated run
-        × IsSerializable run)) }
+        IfOk result (λ outcome. (ran : IsRunOf false (readers_view R.Source) formula.now run_params
+        readers.items outcome.readers.items outcome.reports.items outcome.dropped.items)
+        × ((ran.run.history ≡ seen_by (views outcome.passes.items)) × AreIsolated ran.run
+        × IsSerializable ran.run)) }
     ensures verdict { IfOk result (λ outcome.
         outcome.verdict ≡ verdict_of outcome.reports.items) }
     // The clauses stay, for whoever saves them.

@@ -17,7 +17,8 @@ use Rattle.stream_check.specs.declared.report.Ending.TheVariants as endings
 use Rattle.stream_check.specs.declared.report.Report.{Report}
 use Rattle.lrup_text.specs.declared.device.StreamEnd.TheVariants as stream_ends
 use Rattle.std.specs.List.{AllByRecursion, list_any}
-use Rattle.stream_check.specs.Laws.{IsOfMemory, cited_by}
+use Rattle.stream_check.specs.Excuses.{OutOfMemory, IsExcused}
+use Rattle.stream_check.specs.Laws.{cited_by}
 use Rattle.lrup_model.specs.Cube.{CubeValue}
 use Rattle.lrup_model.specs.Formula.{Cnf}
 use Rattle.lrup_model.specs.Event.{History, published}
@@ -97,7 +98,7 @@ pub report_alone : ReadersClosed → MatchIsReading → {S : Type 0} (view : Sou
     (reports : List Report) (report : Report)
     → IsIsolated view firsts lasts reports four two_terms → CiteWithin layout_of_two (one 1) bytes
     → IsOfStream (map view.left firsts) 1 (Some bytes) → IsOfStream (map view.has_failed lasts) 1 false
-    → IsOfStream reports 1 report → ¬ IsOfMemory report → IsOnlyReport bytes report
+    → IsOfStream reports 1 report → ¬ IsExcused OutOfMemory report → IsOnlyReport bytes report
 report_alone closes reads view firsts lasts bytes reports report (run, isolated, read) cites entry fine says memory =
     let tells = observations view firsts lasts in
     let first = first_told view firsts lasts run.streams bytes read entry fine in
@@ -114,7 +115,7 @@ report_alone closes reads view firsts lasts bytes reports report (run, isolated,
         reports = reports;
         stream = first.stream;
         alone = isolated.groups (one 1) closed
-            (λ s other member at. subst (λ r. ¬ IsOfMemory r)
+            (λ s other member at. subst (λ r. ¬ IsExcused OutOfMemory r)
             (same_at reports 1 report other says (subst (λ n. IsOfStream reports n other) (only 1 s member) at)) memory);
         at = first.at;
         reads = is_reading;
@@ -166,7 +167,7 @@ full_at params bytes blocks report dropped line is drops =
 pub full_from : (run_params : RunParamsValue) (AreOwn : ℕ → List History → Type 0) (s : ℕ) (streams : List Stream) (reports : List Report)
     (all : List DroppedIdsValue)
     → HaveDropped run_params AreOwn s streams reports all → (k : ℕ) (report : Report) (dropped : DroppedIdsValue)
-    → slice_get reports k ≡ Some report → slice_get all k ≡ Some dropped → IsOfMemory report → dropped.spare ≡ 0
+    → slice_get reports k ≡ Some report → slice_get all k ≡ Some dropped → IsExcused OutOfMemory report → dropped.spare ≡ 0
 full_from run_params AreOwn s [] [] [] have k report dropped says at memory = absurd (let none : None ≡ Some report = says in cc)
 full_from run_params AreOwn s (stream ∷ streams) (one ∷ reports) (d ∷ all) have zero report dropped says at memory =
     let same : one ≡ report = let e : Some one ≡ Some report = says in cc in

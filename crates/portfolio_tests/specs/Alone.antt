@@ -5,7 +5,7 @@ use Rattle.lrup_model.specs.Layout.{LayoutValue}
 use Rattle.lrup_model.specs.Event.{published}
 use Rattle.lrup_model.specs.History.{IsLegal}
 use Rattle.stream_check.specs.DroppedIdsValue.{DroppedIdsValue}
-use Rattle.stream_check.specs.Laws.{IsOfMemory}
+use Rattle.stream_check.specs.Excuses.{OutOfMemory, IsExcused}
 use Rattle.stream_check.specs.declared.report.Report.{Report}
 use Rattle.lrup_text.specs.declared.device.StreamEnd.TheVariants as stream_ends
 use Rattle.portfolio.specs.Outcomes.{OptionsValue, layout_of, run_params_of}
@@ -40,7 +40,7 @@ pub record IsOnlyReport (bytes : List ℕ) (report : Report) : Type 0 where
 -- where a report says that memory ran out, its stream has no room for one identity more among those that it dropped
 abbrev pub AreFullAtMemory : List Report → List DroppedIdsValue → Type 0
 AreFullAtMemory reports all = (s : ℕ) (report : Report) (dropped : DroppedIdsValue)
-    → IsOfStream reports s report → IsOfStream all s dropped → IsOfMemory report
+    → IsOfStream reports s report → IsOfStream all s dropped → IsExcused OutOfMemory report
     → dropped.spare ≡ 0
 
 -- a legal history of whole lines publishes the empty clause exactly where this is the verdict 'unsatisfiable'

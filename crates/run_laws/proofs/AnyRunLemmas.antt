@@ -1,5 +1,6 @@
 -- A closed set of streams in two histories.
-use Rattle.std.proofs.Common.{◌≡◌, ◌⊎◌, ◌-◌, ◌++◌, ℕ, Bool, true, Option, Some, None, List, [], ◌∷◌, length, inl, inr, refl, sym, ap, subst}
+use Rattle.std.proofs.Common.{◌≡◌, ◌⊎◌, ◌≤◌, ◌-◌, ◌++◌, ℕ, Bool, true, Option, Some, None, List, [], ◌∷◌, length, inl, inr, refl, sym, ap}
+use Rattle.std.proofs.Common.{subst}
 use Rattle.std.proofs.Common.{◌∙◌, append_assoc, append-nil, arith}
 use Rattle.std.specs.Prelude.{IsTrue, IfSome, IsSome}
 use Rattle.std.specs.List.{AllByRecursion, flat_map}
@@ -25,7 +26,8 @@ use Rattle.stream_check.specs.declared.report.Ending.TheVariants as endings
 use Rattle.stream_check.specs.declared.report.Report.{Report}
 use Rattle.stream_check.specs.declared.params.Ownership.TheVariants as ownerships
 use Rattle.stream_check.specs.Judging.{EndsAfter, joined, JudgesBlocks}
-use Rattle.stream_check.specs.Laws.{CitedFetched, IsOfMemory, IsOfFailure}
+use Rattle.stream_check.specs.Excuses.{CutOff, Lacking, OutOfMemory, ReadFailed, IsExcused, IsExcusedAt}
+use Rattle.stream_check.specs.Laws.{CitedFetched}
 use Rattle.stream_check.specs.lemmas.ReportLemmas.{additions-append, joined-append, split_first}
 use Rattle.stream_check.specs.StreamParams.{StreamParams}
 use Rattle.stream_check.specs.StreamContext.{additions_of}
@@ -33,8 +35,8 @@ use Rattle.stream_check.specs.Closed.{IsOfStream, IsClosed}
 use Rattle.stream_check.specs.SequentialConsistency.{AreJudgedIn}
 use Rattle.stream_check.specs.Streams.{Stream, InputObservation, RunParamsValue, stream_params}
 use Rattle.stream_check.specs.lemmas.StreamLemmas.{judged_count, same_at, some_end, observed_count}
-use Rattle.run_laws.specs.AnyRun.{HaveBytesOf, LacksOfAnother, LacksOfAnotherIn, ValidInAnyRun}
-use Rattle.run_laws.specs.Valid.{IsCutOffIn, TellsAtLeast}
+use Rattle.run_laws.specs.AnyRun.{ValidInAnyRun}
+use Rattle.run_laws.specs.Valid.{TellsAtLeast}
 use Rattle.run_laws.specs.Groups.{IsRun}
 use Rattle.run_laws.proofs.AnyRunLines.{IsFoundIn, AreFair, FindAlike, same_clause}
 use Rattle.run_laws.specs.lemmas.OwnLemmas.{own_all}
@@ -45,7 +47,7 @@ use Rattle.run_laws.proofs.GroupLemmas.{inside, is_inside, inside_is, closed_fin
 use Rattle.run_laws.proofs.Places.{has_place, judged_at}
 use Rattle.run_laws.proofs.ValidLines.{ownership_by}
 use Rattle.run_laws.proofs.WalkLemmas.{own-calls}
-use Rattle.run_laws.proofs.RunLemmas.{EndsWith, observed_at}
+use Rattle.run_laws.proofs.RunLemmas.{EndsWith, fine_failure, fine_memory, observed_at}
 
 -- an identity of another stream has an owner
 pub foreign_by : (c : StreamParams) (id : ℕ) (o : Owner) → owner c.layout id ≡ o → ownership_by c o ≡ ownerships.Foreign
@@ -158,6 +160,12 @@ read_in f run_params observed reports r s whole observation report here entry sa
           (subst (λ (e : Option (List ℕ)). Consumes e observation.left (stream.0.bytes ++ stream.0.unneeded)) entry is.consumes)
           is.ends is.needed j.2;
     }
+
+-- the readers of the set have the bytes of these streams left at first, and maybe more behind them
+abbrev pub HaveBytesOf : (ℕ → Bool) → List Stream → List InputObservation → Type 0
+HaveBytesOf set streams observed =
+    (t : ℕ) (stream : Stream) (observation : InputObservation) → IsTrue (set t) → IsOfStream streams t stream
+    → IsOfStream observed t observation → (more : List ℕ) × (observation.entry ≡ Some (stream.bytes ++ more))
 
 module _ (first : OneFirstLine) (refused : RefusedStays) (cited : CitedFetched) where
   -- the one history judges a closed set of streams; the readers of the other run begin with their bytes
@@ -329,7 +337,7 @@ module _ (first : OneFirstLine) (refused : RefusedStays) (cited : CitedFetched) 
       pub limits : AllByRecursion IsWithinLimits lines
       pub text : stream.bytes ≡ flat_map line_text lines
       pub tells : TellsAtLeast other report
-          ⊎ (IsCutOffIn (length lines) other ⊎ LacksOfAnotherIn (stream_params run_params s) (length lines) other)
+          ⊎ ((line : ℕ) × (line ≤ length lines) × IsExcusedAt (Lacking (stream_params run_params s)) other line)
 
     pub tells_on : (s : ℕ) (report other : Report) → IsTrue (set s) → IsOfStream reports s report → report.ending ≡ endings.Ended
         → IsOfStream others s other → TellsOn s report other
@@ -353,7 +361,7 @@ module _ (first : OneFirstLine) (refused : RefusedStays) (cited : CitedFetched) 
           text = w.judges.text ∙ ap (λ (b : List ℕ). flat_map line_text w.judges.lines ++ b) over.none
               ∙ append-nil (flat_map line_text w.judges.lines);
           tells = subst (λ (x : Report). TellsAtLeast x report
-              ⊎ (IsCutOffIn (length w.judges.lines) x ⊎ LacksOfAnotherIn c (length w.judges.lines) x)) its_other_report
+              ⊎ ((line : ℕ) × (line ≤ length w.judges.lines) × IsExcusedAt (Lacking c) x line)) its_other_report
               (elim (goes_on s here w its.0 its.1 over.none) [
                 | inl on ↦ inl (subst (TellsAtLeast its.1.report) (sym over.says ∙ its_report)
                     (goes_on_tells c w.judges.lines on.0 its.1.read.reads.judges.rest its.1.read.reads.end
@@ -361,8 +369,8 @@ module _ (first : OneFirstLine) (refused : RefusedStays) (cited : CitedFetched) 
                     (subst (λ (ls : List StreamLine). EndsAfter c ls its.1.read.reads.judges.rest its.1.read.reads.end
                     its.1.read.reads.judges.back its.1.report) on.1
                     its.1.read.reads.judges.ends)))
-                | inr (inl cut) ↦ inr (inl cut)
-                | inr (inr lacks) ↦ inr (inr (lacks.1, lacks.2, lacks.4, lacks.5, lacks.6))
+                | inr (inl cut) ↦ inr (cut.0, cut.1, inl cut.2)
+                | inr (inr lacks) ↦ inr (lacks.1, lacks.4, inr (lacks.2, lacks.5, lacks.6))
               ]);
         }
 
@@ -371,8 +379,8 @@ module _ (first : OneFirstLine) (refused : RefusedStays) (cited : CitedFetched) 
       pub same_report : (s : ℕ) (stream : Stream) (observation : InputObservation) (report other : Report)
           → IsTrue (set s) → IsOfStream streams s stream → IsOfStream reports s report → report.ending ≡ endings.Ended
           → IsOfStream observed s observation → observation.entry ≡ Some stream.bytes → IsOfStream others s other
-          → ¬ IsOfMemory other → ¬ IsOfFailure other → (other ≡ report) ⊎ LacksOfAnother (stream_params run_params s) other
-      same_report s stream observation report other member at says ended here entry too memory failure =
+          → ¬ IsExcused CutOff other → (other ≡ report) ⊎ IsExcused (Lacking (stream_params run_params s)) other
+      same_report s stream observation report other member at says ended here entry too fine =
           let c = stream_params run_params s in
           let within = slice_get_within reports (s - 1) report says.1 in
           let inner : IsTrue (inside run_params.layout set s) =
@@ -387,8 +395,10 @@ module _ (first : OneFirstLine) (refused : RefusedStays) (cited : CitedFetched) 
           let over = has_ended c w.judges.lines w.judges.rest w.end w.judges.back w.report w.judges.ends
           (ap (λ (x : Report). x.ending) its_report ∙ ended) in
           let j = o.read.reads.judges in
-          let no_memory : ¬ IsOfMemory o.report = subst (λ (x : Report). ¬ IsOfMemory x) (sym its_other) memory in
-          let no_failure : ¬ IsOfFailure o.report = subst (λ (x : Report). ¬ IsOfFailure x) (sym its_other) failure in
+          let no_memory : ¬ IsExcused OutOfMemory o.report = subst (λ (x :
+          Report). ¬ IsExcused OutOfMemory x) (sym its_other) (fine_memory other fine) in
+          let no_failure : ¬ IsExcused ReadFailed o.report = subst (λ (x :
+          Report). ¬ IsExcused ReadFailed x) (sym its_other) (fine_failure other fine) in
           elim (goes_on s inner w [] o over.none) [
             | inl on ↦ inl (sym its_other
                 ∙ whole_observed one_fault empty c w.judges.lines j.lines j.rest o.read.reads.left o.read.reads.end j.back
@@ -399,7 +409,7 @@ module _ (first : OneFirstLine) (refused : RefusedStays) (cited : CitedFetched) 
             | inr (inl (line, below, inl lost)) ↦ absurd (no_memory (line, lost))
             | inr (inl (line, below, inr failed)) ↦ absurd (no_failure (line, failed))
             | inr (inr lacks) ↦
-                inr (subst (LacksOfAnother c) its_other (length w.judges.lines, (lacks.1, lacks.2, lacks.4, lacks.5, lacks.6)))
+                inr (subst (IsExcused (Lacking c)) its_other (lacks.1, inr (lacks.2, lacks.5, lacks.6)))
           ]
 
 pub valid_in_any_run : OneFirstLine → RefusedStays → OneFault → EmptyPending → CitedFetched → ValidInAnyRun

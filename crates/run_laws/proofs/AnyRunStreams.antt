@@ -33,12 +33,12 @@ use Rattle.stream_check.specs.declared.report.Report.{Report}
 use Rattle.stream_check.specs.declared.params.Ownership.TheVariants as ownerships
 use Rattle.stream_check.specs.Judging.{JudgesLine, AreGood, EndsAfter, at_bad_line, at_bad_text, at_memory, at_end, ending_at, joined}
 use Rattle.stream_check.specs.Judging.{report_of, JudgesBlocks}
-use Rattle.stream_check.specs.Laws.{IsOfMemory, IsOfFailure}
+use Rattle.stream_check.specs.Excuses.{CutOff, OutOfMemory, ReadFailed, IsExcused, IsExcusedAt}
 use Rattle.stream_check.specs.lemmas.ReportLemmas.{additions-append, joined-append, split_first}
 use Rattle.stream_check.specs.StreamParams.{StreamParams, ownership_of}
 use Rattle.stream_check.specs.StreamContext.{context_of, additions_of, capped, deleted_by, is_within}
 use Rattle.stream_check.specs.Verdicts.{Good, Bad}
-use Rattle.run_laws.specs.Valid.{IsCutOffIn, TellsAtLeast}
+use Rattle.run_laws.specs.Valid.{TellsAtLeast}
 use Rattle.run_laws.proofs.AnyRunLines.{IsNear, IsFoundIn, AreFair, FindAlike, Lacks, line_agrees, line_reaches, good_publishes}
 use Rattle.run_laws.proofs.AnyRunLines.{bad_publishes, deletes_publish}
 use Rattle.run_laws.proofs.JudgedLemmas.{parts}
@@ -254,9 +254,13 @@ abbrev pub LacksFound : StreamParams → (ℕ → Clause → Type 0) → ℕ →
 LacksFound c Mine count report = (d : Clause) × (line h : ℕ) × Mine h d × (line ≤ count) × (ownership_of c h ≡ ownerships.Foreign)
     × ((report.ending ≡ endings.Bad line (faults.Missing h)) ⊎ (report.ending ≡ endings.Bad line (faults.Retired h)))
 
+-- memory ran out, or a read failed, in one of the first lines, so many
+abbrev pub IsCutIn : ℕ → Report → Type 0
+IsCutIn count report = (line : ℕ) × (line ≤ count) × IsExcusedAt CutOff report line
+
 -- the report is of an ending in the first lines, so many, for which none of them is to blame
 abbrev pub IsBlameless : StreamParams → (ℕ → Clause → Type 0) → ℕ → Report → Type 0
-IsBlameless c Mine count report = IsCutOffIn count report ⊎ LacksFound c Mine count report
+IsBlameless c Mine count report = IsCutIn count report ⊎ LacksFound c Mine count report
 
 -- the good lines go on from these
 abbrev pub GoesOn : List StreamLine → List StreamLine → Type 0
@@ -274,7 +278,7 @@ module _ (first : OneFirstLine) (refused : RefusedStays) (c : StreamParams) (Min
   -- where a whole line is left, the stream didn't come to its end
   at_its_end : (line : StreamLine) (later rest left : List ℕ) (end : StreamEnd) (before : List StreamLine) (n count : ℕ) (report : Report)
       → n ≤ count → IsWithinLimits line → rest ++ left ≡ line_text line ++ later → (end ≡ stream_ends.Ended → left ≡ []) → IsPending rest
-      → report ≡ report_of c before 0 (ending_at end rest n) → IsCutOffIn count report
+      → report ≡ report_of c before 0 (ending_at end rest n) → IsCutIn count report
   at_its_end line later rest left stream_ends.Ended before n count report below limits is none pending says =
       absurd (pending.whole line later limits (sym (append-nil rest) ∙ ap (λ (b : List ℕ). rest ++ b) (sym (none refl)) ∙ is))
   at_its_end line later rest left stream_ends.Failed before n count report below limits is none pending says =
@@ -384,14 +388,15 @@ goes_on_tells c lines later rest end back report (at_end pending no_block says) 
     more_observed c lines later 0 (ending_at end rest (capped (length (lines ++ later) + 1))) report says
 
 module _ (one_fault : OneFault) (empty : EmptyPending) (c : StreamParams) where
-  by_end : (lines : List StreamLine) (end : StreamEnd) (n : ℕ) (report : Report) → ¬ IsOfFailure report
+  by_end : (lines : List StreamLine) (end : StreamEnd) (n : ℕ) (report : Report) → ¬ IsExcused ReadFailed report
       → report ≡ report_of c lines 0 (ending_at end [] n) → report ≡ report_of c lines 0 endings.Ended
   by_end lines stream_ends.Ended n report failure says = says
   by_end lines stream_ends.Failed n report failure says = absurd (failure (n, ap (λ (r : Report). r.ending) says))
 
   -- where nothing is left, the stream ended
   at_nothing : (lines : List StreamLine) (rest : List ℕ) (end : StreamEnd) (back : List History) (report : Report) → rest ≡ []
-      → ¬ IsOfMemory report → ¬ IsOfFailure report → EndsAfter c lines rest end back report → report ≡ report_of c lines 0 endings.Ended
+      → ¬ IsExcused OutOfMemory report → ¬ IsExcused ReadFailed report → EndsAfter c lines rest end back report
+      → report ≡ report_of c lines 0 endings.Ended
   at_nothing lines rest end back report none memory failure (at_bad_line line more text fits block is_one deleted fault bad says) =
       absurd (empty.whole line more fits (sym none ∙ text))
   at_nothing lines rest end back report none memory failure (at_bad_text fault text no_block says) =
@@ -412,7 +417,7 @@ module _ (one_fault : OneFault) (empty : EmptyPending) (c : StreamParams) where
   -- so it does where these lines are all that its bytes have
   pub whole_observed : (lines all : List StreamLine) (rest left : List ℕ) (end : StreamEnd) (back : List History) (report : Report)
       → GoesOn lines all → AllByRecursion IsWithinLimits all → flat_map line_text all ++ (rest ++ left) ≡ flat_map line_text lines
-      → ¬ IsOfMemory report → ¬ IsOfFailure report
+      → ¬ IsExcused OutOfMemory report → ¬ IsExcused ReadFailed report
       → EndsAfter c all rest end back report → report ≡ report_of c lines 0 endings.Ended
   whole_observed lines all rest left end back report on fits is memory failure ends =
       let texts = flat_map line_text lines in

@@ -63,7 +63,7 @@ all_nothing f c h fits legal calls (events.retire s id r ∷ es) there = (tt, al
 pub valid_begins : GoodLineTaken → FreshLeft → EndJudged → EmptyCut → OneCut → OneFirstLine
     → RefusedStays → ValidBegins
 valid_begins taken fresh ends empty_cut one_cut first refused
-    f run_params s bytes lines observed observation reports report cnf fits stream valid run here entry says =
+    f run_params s bytes more lines observed observation reports report cnf fits stream valid run here entry says =
     let c = stream_params run_params s in
     let texts = flat_map line_text lines in
     let alone = valid_judged taken fresh ends empty_cut one_cut f run_params s texts lines cnf fits stream
@@ -78,13 +78,14 @@ valid_begins taken fresh ends empty_cut one_cut first refused
       last = empty_cut.last;
     })
     (record { bytes = sym (append-nil texts); each = valid.fits; last = empty_cut.last })).0 in
-    let read : IsReadIn f run_params observed reports run s bytes report = read_in f run_params observed reports run s bytes observation
+    let read : IsReadIn f run_params observed reports run s (bytes ++ more) report =
+    read_in f run_params observed reports run s (bytes ++ more) observation
     report here entry says in
     let j = read.reads.judges in
-    let begins : flat_map line_text j.lines ++ (j.rest ++ read.reads.left) ≡ flat_map line_text w.lines ++ valid.more =
+    let begins : flat_map line_text j.lines ++ (j.rest ++ read.reads.left) ≡ flat_map line_text w.lines ++ more =
     sym (append_assoc (flat_map line_text j.lines) j.rest read.reads.left)
-    ∙ ap (λ (b : List ℕ). b ++ read.reads.left) (sym j.text) ∙ sym read.reads.text ∙ valid.text
-    ∙ ap (λ (ls : List StreamLine). flat_map line_text ls ++ valid.more) (sym same) in
+    ∙ ap (λ (b : List ℕ). b ++ read.reads.left) (sym j.text) ∙ sym read.reads.text ∙ ap (λ (b : List ℕ). b ++ more) valid.text
+    ∙ ap (λ (ls : List StreamLine). flat_map line_text ls ++ more) (sym same) in
     let mine : AreFair c Nothing (opening f) (own g s) =
     near_fair f c Nothing (opening f) (opening f) g alone.0.legal.events (λ id near. refl)
     (own_all (IsFoundIn c Nothing) g s
@@ -99,7 +100,7 @@ valid_begins taken fresh ends empty_cut one_cut first refused
     subst (AreFair c Anything (opening f)) (read.events ∙ ap joined j.split) theirs in
     elim (lines_go_on first refused c Nothing Anything
     (λ id d e foreign mine theirs. absurd mine) [] w.lines j.lines w.front j.front j.back
-    (opening f) j.rest read.reads.left valid.more read.reads.end (length lines) report
+    (opening f) j.rest read.reads.left more read.reads.end (length lines) report
     (omega (arith, ap (λ (ls : List StreamLine). length ls) same)) w.good j.good j.ends w.fits j.fits begins read.reads.ended ours also) [
       | inl on ↦ inl (goes_on_tells c lines on.0 j.rest read.reads.end j.back report
           (subst (λ (ls : List StreamLine). EndsAfter c ls j.rest read.reads.end j.back report)

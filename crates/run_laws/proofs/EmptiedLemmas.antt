@@ -1,11 +1,12 @@
 -- A group as a run in which the other streams are empty.
-use Rattle.std.proofs.Common.{◌≡◌, ℕ, ◌+◌, Bool, false, cond, List, [], ◌∷◌, refl, sym, ap, subst, ◌∙◌, inl, inr}
+use Rattle.std.proofs.Common.{◌≡◌, ℕ, ◌+◌, Bool, false, cond, List, [], ◌∷◌, Some, refl, sym, ap, subst, ◌∙◌, inl, inr}
 use Rattle.std.specs.Prelude.{IsTrue}
 use Rattle.std.specs.List.{AllByRecursion}
 use Rattle.std.proofs.lemmas.Bool.{cases_Bool, cond-true, cond-false, true≢false}
 use Rattle.lrup_model.specs.Event.{History, stream_of, own}
 use Rattle.lrup_model.specs.lemmas.HistoryLemmas.{own-none}
 use Rattle.lrup_text.specs.declared.device.StreamEnd.TheVariants as stream_ends
+use Rattle.stream_check.specs.declared.report.Ending.TheVariants as endings
 use Rattle.stream_check.specs.declared.report.Report.{Report}
 use Rattle.stream_check.specs.StreamParams.{StreamParams}
 use Rattle.stream_check.specs.StreamContext.{context_of}
@@ -14,8 +15,16 @@ use Rattle.stream_check.specs.Laws.{FreshLeft, EndJudged}
 use Rattle.stream_check.specs.Streams.{Stream, JudgesStream, RunParamsValue, stream_params}
 use Rattle.stream_check.specs.lemmas.StreamLemmas.{IsJudgedBy, judged_out}
 use Rattle.stream_check.specs.SequentialConsistency.{AreJudgedIn}
-use Rattle.run_laws.specs.Groups.{empty_stream, empty_report, with_others}
+use Rattle.run_laws.specs.Groups.{with_others}
 use Rattle.run_laws.specs.GroupLaws.{OthersEmpty}
+
+-- no bytes, read to the end
+abbrev pub empty_stream : Stream
+empty_stream = record { bytes = []; unneeded = []; end = Some stream_ends.Ended }
+
+-- the report of a stream without bytes
+abbrev pub empty_report : Report
+empty_report = record { added = 0; deleted = 0; empty = false; within = false; ending = endings.Ended }
 
 fresh : StreamParams → GoingState
 fresh c = record {

@@ -13,12 +13,13 @@ use Rattle.lrup_model.specs.State.{State, opening, run}
 use Rattle.lrup_text.specs.declared.device.StreamEnd.{StreamEnd}
 use Rattle.stream_check.specs.declared.report.Report.{Report}
 use Rattle.stream_check.specs.Judging.{JudgesBlocks}
-use Rattle.stream_check.specs.Laws.{BlocksGoAlike, GoAlike, IsOfMemory, LegalNeverFork}
+use Rattle.stream_check.specs.Excuses.{OutOfMemory, IsExcused}
+use Rattle.stream_check.specs.Laws.{BlocksGoAlike, GoAlike, LegalNeverFork}
 use Rattle.stream_check.specs.StreamParams.{StreamParams}
 use Rattle.stream_check.specs.Streams.{Block, blocks_of, events_in, IsBlockWithin, RunParamsValue, stream_params}
 use Rattle.stream_check.specs.lemmas.StreamLemmas.{blocks-same, blocks-other}
-use Rattle.stream_check.specs.lemmas.TurnLemmas.{blocks_of-append, lines_before, lines_beside, lines_pushed, streams_of-push}
-use Rattle.stream_check.specs.Turns.{AreTurns, IsByTurns, IsTurnOf, line_count, streams_of}
+use Rattle.stream_check.specs.lemmas.TurnLemmas.{blocks_of-append, lines_before, lines_beside, lines_pushed, streams_of, streams_of-push}
+use Rattle.stream_check.specs.Turns.{AreTurns, IsByTurns, IsTurnOf, line_count}
 
 -- Turns
 
@@ -109,8 +110,8 @@ pub record JudgedTwice (c : StreamParams) (xs ys : List History) : Type 0 where
   pub other : Report
   pub first : JudgesBlocks c bytes end xs report
   pub second : JudgesBlocks c bytes end ys other
-  pub memory : ¬ IsOfMemory report
-  pub none : ¬ IsOfMemory other
+  pub memory : ¬ IsExcused OutOfMemory report
+  pub none : ¬ IsExcused OutOfMemory other
 
 module _ (alike : BlocksGoAlike) (forks : LegalNeverFork) (f : Cnf) (run_params : RunParamsValue) (ps qs : List Block)
     (both : (s : ℕ) → IsStream run_params.layout s → JudgedTwice (stream_params run_params s) (blocks_of s ps) (blocks_of s qs)) where

@@ -1,5 +1,6 @@
 -- What is observed of readers, and two runs of one stream.
-use Rattle.std.proofs.Common.{◌≡◌, ℕ, ◌-◌, Bool, true, false, Option, List, [], ◌++◌, Some, None, refl, sym, ap, subst, ◌∙◌, append_assoc}
+use Rattle.std.proofs.Common.{◌≡◌, ℕ, ◌-◌, Bool, true, false, Option, List, [], ◌++◌, Some, None, inl, inr, refl, sym, ap, subst, ◌∙◌}
+use Rattle.std.proofs.Common.{append_assoc}
 use Rattle.std.proofs.Common.{append-nil, arith}
 use Rattle.std.specs.Prelude.{IfSome, IsSome, MatchOption}
 use Rattle.std.specs.List.{AllZip}
@@ -16,11 +17,12 @@ use Rattle.lrup_text.specs.declared.device.StreamEnd.TheVariants as stream_ends
 use Rattle.stream_check.specs.declared.report.Report.{Report}
 use Rattle.stream_check.specs.StreamParams.{StreamParams}
 use Rattle.stream_check.specs.Judging.{JudgesBlocks, Judges}
-use Rattle.stream_check.specs.Laws.{AloneDecides, DecidedBeforeFailure, IsOfMemory, IsOfFailure}
+use Rattle.stream_check.specs.Excuses.{CutOff, OutOfMemory, ReadFailed, IsExcused}
+use Rattle.stream_check.specs.Laws.{AloneDecides, DecidedBeforeFailure}
 use Rattle.stream_check.specs.Streams.{Stream, InputObservation, MatchesInput, RunParamsValue, stream_params}
 use Rattle.stream_check.specs.Closed.{IsOfStream, CiteWithin, IsClosed}
 use Rattle.stream_check.specs.lemmas.StreamLemmas.{observed_from, observed_begins, same_at, judged_count}
-use Rattle.run_laws.specs.Groups.{one, IsGroup, IsRun, NoneOutOfMemory}
+use Rattle.run_laws.specs.Groups.{one, IsGroup, IsRun, NoneExcused}
 use Rattle.run_laws.specs.GroupLaws.{BeginningsWithin, ReadersClosed, ClosedIsGroup, AloneHasOneReport, RunIsolated}
 use Rattle.run_laws.specs.GroupLaws.{MatchIsReading, FailedIsReading, SameReadingAgrees, SameBytesAgree}
 use Rattle.run_laws.proofs.Places.{has_place, judged_at, judged_fewer}
@@ -96,18 +98,18 @@ failed_is_reading observed streams s observation stream whole left match_inputs 
 closed_group : ClosedIsGroup → (f : Cnf) (run_params : RunParamsValue) (observed : List InputObservation) (reports : List Report)
     → Fits run_params.layout f
     → (run : IsRun f run_params observed reports) (set : ℕ → Bool) → IsClosed run_params.layout set run.streams
-    → NoneOutOfMemory set reports
+    → NoneExcused set OutOfMemory reports
     → IsGroup f run_params set run.streams reports
 closed_group law f run_params observed reports fits run set closed memory =
     law f run_params set run.history run.streams reports fits run.count run.legal
     (judged_fewer run_params (λ s. true) set run.history (λ s member. refl) 1 run.streams reports run.judged) closed memory
 
 -- where one stream's report doesn't tell that memory ran out, none of it alone does
-alone_fine : (s : ℕ) (reports : List Report) (report : Report) → IsOfStream reports s report → ¬ IsOfMemory report
-    → NoneOutOfMemory (one s) reports
+alone_fine : (s : ℕ) (reports : List Report) (report : Report) → IsOfStream reports s report → ¬ IsExcused OutOfMemory report
+    → NoneExcused (one s) OutOfMemory reports
 alone_fine s reports report says memory t other member there =
     let here = subst (λ n. IsOfStream reports n other) (only s t member) there in
-    subst (λ (r : Report). ¬ IsOfMemory r) (same_at reports s report other says here) memory
+    subst (λ (r : Report). ¬ IsExcused OutOfMemory r) (same_at reports s report other says here) memory
 
 pub run_isolated : ClosedIsGroup → AloneHasOneReport → RunIsolated
 run_isolated law alone f run_params observed reports fits run = record {
@@ -124,7 +126,8 @@ run_isolated law alone f run_params observed reports fits run = record {
 -- a stream that cites within itself is alone
 run_alone : ClosedIsGroup → (f : Cnf) (run_params : RunParamsValue) (s : ℕ) (observed : List InputObservation) (reports : List Report)
     (stream : Stream) (report : Report) → Fits run_params.layout f → (a : IsRun f run_params observed reports)
-    → IsOfStream a.streams s stream → IsOfStream reports s report → CiteWithin run_params.layout (one s) stream.bytes → ¬ IsOfMemory report
+    → IsOfStream a.streams s stream → IsOfStream reports s report → CiteWithin run_params.layout (one s) stream.bytes
+    → ¬ IsExcused OutOfMemory report
     → IsGroup f run_params (one s) a.streams reports
 run_alone law f run_params s observed reports stream report fits a at says cites memory =
     closed_group law f run_params observed reports fits a (one s)
@@ -150,9 +153,17 @@ same_reading_agrees within group alone f run_params s whole end observed other_o
     (reading_within within p (one s) other.end other.bytes whole end also cites) none)
     at there reads also says too
 
+-- what isn't cut off ran out of no memory, and no read of it failed
+pub fine_memory : (report : Report) → ¬ IsExcused CutOff report → ¬ IsExcused OutOfMemory report
+fine_memory report fine memory = fine (memory.0, inl memory.1)
+
+pub fine_failure : (report : Report) → ¬ IsExcused CutOff report → ¬ IsExcused ReadFailed report
+fine_failure report fine failed = fine (failed.0, inr failed.1)
+
 pub judged_to : DecidedBeforeFailure → (c : StreamParams) (its : Option StreamEnd) (bytes unneeded whole : List ℕ) (left : Option (List ℕ))
     (has_failed : Bool) (blocks : List History) (report : Report)
-    → Consumes (Some whole) left (bytes ++ unneeded) → EndsWith its left has_failed → (IsSome its → unneeded ≡ []) → ¬ IsOfFailure report
+    → Consumes (Some whole) left (bytes ++ unneeded) → EndsWith its left has_failed → (IsSome its → unneeded ≡ [])
+    → ¬ IsExcused ReadFailed report
     → ((end : StreamEnd) → IfSome its (λ e. e ≡ end) → JudgesBlocks c bytes end blocks report)
     → JudgesBlocks c whole stream_ends.Ended blocks report
 judged_to law c its bytes unneeded whole None has_failed blocks report took ends needed machine j = absurd took
@@ -178,8 +189,8 @@ pub whole_judged : BeginningsWithin → ClosedIsGroup → DecidedBeforeFailure
     (reports : List Report)
     (report : Report)
     → Fits run_params.layout f → CiteWithin run_params.layout (one s) whole → IsRun f run_params observed reports
-    → IsOfStream observed s observation → observation.entry ≡ Some whole → IsOfStream reports s report → ¬ IsOfMemory report
-    → ¬ IsOfFailure report
+    → IsOfStream observed s observation → observation.entry ≡ Some whole → IsOfStream reports s report → ¬ IsExcused OutOfMemory report
+    → ¬ IsExcused ReadFailed report
     → IsJudgedWhole f run_params s whole report
 whole_judged within group decided f run_params s whole observed observation reports report fits cites a here entry says memory machine =
     let many = judged_count run_params (λ t. true) a.history 1 a.streams reports a.judged in
@@ -209,12 +220,12 @@ pub same_bytes_agree : BeginningsWithin → ClosedIsGroup → AloneDecides → D
 same_bytes_agree within group decides decided f run_params s whole observed other_observed observation other_observation reports
     other_reports
     report other_report
-    fits cites a b here entry there known says too memory failure none never =
+    fits cites a b here entry there known says too fine good =
     let mine = whole_judged within group decided f run_params s whole observed observation reports report fits cites a here entry says
-    memory failure in
+    (fine_memory report fine) (fine_failure report fine) in
     let theirs = whole_judged within group decided f run_params s whole other_observed other_observation other_reports other_report fits
     cites b there
-    known too none never in
+    known too (fine_memory other_report good) (fine_failure other_report good) in
     (decides f run_params.layout (stream_params run_params s) whole stream_ends.Ended mine.history theirs.history report
     other_report mine.legal
-    theirs.legal mine.judges theirs.judges memory none).1
+    theirs.legal mine.judges theirs.judges (fine_memory report fine) (fine_memory other_report good)).1

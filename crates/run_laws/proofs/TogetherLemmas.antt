@@ -20,6 +20,7 @@ use Rattle.lrup_text.specs.Lines.{StreamLine, Addition, Deletion, Import, IsWith
 use Rattle.lrup_text.specs.declared.device.StreamEnd.TheVariants as stream_ends
 use Rattle.stream_check.specs.declared.report.Report.{Report}
 use Rattle.stream_check.specs.Judging.{joined, JudgesBlocks}
+use Rattle.stream_check.specs.Excuses.{Lacking, IsExcusedAt}
 use Rattle.stream_check.specs.Laws.{cited_by, CitedFetched, EndJudged, FreshLeft, GoodLineTaken}
 use Rattle.stream_check.specs.Reaching.{GoingState, Going, ReachesState}
 use Rattle.stream_check.specs.StreamContext.{is_among, context_of}
@@ -28,13 +29,14 @@ use Rattle.stream_check.specs.SequentialConsistency.{AreJudgedIn}
 use Rattle.stream_check.specs.Streams.{Stream, Block, blocks_of, events_in, IsBlockWithin, JudgesStream, AreJudged, InputObservation}
 use Rattle.stream_check.specs.Streams.{RunParamsValue, stream_params}
 use Rattle.stream_check.specs.lemmas.StreamLemmas.{IsJudgedBy, blocks-same, blocks-other, judged_count, judged_out}
-use Rattle.stream_check.specs.Turns.{streams_of}
-use Rattle.run_laws.specs.AnyRun.{HaveBytesOf, LacksOfAnotherIn, ValidInAnyRun}
+use Rattle.stream_check.specs.lemmas.TurnLemmas.{streams_of}
+use Rattle.run_laws.specs.AnyRun.{ValidInAnyRun}
 use Rattle.run_laws.specs.Groups.{IsRun}
-use Rattle.run_laws.specs.Valid.{Database, first_database, after_line, IsValidLine, valid_report, IsCutOffIn, TellsAtLeast}
-use Rattle.run_laws.specs.Together.{Step, is_own, beside_line, after_step, AreValidTogether, lines_by, IsValidOrder, HaveTexts}
+use Rattle.run_laws.specs.Valid.{Database, first_database, after_line, IsValidLine, valid_report, TellsAtLeast}
+use Rattle.run_laws.specs.Valid.{Step, is_own, beside_line, after_step, AreValidTogether}
+use Rattle.run_laws.specs.Together.{lines_by, IsValidOrder, HaveTexts}
 use Rattle.run_laws.specs.Together.{ValidTogether, TogetherBegins}
-use Rattle.run_laws.proofs.AnyRunLemmas.{tells_on}
+use Rattle.run_laws.proofs.AnyRunLemmas.{HaveBytesOf, tells_on}
 use Rattle.run_laws.proofs.ValidLemmas.{next_going, first_agrees, is_first, ended_report}
 use Rattle.run_laws.proofs.ValidLines.{Agrees, Goes, line_goes, left, not_callers}
 
@@ -505,7 +507,7 @@ module _ (taken : GoodLineTaken) (fresh : FreshLeft) (ends : EndJudged)
   pub valid_together : ValidInAnyRun → ValidTogether
   unfolding its_report
   valid_together law f run_params set steps observed reports s observation report cnf fits order members r texts member here entry says
-      memory failure =
+      fine =
       let n = run_params.layout.streams in
       let j : AreJudgedTogether f run_params set steps = judged_together f run_params set steps cnf fits order members in
       let place = report_place f run_params observed reports r s report says in
@@ -513,7 +515,7 @@ module _ (taken : GoodLineTaken) (fresh : FreshLeft) (ends : EndJudged)
       (text_stream steps s) observation (its_report run_params steps s) report fits (each_count n 1 (text_stream steps))
       j.legal j.judged j.closed member (each_place n s (text_stream steps) place.0 place.1)
       (each_place n s (its_report run_params steps) place.0 place.1) refl
-      r (have_bytes run_params.layout set steps observed texts) here entry says memory failure
+      r (have_bytes run_params.layout set steps observed texts) here entry says fine
 
   pub together_begins : OneFirstLine → RefusedStays → CitedFetched → TogetherBegins
   unfolding its_report
@@ -533,5 +535,5 @@ module _ (taken : GoodLineTaken) (fresh : FreshLeft) (ends : EndJudged)
       (record { bytes = bytes ∙ sym (append-nil (flat_map line_text on.lines)); each = on.limits; last = empty_cut.last })
       (record { bytes = sym (append-nil whole); each = lines_limits steps s order.fits; last = empty_cut.last })).0 in
       subst (λ (ls : List StreamLine). TellsAtLeast report (valid_report run_params s (lines_by s steps))
-      ⊎ (IsCutOffIn (length ls) report ⊎ LacksOfAnotherIn c (length ls) report))
+      ⊎ ((line : ℕ) × (line ≤ length ls) × IsExcusedAt (Lacking c) report line))
       same on.tells

@@ -19,7 +19,7 @@ use Rattle.run_laws.specs.TurnsLaws.{BytesDecide, TurnsDecide}
 use Rattle.run_laws.proofs.AloneLemmas.{judged_whole}
 use Rattle.run_laws.proofs.OneOrder.{JudgedTwice, same_order}
 use Rattle.run_laws.proofs.Places.{has_place}
-use Rattle.run_laws.proofs.RunLemmas.{judged_to, observed_at}
+use Rattle.run_laws.proofs.RunLemmas.{fine_failure, fine_memory, judged_to, observed_at}
 
 -- Lists
 
@@ -144,8 +144,8 @@ bytes_decide decided one forks alike f run_params observed other_observed report
     let bytes = same s here.0 near.0 here.1 near.1 in
     let is = observed_at observed streams s here.0 stream x.match_inputs here.1 at in
     let was = observed_at other_observed others s near.0 other y.match_inputs near.1 there in
-    let mine = fine s report says in
-    let theirs = good s other_report also in (
+    let mine = fine s report refl says in
+    let theirs = good s other_report refl also in (
       record {
         bytes = bytes.0;
         end = stream_ends.Ended;
@@ -154,15 +154,15 @@ bytes_decide decided one forks alike f run_params observed other_observed report
         first = judged_to decided c stream.end stream.bytes stream.unneeded bytes.0 here.0.left here.0.has_failed
             (blocks_of s a.order.blocks) report
             (subst (λ (e : Option (List ℕ)). Consumes e here.0.left (stream.bytes ++ stream.unneeded)) bytes.1 is.consumes) is.ends
-            is.needed mine.1
+            is.needed (fine_failure report mine)
             (own_at run_params (λ t. blocks_of t a.order.blocks) s streams reports stream report a.order.judged at says);
         second = judged_to decided c other.end other.bytes other.unneeded bytes.0 near.0.left near.0.has_failed
             (blocks_of s b.order.blocks) other_report
             (subst (λ (e : Option (List ℕ)). Consumes e near.0.left (other.bytes ++ other.unneeded)) bytes.2 was.consumes) was.ends
-            was.needed theirs.1
+            was.needed (fine_failure other_report theirs)
             (own_at run_params (λ t. blocks_of t b.order.blocks) s others other_reports other other_report b.order.judged there also);
-        memory = mine.0;
-        none = theirs.0;
+        memory = fine_memory report mine;
+        none = fine_memory other_report theirs;
       },
       refl,
       refl,

@@ -17,9 +17,9 @@ use Rattle.stream_check.specs.Laws.{cited_by}
 use Rattle.stream_check.specs.StreamContext.{additions_of, is_among}
 use Rattle.stream_check.specs.Closed.{IsOwnedWithin}
 use Rattle.run_laws.specs.Groups.{one}
-use Rattle.run_laws.specs.Valid.{Database, first_database, after_line, AreValid, AddsEmpty}
+use Rattle.run_laws.specs.Valid.{Database, first_database, after_line, AddsEmpty}
 use Rattle.run_laws.specs.ValidLaws.{ValidCiteWithin, ValidEmpty}
-use Rattle.run_laws.proofs.ValidLines.{left}
+use Rattle.run_laws.proofs.ValidLines.{AreValid, alone_valid, left}
 use Rattle.run_laws.proofs.ValidLemmas.{is_first}
 
 -- What is cited
@@ -66,7 +66,8 @@ valid_cite_within empty_cut f p s bytes lines fits valid = record {
   cut = record { bytes = valid.text ∙ sym (append-nil (flat_map line_text lines)); each = valid.fits; last = empty_cut.last };
   within = lines_near f p s lines (first_database f p)
       (λ id d is. let at = is_first f p id d is in formulas_near p s id
-      (formula_owned p id at.positive (omega (arith, at.within, fits.clauses)))) valid.valid;
+      (formula_owned p id at.positive (omega (arith, at.within, fits.clauses))))
+      (alone_valid p s lines (λ t. first_database f p) valid.valid);
 }
 
 -- The empty clause

@@ -40,13 +40,14 @@ use Rattle.stream_check.specs.Verdicts.{Good}
 use Rattle.stream_check.specs.Streams.{stream_params}
 use Rattle.stream_check.specs.Closed.{IsOwnedWithin}
 use Rattle.run_laws.specs.Groups.{one}
-use Rattle.run_laws.specs.Valid.{Database, first_database, after_line, database_context, AreValid, AreDistinct, IsValidDeletion}
+use Rattle.run_laws.specs.Valid.{Database, first_database, after_line, AreDistinct, IsValidDeletion}
 use Rattle.run_laws.specs.ValidLaws.{EndedIsValid}
 use Rattle.run_laws.proofs.AloneLemmas.{alone_judged, own-one}
 use Rattle.run_laws.proofs.AnyRunLines.{IsNear, AreFair, IsAsked, asked_fair, fails_not, good_runs}
 use Rattle.stream_check.specs.lemmas.EventLemmas.{import_all}
 use Rattle.run_laws.proofs.AnyRunStreams.{fair_front, fair_back, near_fair, Anything, all_anything, has_ended}
-use Rattle.run_laws.proofs.ValidLines.{ownership_by, formulas_ownership, own_ownership, formulas_near, not_or, not_same, neither}
+use Rattle.run_laws.proofs.ValidLines.{AreValid, ownership_by, formulas_ownership, own_ownership, formulas_near, not_or, not_same, neither}
+use Rattle.run_laws.proofs.ValidLines.{order_of_one}
 use Rattle.run_laws.proofs.VerdictLemmas.{or_none}
 
 -- Whose an identity is
@@ -123,7 +124,7 @@ found_named f c Found m base st (h ∷ hints) (d ∷ ds) fetches tail a within f
 pub valid_addition : (f : Cnf) (c : StreamParams) (Found : ℕ → Clause → Type 0) (m : State) (base : Database) (st : StreamContext) (id : ℕ)
     (lits : List ℤ) (hints : List ℕ) (es : History)
     → Mirrors f c base st m → AllByRecursion (IsOwnedWithin c.layout (one c.stream)) hints → JudgesAddition c st id lits hints es Good
-    → AreFair c Found m es → IsValidAddition c.layout c.stream (database_context base) id lits hints
+    → AreFair c Found m es → IsValidAddition c.layout c.stream base.last base.free (AllZip (λ h d. base.clauses h ≡ Some d)) id lits hints
 valid_addition f c Found m base st id lits hints es a within (fetches, good, is) fair = record {
   owns = good.owns;
   above = omega (arith, a.last, good.above);
@@ -411,7 +412,7 @@ deletion_mirrors f c Found m base before lead ids es a within fair judged =
 pub valid_import : (f : Cnf) (c : StreamParams) (Found : ℕ → Clause → Type 0) (m : State) (base : Database) (st : StreamContext) (id : ℕ)
     (lits : List ℤ) (es : History)
     → Mirrors f c base st m → IsOwnedWithin c.layout (one c.stream) id → AreFair c Found m es
-    → JudgesImport c st id lits es Good → IsValidImport c.layout c.stream (database_context base) id lits
+    → JudgesImport c st id lits es Good → IsValidImport c.layout c.stream (AllZip (λ h d. base.clauses h ≡ Some d)) id lits
 valid_import f c Found m base st id lits es a within fair good = record {
   identity = good.identity;
   other = good.other;
@@ -488,7 +489,7 @@ first_mirrors f c fits = record {
 }
 
 pub ended_is_valid : OverStays → OneCut → EmptyCut → EndedIsValid
-ended_is_valid stays one_cut empty_cut f run_params s bytes report fits cites deletes alone ended =
+ended_is_valid stays one_cut empty_cut f run_params s bytes rest all report fits cites whole deletes alone ended =
     let c = stream_params run_params s in
     let g = alone.alone in
     let j = alone_judged stays f run_params s alone.streams alone.reports bytes stream_ends.Ended alone.stream report g alone.at
@@ -505,18 +506,19 @@ ended_is_valid stays one_cut empty_cut f run_params s bytes report fits cites de
     let cited : AllByRecursion (CitesNear c) its.lines =
     subst (AllByRecursion (CitesNear c)) (one_cut bytes cites.lines its.lines cites.rest [] cites.cut cut).0 cites.within in
     let deleted : AllByRecursion (DeletesNear c) its.lines =
-    subst (AllByRecursion (DeletesNear c)) (one_cut bytes deletes.lines its.lines deletes.rest [] deletes.cut cut).0 deletes.within in
+    subst (AllByRecursion (DeletesNear c)) (one_cut bytes all its.lines rest [] whole cut).0 deletes in
     let fair : AreFair c Anything (opening f) (own g.history s) =
     near_fair f c Anything (opening f) (opening f) g.history g.legal.events (λ id near. refl) (all_anything c (own g.history s)) in
-    let all : own g.history s ≡ joined its.front ++ joined its.back = own-one s g.history g.members ∙ j.events ∙ ap joined its.split
+    let events : own g.history s ≡ joined its.front ++ joined its.back = own-one s g.history g.members ∙ j.events ∙ ap joined its.split
     ∙ joined-append its.front its.back in
     let front : AreFair c Anything (opening f) (joined its.front) =
-    fair_front c Anything (opening f) (joined its.front) (joined its.back) (subst (AreFair c Anything (opening f)) all fair) in (
+    fair_front c Anything (opening f) (joined its.front) (joined its.back) (subst (AreFair c Anything (opening f)) events fair) in (
       its.lines,
       record {
         text = text;
         fits = its.fits;
-        valid = lines_valid f c Anything [] its.lines its.front (first_database f run_params.layout) (opening f)
-            (first_mirrors f c fits) its.good front cited deleted;
+        valid = order_of_one run_params.layout s its.lines (λ t. first_database f run_params.layout)
+            (lines_valid f c Anything [] its.lines its.front (first_database f run_params.layout) (opening f)
+            (first_mirrors f c fits) its.good front cited deleted);
       },
     )

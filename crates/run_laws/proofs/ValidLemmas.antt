@@ -23,7 +23,7 @@ use Rattle.stream_check.specs.declared.report.Report.{Report}
 use Rattle.stream_check.specs.CheckerValue.{report_of_tally}
 use Rattle.stream_check.specs.Judging.{joined, ending_at, report_of, JudgesBlocks}
 use Rattle.stream_check.specs.Laws.{AloneDecides, CountsWithin, DecidedBeforeFailure, EndJudged, FreshLeft, GoodLineTaken}
-use Rattle.stream_check.specs.Laws.{IsOfMemory}
+use Rattle.stream_check.specs.Excuses.{OutOfMemory, IsExcused}
 use Rattle.stream_check.specs.Reaching.{GoingState, Going, ReachesState, context_after, tally_after}
 use Rattle.stream_check.specs.StreamParams.{StreamParams, ownership_of, is_shared}
 use Rattle.stream_check.specs.StreamContext.{context_of, capped, deleted_by}
@@ -32,12 +32,13 @@ use Rattle.stream_check.specs.SequentialConsistency.{AreJudgedIn}
 use Rattle.stream_check.specs.Streams.{Stream, RunParamsValue, stream_params}
 use Rattle.stream_check.specs.lemmas.StreamLemmas.{IsJudgedBy, same_at, judged_out}
 use Rattle.run_laws.specs.GroupLaws.{AloneHasOneReport, BeginningsWithin, ClosedIsGroup}
-use Rattle.run_laws.specs.Groups.{one, empty_stream, empty_report}
+use Rattle.run_laws.specs.Groups.{one}
+use Rattle.run_laws.proofs.EmptiedLemmas.{empty_stream, empty_report}
 use Rattle.run_laws.specs.lemmas.ReportLemmas.{only}
-use Rattle.run_laws.specs.Valid.{Database, first_database, after_line, AreValid, IsValidProof, valid_report}
+use Rattle.run_laws.specs.Valid.{Database, first_database, after_line, IsValidProof, valid_report}
 use Rattle.run_laws.specs.ValidLaws.{ValidCiteWithin, ValidAccepted, ValidCounted, ValidHasOneReport, ValidReported}
-use Rattle.run_laws.proofs.ValidLines.{Agrees, Goes, line_goes, neither}
-use Rattle.run_laws.proofs.RunLemmas.{IsJudgedWhole, whole_judged}
+use Rattle.run_laws.proofs.ValidLines.{Agrees, AreValid, Goes, alone_valid, line_goes, neither}
+use Rattle.run_laws.proofs.RunLemmas.{IsJudgedWhole, fine_failure, fine_memory, whole_judged}
 
 -- Before the first line
 
@@ -227,7 +228,8 @@ module _ (taken : GoodLineTaken) (fresh : FreshLeft) (ends : EndJudged)
       let on : LinesGo f c (first_database f run_params.layout) (opening f) [] [] lines =
       lines_go taken f c fits (omega (arith, stream.0, stream.1)) lines (first_database f run_params.layout)
       (opening f) [] [] first refl
-      (first_agrees f c cnf fits) valid.fits valid.valid left in
+      (first_agrees f c cnf fits) valid.fits
+      (alone_valid run_params.layout s lines (λ t. first_database f run_params.layout) valid.valid) left in
       let texts = flat_map line_text lines in
       let whole : JudgesBlocks c texts stream_ends.Ended on.more (valid_report run_params s lines) =
       ended_report ends empty_cut one_cut run_params s lines on.more on.going on.pending valid.fits on.reaches in (
@@ -269,7 +271,8 @@ module _ (taken : GoodLineTaken) (fresh : FreshLeft) (ends : EndJudged)
           memory = λ t other member there.
               let here = subst (λ (n : ℕ). IsOfStream (padded (s - 1) empty_report report) n other) (only s t member) there in
               let same : report ≡ other = same_at (padded (s - 1) empty_report report) s report other (stream.0, says) here in
-              subst (λ (r : Report). ¬ IsOfMemory r) same (λ memory. let no : endings.Ended ≡ endings.Memory memory.0 = memory.1 in cc);
+              subst (λ (r : Report). ¬ IsExcused OutOfMemory r) same (λ memory. let no :
+              endings.Ended ≡ endings.Memory memory.0 = memory.1 in cc);
         };
         at = (stream.0, at);
         reads = (refl, refl);
@@ -291,13 +294,14 @@ module _ (taken : GoodLineTaken) (fresh : FreshLeft) (ends : EndJudged)
   pub valid_reported : ValidCiteWithin → BeginningsWithin → ClosedIsGroup → AloneDecides → DecidedBeforeFailure → ValidReported
   valid_reported within begins group decides decided f run_params s bytes lines observed observation reports report cnf fits stream valid
       run here entry
-      says memory failure =
+      says fine =
       let mine = valid_judged f run_params s bytes lines cnf fits stream valid in
       let theirs = whole_judged begins group decided f run_params s bytes observed observation reports report fits
-      (within f run_params.layout s bytes lines fits valid) run here entry says memory failure in
+      (within f run_params.layout s bytes lines fits valid) run here entry says (fine_memory report fine) (fine_failure report fine) in
       (decides f run_params.layout (stream_params run_params s) bytes stream_ends.Ended theirs.history mine.0.history report
       (valid_report run_params s lines)
-      theirs.legal mine.0.legal theirs.judges mine.0.judges memory (λ m. let no : endings.Ended ≡ endings.Memory m.0 = m.1 in cc)).1
+      theirs.legal mine.0.legal theirs.judges mine.0.judges (fine_memory report fine) (λ m. let no :
+      endings.Ended ≡ endings.Memory m.0 = m.1 in cc)).1
 
 pub valid_has_one_report : ValidAccepted → AloneHasOneReport → ValidHasOneReport
 valid_has_one_report accepted law f run_params s bytes lines report cnf fits stream valid other =

@@ -1,6 +1,6 @@
 -- Valid lines are judged good, by events that a legal history may go on with.
 use Rattle.std.proofs.Common.{◌≡◌, ◌≢◌, ◌⊎◌, ◌<◌, ◌≤◌, ◌+◌, ◌-◌, ◌%◌, ℕ, ℤ, Bool, true, false, cond, eqb, List, [], ◌∷◌, ◌++◌}
-use Rattle.std.proofs.Common.{length, Option, Some, None, inl, inr, refl, sym, ap, subst, ◌∙◌, arith, eq-eqb, ne_eqb, leb, leb-true}
+use Rattle.std.proofs.Common.{length, map, Option, Some, None, inl, inr, refl, sym, ap, subst, ◌∙◌, arith, eq-eqb, ne_eqb, leb, leb-true}
 use Rattle.std.specs.Prelude.{IsSome, ◌&&◌, ◌||◌, ◌==◌}
 use Rattle.std.specs.List.{AllByRecursion, AllZip, sum_by}
 use Rattle.std.proofs.lemmas.Bool.{cases_Bool, cases_eq, cond-true, cond-false, true≢false}
@@ -38,9 +38,41 @@ use Rattle.stream_check.specs.StreamParams.{StreamParams, ownership_of, is_share
 use Rattle.stream_check.specs.StreamContext.{StreamContext, is_among}
 use Rattle.stream_check.specs.Verdicts.{Good}
 use Rattle.run_laws.proofs.VerdictLemmas.{or_none}
-use Rattle.run_laws.specs.Together.{is_own, beside_line}
+use Rattle.run_laws.specs.Valid.{is_own, beside_line}
 use Rattle.run_laws.proofs.SwapLemmas.{mine_or_not}
-use Rattle.run_laws.specs.Valid.{Database, after_line, database_context, AreDistinct, IsValidDeletion, IsValidLine}
+use Rattle.run_laws.specs.Valid.{Database, after_line, after_step, AreDistinct, AreValidTogether, IsValidDeletion, IsValidLine, Step}
+
+-- A stream alone is an order of one
+
+-- each line is valid after those before it
+abbrev pub AreValid : LayoutValue → ℕ → Database → List StreamLine → Type 0
+AreValid layout s base [] = Unit {0}
+AreValid layout s base (line ∷ lines) = IsValidLine layout s base line × AreValid layout s (after_line base line) lines
+
+abbrev pub steps_of : ℕ → List StreamLine → List Step
+steps_of s lines = map (λ line. record { stream = s; line = line }) lines
+
+after_own : (p : LayoutValue) (s : ℕ) (line : StreamLine) (bases : ℕ → Database)
+    → after_step p (record { stream = s; line = line }) bases s ≡ after_line (bases s) line
+after_own p s line bases = cond-true (eqb s s) (after_line (bases s) line) (beside_line p s (bases s) line) (eq-eqb s s refl)
+
+pub alone_valid : (p : LayoutValue) (s : ℕ) (lines : List StreamLine) (bases : ℕ → Database)
+    → AreValidTogether p bases (steps_of s lines) → AreValid p s (bases s) lines
+alone_valid p s [] bases valid = tt
+alone_valid p s (line ∷ lines) bases valid = (
+  valid.0,
+  subst (λ (base : Database). AreValid p s base lines) (after_own p s line bases)
+      (alone_valid p s lines (after_step p (record { stream = s; line = line }) bases) valid.1),
+)
+
+pub order_of_one : (p : LayoutValue) (s : ℕ) (lines : List StreamLine) (bases : ℕ → Database)
+    → AreValid p s (bases s) lines → AreValidTogether p bases (steps_of s lines)
+order_of_one p s [] bases valid = tt
+order_of_one p s (line ∷ lines) bases valid = (
+  valid.0,
+  order_of_one p s lines (after_step p (record { stream = s; line = line }) bases)
+      (subst (λ (base : Database). AreValid p s base lines) (sym (after_own p s line bases)) valid.1),
+)
 
 -- Whose an identity is
 
@@ -193,7 +225,8 @@ not_callers s t (e ∷ es) other all = (λ same. other (sym same ∙ all.0), not
 addition_goes : (f : Cnf) (c : StreamParams) (base : Database) (st : StreamContext) (m : State)
     (id : ℕ) (lits : List ℤ) (hints : List ℕ)
     → Fits c.layout f → 0 < c.layout.streams → Agrees f c.layout c.stream base st m → IsWithinLimits (Addition id lits hints)
-    → IsValidAddition c.layout c.stream (database_context base) id lits hints → Goes f c base st m (Addition id lits hints)
+    → IsValidAddition c.layout c.stream base.last base.free (AllZip (λ h d. base.clauses h ≡ Some d)) id lits hints
+    → Goes f c base st m (Addition id lits hints)
 addition_goes f c base st m id lits hints fits some a limits valid =
     let found : Finds f c st.is_dropped m hints valid.clauses = finds f c base st m hints valid.clauses some a valid.named in
     let e = published_by c id lits in
@@ -530,7 +563,7 @@ deletion_goes f c base st m lead ids a valid =
 
 import_goes : (f : Cnf) (c : StreamParams) (base : Database) (st : StreamContext) (m : State) (id : ℕ) (lits : List ℤ)
     → 0 < c.layout.streams → Agrees f c.layout c.stream base st m
-    → IsValidImport c.layout c.stream (database_context base) id lits → Goes f c base st m (Import id lits)
+    → IsValidImport c.layout c.stream (AllZip (λ h d. base.clauses h ≡ Some d)) id lits → Goes f c base st m (Import id lits)
 import_goes f c base st m id lits some a valid =
     let d = valid.clause in
     let found : Finds f c st.is_dropped m (id ∷ []) (d ∷ []) = finds f c base st m (id ∷ []) (d ∷ []) some a valid.named in

@@ -10,24 +10,26 @@ use Rattle.lrup_text.specs.declared.device.StreamEnd.TheVariants as stream_ends
 use Rattle.stream_check.specs.declared.report.Ending.TheVariants as endings
 use Rattle.stream_check.specs.declared.report.Report.{Report}
 use Rattle.stream_check.specs.Judging.{JudgesBlocks}
-use Rattle.stream_check.specs.Laws.{BlocksGoAlike, DecidedBeforeFailure, EndJudged, FreshLeft, GoodLineTaken, IsOfMemory}
+use Rattle.stream_check.specs.Excuses.{OutOfMemory, IsExcused}
+use Rattle.stream_check.specs.Laws.{BlocksGoAlike, DecidedBeforeFailure, EndJudged, FreshLeft, GoodLineTaken}
 use Rattle.stream_check.specs.Laws.{LegalNeverFork, OneReport}
 use Rattle.stream_check.specs.Closed.{IsOfStream}
 use Rattle.stream_check.specs.Streams.{Block, blocks_of, RunParamsValue, stream_params}
 use Rattle.stream_check.specs.lemmas.StreamLemmas.{judged_out, observed_count}
 use Rattle.stream_check.specs.Turns.{IsByTurns, IsOrderedByTurns}
 use Rattle.run_laws.specs.Valid.{valid_report}
-use Rattle.run_laws.specs.Together.{Step, lines_by}
+use Rattle.run_laws.specs.Valid.{Step}
+use Rattle.run_laws.specs.Together.{lines_by}
 use Rattle.run_laws.specs.TurnsLaws.{ValidByTurns}
 use Rattle.run_laws.proofs.Places.{has_place}
-use Rattle.run_laws.proofs.RunLemmas.{judged_to, observed_at}
+use Rattle.run_laws.proofs.RunLemmas.{fine_failure, fine_memory, judged_to, observed_at}
 use Rattle.run_laws.proofs.TogetherLemmas.{each_from, each_count, each_own, at_stream, text_stream, IsOrderOf, valid_ordered}
 use Rattle.run_laws.proofs.TurnsLemmas.{own_at, reports_same}
 
 -- a valid report isn't of memory
 not_memory : (run_params : RunParamsValue) (steps : List Step) (t : ℕ) (report : Report)
     → valid_report run_params t (lines_by t steps) ≡ report
-    → ¬ IsOfMemory report
+    → ¬ IsExcused OutOfMemory report
 not_memory run_params steps t report is memory =
     let no : endings.Ended ≡ endings.Memory memory.0 = ap (λ (r : Report). r.ending) is ∙ memory.1 in cc
 
@@ -72,7 +74,7 @@ valid_by_turns taken fresh ends empty_cut one_cut decided one forks alike f run_
     let is = observed_at observed x.streams t here.0 stream x.match_inputs here.1 at in
     let whole = flat_map line_text (lines_by t steps) in
     let its_valid : valid_report run_params t (lines_by t steps) ≡ other_report = at_stream n t said other_report also in
-    let cut = fine t its tells in (
+    let its_fine = fine t its refl tells in (
       record {
         bytes = whole;
         end = stream_ends.Ended;
@@ -81,10 +83,10 @@ valid_by_turns taken fresh ends empty_cut one_cut decided one forks alike f run_
         first =
             judged_to decided c stream.end stream.bytes stream.unneeded whole here.0.left here.0.has_failed (blocks_of t a.order.blocks) its
             (subst (λ (e : Option (List ℕ)). Consumes e here.0.left (stream.bytes ++ stream.unneeded)) (texts t here.0 here.1) is.consumes)
-            is.ends is.needed cut.1
+            is.ends is.needed (fine_failure its its_fine)
             (own_at run_params (λ k. blocks_of k a.order.blocks) t x.streams reports stream its a.order.judged at tells);
         second = subst (λ (r : Report). JudgesBlocks c whole stream_ends.Ended (blocks_of t found.0) r) its_valid (found.1.judged t);
-        memory = cut.0;
+        memory = fine_memory its its_fine;
         none = not_memory run_params steps t other_report its_valid;
       },
       refl,

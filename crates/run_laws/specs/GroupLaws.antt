@@ -1,5 +1,5 @@
 -- Laws of groups of streams. Each is the contract of a function of laws.
-use Rattle.std.specs.Prelude.{◌≡◌, ◌≢◌, ◌++◌, ℕ, Bool, true, false, IsTrue, List, length, Some, None}
+use Rattle.std.specs.Prelude.{◌≡◌, ◌≢◌, ◌++◌, ℕ, Bool, true, false, List, [], length, Some, None}
 use Rattle.std.specs.List.{AllZip}
 use Rattle.lrup_model.specs.Formula.{Cnf}
 use Rattle.lrup_model.specs.Layout.{LayoutValue, Fits}
@@ -8,13 +8,13 @@ use Rattle.lrup_model.specs.History.{IsLegal}
 use Rattle.stream_check.specs.declared.report.Report.{Report}
 use Rattle.lrup_text.specs.declared.device.StreamEnd.{StreamEnd}
 use Rattle.lrup_text.specs.declared.device.StreamEnd.TheVariants as stream_ends
-use Rattle.stream_check.specs.Laws.{IsOfMemory, IsOfFailure}
+use Rattle.stream_check.specs.Excuses.{CutOff, OutOfMemory, ReadFailed, IsExcused}
 use Rattle.stream_check.specs.declared.report.Ending.TheVariants as endings
 use Rattle.stream_check.specs.StreamParams.{StreamParams}
 use Rattle.stream_check.specs.Streams.{Stream, InputObservation, RunParamsValue, MatchesInput, JudgesStream}
 use Rattle.stream_check.specs.SequentialConsistency.{AreJudgedIn}
 use Rattle.stream_check.specs.Closed.{IsOfStream, CiteWithin, IsClosed}
-use Rattle.run_laws.specs.Groups.{one, AreClosedReaders, NoneOutOfMemory, IsGroup, AreIsolated, empty_stream, empty_report, with_others, IsRun, IsReadingOf}
+use Rattle.run_laws.specs.Groups.{one, AreClosedReaders, NoneExcused, IsGroup, AreIsolated, with_others, IsRun, IsReadingOf}
 
 -- Closed sets
 
@@ -38,17 +38,21 @@ ClosedIsGroup = (f : Cnf) (run_params : RunParamsValue) (set : ℕ → Bool) (h 
     (streams : List Stream) (reports : List Report)
     → Fits run_params.layout f → length streams ≡ run_params.layout.streams
     → IsLegal f run_params.layout h → AreJudgedIn run_params set h 1 streams reports
-    → IsClosed run_params.layout set streams → NoneOutOfMemory set reports
+    → IsClosed run_params.layout set streams → NoneExcused set OutOfMemory reports
     → IsGroup f run_params set streams reports
 
--- A group is judged as in a run in which all other streams are empty.
+-- A group is judged as in a run in which all other streams are empty: they have no bytes, and their reports have ended.
 abbrev pub OthersEmpty : Type 0
 OthersEmpty = (f : Cnf) (run_params : RunParamsValue) (set : ℕ → Bool) (streams : List Stream)
     (reports : List Report)
     → IsGroup f run_params set streams reports
     → (h : History) × IsLegal f run_params.layout h
-    × AreJudgedIn run_params (λ s. true) h 1 (with_others set empty_stream 1 streams)
-    (with_others set empty_report 1 reports)
+    × AreJudgedIn run_params (λ s. true) h 1
+    (with_others {X = Stream} set
+    (record { bytes = []; unneeded = []; end = Some stream_ends.Ended }) 1 streams)
+    (with_others {X = Report} set
+    (record { added = 0; deleted = 0; empty = false; within = false; ending = endings.Ended }) 1
+    reports)
 
 -- at most one report fits a stream that is alone, however much of it was read
 abbrev pub AloneHasOneReport : Type 0
@@ -74,7 +78,7 @@ RunIsolated = (f : Cnf) (run_params : RunParamsValue) (observed : List InputObse
 abbrev pub EarlyIsDecided : Type 0
 EarlyIsDecided = (c : StreamParams) (stream : Stream) (blocks : List History) (report : Report)
     → stream.end ≡ None → JudgesStream c stream blocks report
-    → (report.ending ≢ endings.Ended) × ¬ IsOfFailure report
+    → (report.ending ≢ endings.Ended) × ¬ IsExcused ReadFailed report
 
 -- a reader that hasn't failed told a reading of the bytes that it had left at first, which end
 abbrev pub MatchIsReading : Type 0
@@ -111,7 +115,7 @@ SameReadingAgrees =
     → IsOfStream a.streams s stream → IsOfStream b.streams s other → IsReadingOf whole end stream
     → IsReadingOf whole end other
     → IsOfStream reports s report → IsOfStream other_reports s other_report
-    → ¬ IsOfMemory report → ¬ IsOfMemory other_report → report ≡ other_report
+    → ¬ IsExcused OutOfMemory report → ¬ IsExcused OutOfMemory other_report → report ≡ other_report
 
 -- Where both readers have the same bytes left at first it has one report, unless memory ran out or a read failed.
 abbrev pub SameBytesAgree : Type 0
@@ -125,6 +129,4 @@ SameBytesAgree = (f : Cnf) (run_params : RunParamsValue) (s : ℕ) (whole : List
     → IsOfStream observed s observation → observation.entry ≡ Some whole
     → IsOfStream other_observed s other_observation → other_observation.entry ≡ Some whole
     → IsOfStream reports s report → IsOfStream other_reports s other_report
-    → ¬ IsOfMemory report → ¬ IsOfFailure report → ¬ IsOfMemory other_report
-    → ¬ IsOfFailure other_report
-    → report ≡ other_report
+    → ¬ IsExcused CutOff report → ¬ IsExcused CutOff other_report → report ≡ other_report

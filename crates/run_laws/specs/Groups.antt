@@ -9,7 +9,7 @@ use Rattle.stream_check.specs.declared.report.Ending.TheVariants as endings
 use Rattle.stream_check.specs.declared.report.Report.{Report}
 use Rattle.lrup_text.specs.declared.device.StreamEnd.{StreamEnd}
 use Rattle.lrup_text.specs.declared.device.StreamEnd.TheVariants as stream_ends
-use Rattle.stream_check.specs.Laws.{IsOfMemory}
+use Rattle.stream_check.specs.Excuses.{Excuse, OutOfMemory, IsExcused}
 use Rattle.stream_check.specs.Closed.{IsOfStream, CiteWithin, IsClosed}
 use Rattle.stream_check.specs.Streams.{Stream, InputObservation, RunParamsValue, MatchesInput}
 use Rattle.stream_check.specs.SequentialConsistency.{AreJudgedIn}
@@ -55,10 +55,10 @@ IsReadingOf whole end stream =
 
 -- Groups
 
--- no report of the set tells that memory ran out
-abbrev pub NoneOutOfMemory : (ℕ → Bool) → List Report → Type 0
-NoneOutOfMemory set reports =
-    (s : ℕ) (report : Report) → IsTrue (set s) → IsOfStream reports s report → ¬ IsOfMemory report
+-- no report of the set is excused by this
+abbrev pub NoneExcused : (ℕ → Bool) → Excuse → List Report → Type 0
+NoneExcused set excuse reports = (s : ℕ) (report : Report) → IsTrue (set s)
+    → IsOfStream reports s report → ¬ IsExcused excuse report
 
 -- The reports of a set of streams are those of the set alone: a legal history, with events of its streams and of no others,
 -- judges each of them so, and none tells that memory ran out.
@@ -69,7 +69,7 @@ pub record IsGroup (formula : Cnf) (run_params : RunParamsValue) (set : ℕ → 
   pub members : AllByRecursion (λ event. IsTrue (set (stream_of event))) history
   pub legal : IsLegal formula run_params.layout history
   pub judged : AreJudgedIn run_params set history 1 streams reports
-  pub memory : NoneOutOfMemory set reports
+  pub memory : NoneExcused set OutOfMemory reports
 
 -- a report that stream s may have alone, as a group of this one stream, where these are its bytes and its end
 pub record IsReportAlone (formula : Cnf) (run_params : RunParamsValue) (s : ℕ) (whole : List ℕ)
@@ -89,28 +89,14 @@ pub record AreIsolated {formula : Cnf} {run_params : RunParamsValue}
     {observed : List InputObservation} {reports : List Report}
     (run : IsRun formula run_params observed reports) : Type 0 where
   pub groups : (set : ℕ → Bool) → IsClosed run_params.layout set run.streams
-      → NoneOutOfMemory set reports → IsGroup formula run_params set run.streams reports
+      → NoneExcused set OutOfMemory reports → IsGroup formula run_params set run.streams reports
   pub alone : (s : ℕ) (stream : Stream) (report : Report)
       → IsOfStream run.streams s stream → IsOfStream reports s report
-      → IsClosed run_params.layout (one s) run.streams → ¬ IsOfMemory report
+      → IsClosed run_params.layout (one s) run.streams → ¬ IsExcused OutOfMemory report
       → (whole : List ℕ) (end : StreamEnd) → IsReadingOf whole end stream
       → (other : Report) → IsReportAlone formula run_params s whole end other → other ≡ report
 
 -- A run in which the other streams are empty
-
--- no bytes, read to the end
-abbrev pub empty_stream : Stream
-empty_stream = record { bytes = []; unneeded = []; end = Some stream_ends.Ended }
-
--- the report of a stream without bytes
-abbrev pub empty_report : Report
-empty_report = record {
-  added = 0;
-  deleted = 0;
-  empty = false;
-  within = false;
-  ending = endings.Ended;
-}
 
 -- the list, of the streams counted on from s, with this one in place of each that is of a stream outside the set
 abbrev pub with_others : {X : Type 0} → (ℕ → Bool) → X → ℕ → List X → List X

@@ -1,7 +1,7 @@
 -- Valid proofs that cite one another: lines of several streams, in some order, each of which is valid by what the lines before it
 -- leave to its stream; and the law that they aren't blamed (this project's own). Some good lines have no such order: a checker
 -- also takes the deletion of another stream's clause that its owner has deleted already (the law `ValidInAnyRun` speaks of those).
-use Rattle.std.specs.Prelude.{◌≡◌, ◌⊎◌, ◌==◌, ◌&&◌, ◌++◌, ℕ, Bool, false, IsTrue, List, [], ◌∷◌, length, None, Some, if◌then◌else◌}
+use Rattle.std.specs.Prelude.{◌≡◌, ◌⊎◌, ◌≤◌, ◌==◌, ◌&&◌, ◌++◌, ℕ, Bool, false, IsTrue, List, [], ◌∷◌, length, None, Some, if◌then◌else◌}
 use Rattle.std.specs.List.{AllByRecursion, flat_map}
 use Rattle.lrup_model.specs.Distinct.{distinct}
 use Rattle.lrup_model.specs.Formula.{Cnf, IsCnf}
@@ -9,55 +9,12 @@ use Rattle.lrup_model.specs.Layout.{LayoutValue, Fits, IsStream, owner}
 use Rattle.lrup_model.specs.declared.layout.Owner.TheVariants as owners
 use Rattle.lrup_text.specs.Lines.{StreamLine, Addition, Deletion, Import, IsWithinLimits, line_text}
 use Rattle.stream_check.specs.declared.report.Report.{Report}
-use Rattle.stream_check.specs.Laws.{IsOfMemory, IsOfFailure}
+use Rattle.stream_check.specs.Excuses.{CutOff, Lacking, IsExcused, IsExcusedAt}
 use Rattle.stream_check.specs.StreamContext.{is_among}
 use Rattle.stream_check.specs.Closed.{IsOfStream}
 use Rattle.stream_check.specs.Streams.{InputObservation, RunParamsValue, stream_params}
-use Rattle.run_laws.specs.AnyRun.{LacksOfAnother, LacksOfAnotherIn}
 use Rattle.run_laws.specs.Groups.{IsRun}
-use Rattle.run_laws.specs.Valid.{Database, first_database, after_line, IsValidLine, valid_report, IsCutOffIn, TellsAtLeast}
-
--- a line, and the stream, from 1 on, whose line it is
-pub record Step : Type 0 where
-  pub stream : ℕ
-  pub line : StreamLine
-
--- the identity is the stream's own
-abbrev pub is_own : LayoutValue → ℕ → ℕ → Bool
-is_own layout s id =
-    elim (owner layout id) [
-      | owners.Formula ↦ false
-      | owners.Stream t ↦ t == s
-      | owners.Outside ↦ false
-    ]
-
--- what a line of stream s leaves of another stream's database: an addition puts its clause there too, and a deletion takes away
--- what is stream s's own
-abbrev pub beside_line : LayoutValue → ℕ → Database → StreamLine → Database
-beside_line layout s base (Addition id lits hints) = record {
-  clauses = λ j. if j == id then Some (distinct lits) else base.clauses j;
-  last = base.last;
-  free = base.free;
-}
-beside_line layout s base (Deletion lead ids) = record {
-  clauses = λ j. if is_among ids j && is_own layout s j then None else base.clauses j;
-  last = base.last;
-  free = base.free;
-}
-beside_line layout s base (Import id lits) = base
-
--- the databases of all streams, after a line of one
-abbrev pub after_step : LayoutValue → Step → (ℕ → Database) → ℕ → Database
-after_step layout step bases t =
-    if t == step.stream then after_line (bases t) step.line
-    else beside_line layout step.stream (bases t) step.line
-
--- each line is valid, after those before it
-abbrev pub AreValidTogether : LayoutValue → (ℕ → Database) → List Step → Type 0
-AreValidTogether layout bases [] = Unit {0}
-AreValidTogether layout bases (step ∷ steps) =
-    IsValidLine layout step.stream (bases step.stream) step.line
-    × AreValidTogether layout (after_step layout step bases) steps
+use Rattle.run_laws.specs.Valid.{AreValidTogether, Step, TellsAtLeast, first_database, valid_report}
 
 -- the lines of one stream, in order
 abbrev pub lines_by : ℕ → List Step → List StreamLine
@@ -89,8 +46,8 @@ TogetherBegins = (formula : Cnf) (run_params : RunParamsValue) (set : ℕ → Bo
     → IsRun formula run_params observed reports → HaveTexts set steps observed
     → IsTrue (set s) → IsOfStream reports s report
     → TellsAtLeast report (valid_report run_params s (lines_by s steps))
-    ⊎ (IsCutOffIn (length (lines_by s steps)) report
-    ⊎ LacksOfAnotherIn (stream_params run_params s) (length (lines_by s steps)) report)
+    ⊎ ((line : ℕ) × (line ≤ length (lines_by s steps))
+    × IsExcusedAt (Lacking (stream_params run_params s)) report line)
 
 -- Where nothing comes behind a stream's lines, it ended, as its valid report says; or memory ran out, or a read failed; or a line of
 -- it cites a clause of another stream that wasn't there, or wasn't any more.
@@ -103,6 +60,6 @@ ValidTogether = (formula : Cnf) (run_params : RunParamsValue) (set : ℕ → Boo
     → IsRun formula run_params observed reports → HaveTexts set steps observed
     → IsTrue (set s) → IsOfStream observed s observation
     → observation.entry ≡ Some (flat_map line_text (lines_by s steps))
-    → IsOfStream reports s report → ¬ IsOfMemory report → ¬ IsOfFailure report
+    → IsOfStream reports s report → ¬ IsExcused CutOff report
     → (report ≡ valid_report run_params s (lines_by s steps))
-    ⊎ LacksOfAnother (stream_params run_params s) report
+    ⊎ IsExcused (Lacking (stream_params run_params s)) report

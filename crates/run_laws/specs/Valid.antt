@@ -2,18 +2,19 @@
 -- database of clauses, as LRAT proofs are (Cruz-Filipe et al., CADE 2017), without RAT. This project's own are identities by
 -- residue, each above those before it, room and imports; and that no hint comes after the conflict, and nothing is deleted that
 -- isn't there. All is read off the lines: there is no history here, and no checker.
-use Rattle.std.specs.Prelude.{◌≡◌, ◌⊎◌, ◌≤◌, ◌-◌, ◌==◌, ◌&&◌, ◌++◌, ℕ, nat_lt, nat_le, false, IsTrue, List, [], ◌∷◌, length, Option, None, Some, IsSome, if◌then◌else◌}
+use Rattle.std.specs.Prelude.{◌≡◌, ◌≤◌, ◌-◌, ◌==◌, ◌&&◌, ◌++◌, ℕ, nat_lt, nat_le, false, IsTrue, List, [], ◌∷◌, length, Option, None, Some, IsSome, if◌then◌else◌, Bool, map}
 use Rattle.std.specs.List.{AllByRecursion, AllZip, Any, flat_map}
 use Rattle.lrup_model.specs.Clause.{Clause}
 use Rattle.lrup_model.specs.Distinct.{distinct}
 use Rattle.lrup_model.specs.Formula.{Cnf, clause_at}
-use Rattle.lrup_model.specs.Layout.{LayoutValue}
+use Rattle.lrup_model.specs.Layout.{LayoutValue, owner}
+use Rattle.lrup_model.specs.declared.layout.Owner.TheVariants as owners
 use Rattle.lrup_text.specs.Lines.{StreamLine, Addition, Deletion, Import, IsWithinLimits, line_text}
 use Rattle.stream_check.specs.declared.report.Ending.TheVariants as endings
 use Rattle.stream_check.specs.declared.report.Report.{Report}
 use Rattle.stream_check.specs.Additions.{IsValidAddition}
 use Rattle.stream_check.specs.Imports.{IsValidImport}
-use Rattle.stream_check.specs.StreamContext.{LineContext, is_among}
+use Rattle.stream_check.specs.StreamContext.{is_among}
 use Rattle.stream_check.specs.Judging.{report_of}
 use Rattle.stream_check.specs.Streams.{RunParamsValue, stream_params}
 
@@ -49,14 +50,6 @@ after_line base (Deletion lead ids) = record {
 }
 after_line base (Import id lits) = base
 
--- what a line after these stands on: identities name the clauses that are there
-abbrev pub database_context : Database → LineContext
-database_context base = record {
-  last = base.last;
-  free = base.free;
-  Names = AllZip (λ id clause. base.clauses id ≡ Some clause);
-}
-
 -- no number stands twice
 abbrev pub AreDistinct : List ℕ → Type 0
 AreDistinct [] = Unit {0}
@@ -67,35 +60,67 @@ pub record IsValidDeletion (base : Database) (ids : List ℕ) : Type 0 where
   pub there : AllByRecursion (λ id. IsSome (base.clauses id)) ids
   pub once : AreDistinct ids
 
--- a line of stream s is valid, after lines that left this database
+-- a line of stream s is valid, after lines that left this database: identities name the clauses that are there
 abbrev pub IsValidLine : LayoutValue → ℕ → Database → StreamLine → Type 0
 IsValidLine layout s base (Addition id lits hints) =
-    IsValidAddition layout s (database_context base) id lits hints
+    IsValidAddition layout s base.last base.free
+    (AllZip (λ named clause. base.clauses named ≡ Some clause)) id lits hints
 IsValidLine layout s base (Deletion lead ids) = IsValidDeletion base ids
 IsValidLine layout s base (Import id lits) =
-    IsValidImport layout s (database_context base) id lits
+    IsValidImport layout s (AllZip (λ named clause. base.clauses named ≡ Some clause)) id lits
 
--- each line is valid after those before it
-abbrev pub AreValid : LayoutValue → ℕ → Database → List StreamLine → Type 0
-AreValid layout s base [] = Unit {0}
-AreValid layout s base (line ∷ lines) =
-    IsValidLine layout s base line × AreValid layout s (after_line base line) lines
+-- Lines of several streams, in some order. Each stream has a database.
 
--- The bytes are a valid proof, as stream s, by these lines: they are the lines' texts and nothing else, and each line is valid.
+-- a line, and the stream, from 1 on, whose line it is
+pub record Step : Type 0 where
+  pub stream : ℕ
+  pub line : StreamLine
+
+-- the identity is the stream's own
+abbrev pub is_own : LayoutValue → ℕ → ℕ → Bool
+is_own layout s id =
+    elim (owner layout id) [
+      | owners.Formula ↦ false
+      | owners.Stream t ↦ t == s
+      | owners.Outside ↦ false
+    ]
+
+-- what a line of stream s leaves of another stream's database: an addition puts its clause there too, and a deletion takes away
+-- what is stream s's own
+abbrev pub beside_line : LayoutValue → ℕ → Database → StreamLine → Database
+beside_line layout s base (Addition id lits hints) = record {
+  clauses = λ j. if j == id then Some (distinct lits) else base.clauses j;
+  last = base.last;
+  free = base.free;
+}
+beside_line layout s base (Deletion lead ids) = record {
+  clauses = λ j. if is_among ids j && is_own layout s j then None else base.clauses j;
+  last = base.last;
+  free = base.free;
+}
+beside_line layout s base (Import id lits) = base
+
+-- the databases of all streams, after a line of one
+abbrev pub after_step : LayoutValue → Step → (ℕ → Database) → ℕ → Database
+after_step layout step bases t =
+    if t == step.stream then after_line (bases t) step.line
+    else beside_line layout step.stream (bases t) step.line
+
+-- each line is valid, after those before it
+abbrev pub AreValidTogether : LayoutValue → (ℕ → Database) → List Step → Type 0
+AreValidTogether layout bases [] = Unit {0}
+AreValidTogether layout bases (step ∷ steps) =
+    IsValidLine layout step.stream (bases step.stream) step.line
+    × AreValidTogether layout (after_step layout step bases) steps
+
+-- The bytes are a valid proof, as stream s, by these lines: they are the lines' texts and nothing else, and each line is valid, in the
+-- order that has these lines alone.
 pub record IsValidProof (formula : Cnf) (layout : LayoutValue) (s : ℕ) (bytes : List ℕ)
     (lines : List StreamLine) : Type 0 where
   pub text : bytes ≡ flat_map line_text lines
   pub fits : AllByRecursion IsWithinLimits lines
-  pub valid : AreValid layout s (first_database formula layout) lines
-
--- The bytes begin with a valid proof, as stream s, by these lines: with the lines' texts, and each line is valid. Nothing is asked of what
--- comes behind them.
-pub record IsValidPrefix (formula : Cnf) (layout : LayoutValue) (s : ℕ) (bytes : List ℕ)
-    (lines : List StreamLine) : Type 0 where
-  pub more : List ℕ
-  pub text : bytes ≡ flat_map line_text lines ++ more
-  pub fits : AllByRecursion IsWithinLimits lines
-  pub valid : AreValid layout s (first_database formula layout) lines
+  pub valid : AreValidTogether layout (λ t. first_database formula layout)
+      (map (λ line. record { stream = s; line = line }) lines)
 
 -- the line adds the empty clause
 abbrev pub AddsEmpty : StreamLine → Type 0
@@ -103,12 +128,15 @@ AddsEmpty (Addition id lits hints) = lits ≡ []
 AddsEmpty (Deletion lead ids) = ⊥
 AddsEmpty (Import id lits) = ⊥
 
--- The bytes are a valid refutation of the formula, as stream s: they begin with valid lines, one of which adds the empty clause. What
--- comes behind these lines may be anything.
+-- The bytes are a valid refutation of the formula, as stream s: they begin with a valid proof, a line of which adds the empty clause. What
+-- comes behind it may be anything.
 pub record IsValidRefutation (formula : Cnf) (layout : LayoutValue) (s : ℕ)
     (bytes : List ℕ) : Type 0 where
+  pub proof : List ℕ
+  pub more : List ℕ
+  pub begins : bytes ≡ proof ++ more
   pub lines : List StreamLine
-  pub valid : IsValidPrefix formula layout s bytes lines
+  pub valid : IsValidProof formula layout s proof lines
   pub empty : Any AddsEmpty lines
 
 -- The report of a valid proof: that it ended; what was added and deleted, as counted off the lines; and whether a line adds the
@@ -122,8 +150,3 @@ pub record TellsAtLeast (report least : Report) : Type 0 where
   pub deleted : least.deleted ≤ report.deleted
   pub empty : IsTrue least.empty → IsTrue report.empty
   pub within : IsTrue least.within → IsTrue report.within
-
--- memory ran out, or a read failed, in one of the first lines, so many
-abbrev pub IsCutOffIn : ℕ → Report → Type 0
-IsCutOffIn count report = (line : ℕ) × (line ≤ count)
-    × ((report.ending ≡ endings.Memory line) ⊎ (report.ending ≡ endings.ReadFailed line))

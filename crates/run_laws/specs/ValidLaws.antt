@@ -1,5 +1,5 @@
 -- Laws of valid proofs. Each is the contract of a function of laws.
-use Rattle.std.specs.Prelude.{◌≡◌, ◌⊎◌, ◌↔◌, ℕ, Bool, IsTrue, List, length, Some}
+use Rattle.std.specs.Prelude.{◌≡◌, ◌⊎◌, ◌↔◌, ◌≤◌, ◌++◌, ℕ, Bool, IsTrue, List, length, Some}
 use Rattle.std.specs.List.{AllByRecursion, Any, sum_by}
 use Rattle.lrup_model.specs.Formula.{Cnf, IsCnf}
 use Rattle.lrup_model.specs.Layout.{LayoutValue, IsLayout, Fits, IsStream}
@@ -7,12 +7,12 @@ use Rattle.lrup_text.specs.Lines.{StreamLine, Cut}
 use Rattle.lrup_text.specs.declared.device.StreamEnd.TheVariants as stream_ends
 use Rattle.stream_check.specs.declared.report.Ending.TheVariants as endings
 use Rattle.stream_check.specs.declared.report.Report.{Report}
-use Rattle.stream_check.specs.Laws.{IsOfMemory, IsOfFailure}
+use Rattle.stream_check.specs.Excuses.{CutOff, IsExcused, IsExcusedAt}
 use Rattle.stream_check.specs.StreamContext.{deleted_by}
 use Rattle.stream_check.specs.Closed.{IsOfStream, IsOwnedWithin, CiteWithin}
 use Rattle.stream_check.specs.Streams.{InputObservation, RunParamsValue}
 use Rattle.run_laws.specs.Groups.{one, IsReportAlone, IsRun}
-use Rattle.run_laws.specs.Valid.{AddsEmpty, IsCutOffIn, IsValidPrefix, IsValidProof, TellsAtLeast, valid_report}
+use Rattle.run_laws.specs.Valid.{AddsEmpty, IsValidProof, TellsAtLeast, valid_report}
 
 -- a valid proof cites and imports no clause of another stream
 abbrev pub ValidCiteWithin : Type 0
@@ -47,22 +47,23 @@ ValidReported =
     → IsValidProof f run_params.layout s bytes lines
     → IsRun f run_params observed reports → IsOfStream observed s observation
     → observation.entry ≡ Some bytes
-    → IsOfStream reports s report → ¬ IsOfMemory report → ¬ IsOfFailure report
+    → IsOfStream reports s report → ¬ IsExcused CutOff report
     → report ≡ valid_report run_params s lines
 
--- Where the bytes only begin with a valid proof, the report tells at least what these lines do, whatever comes behind them; unless
+-- Where a reader's bytes only begin with a valid proof, the report tells at least what these lines do, whatever comes behind them; unless
 -- memory ran out, or a read failed, in these lines.
 abbrev pub ValidBegins : Type 0
 ValidBegins =
-    (f : Cnf) (run_params : RunParamsValue) (s : ℕ) (bytes : List ℕ) (lines : List StreamLine)
+    (f : Cnf) (run_params : RunParamsValue) (s : ℕ) (bytes more : List ℕ) (lines : List StreamLine)
     (observed : List InputObservation) (observation : InputObservation) (reports : List Report)
     (report : Report)
     → IsCnf f → Fits run_params.layout f → IsStream run_params.layout s
-    → IsValidPrefix f run_params.layout s bytes lines
+    → IsValidProof f run_params.layout s bytes lines
     → IsRun f run_params observed reports → IsOfStream observed s observation
-    → observation.entry ≡ Some bytes
+    → observation.entry ≡ Some (bytes ++ more)
     → IsOfStream reports s report
-    → TellsAtLeast report (valid_report run_params s lines) ⊎ IsCutOffIn (length lines) report
+    → TellsAtLeast report (valid_report run_params s lines)
+    ⊎ ((line : ℕ) × (line ≤ length lines) × IsExcusedAt CutOff report line)
 
 -- A valid proof's count of deletions is that of all identities that its lines delete: 64 bits suffice for it
 abbrev pub ValidCounted : Type 0
@@ -72,19 +73,15 @@ ValidCounted =
     → IsValidProof f run_params.layout s bytes lines
     → (valid_report run_params s lines).deleted ≡ sum_by (λ line. length (deleted_by line)) lines
 
--- no line that the bytes are cut into deletes an identity that a stream outside the set owns
-pub record DeleteWithin (p : LayoutValue) (set : ℕ → Bool) (bytes : List ℕ) : Type 0 where
-  pub lines : List StreamLine
-  pub rest : List ℕ
-  pub cut : Cut bytes lines rest
-  pub within : AllByRecursion (λ line. AllByRecursion (IsOwnedWithin p set) (deleted_by line)) lines
-
 -- Conversely, a stream that cites, imports and deletes only its own clauses and the formula's is valid if it may have, alone, a
 -- report that it ended. (One that deletes what another stream never had may end too, and isn't valid.)
 abbrev pub EndedIsValid : Type 0
-EndedIsValid = (f : Cnf) (run_params : RunParamsValue) (s : ℕ) (bytes : List ℕ) (report : Report)
+EndedIsValid = (f : Cnf) (run_params : RunParamsValue) (s : ℕ) (bytes rest : List ℕ)
+    (all : List StreamLine) (report : Report)
     → Fits run_params.layout f
-    → CiteWithin run_params.layout (one s) bytes → DeleteWithin run_params.layout (one s) bytes
+    → CiteWithin run_params.layout (one s) bytes → Cut bytes all rest
+    → AllByRecursion
+    (λ line. AllByRecursion (IsOwnedWithin run_params.layout (one s)) (deleted_by line)) all
     → IsReportAlone f run_params s bytes stream_ends.Ended report → report.ending ≡ endings.Ended
     → (lines : List StreamLine) × IsValidProof f run_params.layout s bytes lines
 

@@ -10,7 +10,7 @@ use Rattle.lrup_model.specs.Propagation.{Accepts, IsConflict, IsUnit}
 use Rattle.lrup_text.specs.Laws.{EmptyPending, OneFirstLine}
 use Rattle.lrup_text.specs.Lines.{StreamLine, Addition, IsWithinLimits, line_text}
 use Rattle.stream_check.specs.Imports.{IsValidImport}
-use Rattle.run_laws.specs.Valid.{AddsEmpty, database_context, IsValidPrefix, IsValidRefutation, IsValidProof}
+use Rattle.run_laws.specs.Valid.{AddsEmpty, IsValidRefutation, IsValidProof}
 use Rattle.run_laws.specs.Together.{IsValidOrder}
 use Rattle.lrup_model.specs.Layout.{Owns}
 use Rattle.lrup_model.specs.declared.layout.Owner.TheVariants as owners
@@ -82,7 +82,7 @@ one_is_no_conflict (d ∷ []) named shown =
     elim has [ inl e ↦ two_not_one e | inr none ↦ none ]
 one_is_no_conflict (d ∷ e ∷ ds) named shown = named.1
 
-pub unit_differs : IsValidImport one_stream 1 (database_context at_first) 1 unit → ⊥
+pub unit_differs : IsValidImport one_stream 1 (AllZip (λ h d. at_first.clauses h ≡ Some d)) 1 unit → ⊥
 unit_differs valid =
     let same : first ≡ valid.clause = let is : Some first ≡ Some valid.clause = valid.named.0 in cc in
     let has : Has unit (pos 1) = (valid.same (pos 1)).0 (subst (λ (x : Clause). Has x (pos 1)) same (inl refl)) in
@@ -92,7 +92,7 @@ unit_differs valid =
 pub one_is_the_formulas : Owns one_stream 1 1 → ⊥
 one_is_the_formulas owns = let no : owners.Formula ≡ owners.Stream 1 = owns in cc
 
-pub no_minus_one : IsValidImport one_stream 1 (database_context at_first) 1 (pos 1 ∷ pos 2 ∷ negsuc 0 ∷ []) → ⊥
+pub no_minus_one : IsValidImport one_stream 1 (AllZip (λ h d. at_first.clauses h ≡ Some d)) 1 (pos 1 ∷ pos 2 ∷ negsuc 0 ∷ []) → ⊥
 no_minus_one valid =
     let same : first ≡ valid.clause = let is : Some first ≡ Some valid.clause = valid.named.0 in cc in
     let has : Has first (negsuc 0) =
@@ -195,18 +195,13 @@ refutation_is_valid = record {
 }
 
 -- whatever comes behind it
-pub refutation_begins : (more : List ℕ) → IsValidPrefix four one_stream 1 (codes "5 2 0 1 2 0\n6 0 5 3 4 0\n" ++ more) refutation
-refutation_begins more = record {
-  more = more;
-  text = ap (λ (bytes : List ℕ). bytes ++ more) refutation_is_valid.text;
-  fits = refutation_is_valid.fits;
-  valid = refutation_is_valid.valid;
-}
-
 pub begins_and_refutes : (more : List ℕ) → IsValidRefutation four one_stream 1 (codes "5 2 0 1 2 0\n6 0 5 3 4 0\n" ++ more)
 begins_and_refutes more = record {
+  proof = codes "5 2 0 1 2 0\n6 0 5 3 4 0\n";
+  more = more;
+  begins = refl;
   lines = refutation;
-  valid = refutation_begins more;
+  valid = refutation_is_valid;
   empty = (1, Addition 6 [] (5 ∷ 3 ∷ 4 ∷ []), omega arith, refl, refl);
 }
 

@@ -6,13 +6,13 @@ use Rattle.lrup_model.specs.Layout.{LayoutValue}
 use Rattle.lrup_text.specs.Lines.{StreamLine, Addition, Deletion, Import}
 use Rattle.stream_check.specs.declared.report.Ending.TheVariants as endings
 use Rattle.stream_check.specs.declared.report.Report.{Report}
-use Rattle.stream_check.specs.Laws.{IsOfMemory, IsOfFailure}
+use Rattle.stream_check.specs.Excuses.{CutOff, Lacking, IsExcused, IsExcusedAt}
 use Rattle.stream_check.specs.Closed.{IsOfStream}
 use Rattle.stream_check.specs.Streams.{InputObservation, RunParamsValue, stream_params}
-use Rattle.run_laws.specs.AnyRun.{LacksOfAnother}
 use Rattle.run_laws.specs.Groups.{IsRun}
-use Rattle.run_laws.specs.Valid.{Database, IsCutOffIn, first_database, after_line}
-use Rattle.run_laws.specs.Together.{Step, HaveTexts}
+use Rattle.run_laws.specs.Valid.{Database, first_database, after_line}
+use Rattle.run_laws.specs.Valid.{Step}
+use Rattle.run_laws.specs.Together.{HaveTexts}
 use Rattle.test_support.specs.Worked.{four, unit}
 
 abbrev pub one_stream : LayoutValue
@@ -107,7 +107,7 @@ RefutationCounted = (cube : CubeValue) (tries : ℕ) (observed : List InputObser
     → IsRun four (run_params_at one_stream cube tries) observed reports
     → IsOfStream observed 1 observation
     → observation.entry ≡ Some (codes "5 2 0 1 2 0\n6 0 5 3 4 0\n") → IsOfStream reports 1 report
-    → ¬ IsOfMemory report → ¬ IsOfFailure report → Counts report 2 0
+    → ¬ IsExcused CutOff report → Counts report 2 0
 
 -- Whatever comes behind the refutation, such a run tells two additions at least, one of them the empty clause, unless memory ran out,
 -- or a read failed, in these two lines.
@@ -119,7 +119,8 @@ BeginningCounted = (cube : CubeValue) (tries : ℕ) (observed : List InputObserv
     → IsOfStream observed 1 observation
     → observation.entry ≡ Some (codes "5 2 0 1 2 0\n6 0 5 3 4 0\n" ++ more)
     → IsOfStream reports 1 report
-    → ((2 ≤ report.added) × (report.empty ≡ true)) ⊎ IsCutOffIn 2 report
+    → ((2 ≤ report.added) × (report.empty ≡ true))
+    ⊎ ((line : ℕ) × (line ≤ 2) × IsExcusedAt CutOff report line)
 
 -- A run whose readers begin with the texts of the shared lines, and where nothing is behind those of stream 2, tells of that stream an
 -- addition and a deletion, or that the clause of stream 1 wasn't there.
@@ -131,6 +132,6 @@ SharedCounted = (cube : CubeValue) (tries : ℕ) (observed : List InputObservati
     → HaveTexts (λ s. true) shared observed
     → IsOfStream observed 2 observation
     → observation.entry ≡ Some (codes "5 i 2 0\n6 0 5 3 4 0\n6 d 5 0\n")
-    → IsOfStream reports 2 report → ¬ IsOfMemory report → ¬ IsOfFailure report
+    → IsOfStream reports 2 report → ¬ IsExcused CutOff report
     → Counts report 1 1
-    ⊎ LacksOfAnother (stream_params (run_params_at two_streams cube tries) 2) report
+    ⊎ IsExcused (Lacking (stream_params (run_params_at two_streams cube tries) 2)) report

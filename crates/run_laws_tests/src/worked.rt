@@ -1,9 +1,11 @@
 //! Lines of one stream, valid and not, by the definitions alone.
 ghost use Rattle.std.specs.Prelude.{◌≡◌, ◌++◌, ℕ, true, List, [], ◌∷◌, pos, negsuc, Some, codes};
 ghost use Rattle.lrup_text.specs.Lines.{Addition, Deletion, Import};
+ghost use Rattle.stream_check.specs.Excuses.{CutOff, OutOfMemory, ReadFailed, IsExcusedAt};
+ghost use Rattle.stream_check.specs.declared.fault.Fault.TheVariants as faults;
 ghost use Rattle.stream_check.specs.declared.report.Ending.TheVariants as endings;
 ghost use Rattle.stream_check.specs.Turns.{IsByTurns};
-ghost use Rattle.run_laws.specs.Valid.{IsCutOffIn, IsValidLine, IsValidRefutation, IsValidProof, TellsAtLeast, first_database};
+ghost use Rattle.run_laws.specs.Valid.{IsValidLine, IsValidRefutation, IsValidProof, TellsAtLeast, first_database};
 ghost use Rattle.run_laws.specs.Together.{IsValidOrder};
 ghost use Rattle.run_laws_tests.specs.Worked.{at_first, at_roomy, crossed, one_added, one_stream, retired_first, roomy, shared, two_streams, with_five, with_repeat, without_five, without_one, BeginningCounted, RefutationCounted, SharedCounted};
 ghost use Rattle.test_support.specs.Worked.{four, unit};
@@ -118,15 +120,24 @@ fn orders_are_not_valid()
         (record { stream = 3; line = Deletion 5 [] } ∷ []) }
 {}
 
-/// One addition is less than two, and nothing is less than one deletion, an empty clause, or one within the cube. What is cut off in the
-/// third line isn't cut off in the first two.
+/// One addition is less than two, and nothing is less than one deletion, an empty clause, or one within the cube.
 fn reports_tell_less()
     ensures added { ¬ TellsAtLeast one_added (record one_added { added = 2 }) }
     ensures deleted { ¬ TellsAtLeast one_added (record one_added { deleted = 1 }) }
     ensures empty { ¬ TellsAtLeast one_added (record one_added { empty = true }) }
     ensures within { ¬ TellsAtLeast one_added (record one_added { within = true }) }
-    ensures memory { ¬ IsCutOffIn 2 (record one_added { ending = endings.Memory 3 }) }
-    ensures read { ¬ IsCutOffIn 2 (record one_added { ending = endings.ReadFailed 3 }) }
+{}
+
+/// What is excused in the third line isn't excused in the second; want of memory is no failed read, nor the other way round; and a line
+/// that cites a clause that another stream retired is no case of either.
+fn no_other_excuse()
+    ensures memory { ¬ IsExcusedAt CutOff (record one_added { ending = endings.Memory 3 }) 2 }
+    ensures read { ¬ IsExcusedAt CutOff (record one_added { ending = endings.ReadFailed 3 }) 2 }
+    ensures no_read { ¬ IsExcusedAt ReadFailed (record one_added { ending = endings.Memory 3 }) 3 }
+    ensures no_memory { ¬ IsExcusedAt OutOfMemory
+        (record one_added { ending = endings.ReadFailed 3 }) 3 }
+    ensures lacking { ¬ IsExcusedAt CutOff
+        (record one_added { ending = endings.Bad 3 (faults.Retired 5) }) 3 }
 {}
 
 /// By the law of valid proofs, every run tells so of the worked stream.

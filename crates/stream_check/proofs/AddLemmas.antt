@@ -22,7 +22,7 @@ use Rattle.stream_check.specs.declared.fault.Fault.{Fault}
 use Rattle.stream_check.specs.StreamParams.{StreamParams}
 use Rattle.stream_check.specs.StreamContext.{StreamContext}
 use Rattle.stream_check.specs.lemmas.AdditionLemmas.{run-fetches, before_maps}
-use Rattle.stream_check.specs.Lookup.{line_context}
+use Rattle.stream_check.specs.Lookup.{AreFound}
 use Rattle.stream_check.specs.Additions.{IsValidAddition, BeforeHints, published_by}
 use Rattle.stream_check.specs.Checker.{IsViewOf}
 use Rattle.stream_check.specs.internal.Checking.{IsFetch, KeepsClause, Shows}
@@ -144,7 +144,7 @@ fails_behind c st id lits es fault A marks admits next =
 pub valid_is : (c : StreamParams) (st : StreamContext) (f : Cnf) (id : ℕ) (lits : List ℤ) (hints : List ℕ) (es : History)
     (marks : Propagation)
     → Admits c st id lits marks → Shows c st.is_dropped f (distinct lits) hints es (Ok tt)
-    → IsValidAddition c.layout c.stream (line_context c st es) id lits hints
+    → IsValidAddition c.layout c.stream st.last st.free (λ ids clauses. AreFound c st.is_dropped ids clauses es) id lits hints
 valid_is c st f id lits hints es marks admits shown = record {
   owns = admits.owns;
   above = admits.above;

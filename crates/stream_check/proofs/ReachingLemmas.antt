@@ -17,7 +17,9 @@ use Rattle.stream_check.specs.declared.report.Ending.TheVariants as endings
 use Rattle.stream_check.specs.declared.report.Report.{Report}
 use Rattle.stream_check.specs.StreamParams.{StreamParams, ownership_of, is_shared}
 use Rattle.stream_check.specs.StreamContext.{StreamContext, context_of, is_among, capped, deleted_by}
-use Rattle.stream_check.specs.Stopping.{StopsAtLine, DropsMore, AreDeletedFirst, DropsUntilStop}
+use Rattle.stream_check.specs.Stopping.{StopsAtLine, DropsUntilStop}
+use Rattle.stream_check.specs.internal.Checking.{DropsMore}
+use Rattle.stream_check.specs.lemmas.StoppingLemmas.{AreDeletedFirst}
 use Rattle.stream_check.specs.Verdicts.{Good, Bad}
 use Rattle.stream_check.specs.Deletions.{StopsDeletion}
 use Rattle.stream_check.specs.Judging.{JudgesLine, AreGood, report_of, EndsAfter, at_bad_line, at_bad_text, at_memory, at_end, ending_at}

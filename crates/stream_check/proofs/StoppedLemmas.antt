@@ -10,7 +10,8 @@ use Rattle.stream_check.specs.Laws.{DroppedOnce}
 use Rattle.stream_check.specs.lemmas.ReportLemmas.{split_first}
 use Rattle.stream_check.specs.StreamParams.{ownership_of, is_shared}
 use Rattle.stream_check.specs.StreamContext.{context_of, is_among, deleted_by}
-use Rattle.stream_check.specs.Stopping.{StopsAtLine, AreDeletedFirst}
+use Rattle.stream_check.specs.Stopping.{StopsAtLine}
+use Rattle.stream_check.specs.lemmas.StoppingLemmas.{AreDeletedFirst}
 
 -- as many lines at the beginning of the same bytes are the same, and so is what follows them
 same_lines : OneFirstLine → (lines others : List StreamLine) (rest left : List ℕ) → AllByRecursion IsWithinLimits lines

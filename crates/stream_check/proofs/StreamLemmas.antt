@@ -17,7 +17,8 @@ use Rattle.stream_check.specs.StreamContext.{context_of, capped}
 use Rattle.stream_check.specs.Verdicts.{Good, Bad}
 use Rattle.stream_check.specs.Judging.{JudgesLine, AreGood, joined, report_of, EndsAfter, at_bad_line, at_bad_text, at_memory, at_end}
 use Rattle.stream_check.specs.Forks.{NeverFork}
-use Rattle.stream_check.specs.Laws.{IsOfMemory, RepliesDecide, OneReport}
+use Rattle.stream_check.specs.Excuses.{OutOfMemory, IsExcused}
+use Rattle.stream_check.specs.Laws.{RepliesDecide, OneReport}
 use Rattle.stream_check.specs.lemmas.ReportLemmas.{split_first, joined-append}
 use Rattle.stream_check.proofs.ForkLemmas.{never_fork_turned, never_fork_alone, never_fork_behind}
 use Rattle.stream_check.proofs.AgreeLemmas.{line_agrees}
@@ -87,10 +88,10 @@ faulty_has_no_line laws rest fault text line more fits e =
 
 -- what ends a stream while there is memory
 abbrev pub EndsWithout : StreamParams → List StreamLine → List ℕ → StreamEnd → List History → Report → Type 0
-EndsWithout c lines rest end back report = EndsAfter c lines rest end back report × ¬ IsOfMemory report
+EndsWithout c lines rest end back report = EndsAfter c lines rest end back report × ¬ IsExcused OutOfMemory report
 
 pub out_of_memory : (c : StreamParams) (lines : List StreamLine) (deleted : ℕ) (report : Report)
-    → report ≡ report_of c lines deleted (endings.Memory (capped (length lines + 1))) → IsOfMemory report
+    → report ≡ report_of c lines deleted (endings.Memory (capped (length lines + 1))) → IsExcused OutOfMemory report
 out_of_memory c lines deleted report says = (capped (length lines + 1), ap (λ (r : Report). r.ending) says)
 
 ends_agree : TextLaws

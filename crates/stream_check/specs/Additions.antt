@@ -12,20 +12,22 @@ use Rattle.lrup_model.specs.Distinct.{distinct}
 use Rattle.stream_check.specs.declared.fault.Fault.{Fault}
 use Rattle.stream_check.specs.declared.fault.Fault.TheVariants as faults
 use Rattle.stream_check.specs.StreamParams.{StreamParams}
-use Rattle.stream_check.specs.StreamContext.{StreamContext, LineContext}
+use Rattle.stream_check.specs.StreamContext.{StreamContext}
 use Rattle.stream_check.specs.Verdicts.{LineVerdict, Good, Bad, Violates}
-use Rattle.stream_check.specs.Lookup.{LooksUp, line_context}
+use Rattle.stream_check.specs.Lookup.{AreFound, LooksUp}
 
--- An addition is valid: its identity is the stream's own, and above the last; its literals are over the variables; there is room for
--- its clause; and the clauses that its hints name show its clause, which is no tautology, by propagation.
-pub record IsValidAddition (layout : LayoutValue) (stream : ℕ) (context : LineContext) (id : ℕ)
-    (lits : List ℤ) (hints : List ℕ) : Type 0 where
+-- An addition is valid: its identity is the stream's own, and above the last one that was added, or the formula's last one; its literals
+-- are over the variables; there is room for its clause, in literals; and the clauses that its hints name show its clause, which is no
+-- tautology, by propagation.
+pub record IsValidAddition (layout : LayoutValue) (stream last free : ℕ)
+    (Names : List ℕ → List Clause → Type 0) (id : ℕ) (lits : List ℤ)
+    (hints : List ℕ) : Type 0 where
   pub owns : Owns layout stream id
-  pub above : context.last < id
+  pub above : last < id
   pub literals : AllByRecursion (λ l. nat_abs l ≤ layout.vars) lits
-  pub room : length (distinct lits) ≤ context.free
+  pub room : length (distinct lits) ≤ free
   pub clauses : List Clause
-  pub named : context.Names hints clauses
+  pub named : Names hints clauses
   pub shown : Accepts (distinct lits) clauses
 
 -- the conditions of an addition before those of its hints, in their order
@@ -76,8 +78,8 @@ abbrev pub JudgesAddition : StreamParams → StreamContext → ℕ → List ℤ 
     → Type 0
 JudgesAddition params context id lits hints history Good =
     (fetches : History)
-    × IsValidAddition params.layout params.stream (line_context params context fetches) id lits
-    hints
+    × IsValidAddition params.layout params.stream context.last context.free
+    (λ ids clauses. AreFound params context.is_dropped ids clauses fetches) id lits hints
     × (history ≡ fetches ++ published_by params id lits ∷ [])
 JudgesAddition params context id lits hints history (Bad deleted fault) =
     (deleted ≡ 0)

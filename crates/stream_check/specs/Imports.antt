@@ -6,26 +6,27 @@ use Rattle.lrup_model.specs.Layout.{LayoutValue, IsIdentity, Owns}
 use Rattle.lrup_model.specs.Event.{History}
 use Rattle.stream_check.specs.declared.fault.Fault.TheVariants as faults
 use Rattle.stream_check.specs.StreamParams.{StreamParams}
-use Rattle.stream_check.specs.StreamContext.{StreamContext, LineContext}
+use Rattle.stream_check.specs.StreamContext.{StreamContext}
 use Rattle.stream_check.specs.Verdicts.{LineVerdict, Good, Bad, Violates}
-use Rattle.stream_check.specs.Lookup.{LooksUp, line_context}
+use Rattle.stream_check.specs.Lookup.{AreFound, LooksUp}
 
 -- An import is valid: its identity is one, and not the stream's own; its literals are over the variables; and the clause that its
 -- identity names has its literals, in whatever order and however often each is written.
-pub record IsValidImport (layout : LayoutValue) (stream : ℕ) (context : LineContext) (id : ℕ)
-    (lits : List ℤ) : Type 0 where
+pub record IsValidImport (layout : LayoutValue) (stream : ℕ)
+    (Names : List ℕ → List Clause → Type 0) (id : ℕ) (lits : List ℤ) : Type 0 where
   pub identity : IsIdentity layout id
   pub other : ¬ Owns layout stream id
   pub literals : AllByRecursion (λ l. nat_abs l ≤ layout.vars) lits
   pub clause : Clause
-  pub named : context.Names (id ∷ []) (clause ∷ [])
+  pub named : Names (id ∷ []) (clause ∷ [])
   pub same : (l : ℤ) → Has clause l ↔ Has lits l
 
 -- An import's events and its verdict, after the lines that left this context: it is valid by what its events find; or it violates a
 -- condition, and the first of these gives the fault.
 abbrev pub JudgesImport : StreamParams → StreamContext → ℕ → List ℤ → History → LineVerdict → Type 0
 JudgesImport params context id lits history Good =
-    IsValidImport params.layout params.stream (line_context params context history) id lits
+    IsValidImport params.layout params.stream
+    (λ ids clauses. AreFound params context.is_dropped ids clauses history) id lits
 JudgesImport params context id lits history (Bad deleted fault) =
     (deleted ≡ 0)
     × Violates (IsIdentity params.layout id × (¬ Owns params.layout params.stream id))

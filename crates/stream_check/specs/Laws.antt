@@ -14,9 +14,9 @@ use Rattle.lrup_model.specs.Plain.{Plain, plain_caller_view, PlainMoves}
 use Rattle.lrup_text.specs.Lines.{StreamLine, Addition, Deletion, Import, Cut, LineText}
 use Rattle.lrup_text.specs.declared.device.StreamEnd.{StreamEnd}
 use Rattle.lrup_text.specs.declared.device.StreamEnd.TheVariants as stream_ends
-use Rattle.stream_check.specs.declared.report.Ending.TheVariants as endings
 use Rattle.stream_check.specs.declared.report.Report.{Report}
 use Rattle.stream_check.specs.StreamParams.{StreamParams}
+use Rattle.stream_check.specs.Excuses.{OutOfMemory, ReadFailed, IsExcused}
 use Rattle.stream_check.specs.Judging.{JudgesLine, joined, ending_at, JudgesBlocks, Judges}
 use Rattle.stream_check.specs.Forks.{NeverFork}
 use Rattle.lrup_model.specs.Distinct.{distinct}
@@ -57,16 +57,12 @@ abbrev pub OverStays : Type 0
 OverStays = (c : StreamParams) (bytes more : List ℕ) (blocks : List History) (report : Report)
     → JudgesBothEnds c bytes blocks report → JudgesBothEnds c (bytes ++ more) blocks report
 
--- the report tells of a failed read
-abbrev pub IsOfFailure : Report → Type 0
-IsOfFailure report = (line : ℕ) × (report.ending ≡ endings.ReadFailed line)
-
 -- if the read failed and the report doesn't tell so, it was decided before: it is right for either end, and whatever follows
 abbrev pub DecidedBeforeFailure : Type 0
 DecidedBeforeFailure =
     (c : StreamParams) (bytes more : List ℕ) (end : StreamEnd) (blocks : List History)
     (report : Report)
-    → ¬ IsOfFailure report → JudgesBlocks c bytes stream_ends.Failed blocks report
+    → ¬ IsExcused ReadFailed report → JudgesBlocks c bytes stream_ends.Failed blocks report
     → JudgesBlocks c (bytes ++ more) end blocks report
 
 -- if its numbers are below 2^64 - 1, a report decides what a stream dropped that a line stopped
@@ -98,17 +94,13 @@ ReadyBeside = (v : CheckerValue) (old new : Plain) (t : ℕ) (es : History)
 
 -- One report
 
--- the report tells that memory ran out
-abbrev pub IsOfMemory : Report → Type 0
-IsOfMemory report = (line : ℕ) × (report.ending ≡ endings.Memory line)
-
 -- a stream's bytes, end and events have one report at most, and one list of blocks, unless memory ran out
 abbrev pub OneReport : Type 0
 OneReport = (c : StreamParams) (bytes : List ℕ) (end : StreamEnd) (blocks others : List History)
     (report other : Report)
     → joined blocks ≡ joined others
     → JudgesBlocks c bytes end blocks report → JudgesBlocks c bytes end others other
-    → ¬ IsOfMemory report → ¬ IsOfMemory other
+    → ¬ IsExcused OutOfMemory report → ¬ IsExcused OutOfMemory other
     → (blocks ≡ others) × (report ≡ other)
 
 -- replies decide: events that never fork are judged alike
@@ -117,7 +109,7 @@ RepliesDecide = (c : StreamParams) (bytes : List ℕ) (end : StreamEnd) (blocks 
     (report other : Report)
     → NeverFork (joined blocks) (joined others)
     → JudgesBlocks c bytes end blocks report → JudgesBlocks c bytes end others other
-    → ¬ IsOfMemory report → ¬ IsOfMemory other
+    → ¬ IsExcused OutOfMemory report → ¬ IsExcused OutOfMemory other
     → (blocks ≡ others) × (report ≡ other)
 
 -- neither list of blocks has ended if the other has a block, and their first blocks are one if they never fork, whatever events
@@ -136,7 +128,7 @@ BlocksGoAlike = (c : StreamParams) (bytes : List ℕ) (end : StreamEnd)
     (before blocks others : List History) (report other : Report)
     → JudgesBlocks c bytes end (before ++ blocks) report
     → JudgesBlocks c bytes end (before ++ others) other
-    → ¬ IsOfMemory report → ¬ IsOfMemory other
+    → ¬ IsExcused OutOfMemory report → ¬ IsExcused OutOfMemory other
     → GoAlike blocks others
 
 -- legal histories never fork
@@ -150,7 +142,7 @@ AloneDecides = (f : Cnf) (p : LayoutValue) (c : StreamParams) (bytes : List ℕ)
     (g h : History) (report other : Report)
     → IsLegal f p g → IsLegal f p h
     → Judges c bytes end g report → Judges c bytes end h other
-    → ¬ IsOfMemory report → ¬ IsOfMemory other
+    → ¬ IsExcused OutOfMemory report → ¬ IsExcused OutOfMemory other
     → (g ≡ h) × (report ≡ other)
 
 -- Good additions

@@ -15,6 +15,7 @@ pub mod Checker
 pub mod Forks
 pub mod Reducing
 pub mod Finding
+pub mod Excuses
 pub mod Laws
 pub mod Each
 pub mod Streams

@@ -7,7 +7,6 @@ use Rattle.stream_check.specs.declared.fault.Fault.TheVariants as faults
 use Rattle.stream_check.specs.declared.params.Ownership.{Ownership}
 use Rattle.stream_check.specs.declared.params.Ownership.TheVariants as ownerships
 use Rattle.stream_check.specs.StreamParams.{StreamParams, ownership_of}
-use Rattle.stream_check.specs.StreamContext.{StreamContext, LineContext}
 
 -- The events are k vacant fetches of one identity and one last fetch; k is at most `most`, and just that if the last is vacant, too.
 abbrev pub FetchesUpTo : ℕ → ℕ → ℕ → History → Reply → Type 0
@@ -49,11 +48,3 @@ AreFound params is_dropped (id ∷ ids) (clause ∷ clauses) history =
     (asked rest : History) × (history ≡ asked ++ rest)
     × LooksUp params is_dropped id asked (Ok clause)
     × AreFound params is_dropped ids clauses rest
-
--- what a line is checked against after the lines that left this context, if these events look its identities up
-abbrev pub line_context : StreamParams → StreamContext → History → LineContext
-line_context params context history = record {
-  last = context.last;
-  free = context.free;
-  Names = λ ids clauses. AreFound params context.is_dropped ids clauses history;
-}

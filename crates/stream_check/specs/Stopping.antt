@@ -22,18 +22,6 @@ StopsAtLine (endings.Memory line) number = line ≡ number
 abbrev pub IsFullAtMemory : Ending → DroppedIdsValue → Type 0
 IsFullAtMemory ending dropped = (line : ℕ) → ending ≡ endings.Memory line → dropped.spare ≡ 0
 
--- of these identities those of the formula and of other streams were dropped, too
-abbrev pub DropsMore : StreamParams → (ℕ → Bool) → List ℕ → (ℕ → Bool) → Type 0
-DropsMore params old ids new =
-    (id : ℕ) → new id ≡ (old id || is_shared (ownership_of params id) && is_among ids id)
-
--- The identities are none, or the first ones of a deletion with which the bytes begin.
-abbrev pub AreDeletedFirst : List ℕ → List ℕ → Type 0
-AreDeletedFirst ids bytes =
-    (ids ≡ [])
-    ⊎ ((line : StreamLine) × IsWithinLimits line × (later more : List ℕ)
-    × (bytes ≡ line_text line ++ more) × (deleted_by line ≡ ids ++ later))
-
 -- What a stream dropped whose report says that a line is bad, or that memory ran out in it: of the identities that the lines before it
 -- delete, and of the first ones that it deletes itself, those of the formula and of other streams. The report tells both, up to
 -- 2^64 - 1: by its number how many lines are before it, and by its count how many of the identities that the line names come before the
@@ -51,7 +39,10 @@ pub record DropsUntilStop (params : StreamParams) (bytes : List ℕ) (blocks : L
   pub good : AreGood params [] lines front
   pub number : StopsAtLine report.ending (capped (length lines + 1))
   pub ids : List ℕ
-  pub are_first : AreDeletedFirst ids rest
+  pub are_first : (ids ≡ [])
+      ⊎ ((line : StreamLine) × IsWithinLimits line × (later more : List ℕ)
+      × (rest ≡ line_text line ++ more) × (deleted_by line ≡ ids ++ later))
   pub count : report.deleted
       ≡ capped (sum_by (λ line. length (deleted_by line)) lines + length ids)
-  pub drops : DropsMore params (context_of params lines).is_dropped ids is_dropped
+  pub drops : (id : ℕ) → is_dropped id ≡ ((context_of params lines).is_dropped id
+      || is_shared (ownership_of params id) && is_among ids id)

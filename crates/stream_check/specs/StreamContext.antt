@@ -14,13 +14,6 @@ pub record StreamContext : Type 0 where
   pub free : ℕ
   pub is_dropped : ℕ → Bool
 
--- What a line is checked against: the greatest identity that was added before, or the formula's last one; the room that is left, in
--- literals; and which clauses the identities name that the line cites.
-pub record LineContext : Type 1 where
-  pub last : ℕ
-  pub free : ℕ
-  pub Names : List ℕ → List Clause → Type 0
-
 -- the identity and the clause of each addition among the lines, in order
 abbrev pub additions_of : List StreamLine → List (ℕ × Clause)
 additions_of [] = []

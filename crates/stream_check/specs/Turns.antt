@@ -2,7 +2,7 @@
 use Rattle.std.specs.Prelude.{◌==◌, ◌+◌, ◌++◌, ◌<◌, ◌≤◌, ℕ, true, List, [], ◌∷◌, map, count_by}
 use Rattle.lrup_model.specs.Formula.{Cnf}
 use Rattle.stream_check.specs.declared.report.Report.{Report}
-use Rattle.stream_check.specs.Streams.{Stream, Block, IsOrdered, RunParamsValue}
+use Rattle.stream_check.specs.Streams.{Stream, IsOrdered, RunParamsValue}
 
 -- An order of lines is given here by the lines' streams, from 1 on: in it stream s has so many lines.
 abbrev pub line_count : ℕ → List ℕ → ℕ
@@ -22,12 +22,8 @@ AreTurns before (s ∷ later) = IsTurnOf s before × AreTurns (before ++ s ∷ [
 abbrev pub IsByTurns : List ℕ → Type 0
 IsByTurns order = AreTurns [] order
 
--- the streams of some blocks, in order
-abbrev pub streams_of : List Block → List ℕ
-streams_of blocks = map (λ block. block.stream) blocks
-
 -- The reports of all streams have an order of lines, and it is by turns.
 pub record IsOrderedByTurns (formula : Cnf) (run_params : RunParamsValue) (streams : List Stream)
     (reports : List Report) : Type 0 where
   pub order : IsOrdered formula run_params (λ s. true) streams reports
-  pub turns : IsByTurns (streams_of order.blocks)
+  pub turns : IsByTurns (map (λ block. block.stream) order.blocks)

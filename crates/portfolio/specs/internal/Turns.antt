@@ -15,7 +15,7 @@ use Rattle.stream_check.specs.DroppedIdsValue.{DroppedIdsValue}
 use Rattle.stream_check.specs.Closed.{IsOfStream}
 use Rattle.stream_check.specs.Each.{Each}
 use Rattle.stream_check.specs.Streams.{Block, blocks_of, events_in, IsBlockWithin, RunParamsValue, stream_params}
-use Rattle.stream_check.specs.Turns.{IsByTurns, line_count, streams_of}
+use Rattle.stream_check.specs.Turns.{IsByTurns, line_count}
 use Rattle.lrup_text.specs.ReadOut.{SourceView}
 use Rattle.portfolio.specs.internal.Working.{WorkerValue, WorkerInvariant, IsStarted}
 
@@ -61,13 +61,14 @@ pub record IsInRound {S : Type 0} (rounds taken : ℕ) (order : List ℕ)
 -- worker has come to what its own blocks say.
 pub record SerialInvariant {S : Type 0} (view : SourceView S) (formula : Cnf)
     (run_params : RunParamsValue)
-    (firsts : List S) (taken : ℕ) (map : Plain) (workers : List (WorkerValue S)) : Type 0 where
+    (firsts : List S) (taken : ℕ) (clauses : Plain)
+    (workers : List (WorkerValue S)) : Type 0 where
   pub count : length workers ≡ run_params.layout.streams
   pub blocks : List Block
-  pub map_is : HasRun formula run_params.layout blocks map
-  pub workers_are : AreWorking view run_params blocks map 1 firsts workers
+  pub map_is : HasRun formula run_params.layout blocks clauses
+  pub workers_are : AreWorking view run_params blocks clauses 1 firsts workers
   pub rounds : ℕ
-  pub in_round : IsInRound rounds taken (streams_of blocks) workers
+  pub in_round : IsInRound rounds taken (map (λ block. block.stream) blocks) workers
 
 -- the run of some formula, layout and readers stands here
 abbrev pub IsInSerialRun : {S : Type 0} → SourceView S → ℕ → Plain → List (WorkerValue S) → Type 0

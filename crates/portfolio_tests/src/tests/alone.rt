@@ -1,7 +1,7 @@
 //! What the contracts of runs say of a stream that cites within itself: one report, whatever its neighbour is.
 ghost use Rattle.std.specs.Prelude.{◌≡◌, [], Some, false, true, codes, length, map, IfOk};
 ghost use Rattle.std.specs.List.{AllByRecursion};
-ghost use Rattle.stream_check.specs.Laws.{IsOfMemory};
+ghost use Rattle.stream_check.specs.Excuses.{OutOfMemory, IsExcused};
 ghost use Rattle.stream_check.specs.Closed.{CiteWithin, IsOfStream};
 ghost use Rattle.run_laws.specs.Groups.{one};
 ghost use Rattle.stream_check.specs.SequentialConsistency.{seen_by};
@@ -69,7 +69,8 @@ fn said_by_threads<T: Threads + Wait + Sync>(
     neighbour: &str,
 ) -> Result<Report, Fail>
     requires { CiteWithin layout_of_two (one 1) first.now }
-    ensures { IfOk result (λ report. ¬ IsOfMemory report → IsOnlyReport first.now report) }
+    ensures { IfOk result (λ report. ¬ IsExcused OutOfMemory report
+        → IsOnlyReport first.now report) }
 {
     readers_closed();
     match_is_reading();
@@ -96,7 +97,8 @@ fn said_by_turns<W: Wait>(
     neighbour: &str,
 ) -> Result<Report, Fail>
     requires { CiteWithin layout_of_two (one 1) first.now }
-    ensures { IfOk result (λ report. ¬ IsOfMemory report → IsOnlyReport first.now report) }
+    ensures { IfOk result (λ report. ¬ IsExcused OutOfMemory report
+        → IsOnlyReport first.now report) }
 {
     readers_closed();
     match_is_reading();
@@ -150,7 +152,8 @@ fn said_beside<T: Threads + Wait + Sync>(
     by: By,
     neighbour: &str,
 ) -> Result<Report, Fail>
-    ensures { IfOk result (λ report. ¬ IsOfMemory report → IsOnlyReport first_bytes report) }
+    ensures { IfOk result (λ report. ¬ IsExcused OutOfMemory report
+        → IsOnlyReport first_bytes report) }
 {
     match by {
         By::Threads => said_by_threads(rt, alloc, FIRST, neighbour),
@@ -166,7 +169,7 @@ fn said_in_two_runs<T: Threads + Wait + Sync>(
     other_run: (By, &str),
 ) -> Result<(Report, Report), Fail>
     ensures { IfOk result (λ said.
-        ¬ IsOfMemory said.0 → ¬ IsOfMemory said.1 → said.0 ≡ said.1) }
+        ¬ IsExcused OutOfMemory said.0 → ¬ IsExcused OutOfMemory said.1 → said.0 ≡ said.1) }
 {
     let first = said_beside(rt, alloc, one_run.0, one_run.1)?;
     let second = said_beside(rt, alloc, other_run.0, other_run.1)?;

@@ -1,5 +1,5 @@
 -- What the parts of a checker do: a lookup, the hints of an addition, an addition, the identities of a deletion (this project's own).
-use Rattle.std.specs.Prelude.{◌≡◌, ◌==◌, ◌++◌, ◌||◌, ℕ, Bool, true, false, List, [], ◌∷◌, length, Result, Ok, Err}
+use Rattle.std.specs.Prelude.{◌≡◌, ◌==◌, ◌++◌, ◌||◌, ◌&&◌, ℕ, Bool, true, false, List, [], ◌∷◌, length, Result, Ok, Err}
 use Rattle.std.specs.List.{AllByRecursion}
 use Rattle.lrup_model.specs.Clause.{Clause}
 use Rattle.lrup_model.specs.Formula.{Cnf}
@@ -18,13 +18,12 @@ use Rattle.stream_check.specs.declared.params.Ownership.{Ownership}
 use Rattle.stream_check.specs.declared.params.Ownership.TheVariants as ownerships
 use Rattle.stream_check.specs.declared.line_stop.LineStop.{LineStop}
 use Rattle.stream_check.specs.declared.line_stop.LineStop.TheVariants as stops
-use Rattle.stream_check.specs.StreamParams.{StreamParams, ownership_of}
+use Rattle.stream_check.specs.StreamParams.{StreamParams, ownership_of, is_shared}
 use Rattle.stream_check.specs.StreamContext.{is_among}
 use Rattle.stream_check.specs.Verdicts.{LineVerdict, Good, Bad}
 use Rattle.stream_check.specs.Lookup.{AreFound}
 use Rattle.stream_check.specs.Additions.{FailsHints}
 use Rattle.stream_check.specs.Deletions.{JudgesDeletion, StopsDeletion}
-use Rattle.stream_check.specs.Stopping.{DropsMore}
 
 -- a live clause that a fetch gave is known in the view, every clause there follows, and the layout has the formula's variables
 abbrev pub Gives : CallerView → Fetched → Type 0
@@ -111,6 +110,11 @@ DeletesOne params id old new history result =
 abbrev pub counted : Result (Unit {0}) LineStop → ℕ
 counted (Ok _) = 1
 counted (Err stop) = 0
+
+-- of these identities those of the formula and of other streams were dropped, too
+abbrev pub DropsMore : StreamParams → (ℕ → Bool) → List ℕ → (ℕ → Bool) → Type 0
+DropsMore params old ids new =
+    (id : ℕ) → new id ≡ (old id || is_shared (ownership_of params id) && is_among ids id)
 
 -- The dropped ones are those of before, and the shared ones of these identities.
 abbrev pub AreDropped : StreamParams → List ℕ → List ℕ → List ℕ → Type 0

@@ -14,7 +14,7 @@ use Rattle.stream_check.specs.declared.fault.Fault.{Fault}
 use Rattle.stream_check.specs.StreamParams.{StreamParams}
 use Rattle.stream_check.specs.StreamContext.{StreamContext}
 use Rattle.stream_check.specs.Verdicts.{Violates}
-use Rattle.stream_check.specs.Lookup.{FetchesHint, LooksUp, AreFound, line_context}
+use Rattle.stream_check.specs.Lookup.{FetchesHint, LooksUp, AreFound}
 use Rattle.stream_check.specs.Additions.{BeforeHints, IsValidAddition, Misleads}
 use Rattle.stream_check.specs.internal.Checking.{IsFetch}
 
@@ -49,7 +49,8 @@ before_maps c st id lits es fs fault A B none next before =
 pub valid_passes : (c : StreamParams) (st : StreamContext) (fetches : History) (id : ℕ)
     (lits : List ℤ)
     (hints : List ℕ) (es : History) (fault : Fault) (A : Type 0)
-    → IsValidAddition c.layout c.stream (line_context c st fetches) id lits hints
+    → IsValidAddition c.layout c.stream st.last st.free
+    (λ ids clauses. AreFound c st.is_dropped ids clauses fetches) id lits hints
     → BeforeHints c st id lits es fault A → A
 valid_passes c st fetches id lits hints es fault A valid (inl bad) = absurd (bad.0 (valid.owns, valid.above))
 valid_passes c st fetches id lits hints es fault A valid (inr (a, inl bad)) = absurd (bad.0 valid.literals)

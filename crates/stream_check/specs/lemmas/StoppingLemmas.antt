@@ -1,11 +1,13 @@
 -- Lemmas on what a stream dropped that a line of it stopped.
-use Rattle.std.proofs.Common.{◌≡◌, ◌||◌, ◌&&◌, ◌∙◌, ℕ, Bool, true, false, List, [], ◌++◌, inl, inr, refl, sym, ap, append_assoc}
+use Rattle.std.proofs.Common.{◌≡◌, ◌⊎◌, ◌||◌, ◌&&◌, ◌∙◌, ℕ, Bool, true, false, List, [], ◌++◌, inl, inr, refl, sym, ap, append_assoc}
 use Rattle.std.specs.List.{flat_map}
 use Rattle.lrup_model.specs.Event.{History}
-use Rattle.lrup_text.specs.Lines.{line_text}
+use Rattle.lrup_text.specs.Lines.{StreamLine, IsWithinLimits, line_text}
 use Rattle.stream_check.specs.declared.report.Report.{Report}
 use Rattle.stream_check.specs.StreamParams.{StreamParams, ownership_of, is_shared}
-use Rattle.stream_check.specs.Stopping.{AreDeletedFirst, DropsMore, DropsUntilStop}
+use Rattle.stream_check.specs.Stopping.{DropsUntilStop}
+use Rattle.stream_check.specs.StreamContext.{deleted_by}
+use Rattle.stream_check.specs.internal.Checking.{DropsMore}
 
 or_none : (before shared : Bool) → (before || shared && false) ≡ before
 or_none true shared = refl
@@ -15,6 +17,13 @@ or_none false false = refl
 -- no identities drop nothing
 pub drops_none : (c : StreamParams) (is_dropped : ℕ → Bool) → DropsMore c is_dropped [] is_dropped
 drops_none c is_dropped id = sym (or_none (is_dropped id) (is_shared (ownership_of c id)))
+
+-- The identities are none, or the first ones of a deletion with which the bytes begin.
+abbrev pub AreDeletedFirst : List ℕ → List ℕ → Type 0
+AreDeletedFirst ids bytes =
+    (ids ≡ [])
+    ⊎ ((line : StreamLine) × IsWithinLimits line × (later more : List ℕ)
+    × (bytes ≡ line_text line ++ more) × (deleted_by line ≡ ids ++ later))
 
 first_longer : (ids bytes more : List ℕ) → AreDeletedFirst ids bytes
     → AreDeletedFirst ids (bytes ++ more)

@@ -1,10 +1,10 @@
 -- Lemmas on orders of lines that grow at their end, and on turns.
-use Rattle.std.proofs.Common.{◌≡◌, ◌≢◌, ◌++◌, ◌+◌, ◌≤◌, ℕ, List, [], ◌∷◌, Bool, cond, true, false, eqb, refl, sym, ap, subst, append_assoc, append-nil, arith, eq-eqb, ne_eqb}
+use Rattle.std.proofs.Common.{◌≡◌, ◌≢◌, ◌++◌, ◌+◌, ◌≤◌, ℕ, List, [], ◌∷◌, map, Bool, cond, true, false, eqb, refl, sym, ap, subst, append_assoc, append-nil, arith, eq-eqb, ne_eqb}
 use Rattle.std.proofs.lemmas.List.{map-append}
 use Rattle.std.proofs.lemmas.List.Sums.{sum_by_push, sum_by-append}
 use Rattle.lrup_model.specs.Event.{History}
 use Rattle.stream_check.specs.Streams.{Block, blocks_of}
-use Rattle.stream_check.specs.Turns.{AreTurns, IsTurnOf, line_count, streams_of}
+use Rattle.stream_check.specs.Turns.{AreTurns, IsTurnOf, line_count}
 
 pub blocks_of-append : (s : ℕ) (xs ys : List Block)
     → blocks_of s (xs ++ ys) ≡ blocks_of s xs ++ blocks_of s ys
@@ -15,6 +15,10 @@ blocks_of-append s (x ∷ xs) ys =
       | true ↦ ap (λ (bs : List History). x.events ∷ bs) rest
       | false ↦ rest
     ]
+
+-- the streams of some blocks, in order
+abbrev pub streams_of : List Block → List ℕ
+streams_of blocks = map (λ block. block.stream) blocks
 
 pub streams_of-push : (blocks : List Block) (block : Block)
     → streams_of (blocks ++ block ∷ []) ≡ streams_of blocks ++ block.stream ∷ []

@@ -8,8 +8,8 @@ use Rattle.lrup_model.specs.CallerView.{Caller}
 use Rattle.clause_store.specs.Passes.{PassValue, StoreValue, AreOf, store_of, views}
 use Rattle.stream_check.specs.SequentialConsistency.{HaveOneHistory}
 use Rattle.checkpoint.specs.Checkpoints.{WritesCheckpoint}
-use Rattle.portfolio.specs.Saving.{SavesFound, is_wanted}
-use Rattle.portfolio.proofs.SavingLemmas.{fetched_so, last_at, other_last}
+use Rattle.portfolio.specs.Saving.{is_wanted}
+use Rattle.portfolio.proofs.SavingLemmas.{SavesFound, fetched_so, last_at, other_last}
 use Rattle.portfolio.proofs.saving.save_live.Goals as goal
 
 -- the last of the passes is at the history's formula

@@ -6,8 +6,8 @@ use Rattle.lrup_model.specs.Plain.{Plain, formula_of, plain_state}
 use Rattle.lrup_model.specs.State.{Answers}
 use Rattle.lrup_model.specs.declared.plain_map.PlainDesk.{PlainDesk}
 use Rattle.checkpoint.specs.Live.{fetches}
-use Rattle.portfolio.specs.Saving.{SavesFound, is_wanted}
-use Rattle.portfolio.proofs.SavingLemmas.{fetches_answer}
+use Rattle.portfolio.specs.Saving.{is_wanted}
+use Rattle.portfolio.proofs.SavingLemmas.{SavesFound, fetches_answer}
 use Rattle.portfolio.proofs.saving.save_plain.Goals as goal
 
 -- the map answered the fetches one after the other, and they changed nothing
