@@ -4,7 +4,7 @@
     lrup_solve_resume.py PROGRAM [FLAGS [COUNT]]
 
 Whatever is killed, and however often, the answer is that of a run that is left alone; the record is checked again as a whole, and lrup-trim
-takes it. COUNT formulas are solved so, 12 if it isn't said. A record that was changed, cut or swapped, also with digests that fit, leads to
+takes it. COUNT formulas are solved so, 3 if it isn't said. A record that was changed, cut or swapped, also with digests that fit, leads to
 the right answer, to 's UNKNOWN', or to a message that names the file; one of another formula is refused, and nothing of it is touched. It
 builds as lrup_solve.py does. It shows what is off; the last line is 'N passed, M failed'. The status is 1 where a run failed.
 """
@@ -28,7 +28,7 @@ from proof_forms import read_formula
 from solving import (ANSWERS, EARLY, PROGRAM, SOLVE, Answer, before_lrupd, build, check_again, children_of, command, end_all, end_group,
                      in_environment, marked, none_left, solve, want_answer)
 
-COUNT = int((words_given(__doc__, most=3) + ["-O2", "12"][len(sys.argv) - 2:])[2])
+COUNT = int((words_given(__doc__, most=3) + ["-O2", "3"][len(sys.argv) - 2:])[2])
 SMALL = {"SAME_WORDS": 1, "SLICE": 20, "FIRST_WORDS": 4000}
 UNKNOWN, PROVED = "s UNKNOWN", "s UNSATISFIABLE"
 TRIES = 20
@@ -134,7 +134,8 @@ def by_a_pipe(work: Path) -> None:
     text, kept = generated("pigeons 7", work).read_text(), work / "kept"
     for given, words in ((text, []), (None, [kept / "formula.cnf"])):
         how = {"given": text}
-        with started(command(["--proofs", kept, "--replace"], SMALL), env=in_environment(SMALL), stdin=subprocess.PIPE, stdout=subprocess.DEVNULL) as running:
+        with started(command(["--proofs", kept, "--replace"], SMALL), env=in_environment(SMALL), stdin=subprocess.PIPE,
+                     stdout=subprocess.DEVNULL) as running:
             assert running.stdin
             running.stdin.write(text.encode())
             running.stdin.close()
@@ -197,7 +198,7 @@ def saved_at_the_end(number: Optional[signal.Signals], tested: Mapping[str, obje
     marked(work)
     formula, kept, words = generated("pigeons 10", work), work / "kept", ["--proofs"]
     rounds = 0
-    for _ in range(3):
+    for _ in range(2):
         limit = ["--time", "1.5"] if number is None else []
         with started(command(["-j", "2", *limit, *words, kept, formula], tested), env=in_environment(tested), text=True, stdout=subprocess.PIPE,
                      stderr=subprocess.PIPE) as running:
@@ -253,13 +254,13 @@ def by_the_clock(work: Path) -> None:
 def in_jobs(work: Path) -> None:
     """The script for Slurm, with a batch system that ends each job after its time: it tells the script before, or kills all at once."""
     numbers, mark = random.Random(3), marked(work)
-    formula, kept = generated("pigeons 9", work), work / "it's kept"
+    formula, kept = generated("pigeons 8", work), work / "it's kept"
     path = ":".join([str(SOLVE.parent), str(Path(PROGRAM).parent), os.environ["PATH"]])
     for count in range(1, 100):
-        with started(["sh", SCRIPT, formula, kept], env={**os.environ, "PATH": path, "SLURM_CPUS_PER_TASK": "4"}, stdout=subprocess.DEVNULL, stderr=subprocess.DEVNULL,
-                     start_new_session=True) as job:
+        with started(["sh", SCRIPT, formula, kept], env={**os.environ, "PATH": path, "SLURM_CPUS_PER_TASK": "4"}, start_new_session=True,
+                     stdout=subprocess.DEVNULL, stderr=subprocess.DEVNULL) as job:
             try:
-                job.wait(0.7 + 0.2 * count)
+                job.wait(0.4 + 0.2 * count)
             except subprocess.TimeoutExpired:
                 is_told = numbers.random() < 0.7
                 if is_told:
@@ -270,7 +271,7 @@ def in_jobs(work: Path) -> None:
         if (work / "it's kept.answer").exists():
             break
     want((work / "it's kept.answer").read_text().splitlines()[-1], PROVED, "the answer")
-    want(count > 2, True, f"jobs, of which there were {count}")
+    want(count > 1, True, f"jobs, of which there were {count}")
     whole(kept, formula, work)
 
 
@@ -436,7 +437,8 @@ def forged(status: int, change: Callable[[Path], None], work: Path) -> None:
     with_digests(kept)
     answer = solve(["-j", "2", "--resume", kept, formula], tested={**SMALL, "TRIES": 1000})
     answer.said = answer.said if answer.status == 1 else ""
-    want((answer.answers in ([], [UNKNOWN], [ANSWERS[status]]), answer.status in (0, 1, status)), (True, True), f"the answer of\n{answer.out}{answer.said}")
+    want((answer.answers in ([], [UNKNOWN], [ANSWERS[status]]), answer.status in (0, 1, status)), (True, True),
+         f"the answer of\n{answer.out}{answer.said}")
     if answer.status == status:
         want_answer(answer, status, formula)
 
@@ -488,7 +490,8 @@ def of_two(work: Path) -> None:
     with started(command(["-j", "1", "--proofs", kept, formula]), stdout=subprocess.DEVNULL) as running:
         until("it has begun", lambda: (kept / "formula.sha256").exists())
         answer = solve(["--resume", kept, formula])
-        want((answer.said, answer.status), (f"lrup-solve: {kept}: another run that goes on has its files there: another --proofs\n", 1), "what is said")
+        said = f"lrup-solve: {kept}: another run that goes on has its files there: another --proofs\n"
+        want((answer.said, answer.status), (said, 1), "what is said")
         running.kill()
         answer = solve(["--resume", kept, "--time", "1", formula])
         want_answer(answer, 0)
@@ -515,8 +518,9 @@ def rows() -> List[Row]:
         (["-j", "2", "--assume", "CUBE"], ["-j", "3", "--assume", "CUBE"], under))]
     if shutil.which("cadical"):
         found += [("a solver goes on", with_others, ["-j", "1"], ["--solver", "cadical -q %formula %proof"], PROVED)]
-    found += [(f"saved at the end, {ENDS[number]}, {name}", saved_at_the_end, number, tested) for number in ENDS
-              for name, tested in (("small rows", SMALL), ("one row", {}))]
+    found += [(f"saved at the end, {ENDS[number]}, {'small rows' if tested else 'one row'}", saved_at_the_end, number, tested)
+              for number, tested in ((signal.SIGTERM, SMALL), (signal.SIGTERM, {}), (signal.SIGINT, {}), (signal.SIGHUP, SMALL), (None, {}),
+                                     (None, SMALL))]
     found += [("in jobs", in_jobs), ("a second signal", second_signal), ("saved by the clock", by_the_clock)]
     found += [("by a pipe", by_a_pipe), ("moved", moved), ("nothing saved", nothing_saved), ("a slow lrupd", lasting)]
     found += [(f"changed, {ANSWERS[status]}", changed, status, seed) for status in (10, 20) for seed in range(1 + COUNT // 50)]

@@ -94,9 +94,11 @@ void Inputs::check_digests() {
         int file = open_input(*files[k]);
         std::string digest = digest_of(file, name[k]);
         close(file);
-        if (!std::getline(lines, line)) refuse(path + " doesn't have the SHA-256 of the " + name[k] + ": the run can't go on");
+        if (!std::getline(lines, line))
+            refuse(path + " doesn't have the SHA-256 of the " + name[k] + ": the run can't go on");
         if (line.compare(line[0] == '\\', DIGEST_DIGITS + 2, digest + "  ") != 0)
-            refuse(title(k == 0 ? options.formula : options.assume) + " isn't the " + name[k] + " of " + options.resumed + ", or was changed since");
+            refuse(title(k == 0 ? options.formula : options.assume) + " isn't the " + name[k] + " of " +
+                   options.resumed + ", or was changed since");
     }
     if (std::getline(lines, line)) refuse(std::string(options.resumed) + " is the record of a run with --assume");
 }

@@ -51,7 +51,8 @@ void Rounds::begin(const std::string &program) {
     saver.saved = last > 0 ? number : 0;
     checker_program = program;
     rows_open(&rows, inputs.options.memory, inputs.options.most_memory, teams.size());
-    if (last > 0) rows.words = std::max(rows.words, inputs.saved.streams(last) * (inputs.saved.row(last).lines + inputs.saved.row(last).room));
+    Row row = last > 0 ? inputs.saved.row(last) : Row{ 0, 0 };
+    if (last > 0) rows.words = std::max(rows.words, inputs.saved.streams(last) * (row.lines + row.room));
     rows.words = std::min(hooked(test_hooks.first_words, rows.words), MOST_WORDS);
     rows.largest = hooked(test_hooks.largest, rows.largest);
     rows.most = std::min(rows.largest, std::max(rows.most, 2 * (1 + clauses + literals)));
@@ -61,7 +62,7 @@ void Rounds::begin(const std::string &program) {
 std::string Rounds::beginning() const {
     const std::string folder = quoted(inputs.options.record);
     if (inputs.saved.count() == 0) return folder + ": no round was saved, so the run begins anew";
-    return folder + format(": round %llu begins, with ", (unsigned long long)number) + counted(inputs.first_formula.clauses, "clause");
+    return folder + ": round " + std::to_string(number) + " begins, with " + counted(inputs.first_formula.clauses, "clause");
 }
 
 // For the clauses of all, in the largest row. First no engine gives away what others can do without. Where that isn't enough one
@@ -303,7 +304,8 @@ std::string Rounds::feed_saved() {
         if (checker.feed(k, saved_bytes[k], false)) checker.end_stream(k);
     for (; compared < checker.digests.size(); compared++) {
         const std::string &line = checker.digests[compared];
-        if (inputs.saved.is_changed(line)) return teams.record + line.substr(DIGEST_DIGITS + 2) + " was changed since it was saved";
+        if (inputs.saved.is_changed(line))
+            return teams.record + line.substr(DIGEST_DIGITS + 2) + " was changed since it was saved";
     }
     if (checker.awaits_sizes()) begin_next();
     return "";
@@ -364,7 +366,7 @@ std::string Rounds::look() {
     if (!unsaved.empty()) display.tell(unsaved);
     for (size_t k = 0; k < teams.size() && state == OPEN; k++)
         if (LOAD(teams.engine_status(k).ended_round) == number) end_round(true);
-    if (state == OPEN && ends_here && !has_more()) state = SAVED;
+    if (state == OPEN && ends_here && !has_more()) state = SAVED, next = number;
     if (state == OPEN && (ends_here || now() >= next_saving())) end_round(false);
     if (state == ENDING && !checker.child.pid) start_checker(rows.row);
     if (state == ENDING && !is_behind() && teams.have_all(&EngineStatus::ended_round, number)) {
@@ -400,11 +402,14 @@ void Rounds::keep_checkpoint() {
 
 // None, where nothing was saved.
 std::string Rounds::how_to_go_on() {
-    saver.end();
+    std::string unsaved = saver.end();
+    if (!unsaved.empty()) display.tell(unsaved);
     if (!inputs.options.may_be_resumed() || saver.saved == 0) return "";
-    bool is_all = saver.saved == number + 1 || (saver.saved == number && teams.all(&EngineStatus::lines) == lines_before);
-    std::string line = quoted(inputs.options.record) + " has " + counted(saver.saved - 1, "round") + (is_all ? "" : ", and nothing of what came then");
-    line += ": lrup-solve --resume " + quoted(inputs.options.record);
+    bool has_more = teams.all(&EngineStatus::lines) > lines_before;
+    bool is_all = next != 0 ? saver.saved == next : saver.saved == number && !has_more;
+    const std::string folder = quoted(inputs.options.record);
+    std::string line = folder + " has " + counted(saver.saved - 1, "round");
+    line += (is_all ? "" : ", and nothing of what came then") + (": lrup-solve --resume " + folder);
     if (inputs.options.assume) line += " --assume " + quoted(inputs.assume_path);
     return line + " " + quoted(inputs.formula_path) + " goes on";
 }
@@ -433,8 +438,11 @@ std::string Rounds::map_round() {
     checkpoint_read(&saved, teams.shared->checkpoint);
     said = words(streams);
     keep_checkpoint();
-    if (ends_here) state = SAVED;
-    if (ends_here) return "";
+    if (ends_here) {
+        state = SAVED;
+        next = number + 1;
+        return "";
+    }
     uint64_t before = rows.words;
     if (is_full) rows_grow(&rows);
     if (test_hooks.same_words) rows.words = before;

@@ -52,6 +52,7 @@ private:
     double pause_begun = 0, begun = now();      // the last pause, and the round
     bool is_full = false;                       // its row, and it ends
     bool ends_here = false;                     // the run, with the round that is on
+    uint64_t next = 0;                          // the round that a run begins with, once all is saved; 0: it isn't
     bool has_told_loss = false;
 
     bool size(uint64_t clauses, uint64_t literals);

@@ -279,7 +279,8 @@ void Run::verdict() {
 
 std::string Run::end_of_checker() const {
     bool is_unsaved = checker.child.ended_with(UNSAVED_STATUS);
-    std::string where = rounds.is_behind() && rounds.checked > 0 ? ", in round " + std::to_string(rounds.checked) + " of " + inputs.options.record : "";
+    bool is_of_record = rounds.is_behind() && rounds.checked > 0;
+    std::string where = is_of_record ? ", in round " + std::to_string(rounds.checked) + " of " + inputs.options.record : "";
     return "lrupd " + checker.child.end() + where + (is_unsaved ? ": " + Folder::room() : "");
 }
 

@@ -1,4 +1,4 @@
-// Unverified, as all of this solver. What a record has of rounds that a run may go on from: reading it, and writing it.
+// Unverified, as all of this solver. What a record has of rounds with which a run may go on.
 #include <algorithm>
 #include <cerrno>
 #include <cstdio>
@@ -17,20 +17,28 @@ namespace {
 
 const size_t BEFORE_NAME = DIGEST_DIGITS + 2, PIECE = 1 << 16;
 
-std::string checkpoint_name(uint64_t round) { return "checkpoint-" + std::to_string(round) + ".cnf"; }
+std::string checkpoint_name(uint64_t round) {
+    return "checkpoint-" + std::to_string(round) + ".cnf";
+}
+
+std::string sizes_name(uint64_t round) { return name_of_round(round) + ".sizes"; }
 
 std::string stream_name(uint64_t round, size_t number) {
     return name_of_round(round) + ".stream-" + std::to_string(number);
 }
 
-[[noreturn]] void refuse_changed(const std::string &path) { refuse(path + " was changed since it was saved: the run can't go on"); }
+[[noreturn]] void refuse_file(const std::string &why) { refuse(why + ": the run can't go on"); }
+
+[[noreturn]] void refuse_changed(const std::string &path) {
+    refuse_file(path + " was changed since it was saved");
+}
 
 // That is a regular file.
 int open_regular(const std::string &path) {
     struct stat found;
     int file = open_in_record(path.substr(path.rfind('/') + 1));
-    if (file < 0) refuse(path + ": " + error_text() + ": the run can't go on");
-    if (fstat(file, &found) != 0 || !S_ISREG(found.st_mode)) refuse(path + " is no regular file: the run can't go on");
+    if (file < 0) refuse_file(path + ": " + error_text());
+    if (fstat(file, &found) != 0 || !S_ISREG(found.st_mode)) refuse_file(path + " is no regular file");
     return file;
 }
 
@@ -50,21 +58,22 @@ void SavedRounds::read_list(const std::string &text) {
     std::istringstream lines(text);
     std::string line, name;
     for (uint64_t number = 1; std::getline(lines, line); number++) {
-        bool is_digest = line.find_first_not_of("0123456789abcdef") == DIGEST_DIGITS && line.compare(DIGEST_DIGITS, 2, "  ") == 0;
+        bool is_digest = line.find_first_not_of("0123456789abcdef") == DIGEST_DIGITS &&
+                         line.compare(DIGEST_DIGITS, 2, "  ") == 0;
         name = is_digest ? line.substr(BEFORE_NAME) : "";
         bool is_right = !name.empty() && name.find('/') == std::string::npos && digests.count(name) == 0;
-        if (!is_right) refuse(path + ", line " + std::to_string(number) + ", isn't as it was written: the run can't go on");
+        if (!is_right) refuse_file(path + ", line " + std::to_string(number) + ", isn't as it was written");
         digests[name] = line.substr(0, DIGEST_DIGITS);
     }
-    if (text.empty() || text.back() != '\n') refuse(path + " is cut: the run can't go on");
+    if (text.empty() || text.back() != '\n') refuse_file(path + " is cut");
 }
 
 SavedRounds::Sizes SavedRounds::read_sizes(uint64_t round) const {
     unsigned long long streams = 0, lines = 0, room = 0;
-    const std::string path = folder + name_of_round(round) + ".sizes", text = read_text(path);
-    bool is_read = sscanf(text.c_str(), "%llu %llu %llu", &streams, &lines, &room) == 3;
-    bool is_right = is_read && streams >= 1 && streams <= MOST_ENGINES && lines <= MOST_WORDS && room <= MOST_WORDS;
-    if (!is_right || is_changed(digest_of(text) + "  " + name_of_round(round) + ".sizes")) refuse_changed(path);
+    const std::string path = folder + sizes_name(round), text = read_text(path);
+    bool is_right = sscanf(text.c_str(), "%llu %llu %llu", &streams, &lines, &room) == 3 && streams >= 1 &&
+                    streams <= MOST_ENGINES && lines <= MOST_WORDS && room <= MOST_WORDS;
+    if (!is_right || is_changed(digest_of(text) + "  " + sizes_name(round))) refuse_changed(path);
     return { size_t(streams), { lines, room } };
 }
 
@@ -74,19 +83,20 @@ void SavedRounds::read(const std::string &record) {
     if (!is_there(folder + LIST_OF_ROUNDS)) return;
     read_list(read_text(folder + LIST_OF_ROUNDS));
     size_t named = 1;       // the checkpoint
-    for (uint64_t round = 1; digests.count(name_of_round(round) + ".sizes") != 0; round++) {
+    for (uint64_t round = 1; digests.count(sizes_name(round)) != 0; round++) {
         sizes.push_back(read_sizes(round));
         for (size_t k = 1; k <= streams(round); k++) close(open_stream(round, k));
         named += 1 + streams(round);
     }
-    bool is_whole = count() > 0 && digests.count(checkpoint_name(count() + 1)) != 0 && digests.size() == named;
-    if (!is_whole) refuse(folder + LIST_OF_ROUNDS + " names other files than a run saves: the run can't go on");
+    bool has_checkpoint = count() > 0 && digests.count(checkpoint_name(count() + 1)) != 0;
+    if (!has_checkpoint || digests.size() != named)
+        refuse_file(folder + LIST_OF_ROUNDS + " names other files than a run saves");
 }
 
 int SavedRounds::open_stream(uint64_t round, size_t number) const {
-    const std::string path = folder + stream_name(round, number);
-    if (digests.count(stream_name(round, number)) == 0) refuse(folder + LIST_OF_ROUNDS + " doesn't name " + path + ": the run can't go on");
-    return open_regular(path);
+    const std::string name = stream_name(round, number);
+    if (digests.count(name) == 0) refuse_file(folder + LIST_OF_ROUNDS + " doesn't name " + name);
+    return open_regular(folder + name);
 }
 
 std::vector<int> SavedRounds::open(uint64_t round) const {
@@ -156,7 +166,8 @@ std::string copy_checkpoint(int file, const std::string &path, std::string &dige
 
 }
 
-void Saver::save(uint64_t round, const std::string &record, const std::string &checkpoint, const std::vector<std::string> &all) {
+void Saver::save(uint64_t round, const std::string &record, const std::string &checkpoint,
+                 const std::vector<std::string> &all) {
     if (!cause) cause = shared_memory<char>(LONGEST_CAUSE);
     folder = record + "/";
     digests = &all;
@@ -170,7 +181,8 @@ void Saver::start() {
     now = next;
     next = Work();
     const std::string path = folder + checkpoint_name(now.round), list = folder + LIST_OF_ROUNDS;
-    for (const std::string &name : { path, unfinished(path), list, unfinished(list) }) claim(place_of(name));
+    for (const std::string &name : { path, unfinished(path), list, unfinished(list) })
+        claim(place_of(name));
     child = Child();
     if (begin(child, "saver", { now.file, record_folder })) {
         give_way();
@@ -197,10 +209,10 @@ std::string Saver::write() const {
     return "";
 }
 
-void Saver::end() {
+std::string Saver::end() {
     close_file(next.file);
     next = Work();
-    look();
+    return look();
 }
 
 std::string Saver::look() {

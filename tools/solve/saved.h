@@ -1,6 +1,8 @@
-// Unverified, as all of this solver. Rounds that a record has whole, so that a run may go on with it. The record's rounds.sha256 has
-// the digests of their sizes and streams, and of checkpoint-R.cnf, the clauses with which round R begins, the first one that it doesn't
-// have. Nothing of that is believed: lrupd begins with FORMULA, and gets these streams before those of the round that is on.
+// Unverified, as all of this solver. Rounds that a record has whole, so that a run may go on with
+// it. The record's rounds.sha256 has the digests of their sizes and streams, and of
+// checkpoint-R.cnf, the clauses with which round R begins, the first one that it doesn't have.
+// Nothing of that is believed: lrupd begins with FORMULA, and gets these streams before those of
+// the round that is on.
 #ifndef SAVED_H
 #define SAVED_H
 
@@ -17,7 +19,7 @@ public:
     Row row(uint64_t round) const { return sizes[round - 1].row; }
     std::vector<int> open(uint64_t round) const;        // its streams
     std::string checkpoint() const;                     // its path
-    void check(const std::string &path) const;          // refuses it where it was changed; names a file by that
+    void check(const std::string &path) const;          // refuses it where it was changed
     bool is_changed(const std::string &line) const;     // of a digest and a name
     std::vector<std::string> paths() const;             // of all that the record needs
 
@@ -39,10 +41,12 @@ public:
     Child child;
     uint64_t saved = 0;                 // the round that a run would begin with; 0: none
 
-    // Of the round that begins. Where the one before is still being saved it comes next, but for one that comes then.
-    void save(uint64_t round, const std::string &record, const std::string &checkpoint, const std::vector<std::string> &digests);
+    // Of the round that begins. Where one is still being saved it comes next, unless another one
+    // comes before that.
+    void save(uint64_t round, const std::string &record, const std::string &checkpoint,
+              const std::vector<std::string> &all);
     std::string look();                 // why it couldn't be saved, once that is known
-    void end();                         // nothing more is saved
+    std::string end();                  // nothing more is saved
     bool is_busy() const { return child.running || next.round != 0; }
 
 private:
