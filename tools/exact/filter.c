@@ -27,6 +27,8 @@ void filter_open(Filter *filter, bool frat) {
     propagation_open(&filter->propagation, &filter->clauses, formula->variables);
     hints_open(&filter->hints, &filter->clauses, formula->variables);
     for (size_t k = 0; k < formula->clauses; k++) {
+        uint64_t length = formula->starts.items[k + 1] - formula->starts.items[k];
+        if (filter->hooks && filter->hooks->lacks && filter->hooks->lacks(k, length)) continue;
         formula_clause(formula, k, literals);
         bool tautology = literals_clash(literals->items, literals->length);
         ClauseRef ref = clauses_add(&filter->clauses, k + 1, literals->items, literals->length, tautology);

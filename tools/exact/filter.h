@@ -24,6 +24,7 @@ typedef struct {
     void (*derived)(const Filter *filter);  // once the line is written, but not yet out: its identity is the last one
     uint64_t (*gift)(uint64_t engine, uint64_t position);       // what this engine gave away there: the identity
     void (*passed)(uint64_t engine, uint64_t position);         // nothing before it will be taken over
+    bool (*lacks)(uint64_t clause, uint64_t length);            // whether the solver begins without this one; NULL: it has all
 } Hooks;
 
 // Of a literal that a chain needs: by how many clauses of it, and how many hints show it, if it has no lemma.

@@ -139,6 +139,7 @@ private:
         solver.reserve(engine.formula->variables);
         const Formula &formula = *engine.formula;
         for (size_t k = 0; k < formula.clauses; k++) {
+            if (!begins_with(engine.beginning, k, formula.starts.items[k + 1] - formula.starts.items[k], engine.number)) continue;
             for (size_t at = formula.starts.items[k]; at < formula.starts.items[k + 1]; at++)
                 solver.add(as_written(formula.literals.items[at]));
             solver.add(0);

@@ -269,6 +269,10 @@ static uint64_t gift(uint64_t engine, uint64_t position) {
     return identity;
 }
 
+static bool lacks(uint64_t clause, uint64_t length) {
+    return !begins_with(&own->beginning, clause, length, own->engine);
+}
+
 static void passed(uint64_t engine, uint64_t position) { STORE(engine_status->floors[engine_of(engine)], position); }
 
 // A round may end before the first bytes are there, so the filter is open by then. A binary proof that may be either is DRAT.
@@ -304,7 +308,8 @@ static void end_proof(void) {
 // Doesn't return. The formula was read before the fork; what the filter does with it stays in this process. Of the stream no
 // clause is deleted before a round ends: others may cite what was given away at any time, and lrupd gives no memory back for it.
 void filter_process(const Filtering *filtering, const void *formula) {
-    static const Hooks hooks = { .ends = ends, .derives = derives, .derived = derived, .gift = gift, .passed = passed };
+    static const Hooks hooks = { .ends = ends, .derives = derives, .derived = derived, .gift = gift, .passed = passed,
+                                 .lacks = lacks };
     own = filtering;
     errors_handle(end);
     engine_status = &own->shared->engine_statuses[own->engine - 1];

@@ -116,6 +116,19 @@ static inline uint32_t *next_gift(const Shared *shared, uint32_t *outbox, uint64
 
 static inline const Literal *literals_of(const uint32_t *gift) { return (const Literal *)(const void *)(gift + HEAD_OF_A_GIFT); }
 
+// Which clauses an engine begins with: the user's formula, and of those that a run before has saved the short ones; of the longer
+// ones, up to a length, each goes to one engine. Nobody deletes them any more, and one engine alone had most of them.
+typedef struct {
+    uint64_t formula;               // clauses of the user's formula, which come first
+    uint64_t for_all, for_one;      // literals at most
+    uint64_t engines;
+} Beginning;
+
+static inline bool begins_with(const Beginning *beginning, uint64_t clause, uint64_t length, int engine) {
+    bool is_own = length <= beginning->for_one && clause % beginning->engines == (uint64_t)engine - 1;
+    return clause < beginning->formula || length <= beginning->for_all || is_own;
+}
+
 // What a filter needs to know.
 typedef struct {
     Shared *shared;
@@ -130,6 +143,7 @@ typedef struct {
     const int *assumed;             // literals
     size_t assumed_length;
     uint64_t spared;                // clauses of the user's formula, with which a run may go on that was ended
+    Beginning beginning;
 } Filtering;
 
 #ifdef __cplusplus

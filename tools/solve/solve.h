@@ -151,6 +151,7 @@ struct Engine {
     const std::vector<Cube> *cubes;     // of the user's file
     Shared *shared;
     uint32_t *const *outboxes;          // by engine, from 0
+    const Beginning *beginning;
     signed char *model;                 // by variable, from 0: 1 true, -1 false
     int number, proof;                  // from 1; the file
 };

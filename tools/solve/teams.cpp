@@ -19,6 +19,7 @@ const int PROOF_PIPE = 1 << 20, ALL_PROOF_PIPES = 1 << 24;     // the system giv
 const int CROWDED_PIPE = 1 << 16;
 const double MOMENT = 0.1;      // seconds in which the first engine is alone, beside READINGS of the formula
 const int READINGS = 2;
+const uint64_t LEARNED = 1 << 18;   // literals
 const size_t HEAD = 1 << 20;    // bytes of a proof, which show whether it is a stream
 
 }
@@ -130,9 +131,30 @@ void Teams::find_streams() {
     if (are_streams) cited = inputs.options.solvers;
 }
 
+// What was saved takes no more room in an engine than the formula does, or than what an engine usually has learned: half of it for what
+// all have.
+void Teams::find_beginning() {
+    const Formula &all = inputs.first_formula;
+    uint64_t own = inputs.formula.clauses, engines = std::max<uint64_t>(1, list.size() - inputs.options.solvers.size());
+    uint64_t left = std::max<uint64_t>(LEARNED, all.starts.items[own]) / 2, taken = 0;
+    std::vector<uint64_t> literals(1);      // by length of a clause, those of all
+    for (size_t k = own; k < all.clauses; k++) {
+        size_t length = all.starts.items[k + 1] - all.starts.items[k];
+        if (length >= literals.size()) literals.resize(length + 1);
+        literals[length] += length;
+    }
+    beginning = { own, 0, 0, engines };
+    size_t length = 1;
+    for (; length < literals.size() && taken + literals[length] <= left; length++) taken += literals[length];
+    beginning.for_all = length - 1;
+    for (taken = 0; length < literals.size() && taken + literals[length] <= engines * left; length++) taken += literals[length];
+    beginning.for_one = length - 1;
+}
+
 // What is easy takes no more cores than it needs.
 void Teams::start(bool is_first_alone) {
     find_streams();
+    find_beginning();
     dealer.open(inputs.cubes);
     STORE(shared->cubes_left, inputs.cubes.size());
     is_first_alone &= !test_hooks.at_once && !list.empty() && !is_solver(0);
@@ -184,7 +206,8 @@ void Teams::start_filter(size_t k) {
                             is_solver(k) ? UNKNOWN_FORM : SHARING_DRAT,
                             inputs.options.shares() && !is_solver(k), cited.empty() ? nullptr : cited.data(),
                             inputs.assumed.data(), inputs.assumed.size(),
-                            inputs.options.may_be_resumed() ? inputs.formula.clauses : 0 };
+                            inputs.options.may_be_resumed() ? inputs.formula.clauses : 0,
+                            is_solver(k) ? Beginning{ UINT64_MAX, 0, 0, 1 } : beginning };
     filter_process(&filtering, &inputs.first_formula);
 }
 
@@ -215,7 +238,7 @@ void Teams::start_engine(size_t k) {
     Team &team = list[k];
     int number = int(k) + 1, renamed = -1;
     Engine engine = { &inputs.options, &inputs.first_formula, &inputs.assumed, &inputs.cubes, shared,
-                      outboxes.data(), team.model, number, team.proof.write };
+                      outboxes.data(), &beginning, team.model, number, team.proof.write };
     std::vector<int> files = { team.proof.write };
     bool is_proof = inputs.options.check;
     if (is_proof) look_at_proof(k);

@@ -74,6 +74,7 @@ private:
     const Inputs &inputs;
     std::vector<Team> list;
     double others_start = 0;            // 0: they have
+    Beginning beginning = {};
     std::vector<const char *> cited;    // proofs to check that are streams of one run; or none
 
     int size_of_pipes() const;
@@ -84,6 +85,7 @@ private:
     void look_at_proof(size_t k);
     bool is_a_stream(size_t k) const;
     void find_streams();
+    void find_beginning();
     bool has_refuted(size_t k) const;
     void pause_others();
     void cut_stream(size_t k, uint64_t bytes);
