@@ -8,10 +8,10 @@ use Rattle.test_support.specs.Worked.{four}
 
 pub returns : goal.returns
 unfolding digits
-returns c cube tries observed observation reports report run texts at entry says memory failure =
+returns c cube tries observed observation reports report run texts at entry says whole =
     elim (c.valid_together.ensures four (run_params_at two_streams cube tries) (λ s. true) shared observed reports 2 observation report
     four_is_cnf (record { vars = refl; clauses = refl; literals = refl }) shared_is_valid
-    (refl, (refl, (refl, (refl, tt)))) run texts refl at entry says memory failure) [
+    (refl, (refl, (refl, (refl, tt)))) run texts refl at entry says whole) [
       | inl same ↦ inl (record {
         added = ap (λ (r : Report). r.added) same;
         deleted = ap (λ (r : Report). r.deleted) same;

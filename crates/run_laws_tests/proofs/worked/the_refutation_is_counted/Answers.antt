@@ -7,11 +7,11 @@ use Rattle.run_laws_tests.proofs.worked.the_refutation_is_counted.Goals as goal
 use Rattle.test_support.specs.Worked.{four}
 
 pub returns : goal.returns
-returns c cube tries observed observation reports report run at entry says memory failure =
+returns c cube tries observed observation reports report run at entry says whole =
     let same = c.valid_reported.ensures four (run_params_at one_stream cube tries) 1
     (codes "5 2 0 1 2 0\n6 0 5 3 4 0\n") refutation observed observation reports report
     four_is_cnf (record { vars = refl; clauses = refl; literals = refl })
-    (omega arith, omega arith) refutation_is_valid run at entry says memory failure in
+    (omega arith, omega arith) refutation_is_valid run at entry says whole in
     record {
       added = ap (λ (r : Report). r.added) same;
       deleted = ap (λ (r : Report). r.deleted) same;
