@@ -37,7 +37,7 @@ SOON = 20       # seconds, after which a run should have ended
 
 
 def ended(words: Sequence[object], tested: Mapping[str, object], after: float, number: int = signal.SIGKILL) -> Answer:
-    """A run that gets a signal so many seconds after its start, unless it has ended by then. No process is left."""
+    """A run that gets a signal this many seconds after its start, unless it has ended by then. No process is left."""
     mark = f"LRUP_MARK={os.environ['LRUP_MARK']}"
     with started(command(words, tested), env=in_environment(tested), text=True, stdout=subprocess.PIPE, stderr=subprocess.PIPE) as running:
         try:
@@ -56,7 +56,7 @@ def saved_rounds(kept: Path) -> int:
 
 
 def recorded(words: Sequence[object], kept: Path, least: int, tested: Mapping[str, object]) -> None:
-    """The record of a run that was killed once it had saved so many rounds. One that has ended by then is tried again."""
+    """The record of a run that was killed once it had saved this many rounds. One that has ended by then is tried again."""
     for _ in range(TRIES):
         with started(command(["--proofs", kept, "--replace", *words], tested), env=in_environment(tested), stdout=subprocess.DEVNULL) as running:
             until(f"{least} rounds are saved", lambda: saved_rounds(kept) > least or running.poll() is not None)
@@ -121,7 +121,7 @@ def with_others(first: Sequence[str], second: Sequence[str], text: str, work: Pa
     want_answer(answer, 20, verdict=text)
     begun = re.search(r"^c \S+: round (\d+) begins, with ", answer.out, re.M)
     want(begun is not None and int(begun[1]) > 3, True, f"whether it goes on, in\n{answer.out[:2000]}")
-    want("lrupd has read what was saved" in answer.comments, True, f"whether that is told in\n{answer.out[-2000:]}")
+    want("lrupd has read what was saved" in answer.comments, True, f"whether a comment says so, in\n{answer.out[-2000:]}")
     if text == PROVED:
         whole(kept, formula, work)
     else:
@@ -190,7 +190,7 @@ def way_on(answer: Answer, kept: Path, formula: Path) -> Tuple[int, bool]:
     said = [re.fullmatch(rf"{kept} has (\d+) rounds?(, and nothing of what came then)?: lrup-solve --resume {kept} {formula} goes on", line)
             for line in answer.comments]
     found = [one for one in said if one]
-    want(len(found), 1, f"whether it is told how to go on, in\n{answer.out}{answer.said}")
+    want(len(found), 1, f"whether a comment says how to go on, in\n{answer.out}{answer.said}")
     return int(found[0][1]), found[0][2] is not None
 
 
@@ -216,7 +216,7 @@ def saved_at_the_end(number: Optional[signal.Signals], tested: Mapping[str, obje
 
 
 def second_signal(work: Path) -> None:
-    """While lrupd stands still nothing can be saved: the second one ends the run at once."""
+    """While lrupd is stopped nothing can be saved: the second signal ends the run at once."""
     marked(work)
     formula, kept = generated("pigeons 11", work), work / "kept"
     recorded(["-j", "2", formula], kept, 1, SMALL)
@@ -240,7 +240,7 @@ def second_signal(work: Path) -> None:
 
 
 def by_the_clock(work: Path) -> None:
-    """A round ends every so many seconds, though its row has room."""
+    """A round ends by the clock, though its row has room."""
     marked(work)
     formula, kept = generated("pigeons 11", work), work / "kept"
     answer = solve(["-v", "-j", "2", "--time", "3", "--save-every", "0.25", "--proofs", kept, formula])
@@ -254,7 +254,7 @@ def by_the_clock(work: Path) -> None:
 
 
 def in_jobs(work: Path) -> None:
-    """The script for Slurm, with a batch system that ends each job after its time: it tells the script before, or kills all at once."""
+    """The script for Slurm, with a batch system that ends each job after its time: it warns the script by a signal, or kills all at once."""
     numbers, mark = random.Random(3), marked(work)
     formula, kept = generated("pigeons 9", work), work / "it's kept"
     path = ":".join([str(SOLVE.parent), str(Path(PROGRAM).parent), os.environ["PATH"]])
@@ -264,10 +264,10 @@ def in_jobs(work: Path) -> None:
             try:
                 job.wait(0.5 + 0.3 * count)
             except subprocess.TimeoutExpired:
-                is_told = numbers.random() < 0.7
-                if is_told:
+                is_warned = numbers.random() < 0.7
+                if is_warned:
                     job.terminate()
-                    want(job.wait(SOON), 0, "the status of a job that is told to end")
+                    want(job.wait(SOON), 0, "the status of a job that is warned")
                 end_group(job)
         end_all(mark)
         if (work / "it's kept.answer").exists():
@@ -500,14 +500,14 @@ def of_two(work: Path) -> None:
 
 
 def unsaved(work: Path) -> None:
-    """What can't be saved is told, and the run goes on."""
+    """A comment says what can't be saved, and the run goes on."""
     marked(work)
     formula, kept = generated("pigeons 7", work), work / "kept"
     lrupd = before_lrupd(f"mkdir -p {kept}/checkpoint-2.cnf", work)
     answer = solve(["-j", "2", "--lrupd", lrupd, "--proofs", kept, formula], tested=SMALL)
     want_answer(answer, 20)
-    told = f"round 1 isn't saved: cannot write {kept}/checkpoint-2.cnf: "
-    want(any(line.startswith(told) for line in answer.comments), True, f"whether that is told in\n{answer.out}")
+    expected = f"round 1 isn't saved: cannot write {kept}/checkpoint-2.cnf: "
+    want(any(line.startswith(expected) for line in answer.comments), True, f"whether a comment says so, in\n{answer.out}")
     check_again(kept)
 
 
