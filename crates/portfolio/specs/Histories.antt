@@ -14,7 +14,7 @@ use Rattle.run_laws.specs.Groups.{IsRunOfFirst}
 use Rattle.portfolio.specs.Dropping.{HaveDropped}
 
 -- What more is known of a run's history, its streams and its reports. On one thread, `serial`, the history is that of an order of lines,
--- which is by turns. With threads each stream was read to its end, or to a read that failed.
+-- which takes one of each stream in turn. With threads each stream was read to its end, or to a read that failed.
 abbrev pub RanSo : (serial : Bool) → Cnf → RunParamsValue → History → List Stream → List Report
     → Type 0
 RanSo true formula run_params history streams reports =
@@ -23,7 +23,7 @@ RanSo true formula run_params history streams reports =
 RanSo false formula run_params history streams reports =
     AllByRecursion (λ stream. IsSome stream.end) streams
 
--- What a run promises of its first `many` streams, with threads or on one. `firsts` are their readers before the first read, and `lasts`
+-- What a run promises of its first `many` streams, with threads or on one thread. `firsts` are their readers before the first read, and `lasts`
 -- those in the end. It is a run of what these gave; reads of them gave its streams; and each stream dropped just what its lines drop, or,
 -- if a line stopped it, what was dropped until then. These lines are good by the stream's own calls in the run's history.
 pub record IsRunOfSome {S : Type 0} (many : ℕ) (serial : Bool) (view : SourceView S) (formula : Cnf)

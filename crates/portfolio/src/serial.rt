@@ -48,8 +48,9 @@ pub fn run_serial<W: Wait, R: Source + Drop, G: Gate + Drop>(
         ↔ IsFault (layout_of options formula.now (length readers.items)) fault }
     ensures no_threads { (stream : ℕ) → (result ≢ Err (RunFault.Spawn stream))
         × (result ≢ Err (RunFault.Ring stream)) }
-    // It is a run on one thread (`true`) of what the readers told and their reads gave, and its history
-    // is that of an order of lines, which is by turns. The map has what this leaves. Its groups of streams are isolated.
+    // It is a run on one thread (`true`) of the readers' bytes and of what their reads gave, and its
+    // history is that of an order of lines, which takes one of each stream in turn. The map has what
+    // this leaves. Its groups of streams are isolated.
     ensures ordered { let run_params = run_params_of options cube.now formula.now
         (length readers.items) in
         IfOk result (λ outcome. (ran : IsRunOf true (readers_view R.Source) formula.now run_params

@@ -62,8 +62,8 @@ pub fn run<T: Threads + Wait + Sync, R: Source + Send + Drop, G: Gate + Send + D
     ensures history { IfOk result (λ outcome. let passes = views outcome.passes.items in
         HaveOneHistory formula.now (layout_of options formula.now (length readers.items))
         (seen_by passes) passes) }
-    // It is a run by that history, with threads (`false`), of what the readers told and their reads
-    // gave. Its groups of streams are isolated, and its lines are serializable.
+    // It is a run by that history, with threads (`false`), of the readers' bytes and of what their
+    // reads gave. Its groups of streams are isolated, and its lines are serializable.
     ensures reports { let run_params = run_params_of options cube.now formula.now
         (length readers.items) in
         IfOk result (λ outcome. (ran : IsRunOf false (readers_view R.Source) formula.now run_params

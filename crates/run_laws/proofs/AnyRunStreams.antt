@@ -249,12 +249,12 @@ pub fair_back : (c : StreamParams) (Found : ℕ → Clause → Type 0) (m : Stat
 fair_back c Found m [] b fair = fair
 fair_back c Found m (e ∷ a) b fair = fair_back c Found (after m e) a b fair.2
 
--- one of the first lines, so many, lacks a clause of another stream, which was found
+-- one of the first lines, this many, lacks a clause of another stream, which was found
 abbrev pub LacksFound : StreamParams → (ℕ → Clause → Type 0) → ℕ → Report → Type 0
 LacksFound c Mine count report = (d : Clause) × (line h : ℕ) × Mine h d × (line ≤ count) × (ownership_of c h ≡ ownerships.Foreign)
     × ((report.ending ≡ endings.Bad line (faults.Missing h)) ⊎ (report.ending ≡ endings.Bad line (faults.Retired h)))
 
--- memory ran out, or a read failed, in one of the first lines, so many
+-- memory ran out, or a read failed, in one of the first lines, this many
 abbrev pub IsCutIn : ℕ → Report → Type 0
 IsCutIn count report = (line : ℕ) × (line ≤ count) × IsExcusedAt CutOff report line
 

@@ -129,7 +129,7 @@ AddsEmpty (Deletion lead ids) = ⊥
 AddsEmpty (Import id lits) = ⊥
 
 -- The bytes are a valid refutation of the formula, as stream s: they begin with a valid proof, a line of which adds the empty clause. What
--- comes behind it may be anything.
+-- comes after it may be anything.
 pub record IsValidRefutation (formula : Cnf) (layout : LayoutValue) (s : ℕ)
     (bytes : List ℕ) : Type 0 where
   pub proof : List ℕ

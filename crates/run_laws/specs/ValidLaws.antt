@@ -50,7 +50,7 @@ ValidReported =
     → IsOfStream reports s report → ¬ IsExcused CutOff report
     → report ≡ valid_report run_params s lines
 
--- Where a reader's bytes only begin with a valid proof, the report tells at least what these lines do, whatever comes behind them; unless
+-- Where a reader's bytes only begin with a valid proof, the report says at least what these lines come to, whatever follows them; unless
 -- memory ran out, or a read failed, in these lines.
 abbrev pub ValidBegins : Type 0
 ValidBegins =
