@@ -9,8 +9,8 @@ use Rattle.lrup_model.specs.declared.layout.LayoutFault.{LayoutFault}
 use Rattle.lrup_text.specs.ReadOut.{SourceView}
 use Rattle.portfolio.specs.RingStops.{StopsAtRing}
 use Rattle.stream_check.specs.Streams.{RunParamsValue}
-use Rattle.portfolio.specs.declared.outcome.RunFault.{RunFault}
-use Rattle.portfolio.specs.declared.outcome.RunFault.TheVariants as runs
+use Rattle.run_outcome.specs.declared.outcome.RunFault.{RunFault}
+use Rattle.run_outcome.specs.declared.outcome.RunFault.TheVariants as runs
 use Rattle.checkpoint.specs.Checkpoints.{IsUnsatisfiableText}
 use Rattle.command_line.specs.CommandLine.{AskFor, IsCommandLineOf}
 use Rattle.command_line.specs.declared.sizes.Sizes.{Sizes}

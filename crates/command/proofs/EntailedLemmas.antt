@@ -2,7 +2,7 @@
 use Rattle.std.proofs.Common.{◌≡◌, ◌∙◌, ◌+◌, ◌∷◌, ◌⊎◌, ℕ, List, [], Some, inl, inr, subst, sym}
 use Rattle.lrup_model.specs.Cube.{CubeValue}
 use Rattle.lrup_model.specs.Formula.{Cnf}
-use Rattle.portfolio.specs.declared.outcome.Verdict.TheVariants.{Unknown, Unsatisfiable}
+use Rattle.run_outcome.specs.declared.outcome.Verdict.TheVariants.{Unknown, Unsatisfiable}
 use Rattle.checkpoint.specs.Entails.{Entails, EntailsItself, EntailsOnward}
 use Rattle.command_line.specs.CommandLine.{AskForRounds, rounds_of}
 use Rattle.command_line.specs.declared.words.CommandLine.{CommandLine}

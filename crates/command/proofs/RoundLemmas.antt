@@ -15,9 +15,9 @@ use Rattle.lrup_model.specs.Literal.{max_variable}
 use Rattle.lrup_model.specs.Layout.{IsFault, LayoutValue}
 use Rattle.lrup_model.specs.declared.layout.LayoutFault.{LayoutFault}
 use Rattle.lrup_model.specs.declared.layout.LayoutFault.TheVariants as layouts
-use Rattle.portfolio.specs.Outcomes.{OptionsValue, run_params_of}
-use Rattle.portfolio.specs.declared.outcome.Verdict.{Verdict}
-use Rattle.portfolio.specs.declared.outcome.Verdict.TheVariants.{Unsatisfiable, UnsatisfiableUnder, Unknown}
+use Rattle.run_outcome.specs.Outcomes.{OptionsValue, run_params_of}
+use Rattle.run_outcome.specs.declared.outcome.Verdict.{Verdict}
+use Rattle.run_outcome.specs.declared.outcome.Verdict.TheVariants.{Unsatisfiable, UnsatisfiableUnder, Unknown}
 use Rattle.checkpoint.specs.Entails.{RefutesBack, RefutesBackUnder}
 use Rattle.checkpoint.specs.declared.saving.SaveFault.{SaveFault}
 use Rattle.command_line.specs.declared.sizes.Sizes.{Sizes}

@@ -6,10 +6,10 @@ use Rattle.lrup_model.specs.Formula.{Cnf}
 use Rattle.lrup_model.specs.Layout.{LayoutValue}
 use Rattle.lrup_model.specs.State.{state}
 use Rattle.lrup_text.specs.ReadOut.{SourceView}
-use Rattle.portfolio.specs.Saving.{SavesState, WereLeftBy, is_wanted, layout_left}
-use Rattle.portfolio.specs.declared.saving.Clauses.{Clauses}
-use Rattle.portfolio.specs.declared.outcome.Verdict.{Verdict}
-use Rattle.portfolio.specs.declared.outcome.Verdict.TheVariants.{Unsatisfiable, UnsatisfiableUnder, Unknown}
+use Rattle.run_outcome.specs.Saving.{SavesState, WereLeftBy, is_wanted, layout_left}
+use Rattle.run_outcome.specs.declared.saving.Clauses.{Clauses}
+use Rattle.run_outcome.specs.declared.outcome.Verdict.{Verdict}
+use Rattle.run_outcome.specs.declared.outcome.Verdict.TheVariants.{Unsatisfiable, UnsatisfiableUnder, Unknown}
 use Rattle.stream_check.specs.Streams.{RunParamsValue}
 use Rattle.stream_check.specs.DroppedIdsValue.{DroppedIdsValue}
 use Rattle.stream_check.specs.declared.report.Report.{Report}

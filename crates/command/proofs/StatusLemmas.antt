@@ -4,8 +4,8 @@ use Rattle.std.proofs.Common.{Option, None, Some, inl, inr, refl, sym, subst}
 use Rattle.std.specs.Prelude.{◌↔◌}
 use Rattle.lrup_model.specs.Formula.{Cnf}
 use Rattle.lrup_model.specs.declared.layout.LayoutFault.TheVariants as layouts
-use Rattle.portfolio.specs.declared.outcome.Verdict.{Verdict}
-use Rattle.portfolio.specs.declared.outcome.Verdict.TheVariants.{Unsatisfiable, UnsatisfiableUnder, Unknown}
+use Rattle.run_outcome.specs.declared.outcome.Verdict.{Verdict}
+use Rattle.run_outcome.specs.declared.outcome.Verdict.TheVariants.{Unsatisfiable, UnsatisfiableUnder, Unknown}
 use Rattle.checkpoint.specs.Checkpoints.{IsCheckpoint}
 use Rattle.checkpoint.specs.declared.saving.SaveFault.{SaveFault}
 use Rattle.command_line.specs.CommandLine.{AskToSave, checkpoint_of, rounds_of}

@@ -10,8 +10,8 @@ use Rattle.std.specs.Prelude.{codes, Result, Ok, Err}
 use Rattle.std.proofs.lemmas.Bool.{eq-eqb, ne_eqb}
 use Rattle.lrup_text.specs.Writing.{WritesText}
 use Rattle.stream_check.specs.declared.report.Report.{Report}
-use Rattle.portfolio.specs.declared.outcome.Verdict.{Verdict}
-use Rattle.portfolio.specs.ReportText.{report_text}
+use Rattle.run_outcome.specs.declared.outcome.Verdict.{Verdict}
+use Rattle.run_outcome.specs.ReportText.{report_text}
 use Rattle.command.specs.Rounds.{last_text, round_text}
 use Rattle.command.specs.Faults.{error_text, of_round, round_error_text}
 use Rattle.command.specs.declared.fault.CommandFault.{CommandFault}

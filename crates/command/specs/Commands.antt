@@ -19,14 +19,14 @@ use Rattle.lrup_text.specs.Reads.{GaveAll, ReadsOf}
 use Rattle.lrup_text.specs.Cubes.{IsCubeFault, IsCubeText}
 use Rattle.lrup_text.specs.declared.cube.CubeFault.TheVariants as cubes
 use Rattle.stream_check.specs.declared.report.Report.{Report}
-use Rattle.portfolio.specs.Histories.{IsRunOf}
-use Rattle.portfolio.specs.Outcomes.{OptionsValue, run_params_of, verdict_of}
+use Rattle.run_outcome.specs.Histories.{IsRunOf}
+use Rattle.run_outcome.specs.Outcomes.{OptionsValue, run_params_of, verdict_of}
 use Rattle.portfolio.specs.RingStops.{StopsAtRing}
 use Rattle.stream_check.specs.Readings.{readers_view}
 use Rattle.stream_check.specs.Streams.{RunParamsValue}
 use Rattle.stream_check.specs.DroppedIdsValue.{DroppedIdsValue}
-use Rattle.portfolio.specs.declared.outcome.Verdict.{Verdict}
-use Rattle.portfolio.specs.declared.outcome.Verdict.TheVariants.{Unsatisfiable, UnsatisfiableUnder, Unknown}
+use Rattle.run_outcome.specs.declared.outcome.Verdict.{Verdict}
+use Rattle.run_outcome.specs.declared.outcome.Verdict.TheVariants.{Unsatisfiable, UnsatisfiableUnder, Unknown}
 use Rattle.checkpoint.specs.Checkpoints.{IsCheckpoint}
 use Rattle.checkpoint.specs.declared.saving.SaveFault.{SaveFault}
 use Rattle.command_line.specs.CommandLine.{AskFor, AskForBoth, AskToSave, HaveFault, IsCommandLineOf}

@@ -12,10 +12,10 @@ use Rattle.lrup_text.specs.Reads.{Gave, GaveAll}
 use Rattle.stream_check.specs.DroppedIdsValue.{DroppedIdsValue}
 use Rattle.stream_check.specs.declared.report.Ending.TheVariants as endings
 use Rattle.stream_check.specs.declared.report.Report.{Report}
-use Rattle.portfolio.specs.ReportText.{report_text}
-use Rattle.portfolio.specs.Saving.{SavesState, is_wanted}
-use Rattle.portfolio.specs.declared.outcome.Verdict.{Verdict}
-use Rattle.portfolio.specs.declared.outcome.Verdict.TheVariants.{Unknown, Unsatisfiable}
+use Rattle.run_outcome.specs.ReportText.{report_text}
+use Rattle.run_outcome.specs.Saving.{SavesState, is_wanted}
+use Rattle.run_outcome.specs.declared.outcome.Verdict.{Verdict}
+use Rattle.run_outcome.specs.declared.outcome.Verdict.TheVariants.{Unknown, Unsatisfiable}
 use Rattle.checkpoint.specs.Checkpoints.{IsCheckpoint, WritesCheckpoint}
 use Rattle.checkpoint.specs.declared.saving.SaveFault.{SaveFault}
 use Rattle.checkpoint.specs.declared.saving.SaveFault.TheVariants as saves

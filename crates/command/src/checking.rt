@@ -331,8 +331,8 @@ fn find_layout(setup: &Setup<'_>, formula: &Formula, streams: usize) -> Result<(
     ensures cause { let run_params = run_params_on setup.now formula.now streams in
         IfErr result (IsLayoutCause run_params.layout) }
 {
-    match setup.options.check_layout(formula, streams) {
-        Ok(()) => Ok(()),
+    match setup.options.layout(formula, streams) {
+        Ok(_) => Ok(()),
         Err(fault) => Err(CommandFault::Layout(fault)),
     }
 }

@@ -5,7 +5,7 @@ ghost use Rattle.lrup_model.specs.Event.{History};
 ghost use Rattle.lrup_model.specs.Formula.{Cnf};
 ghost use Rattle.command.specs.Commands.{path_of};
 ghost use Rattle.command.specs.Rounds.{SavesCheckpoint};
-ghost use Rattle.portfolio.specs.Saving.{CanBeSaved, WereLeftBy, layout_left};
+ghost use Rattle.run_outcome.specs.Saving.{CanBeSaved, WereLeftBy, layout_left};
 ghost use Rattle.command.specs.internal.Saving.{ClosesCheckpoint, CreatesCheckpoint, DiscardsIt, IsNotCreated, SavesAndCloses};
 
 use crate::fault::CommandFault;

@@ -1,7 +1,7 @@
 //! The check of streams: a thread for each, or one thread for all.
 ghost use Rattle.std.specs.Prelude.{◌≡◌, true, false, IfErr, IfOk, length, vec_len};
 ghost use Rattle.std.specs.List.{AllByRecursion};
-ghost use Rattle.portfolio.specs.Saving.{CanBeSaved};
+ghost use Rattle.run_outcome.specs.Saving.{CanBeSaved};
 ghost use Rattle.command.specs.internal.Running.{run_params_on, IsRunCause, StandsBehind};
 ghost use Rattle.stream_check.specs.Readings.{readers_view};
 

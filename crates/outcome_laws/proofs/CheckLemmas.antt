@@ -25,10 +25,10 @@ use Rattle.run_laws.specs.Valid.{AddsEmpty, IsValidProof}
 use Rattle.run_laws.specs.ValidLaws.{ValidBegins, ValidEmpty}
 use Rattle.run_laws.specs.Valid.{Step}
 use Rattle.run_laws.specs.Together.{IsValidOrder, HaveTexts, lines_by, TogetherBegins}
-use Rattle.portfolio.specs.Histories.{RanSo}
-use Rattle.portfolio.specs.Outcomes.{verdict_of}
-use Rattle.portfolio.specs.declared.outcome.Verdict.{Verdict}
-use Rattle.portfolio.specs.declared.outcome.Verdict.TheVariants.{Unsatisfiable, UnsatisfiableUnder, Unknown}
+use Rattle.run_outcome.specs.Histories.{RanSo}
+use Rattle.run_outcome.specs.Outcomes.{verdict_of}
+use Rattle.run_outcome.specs.declared.outcome.Verdict.{Verdict}
+use Rattle.run_outcome.specs.declared.outcome.Verdict.TheVariants.{Unsatisfiable, UnsatisfiableUnder, Unknown}
 use Rattle.command_line.specs.declared.words.CommandLine.{CommandLine}
 use Rattle.command.specs.Commands.{AreChecked, Deeds, Text, run_params_by}
 use Rattle.command.specs.Rounds.{Round}

@@ -9,7 +9,7 @@ use Rattle.dimacs.specs.FormulaText.{IsFormulaText}
 use Rattle.stream_check.specs.declared.report.Ending.{Ending}
 use Rattle.stream_check.specs.declared.report.Report.{Report}
 use Rattle.run_laws.specs.Groups.{IsRun}
-use Rattle.portfolio.specs.ReportText.{ending_text, stream_line}
+use Rattle.run_outcome.specs.ReportText.{ending_text, stream_line}
 use Rattle.command_line.specs.declared.sizes.Sizes.{Sizes}
 use Rattle.command_line.specs.declared.words.CommandLine.{CommandLine}
 use Rattle.command.specs.Commands.{FilesView, IsFormulaAt, Text}

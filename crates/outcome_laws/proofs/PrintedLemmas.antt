@@ -18,9 +18,9 @@ use Rattle.stream_check.specs.declared.report.Ending.TheVariants as endings
 use Rattle.stream_check.specs.declared.report.Report.{Report}
 use Rattle.stream_check.specs.Excuses.{CutOff, IsExcused}
 use Rattle.stream_check.specs.Closed.{IsOfStream}
-use Rattle.portfolio.specs.ReportText.{ending_text, report_text, stream_line, stream_lines, verdict_line}
-use Rattle.portfolio.specs.declared.outcome.Verdict.{Verdict}
-use Rattle.portfolio.specs.declared.outcome.Verdict.TheVariants.{Unsatisfiable}
+use Rattle.run_outcome.specs.ReportText.{ending_text, report_text, stream_line, stream_lines, verdict_line}
+use Rattle.run_outcome.specs.declared.outcome.Verdict.{Verdict}
+use Rattle.run_outcome.specs.declared.outcome.Verdict.TheVariants.{Unsatisfiable}
 use Rattle.command_line.specs.declared.words.CommandLine.{CommandLine}
 use Rattle.command.specs.Commands.{Deeds, FilesView, IsUntouched, SinkChange, SinkTook, TakesUnlessFailed, Text}
 use Rattle.command.specs.Rounds.{EndsWithReport, HaveEnded, Round, last_text}

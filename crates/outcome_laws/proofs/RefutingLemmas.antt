@@ -3,8 +3,8 @@ use Rattle.std.proofs.Common.{◌≡◌, ℕ, Bool, true, false, List, [], ◌�
 use Rattle.lrup_model.specs.Cube.{CubeValue, IsUnsatisfiableUnder}
 use Rattle.lrup_model.specs.Entailment.{IsUnsatisfiable}
 use Rattle.dimacs.specs.FormulaText.{IsFormulaText}
-use Rattle.portfolio.specs.declared.outcome.Verdict.{Verdict}
-use Rattle.portfolio.specs.declared.outcome.Verdict.TheVariants.{Unsatisfiable, UnsatisfiableUnder, Unknown}
+use Rattle.run_outcome.specs.declared.outcome.Verdict.{Verdict}
+use Rattle.run_outcome.specs.declared.outcome.Verdict.TheVariants.{Unsatisfiable, UnsatisfiableUnder, Unknown}
 use Rattle.checkpoint.specs.Checkpoints.{AreCheckpoints, FilesRefute, FilesRefuteUnder, IsUnsatisfiableText}
 use Rattle.checkpoint.specs.Checkpoints.{IsUnsatisfiableTextUnder, last_file}
 use Rattle.checkpoint.specs.Entails.{Entails, EntailsItself, EntailsOnward, RefutesBack, RefutesBackUnder}

@@ -12,8 +12,8 @@ use Rattle.stream_check.specs.Streams.{stream_params}
 use Rattle.run_laws.specs.ValidLaws.{ValidBegins, ValidEmpty, ValidReported}
 use Rattle.run_laws.specs.TurnsLaws.{ValidByTurns}
 use Rattle.run_laws.specs.Together.{ValidTogether, TogetherBegins}
-use Rattle.portfolio.specs.declared.outcome.Verdict.{Verdict}
-use Rattle.portfolio.specs.declared.outcome.Verdict.TheVariants.{Unsatisfiable, UnsatisfiableUnder, Unknown}
+use Rattle.run_outcome.specs.declared.outcome.Verdict.{Verdict}
+use Rattle.run_outcome.specs.declared.outcome.Verdict.TheVariants.{Unsatisfiable, UnsatisfiableUnder, Unknown}
 use Rattle.checkpoint.specs.declared.saving.SaveFault.{SaveFault}
 use Rattle.command_line.specs.CommandLine.{IsCommandLineOf, rounds_of}
 use Rattle.command_line.specs.declared.sizes.Sizes.{Sizes}

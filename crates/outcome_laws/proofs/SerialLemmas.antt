@@ -21,8 +21,8 @@ use Rattle.run_laws.specs.ValidLaws.{ValidEmpty}
 use Rattle.run_laws.specs.Valid.{Step}
 use Rattle.run_laws.specs.Together.{IsValidOrder, lines_by}
 use Rattle.run_laws.specs.TurnsLaws.{BytesDecide, ValidByTurns}
-use Rattle.portfolio.specs.Outcomes.{verdict_of}
-use Rattle.portfolio.specs.declared.outcome.Verdict.TheVariants.{Unsatisfiable}
+use Rattle.run_outcome.specs.Outcomes.{verdict_of}
+use Rattle.run_outcome.specs.declared.outcome.Verdict.TheVariants.{Unsatisfiable}
 use Rattle.command_line.specs.declared.sizes.Sizes.{Sizes}
 use Rattle.command.specs.Commands.{FilesView, Text}
 use Rattle.outcome_laws.specs.Outcomes.{layout_in}

@@ -22,7 +22,7 @@ use Rattle.run_laws.specs.ValidLaws.{ValidBegins, ValidEmpty, ValidReported}
 use Rattle.run_laws.specs.Valid.{Step}
 use Rattle.run_laws.specs.Together.{TogetherBegins, ValidTogether, lines_by}
 use Rattle.run_laws.specs.TurnsLaws.{ValidByTurns}
-use Rattle.portfolio.specs.declared.outcome.Verdict.TheVariants.{Unsatisfiable}
+use Rattle.run_outcome.specs.declared.outcome.Verdict.TheVariants.{Unsatisfiable}
 use Rattle.command.specs.Commands.{Text}
 use Rattle.command.specs.Rounds.{HaveEnded}
 use Rattle.outcome_laws.specs.Valid.{AreValidAlone, AreValidByTurns, AreValidInOrder, IsRefutedAlone, IsRefutedByTurns}

@@ -6,7 +6,7 @@ use Rattle.stream_check.specs.Excuses.{Excuse, IsExcusedAt}
 use Rattle.stream_check.specs.StreamParams.{StreamParams}
 use Rattle.stream_check.specs.Closed.{IsOfStream}
 use Rattle.stream_check.specs.Streams.{stream_params}
-use Rattle.portfolio.specs.declared.outcome.Verdict.TheVariants.{Unknown, Unsatisfiable, UnsatisfiableUnder}
+use Rattle.run_outcome.specs.declared.outcome.Verdict.TheVariants.{Unknown, Unsatisfiable, UnsatisfiableUnder}
 use Rattle.checkpoint.specs.declared.saving.SaveFault.{SaveFault}
 use Rattle.command_line.specs.declared.words.CommandLine.{CommandLine}
 use Rattle.command.specs.Commands.{Deeds, FilesView, SinkChange, Text, assumed_at, created_path, run_params_by}

@@ -12,7 +12,7 @@ use Rattle.stream_check.specs.StreamParams.{StreamParams}
 use Rattle.stream_check.specs.Closed.{IsOfStream, CiteWithin}
 use Rattle.stream_check.specs.Streams.{InputObservation, RunParamsValue}
 use Rattle.run_laws.specs.Groups.{one, IsRun}
-use Rattle.portfolio.specs.ReportText.{stream_line}
+use Rattle.run_outcome.specs.ReportText.{stream_line}
 use Rattle.command_line.specs.CommandLine.{AskForRounds, IsCommandLineOf}
 use Rattle.command_line.specs.declared.words.CommandLine.{CommandLine}
 use Rattle.command.specs.Commands.{FilesView, IsCause, SinkChange, Text, WasReadIn, sizes_of}

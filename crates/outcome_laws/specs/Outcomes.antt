@@ -6,7 +6,7 @@ use Rattle.stream_check.specs.declared.report.Report.{Report}
 use Rattle.stream_check.specs.Excuses.{CutOff, IsExcused}
 use Rattle.stream_check.specs.StreamParams.{StreamParams}
 use Rattle.stream_check.specs.Closed.{IsOfStream}
-use Rattle.portfolio.specs.Outcomes.{layout_of}
+use Rattle.run_outcome.specs.Outcomes.{layout_of}
 use Rattle.command_line.specs.declared.sizes.Sizes.{Sizes}
 use Rattle.command_line.specs.declared.words.CommandLine.{CommandLine}
 use Rattle.command.specs.Commands.{FilesView, Text, options_by}

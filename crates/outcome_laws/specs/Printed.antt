@@ -3,8 +3,8 @@ use Rattle.std.specs.Prelude.{◌≡◌, ◌⊎◌, ◌++◌, ◌+◌, ℕ, List
 use Rattle.stream_check.specs.declared.fault.Fault.{Fault}
 use Rattle.stream_check.specs.declared.report.Ending.TheVariants as endings
 use Rattle.stream_check.specs.declared.report.Report.{Report}
-use Rattle.portfolio.specs.ReportText.{stream_line, stream_lines}
-use Rattle.portfolio.specs.declared.outcome.Verdict.TheVariants.{Unsatisfiable}
+use Rattle.run_outcome.specs.ReportText.{stream_line, stream_lines}
+use Rattle.run_outcome.specs.declared.outcome.Verdict.TheVariants.{Unsatisfiable}
 use Rattle.command.specs.Commands.{FilesView, SinkChange, Text}
 use Rattle.command.specs.Rounds.{EndsWithReport, ProgramEnds}
 use Rattle.outcome_laws.specs.Valid.{AreValidAlone, AskForValidRounds, IsRefutedAlone}

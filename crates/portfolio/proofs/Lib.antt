@@ -1,10 +1,2 @@
-pub mod EmptyLemmas
-pub mod CubeLemmas
-pub mod DroppingLemmas
 pub mod ConsistencyLemmas
-pub mod JoiningLemmas
-pub mod ReportLines
-pub mod RoundLemmas
-pub mod SavingLemmas
-pub mod TurnsLemmas
-pub mod WorkingLemmas
+pub mod DroppingLemmas

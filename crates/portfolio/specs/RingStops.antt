@@ -7,7 +7,7 @@ use Rattle.stream_check.specs.Readings.{IsStreamOf}
 use Rattle.stream_check.specs.Streams.{Stream, RunParamsValue}
 use Rattle.stream_check.specs.DroppedIdsValue.{DroppedIdsValue}
 use Rattle.stream_check.specs.declared.report.Report.{Report}
-use Rattle.portfolio.specs.Histories.{IsRunOfSome}
+use Rattle.run_outcome.specs.Histories.{IsRunOfSome}
 
 -- A run that the ring of this stream stopped: as far as the streams before it go, it is a run of what their readers told, which were
 -- read out, with some reports; and its own reader was read to its end, or to the read that failed, and a stream matches what is observed of

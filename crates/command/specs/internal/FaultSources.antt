@@ -6,8 +6,8 @@ use Rattle.dimacs.specs.declared.fault.DimacsFault.{DimacsFault}
 use Rattle.dimacs.specs.declared.fault.DimacsFault.TheVariants as formulas
 use Rattle.lrup_text.specs.declared.cube.CubeFault.{CubeFault}
 use Rattle.lrup_text.specs.declared.cube.CubeFault.TheVariants as cubes
-use Rattle.portfolio.specs.declared.outcome.RunFault.{RunFault}
-use Rattle.portfolio.specs.declared.outcome.RunFault.TheVariants as runs
+use Rattle.run_outcome.specs.declared.outcome.RunFault.{RunFault}
+use Rattle.run_outcome.specs.declared.outcome.RunFault.TheVariants as runs
 use Rattle.stream_check.specs.Faults.{number_text}
 use Rattle.command.specs.declared.files.OpenFault.{OpenFault}
 use Rattle.command.specs.declared.files.OpenFault.TheVariants as opens

@@ -7,11 +7,11 @@ use Rattle.lrup_text.specs.ReadOut.{SourceView}
 use Rattle.stream_check.specs.Streams.{RunParamsValue}
 use Rattle.stream_check.specs.DroppedIdsValue.{DroppedIdsValue}
 use Rattle.stream_check.specs.declared.report.Report.{Report}
-use Rattle.portfolio.specs.Outcomes.{run_params_of}
+use Rattle.run_outcome.specs.Outcomes.{run_params_of}
 use Rattle.portfolio.specs.RingStops.{StopsAtRing}
-use Rattle.portfolio.specs.Saving.{WereLeftBy, layout_left}
-use Rattle.portfolio.specs.declared.saving.Clauses.{Clauses}
-use Rattle.portfolio.specs.declared.outcome.Verdict.{Verdict}
+use Rattle.run_outcome.specs.Saving.{WereLeftBy, layout_left}
+use Rattle.run_outcome.specs.declared.saving.Clauses.{Clauses}
+use Rattle.run_outcome.specs.declared.outcome.Verdict.{Verdict}
 use Rattle.command.specs.Commands.{AreChecked, HasBrokenOff, HasNoFault}
 use Rattle.command.specs.declared.fault.CommandFault.{CommandFault}
 use Rattle.command.specs.declared.fault.CommandFault.TheVariants as faults

@@ -5,7 +5,7 @@ use Rattle.command.specs.Rounds.{HaveEnded, SavesCheckpoint}
 use Rattle.command.specs.internal.Running.{IsLayoutCause, run_params_on}
 use Rattle.command.specs.internal.Saving.{ClosesCheckpoint}
 use Rattle.command.specs.lemmas.SavedLemmas.{created_in}
-use Rattle.portfolio.specs.declared.outcome.Verdict.TheVariants.{Unknown}
+use Rattle.run_outcome.specs.declared.outcome.Verdict.TheVariants.{Unknown}
 use Rattle.stream_check.specs.Streams.{RunParamsValue}
 use Rattle.command.specs.declared.fault.CommandFault.{CommandFault}
 use Rattle.command.proofs.CheckingLemmas.{create_start, err_given, layout_start, round_start, run_start, some_given}

@@ -1,5 +1,5 @@
 use Rattle.std.proofs.Common.{◌∙◌, ℕ, List, Option, ap, inl, inr, rules, subst, sym}
-use Rattle.portfolio.specs.declared.outcome.Verdict.{Verdict}
+use Rattle.run_outcome.specs.declared.outcome.Verdict.{Verdict}
 use Rattle.stream_check.specs.declared.report.Report.{Report}
 use Rattle.checkpoint.specs.declared.saving.SaveFault.{SaveFault}
 use Rattle.command.specs.Commands.{SaysOfRound, SinkTook, change, report_status}

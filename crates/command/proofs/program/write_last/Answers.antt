@@ -1,6 +1,6 @@
 use Rattle.std.proofs.Common.{List, subst, sym, ◌∙◌, ℕ}
 use Rattle.lrup_text.specs.Writing.{WritesText}
-use Rattle.portfolio.specs.ReportText.{report_text}
+use Rattle.run_outcome.specs.ReportText.{report_text}
 use Rattle.command.specs.Rounds.{round_text}
 use Rattle.command.proofs.WritingLemmas.{breaks_before, last_of_more, writes_after}
 use Rattle.command.proofs.program.write_last.Goals as goal

@@ -6,13 +6,13 @@ use Rattle.stream_check.specs.Readings.{readers_view}
 use Rattle.stream_check.specs.Streams.{RunParamsValue}
 use Rattle.stream_threads.specs.Faults.{IsFaultOf}
 use Rattle.stream_threads.specs.Jobs.{StreamResultsValue}
-use Rattle.portfolio.specs.Outcomes.{layout_of, run_params_of}
-use Rattle.portfolio.specs.declared.outcome.RunFault.{RunFault}
-use Rattle.portfolio.specs.declared.outcome.RunFault.TheVariants.{Layout}
-use Rattle.portfolio.proofs.CubeLemmas.{sound_under_run}
-use Rattle.portfolio.proofs.ConsistencyLemmas.{IsBegun, begin_take, can_begin, found_of, is_memory, none_of_layout, not_layout}
-use Rattle.portfolio.proofs.ConsistencyLemmas.{run_history, run_params_made, run_ready, run_reports, sound_run, stops_at_ring}
-use Rattle.portfolio.proofs.ConsistencyLemmas.{stream_within}
+use Rattle.run_outcome.specs.Outcomes.{layout_of, run_params_of}
+use Rattle.run_outcome.specs.declared.outcome.RunFault.{RunFault}
+use Rattle.run_outcome.specs.declared.outcome.RunFault.TheVariants.{Layout}
+use Rattle.run_outcome.specs.lemmas.CubeLemmas.{sound_under_run}
+use Rattle.run_outcome.specs.lemmas.RunLemmas.{is_memory, none_of_layout, not_layout, run_params_made, sound_run}
+use Rattle.portfolio.proofs.ConsistencyLemmas.{IsBegun, begin_take, can_begin, found_of, run_history, run_ready, run_reports}
+use Rattle.portfolio.proofs.ConsistencyLemmas.{stops_at_ring, stream_within}
 use Rattle.portfolio.proofs.threads.run.Given as given
 use Rattle.portfolio.proofs.threads.run.Goals as goal
 use Rattle.portfolio.proofs.threads.run.Goals.{In_ok-jobs, In_ok-layout}

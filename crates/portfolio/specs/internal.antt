@@ -1,4 +1,0 @@
--- What contracts of private functions say.
-pub mod WatchText
-pub mod Working
-pub mod Turns

@@ -1,2 +1,0 @@
--- Lemmas, which other crates' proofs may cite.
-pub mod ResultLemmas

@@ -1,0 +1,43 @@
+-- What a run promises of its streams, on one thread or with two threads for each (this project's own).
+use Rattle.std.specs.Prelude.{◌≡◌, ℕ, Bool, true, false, List, IsSome}
+use Rattle.std.specs.List.{AllByRecursion}
+use Rattle.lrup_model.specs.Event.{History, own}
+use Rattle.lrup_model.specs.Formula.{Cnf}
+use Rattle.lrup_text.specs.ReadOut.{SourceView}
+use Rattle.stream_check.specs.DroppedIdsValue.{DroppedIdsValue}
+use Rattle.stream_check.specs.Judging.{joined}
+use Rattle.stream_check.specs.declared.report.Report.{Report}
+use Rattle.stream_check.specs.Readings.{AreRead}
+use Rattle.stream_check.specs.Streams.{Stream, RunParamsValue, events_in, observations}
+use Rattle.stream_check.specs.Turns.{IsOrderedByTurns}
+use Rattle.run_laws.specs.Groups.{IsRunOfFirst}
+use Rattle.run_outcome.specs.Dropping.{HaveDropped}
+
+-- What more is known of a run's history, its streams and its reports. On one thread, `serial`, the history is that of an order of lines,
+-- which takes one of each stream in turn. With threads each stream was read to its end, or to a read that failed.
+abbrev pub RanSo : (serial : Bool) → Cnf → RunParamsValue → History → List Stream → List Report
+    → Type 0
+RanSo true formula run_params history streams reports =
+    (ordered : IsOrderedByTurns formula run_params streams reports)
+    × (history ≡ events_in ordered.order.blocks)
+RanSo false formula run_params history streams reports =
+    AllByRecursion (λ stream. IsSome stream.end) streams
+
+-- What a run promises of its first `many` streams, with threads or on one thread. `firsts` are their readers before the first read, and `lasts`
+-- those in the end. It is a run of what these gave; reads of them gave its streams; and each stream dropped just what its lines drop, or,
+-- if a line stopped it, what was dropped until then. These lines are good by the stream's own calls in the run's history.
+pub record IsRunOfSome {S : Type 0} (many : ℕ) (serial : Bool) (view : SourceView S) (formula : Cnf)
+    (run_params : RunParamsValue) (firsts lasts : List S) (reports : List Report)
+    (dropped : List DroppedIdsValue) : Type 0 where
+  pub run : IsRunOfFirst many formula run_params (observations view firsts lasts) reports
+  pub way : RanSo serial formula run_params run.history run.streams reports
+  pub read : AreRead S view.reads firsts lasts run.streams
+  pub have_dropped : HaveDropped run_params (λ t blocks. own run.history t ≡ joined blocks) 1
+      run.streams reports dropped
+
+-- so it is with all streams of the layout
+abbrev pub IsRunOf : {S : Type 0} → (serial : Bool) → SourceView S → Cnf → RunParamsValue
+    → (firsts lasts : List S) → List Report → List DroppedIdsValue → Type 0
+IsRunOf serial view formula run_params firsts lasts reports dropped =
+    IsRunOfSome run_params.layout.streams serial view formula run_params firsts lasts reports
+    dropped

@@ -1,0 +1,7 @@
+-- Lemmas, which other crates' proofs may cite.
+pub mod ListLemmas
+pub mod ResultLemmas
+pub mod DroppingLemmas
+pub mod EmptyLemmas
+pub mod CubeLemmas
+pub mod RunLemmas

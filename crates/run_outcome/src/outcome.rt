@@ -1,0 +1,108 @@
+//! The outcome of a run, its verdict, and why there is none.
+ghost use Rattle.std.specs.Prelude.{◌≡◌};
+ghost use Rattle.run_outcome.specs.Outcomes.{verdict_of};
+
+use clause_store::{Pass, Store};
+use lrup_model::{LayoutFault, PlainMap};
+use std::alloc::AllocError;
+use stream_check::{DroppedIds, Report};
+use thiserror::Error;
+
+/// What a run says of its formula, by the reports of all streams.
+#[derive(Clone, Copy, Debug, PartialEq, Eq)]
+pub enum Verdict {
+    /// No assignment satisfies the formula: a stream added the empty clause.
+    Unsatisfiable,
+    /// No assignment satisfies the formula and makes each literal of the cube true: a stream added a clause that the cube makes false, and
+    /// none added the empty clause.
+    UnsatisfiableUnder,
+    /// No stream added such a clause. This says nothing of the formula.
+    Unknown,
+}
+
+impl Verdict {
+    /// The verdict of the reports of all streams.
+    pub fn of(reports: &[Report]) -> Verdict
+        ensures { result ≡ verdict_of reports.now }
+    {
+        if reports.iter().any(|report| report.empty) {
+            Verdict::Unsatisfiable
+        } else if reports.iter().any(|report| report.within) {
+            Verdict::UnsatisfiableUnder
+        } else {
+            Verdict::Unknown
+        }
+    }
+}
+
+/// Why a run has no outcome.
+#[derive(Clone, Copy, Debug, PartialEq, Eq, Error)]
+pub enum RunFault {
+    /// The formula, the options and the number of streams have no layout. It is answered before any other fault.
+    #[error("{0}")]
+    Layout(LayoutFault),
+    /// Out of memory. By the code, and by no clause, this comes before the first read.
+    #[error("out of memory")]
+    Memory,
+    /// A thread of this stream, from 1 on, couldn't be started. By the code no stream was read: threads that have started leave without a
+    /// read, as a test of one stream's two threads shows.
+    #[error("worker {0} not started")]
+    Spawn(u64),
+    /// The checking thread of this stream, from 1 on, found its ring abandoned before the mark for the end, though the stream was read out.
+    /// The reading thread pushes the mark, and its `Producer` is kept until both threads are joined. No contract of `rtrb` says that this
+    /// is enough, so the fault stands here. Tests show that it doesn't come.
+    #[error("ring of stream {0}")]
+    Ring(u64),
+}
+
+impl From<LayoutFault> for RunFault {
+    ghost use Rattle.run_outcome.specs.declared.outcome.RunFault.TheVariants.{Layout};
+
+    ghost from_gives = { λ fault run. run ≡ Layout fault };
+
+    fn from(fault: LayoutFault) -> RunFault {
+        RunFault::Layout(fault)
+    }
+}
+
+impl From<AllocError> for RunFault {
+    ghost use Rattle.run_outcome.specs.declared.outcome.RunFault.TheVariants.{Memory};
+
+    ghost from_gives = { λ _ run. run ≡ Memory };
+
+    fn from(_error: AllocError) -> RunFault {
+        RunFault::Memory
+    }
+}
+
+/// The results of a run on one thread.
+#[derive(Drop)]
+pub struct SerialOutcome<R: Drop> {
+    /// The report of each stream, in order.
+    pub reports: Vec<Report>,
+    /// The verdict of the reports.
+    pub verdict: Verdict,
+    /// The map of all clauses, as the run left it.
+    pub map: PlainMap,
+    /// The readers, as far as they were read, in order.
+    pub readers: Vec<R>,
+    /// The identities that each stream dropped, in order.
+    pub dropped: Vec<DroppedIds>,
+}
+
+/// The results of a run with threads.
+#[derive(Drop)]
+pub struct Outcome<R: Drop> {
+    /// The report of each stream, in order.
+    pub reports: Vec<Report>,
+    /// The verdict of the reports.
+    pub verdict: Verdict,
+    /// The streams' passes, in order. They have met: all have seen one history.
+    pub passes: Vec<Pass>,
+    /// The store of all clauses, as the run left it.
+    pub store: Store,
+    /// The readers, as far as they were read, in order.
+    pub readers: Vec<R>,
+    /// The identities that each stream dropped, in order.
+    pub dropped: Vec<DroppedIds>,
+}

@@ -1,0 +1,4 @@
+pub mod JoiningLemmas
+pub mod RoundLemmas
+pub mod TurnsLemmas
+pub mod WorkingLemmas

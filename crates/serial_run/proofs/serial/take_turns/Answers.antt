@@ -1,0 +1,14 @@
+use Rattle.std.proofs.Common.{◌≡◌, false, true}
+use Rattle.stream_check.specs.Readings.{readers_view}
+use Rattle.serial_run.proofs.TurnsLemmas.{running_on}
+use Rattle.serial_run.proofs.serial.take_turns.Goals as goal
+
+pub take_round-requires : goal.take_round-requires
+take_round-requires g c = record {
+  running = running_on (readers_view g.R.Source) 0 0 c.args.map.now c.loop.map c.args.workers.now
+      c.loop.workers c.requires.running c.loop.invariant;
+}
+
+-- the loop has no end but its return
+pub returns-clause-over : goal.returns-clause-over
+returns-clause-over g c = let never : false ≡ true = c.in-None.ensures.steps in absurd (cc)

@@ -1,0 +1,3 @@
+-- What contracts of private functions say.
+pub mod Working
+pub mod Turns
