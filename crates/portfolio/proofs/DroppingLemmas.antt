@@ -1,4 +1,4 @@
--- What the streams of a run dropped, by what was found of each.
+-- What the streams of a run dropped, from what was found of each.
 use Rattle.std.proofs.Common.{◌≡◌, ◌∙◌, ◌+◌, inl, ℕ, List, [], ◌∷◌, Option, Some, None, refl, sym, ap, subst}
 use Rattle.std.proofs.lemmas.List.{append-nil}
 use Rattle.lrup_model.specs.Event.{History}
@@ -20,13 +20,13 @@ use Rattle.stream_threads.specs.Judged.{DropsBy, ending_with}
 use Rattle.stream_check.specs.Streams.{Stream, RunParamsValue}
 use Rattle.portfolio.specs.Dropping.{AreDroppedBy, HasDropped, HaveDropped}
 
--- where a checker isn't over, all lines were good
+-- if a checker is unfinished, all lines were good
 good_drops : (c : StreamParams) (bytes : List ℕ) (blocks : List History) (now : GoingState) (ids : List ℕ) → ReachesGoing c bytes blocks now
     → ((id : ℕ) → is_among ids id ≡ now.context.is_dropped id) → AreDroppedBy c bytes blocks ids
 good_drops c bytes blocks now ids left same =
     record { lines = left.lines; rest = now.pending; cut = left.cut; good = left.good; are = λ id. same id ∙ left.context.is_dropped id }
 
--- so they were where the stream ended in the middle of a line, which dropped nothing
+-- the same if the stream ended in the middle of a line, which dropped nothing
 ended_by : (end : StreamEnd) (rest : List ℕ) (c : StreamParams) (bytes : List ℕ) (blocks : List History) (now : GoingState)
     (dropped : DroppedIdsValue)
     → ReachesGoing c bytes blocks now → ((id : ℕ) → is_among dropped.ids id ≡ now.context.is_dropped id)
@@ -49,7 +49,7 @@ ended_by stream_ends.Ended (byte ∷ rest) c bytes blocks now dropped left same 
 }
 ended_by stream_ends.Failed rest c bytes blocks now dropped left same = good_drops c bytes blocks now dropped.ids left same
 
--- what a checker dropped that isn't over, and takes this end
+-- what an unfinished checker dropped that takes this end
 pub going_drops : (c : StreamParams) (v : CheckerValue) (room : ℕ) (bytes : List ℕ) (blocks : List History) (end : StreamEnd)
     → v.ending ≡ None → ReachesState c bytes blocks (checker_state v room)
     → HasDropped c bytes blocks (report_of_tally v.tally (ending_at end v.pending v.line)) v.dropped
@@ -75,7 +75,7 @@ checker_drops c v room bytes blocks end (Some ending) is reaches full =
     stopped_drops ending c bytes blocks v.tally v.dropped
     (subst (λ (e : Option Ending). ReachesState c bytes blocks (state_by v room e)) is reaches).1 full
 
--- what a stream's threads found that it dropped
+-- what a stream dropped, from what its threads found
 pub job_drops : (v : CheckerValue) (room : ℕ) (bytes : List ℕ) (blocks : List History) (report : Report) (dropped : DroppedIdsValue)
     → ReachesState v.params [] [] (checker_state v room) → DropsBy v room bytes blocks dropped report
     → HasDropped v.params bytes blocks report dropped
@@ -87,7 +87,7 @@ job_drops v room bytes blocks report dropped fresh d =
     (subst (HasDropped v.params bytes blocks (report_of_tally d.last.tally ending)) (sym d.are)
     (checker_drops v.params d.last d.free bytes blocks d.end d.last.ending refl (d.left [] [] fresh) full))
 
--- it is so by blocks of which something follows
+-- the same by blocks for which a weaker fact holds
 pub dropped_more : (run_params : RunParamsValue) (P Q : ℕ → List History → Type 0)
     → ((t : ℕ) (blocks : List History) → P t blocks → Q t blocks)
     → (s : ℕ) (streams : List Stream) (reports : List Report) (all : List DroppedIdsValue)
