@@ -29,7 +29,8 @@ pub enum Clauses {
 
 impl Clauses {
     /// Writes a formula of the live clauses, except those that all streams dropped, and returns it
-    /// if the run goes on. Each identity is fetched once. It allocates as `checkpoint::save` does.
+    /// if the run continues. Each identity is fetched once. It allocates as `checkpoint::save`
+    /// does.
     pub fn save<W: Sink>(
         self,
         alloc: Global,
@@ -43,7 +44,7 @@ impl Clauses {
         // formula.
         ensures checkpoint { (f : Cnf) (h : History) → WereLeftBy f h self
             → IfOk result (WritesCheckpoint f (W.written sink.old) (W.written sink.new)) }
-        // The formula is returned exactly if the run goes on.
+        // The formula is returned exactly if the run continues.
         ensures goes_on { IfOk result (λ next. is_some next ≡ goes_on) }
         // It has the clauses that are live after the run's history, except those that all streams
         // dropped.
@@ -91,7 +92,7 @@ fn save_live<W: Sink>(
     ensures checkpoint { (f : Cnf) (h : History)
         → HaveOneHistory f store.now.layout h (views passes.items)
         → IfOk result (WritesCheckpoint f (W.written sink.old) (W.written sink.new)) }
-    // The formula is returned exactly if the run goes on.
+    // The formula is returned exactly if the run continues.
     ensures goes_on { IfOk result (λ next. is_some next ≡ goes_on) }
     // It has the clauses that are live after the run's history, except those that all streams
     // dropped.
