@@ -1,2 +1,2 @@
--- -- Lemmas that proofs of other crates may cite.
+-- Lemmas that proofs of other crates may cite.
 pub mod OpenedLemmas

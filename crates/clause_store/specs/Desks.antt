@@ -1,4 +1,4 @@
--- -- A desk, which is a pass and its store, as a clause map (this project's own).
+-- A desk, which is a pass and its store, as a clause map (this project's own).
 use Rattle.std.specs.Prelude.{◌≡◌}
 use Rattle.lrup_model.specs.Event.{History}
 use Rattle.lrup_model.specs.CallerView.{CallerView}
@@ -9,7 +9,7 @@ use Rattle.clause_store.specs.declared.desk.Desk.{Desk}
 abbrev pub desk_caller_view : Desk → CallerView
 desk_caller_view desk = pass_caller_view desk.pass.view
 
--- -- The desk is at the same store as before, and its pass has moved by these events.
+-- The desk is at the same store as before, and its pass has moved by these events.
 pub record DeskMoves (old new : Desk) (history : History) : Type 0 where
   pub store : store_of new.pass ≡ store_of old.pass
   pub moves : PassMoves old.pass.view new.pass.view history

@@ -1,14 +1,14 @@
--- -- What is true of passes that meet in turn.
+-- What is true of passes that meet in turn.
 use Rattle.std.specs.Prelude.{◌≡◌, List, []}
 use Rattle.lrup_model.specs.Pass.{View, IsFair, PassMoves, SyncInTurn, AreSynced, AllSaw}
 
--- -- If a pass meets all others in turn, and then all again, all have seen what the pass had seen
+-- If a pass meets all others in turn, and then all again, all have seen what the pass had seen
 -- after the first time.
 abbrev pub SyncTwice : Type 0
 SyncTwice = (u v w : View) (xs ys zs : List View) → SyncInTurn u xs v ys → SyncInTurn v ys w zs
     → (w.seen ≡ v.seen) × AllSaw w.seen zs
 
--- -- While a pass meets others in turn, none of them makes a call. Afterwards each of the others is
+-- While a pass meets others in turn, none of them makes a call. Afterwards each of the others is
 -- fair, and the pass is fair if it was before.
 abbrev pub MeetingKeeps : Type 0
 MeetingKeeps = (u v : View) (xs ys : List View) → SyncInTurn u xs v ys → PassMoves u v []

@@ -1,2 +1,2 @@
--- -- Definitions for contracts of private functions.
+-- Definitions for contracts of private functions.
 pub mod AtRest

@@ -1,4 +1,4 @@
-//! //! The store and the calls of its passes. Each call takes a few atomic steps on the row, all of
+//! The store and the calls of its passes. Each call takes a few atomic steps on the row, all of
 //! them `SeqCst` (see `row.rt` of `idwords`).
 ghost use Rattle.std.specs.Prelude.{◌≡◌, ◌↔◌, ◌+◌, ◌-◌, ◌*◌, ◌≤◌, ◌<◌, ℕ, IfOk, IsTrue, Some, length, slice_get, vec_len};
 ghost use Rattle.lrup_model.specs.Event as events;
@@ -17,8 +17,8 @@ use lrup_model::{Clip, Fetched, Formula, Id, Layout, Lit, Owner, Published, Reti
 use std::alloc::{AllocError, Global};
 use std::marker::Model;
 
-/// /// The clauses of a formula, which stay live, and those that the streams publish and retire.
-/// All threads share a store without a lock. In the code only `open` allocates memory, and no call
+/// The clauses of a formula, which stay live, and those that the streams publish and retire. All
+/// threads share a store without a lock. In the code only `open` allocates memory, and no call
 /// waits or retries.
 #[derive(Drop)]
 pub struct Store {
@@ -35,9 +35,9 @@ impl Model for Store {
 }
 
 impl Store {
-    /// /// Opens a store of a formula's clauses, with a layout that fits the formula, and makes a
-    /// pass for each stream, in the order of the streams. It allocates all the memory that the
-    /// store will need, 8 bytes for each word of the row, and as much again until it returns. If an
+    /// Opens a store of a formula's clauses, with a layout that fits the formula, and makes a pass
+    /// for each stream, in the order of the streams. It allocates all the memory that the store
+    /// will need, 8 bytes for each word of the row, and as much again until it returns. If an
     /// allocation fails, everything is freed.
     pub fn open(
         alloc: Global,
@@ -63,14 +63,14 @@ impl Store {
         &self.layout
     }
 
-    /// /// Whether this is an identity: 1 to the last one of the layout.
+    /// Whether this is an identity: 1 to the last one of the layout.
     pub fn covers(&self, id: Id) -> bool
         ensures { IsTrue result ↔ IsIdentity self.now.layout id }
     {
         self.layout.covers(id)
     }
 
-    /// /// Whether the pass's stream owns this identity.
+    /// Whether the pass's stream owns this identity.
     pub fn owns(&self, pass: &Pass, id: Id) -> bool
         requires { store_of pass.now ≡ self.now }
         ensures { IsTrue result ↔ Owns pass.now.view.caller.layout pass.now.view.caller.stream id }
@@ -86,10 +86,9 @@ impl Store {
         pass.seat.room()
     }
 
-    /// /// Looks up an identity (1 to the last one) by one load of its word, which holds the state,
-    /// the length and the place of the clause. The reply is what the store had there at that
-    /// moment. The call changes nothing; the pass is `&mut` since contracts record in it what was
-    /// seen.
+    /// Looks up an identity (1 to the last one) by one load of its word, which holds the state, the
+    /// length and the place of the clause. The reply is what the store had there at that moment.
+    /// The call changes nothing; the pass is `&mut` since contracts record in it what was seen.
     #[inline]
     #[tactic(auto, using(crate::proofs::LiteralsRead::start_read))]
     pub fn fetch(&self, pass: &mut Pass, id: Id) -> Fetched
@@ -102,17 +101,17 @@ impl Store {
     {
         let word = self.row.look(&mut pass.seat, id);
         match state_in(word) {
-            // // No cast loses a bit: a row has at most 2^28 words, and a clause has fewer than
-            // 2^20 literals.
+            // No cast loses a bit: a row has at most 2^28 words, and a clause has fewer than 2^20
+            // literals.
             LIVE => Fetched::Live(Clip::new(id, len(word) as u32, start(word) as u32)),
             RETIRED => Fetched::Retired,
             _ => Fetched::Vacant,
         }
     }
 
-    /// /// Reads literal `k`, counted from 0, of a clause whose clip the pass has fetched, by one
-    /// load. The literals are in the order in which the clause was published or is in the formula.
-    /// The clause may be retired: its literals stay.
+    /// Reads literal `k`, counted from 0, of a clause whose clip the pass has fetched, by one load.
+    /// The literals are in the order in which the clause was published or is in the formula. The
+    /// clause may be retired: its literals stay.
     #[inline]
     pub fn literal(&self, pass: &mut Pass, clip: &Clip, k: u32) -> Lit
         requires store { store_of pass.old ≡ self.now }
@@ -126,8 +125,8 @@ impl Store {
         lit(self.row.word(&mut pass.seat, place), k % 2)
     }
 
-    /// /// Reads pair `i`, counted from 0, of a clause whose clip the pass has fetched, by one
-    /// load: literal `2 * i` and, if the clause has it, literal `2 * i + 1`.
+    /// Reads pair `i`, counted from 0, of a clause whose clip the pass has fetched, by one load:
+    /// literal `2 * i` and, if the clause has it, literal `2 * i + 1`.
     #[inline]
     pub fn pair(&self, pass: &mut Pass, clip: &Clip, i: u32) -> (Lit, Option<Lit>)
         requires store { store_of pass.old ≡ self.now }
@@ -150,8 +149,8 @@ impl Store {
         }
     }
 
-    /// /// Publishes a clause under an identity that the pass's stream owns. The clause follows
-    /// from the formula, has at most 65,535 literals and fits into the room left. The literals are
+    /// Publishes a clause under an identity that the pass's stream owns. The clause follows from
+    /// the formula, has at most 65,535 literals and fits into the room left. The literals are
     /// written first, in the given order, two by each atomic store. Then one compare-exchange makes
     /// the clause live. If a clause was published under the identity before, the reply is `Taken`,
     /// and nothing changes.
@@ -177,7 +176,7 @@ impl Store {
         self.row.claim(&mut pass.seat, id)
     }
 
-    /// /// Retires the clause under an identity that the pass's stream owns: one load, and one
+    /// Retires the clause under an identity that the pass's stream owns: one load, and one
     /// compare-exchange if the clause is live. If no clause is live there, the reply is `NotLive`,
     /// and nothing changes.
     pub fn retire(&self, pass: &mut Pass, id: Id) -> Retired
@@ -192,9 +191,9 @@ impl Store {
         self.row.withdraw(&mut pass.seat, id)
     }
 
-    /// /// Lets two passes share what they have seen: afterwards both have seen the same history,
-    /// which begins with what each had seen. If one had seen all that the other had, it is the
-    /// history of that one. It is no event, and changes no clause.
+    /// Lets two passes share what they have seen: afterwards both have seen the same history, which
+    /// begins with what each had seen. If one had seen all that the other had, it is the history of
+    /// that one. It is no event, and changes no clause.
     pub fn meet(&self, first: &mut Pass, second: &mut Pass)
         requires first { store_of first.old ≡ self.now }
         requires second { store_of second.old ≡ self.now }
@@ -206,7 +205,7 @@ impl Store {
     }
 }
 
-/// /// The place in the row of word `k`, counted from 0, of a clip's clause.
+/// The place in the row of word `k`, counted from 0, of a clip's clause.
 #[inline]
 fn place_of(clip: &Clip, k: u32) -> u64
     ensures { result ≡ clip.now.start + k }

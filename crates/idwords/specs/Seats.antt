@@ -1,4 +1,4 @@
--- -- A seat as contracts see it (this project's own).
+-- A seat as contracts see it (this project's own).
 use Rattle.std.specs.Prelude.{ℕ, []}
 pub use Rattle.atomic_table.specs.Seated.{TableId}
 use Rattle.lrup_model.specs.Clause.{Clause}
@@ -7,7 +7,7 @@ use Rattle.lrup_model.specs.Layout.{LayoutValue}
 use Rattle.lrup_model.specs.Pass.{View}
 use Rattle.idwords.specs.Spelling.{spelling_of, first_place}
 
--- -- The row of the seat, what its stream knows, the first place of its room after its published
+-- The row of the seat, what its stream knows, the first place of its room after its published
 -- clauses, and the literals stored from there on.
 pub record SeatValue : Type 0 where
   pub table : TableId
@@ -15,7 +15,7 @@ pub record SeatValue : Type 0 where
   pub top : ℕ
   pub draft : Clause
 
--- -- What one stream knows: its view, its top, and its draft, i.e. the literals stored from the top
+-- What one stream knows: its view, its top, and its draft, i.e. the literals stored from the top
 -- on. A seat has one thread state; while two seats meet, one of them has both, and at the opening
 -- the first seat has all.
 pub record ThreadState : Type 0 where
@@ -27,7 +27,7 @@ abbrev pub seat_value : TableId → ThreadState → SeatValue
 seat_value table thread =
     record { table = table; view = thread.view; top = thread.top; draft = thread.draft }
 
--- -- a stream's thread state at the opening
+-- a stream's thread state at the opening
 abbrev pub opening_thread : Cnf → LayoutValue → ℕ → ThreadState
 opening_thread formula layout s = record {
   view = record {
@@ -40,6 +40,6 @@ opening_thread formula layout s = record {
   draft = [];
 }
 
--- -- a stream's seat at the opening
+-- a stream's seat at the opening
 abbrev pub opening_seat : TableId → Cnf → LayoutValue → ℕ → SeatValue
 opening_seat table formula layout s = seat_value table (opening_thread formula layout s)

@@ -1,4 +1,4 @@
--- -- Definitions for contracts of private functions.
+-- Definitions for contracts of private functions.
 pub mod RowWords
 pub mod Opening
 pub mod Rule

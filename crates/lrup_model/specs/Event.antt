@@ -1,4 +1,4 @@
--- -- Events of the clause map, one for each call of fetch, publish and retire, and histories, which
+-- Events of the clause map, one for each call of fetch, publish and retire, and histories, which
 -- are lists of events (this project's own). An event has a clause as the list in the order in which
 -- the map stores it; the list is read as a set.
 use Rattle.std.specs.Prelude.{◌==◌, ℕ, List, [], ◌∷◌, length}
@@ -21,11 +21,11 @@ pub data Event : Type 0 where
   publish : ℕ → ℕ → Clause → Published → Event
   retire : ℕ → ℕ → Retired → Event
 
--- -- events, in the order in which they occurred
+-- events, in the order in which they occurred
 abbrev pub History : Type 0
 History = List Event
 
--- -- the stream that made the call
+-- the stream that made the call
 abbrev pub stream_of : Event → ℕ
 stream_of (fetch s id reply) = s
 stream_of (publish s id clause reply) = s
@@ -43,11 +43,11 @@ published (publish s id clause publishing.Done ∷ history) = (id, clause) ∷ p
 published (publish s id clause publishing.Taken ∷ history) = published history
 published (retire s id reply ∷ history) = published history
 
--- -- how many literals the clauses have that a stream published with `Done`
+-- how many literals the clauses have that a stream published with `Done`
 abbrev pub spent : ℕ → History → ℕ
 spent s history = sum_by (λ entry. length entry.1) (published (own history s))
 
--- -- how many literals of its stream's room an event takes
+-- how many literals of its stream's room an event takes
 abbrev pub size_of : Event → ℕ
 size_of (fetch s id reply) = 0
 size_of (publish s id clause publishing.Done) = length clause

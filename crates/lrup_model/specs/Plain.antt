@@ -1,5 +1,5 @@
--- -- The clause map of one thread, as its contracts see it, and a stream's view of it (this
--- project's own).
+-- The clause map of one thread, as its contracts see it, and a stream's view of it (this project's
+-- own).
 use Rattle.std.specs.Prelude.{◌≡◌, ◌≢◌, ◌+◌, ◌-◌, ◌<◌, ℕ, List, [], map, take, drop, slice_index, slice_index_or, Option, None, Some}
 use Rattle.std.specs.List.{AllByRecursion}
 use Rattle.lrup_model.specs.Clause.{Clause}
@@ -17,8 +17,8 @@ pub data PlainSlot : Type 0 where
   live : StoredClause → PlainSlot
   retired : StoredClause → PlainSlot
 
--- -- `plain_slots` has what each identity has, from identity 0 on, which has nothing; `free` has
--- the room left of each stream, in literals.
+-- `plain_slots` has what each identity has, from identity 0 on, which has nothing; `free` has the
+-- room left of each stream, in literals.
 pub record Plain : Type 0 where
   pub layout : LayoutValue
   pub plain_slots : List PlainSlot
@@ -42,7 +42,7 @@ clause_of (retired stored) = stored.literals
 abbrev pub plain_slot_at : Plain → ℕ → PlainSlot
 plain_slot_at plain id = slice_index_or plain.plain_slots id vacant
 
--- -- the formula, whose clauses are under the first identities
+-- the formula, whose clauses are under the first identities
 abbrev pub formula_of : Plain → Cnf
 formula_of plain = record {
   vars = plain.layout.vars;
@@ -52,11 +52,11 @@ formula_of plain = record {
 abbrev pub plain_state : Plain → State
 plain_state plain = λ id. slot_of (plain_slot_at plain id)
 
--- -- the room left of a stream, counted from 1
+-- the room left of a stream, counted from 1
 abbrev pub free_at : Plain → ℕ → ℕ
 free_at plain s = slice_index plain.free (s - 1)
 
--- -- what a stream's caller knows of the map
+-- what a stream's caller knows of the map
 abbrev pub plain_caller_view : Plain → ℕ → CallerView
 plain_caller_view plain s = record {
   caller = record { formula = formula_of plain; layout = plain.layout; stream = s };
@@ -65,7 +65,7 @@ plain_caller_view plain s = record {
   spelt = λ id. stored_of (plain_slot_at plain id);
 }
 
--- -- These events of the stream lead from the old map to the new one, and each has the reply of the
+-- These events of the stream lead from the old map to the new one, and each has the reply of the
 -- map at its moment. The room of other streams is unchanged.
 pub record PlainMoves (old new : Plain) (s : ℕ) (history : History) : Type 0 where
   pub layout : new.layout ≡ old.layout

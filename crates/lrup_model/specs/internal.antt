@@ -1,4 +1,4 @@
--- -- Definitions for contracts of private functions.
+-- Definitions for contracts of private functions.
 pub mod Codes
 pub mod Pieces
 pub mod PlainInside

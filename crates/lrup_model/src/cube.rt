@@ -1,4 +1,4 @@
-//! //! Cubes: sets of assumed literals.
+//! Cubes: sets of assumed literals.
 ghost use Rattle.std.specs.Prelude.{◌≡◌, ◌↔◌, ◌≤◌, ℕ, [], IsTrue, IfOk, map};
 ghost use Rattle.std.specs.List.{All};
 ghost use Rattle.lrup_model.specs.internal.Codes.{literal_of};
@@ -10,9 +10,9 @@ use crate::lit::Lit;
 use std::alloc::{AllocError, Global};
 use std::marker::Model;
 
-/// /// A set of assumed literals. It may contain a literal and its complement.
+/// A set of assumed literals. It may contain a literal and its complement.
 ///
-/// /// It stores the codes of the literals that it was made of, sorted: 4 bytes each.
+/// It stores the codes of the literals that it was made of, sorted: 4 bytes each.
 #[derive(Drop)]
 pub struct Cube {
     codes: Vec<u32>,
@@ -31,7 +31,7 @@ impl Model for Cube {
 }
 
 impl Cube {
-    /// /// The set of these literals.
+    /// The set of these literals.
     pub fn of(alloc: Global, literals: &[Lit]) -> Result<Cube, AllocError>
         ensures { IfOk result (λ cube. IsCubeOf literals.now cube) }
     {
@@ -49,7 +49,7 @@ impl Cube {
         }
     }
 
-    /// /// Makes a copy of the cube, in memory of its own.
+    /// Makes a copy of the cube, in memory of its own.
     pub fn try_clone(&self) -> Result<Cube, AllocError>
         ensures { IfOk result (λ cube. cube ≡ self.now) }
     {
@@ -66,7 +66,7 @@ impl Cube {
         self.codes.as_slice().binary_search(&code).is_ok()
     }
 
-    /// /// Whether the cube makes the clause false, i.e. contains the complement of each of its
+    /// Whether the cube makes the clause false, i.e. contains the complement of each of its
     /// literals. The search ends at the first literal whose complement isn't there. For the empty
     /// cube it is a single test.
     pub fn refutes(&self, clause: &[Lit]) -> bool
@@ -78,7 +78,7 @@ impl Cube {
         clause.iter().all(|literal| self.has(literal.complement()))
     }
 
-    /// /// The largest variable of the cube's literals, or 0 if there are none.
+    /// The largest variable of the cube's literals, or 0 if there are none.
     pub fn vars(&self) -> u32
         ensures { (n : ℕ) → IsCubeOver n self.now ↔ (result ≤ n) }
     {
@@ -89,7 +89,7 @@ impl Cube {
     }
 }
 
-/// /// The codes of the literals, in the same order.
+/// The codes of the literals, in the same order.
 fn codes_of(alloc: Global, literals: &[Lit]) -> Result<Vec<u32>, AllocError>
     ensures literals { IfOk result (λ codes. map literal_of codes.items ≡ literals.now) }
     ensures codes { IfOk result (λ codes. All (IsCode max_variable) codes.items) }

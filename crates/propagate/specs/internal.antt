@@ -1,3 +1,3 @@
--- -- Definitions for contracts of private functions.
+-- Definitions for contracts of private functions.
 pub mod Trail
 pub mod ClauseStatus

@@ -1,4 +1,4 @@
-//! //! Checks hints, one after the other.
+//! Checks hints, one after the other.
 ghost use Rattle.std.specs.Prelude.{◌≡◌, ◌↔◌, ◌≤◌, ◌+◌, ◌*◌, ◌++◌, ℕ, List, [], ◌∷◌, ℤ, Some, slice_get, take, false, true, IsTrue, IsFalse, ◌⊎◌, IfOk, IsErr, OnOk, OnErr};
 ghost use Rattle.std.specs.List.{AllByRecursion};
 ghost use Rattle.lrup_model.specs.Literal.{IsLiteral, max_variable};
@@ -15,32 +15,31 @@ use lrup_model::{ClauseMap, Clip, Lit};
 use std::alloc::{AllocError, Global};
 use std::marker::Model;
 
-/// /// What a hinted clause is while the literals of the trail are false.
+/// What a hinted clause is while the literals of the trail are false.
 #[derive(Clone, Copy, Debug, PartialEq, Eq)]
 pub enum Step {
-    /// /// All literals but one are false, and that one is neither false nor true. Its complement
-    /// is false from now on.
+    /// All literals but one are false, and that one is neither false nor true. Its complement is
+    /// false from now on.
     Unit,
     /// All its literals are false.
     Conflict,
-    /// /// Neither of the two: a literal is true, or at least two aren't false.
+    /// Neither of the two: a literal is true, or at least two aren't false.
     NotUnit,
 }
 
-/// /// Which literals of a clause aren't false, among those read so far.
+/// Which literals of a clause aren't false, among those read so far.
 #[derive(Clone, Copy, Debug, PartialEq, Eq)]
 enum ClauseStatus {
-    /// /// All literals are false.
+    /// All literals are false.
     Nothing,
-    /// /// All literals but this one are false, and this one is neither false nor true.
+    /// All literals but this one are false, and this one is neither false nor true.
     One(Lit),
-    /// /// A literal is true, or at least two aren't false: the clause is neither unit nor a
-    /// conflict.
+    /// A literal is true, or at least two aren't false: the clause is neither unit nor a conflict.
     More,
 }
 
-/// /// A clause whose hints are being checked, and the literals that are false: those of the
-/// clause, and those that its hints made false. In the code only `new` allocates memory.
+/// A clause whose hints are being checked, and the literals that are false: those of the clause,
+/// and those that its hints made false. In the code only `new` allocates memory.
 #[derive(Drop)]
 pub struct Marks {
     trail: Trail,
@@ -60,8 +59,8 @@ impl Model for Marks {
 }
 
 impl Marks {
-    /// /// Allocates all buffers, for clauses over the variables 1 to `vars`, at most 16,777,215:
-    /// about 6 bytes per variable.
+    /// Allocates all buffers, for clauses over the variables 1 to `vars`, at most 16,777,215: about
+    /// 6 bytes per variable.
     pub fn new(alloc: Global, vars: u32) -> Result<Marks, AllocError>
         requires { vars ≤ max_variable }
         ensures { IfOk result
@@ -74,8 +73,8 @@ impl Marks {
         })
     }
 
-    /// /// Begins a clause over the variables: its literals, which may occur several times, are
-    /// false, and no other literals are. It fails exactly if the clause contains a literal and its
+    /// Begins a clause over the variables: its literals, which may occur several times, are false,
+    /// and no other literals are. It fails exactly if the clause contains a literal and its
     /// complement; then no clause is begun.
     pub fn begin(&mut self, clause: &[Lit]) -> Result<(), Tautology>
         requires { AllByRecursion (IsLiteral self.old.vars) clause.now }
@@ -90,7 +89,7 @@ impl Marks {
         ensures err { OnErr result
             (self.new ≡ record { vars = self.old.vars; clause = []; falses = []; ready = false }) }
 
-        // // The clause has the literals of the argument, each once.
+        // The clause has the literals of the argument, each once.
         ensures clause { OnOk result (IsClause self.old.vars self.new.clause) }
         ensures members { OnOk result ((l : ℤ) → Has self.new.clause l ↔ Has clause.now l) }
         ensures consistent { OnOk result (¬ IsTautology self.new.clause) }
@@ -107,7 +106,7 @@ impl Marks {
         Ok(())
     }
 
-    /// /// The literals of the clause that was begun, each once, in the order of their first
+    /// The literals of the clause that was begun, each once, in the order of their first
     /// occurrences.
     #[inline]
     pub fn clause(&self) -> &[Lit]
@@ -116,7 +115,7 @@ impl Marks {
         self.trail.first(self.clause_len)
     }
 
-    /// /// Whether a hint may follow: a clause was begun, and each hint since then was unit.
+    /// Whether a hint may follow: a clause was begun, and each hint since then was unit.
     #[inline]
     pub fn ready(&self) -> bool
         ensures { result ≡ self.now.ready }
@@ -124,7 +123,7 @@ impl Marks {
         self.ready
     }
 
-    /// /// Returns what the clause of a hint is. If it is unit, the complement of its last literal
+    /// Returns what the clause of a hint is. If it is unit, the complement of its last literal
     /// becomes false. In the code each literal is read at most once.
     pub fn hint<M: ClauseMap>(&mut self, map: &mut M, clip: &Clip) -> Step
         requires ready { IsTrue self.old.ready }
@@ -158,9 +157,9 @@ impl Marks {
         }
     }
 
-    /// /// Whether the clip's clause has exactly the literals of the list. In the list a literal
-    /// may occur several times, also together with its complement. The clause is read at most once,
-    /// and no clause is begun afterwards.
+    /// Whether the clip's clause has exactly the literals of the list. In the list a literal may
+    /// occur several times, also together with its complement. The clause is read at most once, and
+    /// no clause is begun afterwards.
     pub fn same<M: ClauseMap>(&mut self, map: &mut M, clip: &Clip, lits: &[Lit]) -> bool
         requires known { IsKnown (M.caller_view map.old) clip.now }
         requires follow { AllFollow (M.caller_view map.old) }
@@ -182,9 +181,9 @@ impl Marks {
     }
 }
 
-/// /// Reads the clause, pair by pair, until it turns out to be neither unit nor a conflict. While
-/// all literals are false, it reads one mark for each. For the first literal that isn't false it
-/// reads the mark of the complement, too; after that a second literal that isn't false decides
+/// Reads the clause, pair by pair, until it turns out to be neither unit nor a conflict. While all
+/// literals are false, it reads one mark for each. For the first literal that isn't false it reads
+/// the mark of the complement, too; after that a second literal that isn't false decides
 /// (`status_after`).
 fn clause_status<M: ClauseMap>(falses: &Trail, map: &mut M, clip: &Clip) -> ClauseStatus
     requires known { IsKnown (M.caller_view map.old) clip.now }
@@ -201,7 +200,7 @@ fn clause_status<M: ClauseMap>(falses: &Trail, map: &mut M, clip: &Clip) -> Clau
             continue;
         }
         match status_with_pair(falses, first, second) {
-            // // Can't happen, since one of the two isn't false.
+            // Can't happen, since one of the two isn't false.
             ClauseStatus::Nothing => {}
             ClauseStatus::One(lit) => return status_after(falses, map, clip, i + 1, lit),
             ClauseStatus::More => return ClauseStatus::More,
@@ -210,8 +209,8 @@ fn clause_status<M: ClauseMap>(falses: &Trail, map: &mut M, clip: &Clip) -> Clau
     ClauseStatus::Nothing
 }
 
-/// /// Continues after the first `pairs` pairs, whose literals are false except `lit`, which is
-/// neither false nor true.
+/// Continues after the first `pairs` pairs, whose literals are false except `lit`, which is neither
+/// false nor true.
 fn status_after<M: ClauseMap>(
     falses: &Trail,
     map: &mut M,
@@ -238,7 +237,7 @@ fn status_after<M: ClauseMap>(
     ClauseStatus::One(lit)
 }
 
-/// /// Whether the literal is false, and the second one, too, if there is one.
+/// Whether the literal is false, and the second one, too, if there is one.
 #[inline]
 fn are_false(falses: &Trail, first: Lit, second: &Option<Lit>) -> bool
     requires first { IsLiteral falses.now.vars first }
@@ -255,8 +254,8 @@ fn are_false(falses: &Trail, first: Lit, second: &Option<Lit>) -> bool
         }
 }
 
-/// /// The status after the next one or two literals of a clause whose literals so far are false.
-/// The clause has each literal once.
+/// The status after the next one or two literals of a clause whose literals so far are false. The
+/// clause has each literal once.
 #[inline]
 fn status_with_pair(falses: &Trail, first: Lit, second: Option<Lit>) -> ClauseStatus
     requires first { IsLiteral falses.now.vars first }
@@ -273,7 +272,7 @@ fn status_with_pair(falses: &Trail, first: Lit, second: Option<Lit>) -> ClauseSt
     }
 }
 
-/// /// The status after one more literal, which isn't one of those before it.
+/// The status after one more literal, which isn't one of those before it.
 #[inline]
 fn status_with(falses: &Trail, status: ClauseStatus, lit: Lit) -> ClauseStatus
     requires { IsLiteral falses.now.vars lit }

@@ -1,5 +1,5 @@
-//! //! What the tests of several crates use: the example formula, a reader and a writer that fail
-//! at one call, and a clock.
+//! What the tests of several crates use: the example formula, a reader and a writer that fail at
+//! one call, and a clock.
 #![tactic(auto)]
 
 mod clock;

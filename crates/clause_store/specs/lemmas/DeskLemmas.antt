@@ -1,4 +1,4 @@
--- -- Lemmas about desks at the store.
+-- Lemmas about desks at the store.
 use Rattle.std.specs.Prelude.{◌++◌, []}
 use Rattle.std.proofs.Common.{refl, ◌∙◌}
 use Rattle.lrup_model.specs.Event.{History}
@@ -7,7 +7,7 @@ use Rattle.lrup_model.specs.lemmas.PassLemmas.{moves_none, moves_append, moves_a
 use Rattle.clause_store.specs.declared.desk.Desk.{Desk}
 use Rattle.clause_store.specs.Desks.{desk_caller_view, DeskMoves}
 
--- -- The laws of a caller's view, for a desk.
+-- The laws of a caller's view, for a desk.
 pub desk_none : (d : Desk) → DeskMoves d d []
 desk_none d = record { store = refl; moves = moves_none d.pass.view }
 

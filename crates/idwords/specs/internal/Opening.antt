@@ -1,4 +1,4 @@
--- -- The words of the row at the opening (this project's own).
+-- The words of the row at the opening (this project's own).
 use Rattle.std.specs.Prelude.{◌+◌, ◌-◌, ◌*◌, ◌++◌, ℕ, List, [], ◌∷◌, length, replicate}
 use Rattle.lrup_model.specs.Clause.{Clause}
 use Rattle.lrup_model.specs.Formula.{Cnf}
@@ -6,7 +6,7 @@ use Rattle.lrup_model.specs.Layout.{LayoutValue, last_identity}
 use Rattle.idwords.specs.internal.RowWords.{identity_word, packed}
 use Rattle.idwords.specs.Words.{words_for}
 
--- -- the words of the identities of live clauses, whose literals are stored one clause after the
+-- the words of the identities of live clauses, whose literals are stored one clause after the
 -- other, from this place on
 abbrev pub clause_words : ℕ → List Clause → List ℕ
 clause_words start [] = []
@@ -17,7 +17,7 @@ abbrev pub literal_words : List Clause → List ℕ
 literal_words [] = []
 literal_words (clause ∷ clauses) = packed clause ++ literal_words clauses
 
--- -- word 0, the formula's identities, the streams' vacant identities, the formula's literals, and
+-- word 0, the formula's identities, the streams' vacant identities, the formula's literals, and
 -- zeros to the end of the row: words that aren't needed since each holds two literals, and the
 -- streams' rooms
 abbrev pub opening_words : Cnf → LayoutValue → List ℕ

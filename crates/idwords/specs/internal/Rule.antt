@@ -1,4 +1,4 @@
--- -- The rule of the row, which holds between any two steps (this project's own).
+-- The rule of the row, which holds between any two steps (this project's own).
 use Rattle.std.specs.Prelude.{◌≡◌, ◌+◌, ◌≤◌, ◌==◌, ◌++◌, ℕ, List, [], ◌∷◌, Some, length, slice_index, if◌then◌else◌, zero, suc}
 use Rattle.std.specs.List.{AllByRecursion}
 use Rattle.atomic_table.specs.Table.{State}
@@ -16,10 +16,10 @@ use Rattle.idwords.specs.Seats.{ThreadState, opening_thread}
 abbrev pub thread_stream : ThreadState → ℕ
 thread_stream thread = thread.view.caller.stream
 
--- -- The thread state agrees with the log and the words: it has the run's formula and layout; it
--- has seen a prefix of the log, and its calls are its stream's events there and in the whole log;
--- its clauses are stored where that prefix puts them, its top is after its clauses, and the words
--- from there on have its draft, which fits into its room.
+-- The thread state agrees with the log and the words: it has the run's formula and layout; it has
+-- seen a prefix of the log, and its calls are its stream's events there and in the whole log; its
+-- clauses are stored where that prefix puts them, its top is after its clauses, and the words from
+-- there on have its draft, which fits into its room.
 pub record Stands (run_formula : Cnf) (run_layout : LayoutValue) (log : History) (words : List ℕ)
     (thread : ThreadState) : Type 0 where
   pub formula : thread.view.caller.formula ≡ run_formula
@@ -36,7 +36,7 @@ pub record Stands (run_formula : Cnf) (run_layout : LayoutValue) (log : History)
 abbrev pub AllThreads : (ThreadState → Type 0) → List (List ThreadState) → Type 0
 AllThreads P views = AllByRecursion (λ threads. AllByRecursion P threads) views
 
--- -- how many of the thread states are this stream's
+-- how many of the thread states are this stream's
 abbrev pub count_in : ℕ → List ThreadState → ℕ
 count_in s [] = 0
 count_in s (thread ∷ threads) = (if thread_stream thread == s then 1 else 0) + count_in s threads
@@ -45,14 +45,14 @@ abbrev pub times : ℕ → List (List ThreadState) → ℕ
 times s [] = 0
 times s (threads ∷ views) = count_in s threads + times s views
 
--- -- the formula and the layout are within the limits, and fit each other
+-- the formula and the layout are within the limits, and fit each other
 pub record IsPlan (run_formula : Cnf) (run_layout : LayoutValue) : Type 0 where
   pub formula : IsCnf run_formula
   pub layout : IsLayout run_layout
   pub fits : Fits run_layout run_formula
 
--- -- The row fits this history: the words show what the history leaves at each identity, and have
--- the literals of each clause; each thread state agrees with both, and no stream has two.
+-- The row fits this history: the words show what the history leaves at each identity, and have the
+-- literals of each clause; each thread state agrees with both, and no stream has two.
 pub record Keeps (formula : Cnf) (layout : LayoutValue) (log : History) (words : List ℕ)
     (views : List (List ThreadState)) : Type 0 where
   pub plan : IsPlan formula layout
@@ -68,13 +68,13 @@ pub record Keeps (formula : Cnf) (layout : LayoutValue) (log : History) (words :
   pub threads : AllThreads (Stands formula layout log words) views
   pub once : (s : ℕ) → times s views ≤ 1
 
--- -- the row fits some history
+-- the row fits some history
 abbrev pub HoldsRowInvariant : {S : Type 0} → Cnf → LayoutValue
     → State S (List ThreadState) → Type 0
 HoldsRowInvariant formula layout row =
     (log : History) × Keeps formula layout log row.words row.views
 
--- -- the thread states at the opening of this many streams, from stream s on
+-- the thread states at the opening of this many streams, from stream s on
 abbrev pub opening_threads : Cnf → LayoutValue → ℕ → ℕ → List ThreadState
 opening_threads formula layout s zero = []
 opening_threads formula layout s (suc count) =

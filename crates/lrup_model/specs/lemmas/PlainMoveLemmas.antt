@@ -1,4 +1,4 @@
--- -- The laws of a caller's view, for the clause map of one thread.
+-- The laws of a caller's view, for the clause map of one thread.
 use Rattle.std.specs.Prelude.{◌++◌, ℕ, []}
 use Rattle.std.proofs.Common.{refl, sym, ap, ap₂, subst, ◌∙◌, arith}
 use Rattle.lrup_model.specs.Formula.{Cnf}
