@@ -216,7 +216,7 @@ struct Cause<'a> {
 }
 
 impl<'a> Cause<'a> {
-    /// A text alone.
+    /// A text without a number in it.
     fn plain(text: &'a [u8]) -> Cause<'a>
         ensures { cause_bytes result.text.now result.number result.rest.now ≡ text.now }
     {

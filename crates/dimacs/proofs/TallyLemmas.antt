@@ -8,7 +8,7 @@ use Rattle.lrup_model.specs.Formula.{max_clause_literals}
 use Rattle.dimacs.specs.Lines.{Token}
 use Rattle.dimacs.specs.FormulaTokens.{IsWritten, TokensSpell, ended}
 
--- clauses that ended, literals of the clause begun, and the most literals of any clause
+-- clauses that ended, literals of the clause begun, and the largest number of literals of any clause
 pub record Tally : Type 0 where
   pub ended_clauses : ℕ
   pub begun : ℕ

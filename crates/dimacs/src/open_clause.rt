@@ -30,7 +30,7 @@ impl Model for OpenClause {
     ghost invariant = { λ c. EachOnce c.literals.items × MarksFit c.marked c.marks.items c.literals.items };
 }
 
-/// The most literals of a clause without marks.
+/// The maximum number of literals of a clause without marks.
 const SHORT: usize = 8;
 
 fn has(literals: &[Lit], l: Lit) -> bool

@@ -11,8 +11,8 @@
 use Rattle.std.specs.Prelude.{◌≡◌, ℕ, ◌<◌, ◌≤◌, ◌⊎◌, Bool, false, List, [], ◌∷◌, ◌++◌, codes, length, MatchBool}
 use Rattle.std.specs.List.{AllByRecursion}
 
--- the most digits of a number, literals of an addition or an import, and hints of an addition or
--- identities of a deletion; and whether a hint may have a sign
+-- the maximum numbers of digits of a number, of literals of an addition or an import, and of hints
+-- of an addition or identities of a deletion; and whether a hint may have a sign
 pub record Limits : Type 0 where
   pub digits : ℕ
   pub literals : ℕ

@@ -67,7 +67,8 @@ EmptyPending = IsPending []
 abbrev pub EmptyCut : Type 0
 EmptyCut = IsCut [] [] (Ok [])
 
--- In whatever pieces a stream comes, the lines given are those that the bytes used are cut into.
+-- However a stream is divided into pieces, the lines given are those that the bytes used are cut
+-- into.
 abbrev pub CallsCut : Type 0
 CallsCut = (stream : List ℕ) (lines : List StreamLine) (old new : ReaderState) (calls : List Call)
     → IsCut stream lines old → AreCalls old calls new

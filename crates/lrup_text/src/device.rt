@@ -6,7 +6,7 @@ ghost use Rattle.std.specs.Result.{result_ok};
 use std::io;
 use thiserror::Error;
 
-/// The most bytes that one read of a stream or of a formula's file asks for.
+/// The maximum number of bytes that one read of a stream or of a formula's file asks for.
 pub const PIECE: usize = 65_536;
 
 /// A read failed.

@@ -78,8 +78,8 @@ pub fn no_bytes_have_no_lines()
     ensures { EmptyCut }
 {}
 
-/// The lines that a reader gives are those that the stream is cut into, whatever pieces it comes
-/// in.
+/// The lines that a reader gives are those that the stream is cut into, however the stream is
+/// divided into pieces.
 pub fn calls_cut_the_stream()
     ensures { CallsCut }
 {}

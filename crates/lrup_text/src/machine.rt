@@ -11,13 +11,13 @@ use crate::{Line, LineFault};
 use memchr::{memchr, memrchr};
 use std::alloc::{AllocError, Global};
 
-/// The most digits of a number.
+/// The maximum number of digits of a number.
 pub const MAX_DIGITS: usize = 18;
 /// The largest number with that many digits.
 pub const MAX_NUMBER: u64 = 999_999_999_999_999_999;
-/// The most literals of an addition or of an import.
+/// The maximum number of literals of an addition or of an import.
 pub const MAX_LITERALS: usize = 65_535;
-/// The most hints of an addition, and the most identities of a deletion.
+/// The maximum number of hints of an addition, and of identities of a deletion.
 pub const MAX_IDENTITIES: usize = 65_536;
 
 /// What may come next in a line.

@@ -13,7 +13,7 @@ use std::marker::Model;
 /// The size of a number's text with the bytes around it.
 const WORD: usize = 24;
 
-/// The most bytes that a buffer holds.
+/// The maximum number of bytes that a buffer holds.
 const CAPACITY: usize = 4_096;
 
 /// The largest size of a number's text, with a sign before it and a space after it.

@@ -109,9 +109,9 @@ pub record IsProvided (Before Last : RoundAsk) (last : ℕ) (its : Deeds) (folde
       (stream_paths folder number sizes.streams)
 
 -- The words ask well, and for rounds in a folder unless round 1 is the last one. The last round has
--- a number from 1 to 2 ^ 64 - 2. The streams of round 1 are as required. And each round after it,
--- up to the last, that some run of these words comes to is provided for: with threads, its formula
--- depends on how they ran.
+-- a number from 1 to 2 ^ 64 - 2. The streams of round 1 are as required. And each later round up to
+-- the last is provided for, for every course that a run of these words may take: with threads, the
+-- formula of a round depends on how they ran.
 pub record AskForValidRounds (Before Last : RoundAsk) (files : FilesView) (words : List Text)
     (last : ℕ) : Type 0 where
   pub asks : AskWell files words

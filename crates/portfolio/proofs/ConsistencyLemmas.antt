@@ -120,7 +120,7 @@ are_opened store f p ps count each = opened_from store f 1 ps (λ k pass at.
 
 -- ---- the jobs
 
--- what the calls of a pass come to
+-- the effect of a pass's calls
 
 -- one stream's pass, from its opening to the meeting: it is the stream's, and its calls are those that were made
 pub record Ends (f : Cnf) (p : LayoutValue) (s : ℕ) (es : History) (v : View) : Type 0 where
@@ -128,7 +128,7 @@ pub record Ends (f : Cnf) (p : LayoutValue) (s : ℕ) (es : History) (v : View) 
   pub mine : v.mine ≡ es
   pub fair : IsFair v
 
--- the pass has seen a legal history, which has its calls as they were made
+-- the pass has seen a legal history, in which the calls of its stream are those made through it
 ends_own : (f : Cnf) (p : LayoutValue) (s : ℕ) (es h : History) (v : View) → Ends f p s es v → v.seen ≡ h → v.mine ≡ own h s
 ends_own f p s es h v e saw = sym e.fair.mine ∙ ap₂ (λ (g : History) (n : ℕ). own g n) saw (ap (λ (c : Caller). c.stream) e.caller)
 

@@ -62,7 +62,7 @@ impl Clauses {
     }
 }
 
-/// Wants each clause that some stream hasn't dropped; all clauses, if there are no streams.
+/// Wanted are the clauses that some stream hasn't dropped, or all clauses if there are no streams.
 #[derive(Drop)]
 struct NotAllDropped<'a> {
     dropped: &'a [DroppedIds],
@@ -106,13 +106,13 @@ fn save_live<W: Sink>(
     let Some(pass) = passes.pop() else {
         unreachable!()
     };
-    // For the proof alone: by the contract of `stream` the pass is fair, so the layout fits the
+    // For the proof only: by the contract of `stream` the pass is fair, so the layout fits the
     // formula.
     let _ = pass.stream();
     let mut desk = Desk::new(store, pass);
     let wanted = NotAllDropped { dropped };
     let saved = save(alloc, &mut desk, layout, &wanted, goes_on, sink);
-    // For the proof alone: the passes meet once more, which shows that no other stream published or
+    // For the proof only: the passes meet once more, which shows that no other stream published or
     // retired in between. So the fetched clauses are those that the run left.
     passes.push_reserved(desk.into_pass());
     store.meet_all(&mut passes);
@@ -142,7 +142,7 @@ fn save_plain<W: Sink>(
     ensures failed { IsTrue (W.has_failed sink.new) ↔ (result ≡ Err SaveFault.Unwritten) }
 {
     let layout = *map.layout();
-    // For the proof alone: by the contract of `streams` there is a stream.
+    // For the proof only: by the contract of `streams` there is a stream.
     let _ = layout.streams();
     let mut desk = map.desk(1);
     let wanted = NotAllDropped { dropped };

@@ -100,7 +100,7 @@ pub fn run<T: Threads + Wait + Sync, R: Source + Send + Drop, G: Gate + Send + D
         Err(ThreadFault::Spawn(stream)) => Err(RunFault::Spawn(stream)),
         Err(ThreadFault::Ring(found)) => {
             let stream = found.passes.len() as u64 + 1;
-            // For the proof alone: the contract of `outcome_of` gives what `ring` promises of the
+            // For the proof only: the contract of `outcome_of` gives what `ring` promises of the
             // streams before this one.
             let _before = outcome_of(store, found);
             Err(RunFault::Ring(stream))

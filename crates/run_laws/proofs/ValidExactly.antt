@@ -205,7 +205,7 @@ among_last (i ∷ earlier) id = elim (cases_Bool (i == id)) [
   | inr other ↦ ap (λ (b : Bool). b || is_among (earlier ++ id ∷ []) id) other ∙ among_last earlier id
 ]
 
--- if this identity can't be deleted any more, it isn't among the others
+-- if this identity can no longer be deleted, it isn't among the others
 none_same : (c : StreamParams) (is_dropped : ℕ → Bool) (earlier ids : List ℕ) (n : State) (id : ℕ) → ¬ CanGo c is_dropped earlier n id
     → AllByRecursion (CanGo c is_dropped earlier n) ids → is_among ids id ≡ false
 none_same c is_dropped earlier [] n id cannot can = refl

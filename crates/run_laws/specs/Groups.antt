@@ -1,4 +1,4 @@
--- What a run is, and its groups of streams: what holds for their reports whatever the streams
+-- What a run is, and its groups of streams: what holds for their reports no matter what the streams
 -- outside the group do (this project's own).
 use Rattle.std.specs.Prelude.{◌≡◌, ◌+◌, ◌==◌, ◌++◌, ℕ, Bool, true, false, IsTrue, List, [], ◌∷◌, length, Some, MatchOption, if◌then◌else◌}
 use Rattle.std.specs.List.{AllByRecursion, AllZip}

@@ -52,7 +52,7 @@ ValidReported =
     → report ≡ valid_report run_params s lines
 
 -- If a reader's bytes begin with a valid proof, the report says at least what the report of its
--- lines does, whatever comes after them; unless memory ran out or a read failed in these lines.
+-- lines says, no matter what follows; unless memory ran out or a read failed in these lines.
 abbrev pub ValidBegins : Type 0
 ValidBegins =
     (f : Cnf) (run_params : RunParamsValue) (s : ℕ) (bytes more : List ℕ) (lines : List StreamLine)

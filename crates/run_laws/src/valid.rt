@@ -58,7 +58,7 @@ pub fn valid_reported()
 }
 
 /// In every run the report of a stream that begins with valid lines says at least what the report
-/// of these lines does, whatever comes after them; unless memory ran out or a read failed in these
+/// of these lines says, no matter what follows; unless memory ran out or a read failed in these
 /// lines.
 pub fn valid_begins()
     ensures { ValidBegins }

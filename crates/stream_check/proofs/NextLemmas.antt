@@ -90,7 +90,7 @@ next_alike laws c st text xs ys (inr a) (inl b) = absurd (a.1 b.line b.more b.fi
 next_alike laws c st text xs ys (inr a) (inr b) =
     subst (λ (bs : List History). GoAlike bs ys) (sym a.0) (subst (λ (bs : List History). GoAlike [] bs) (sym b.0) tt)
 
--- if no line is good any more, there is at most one block
+-- if no line is good from here on, there is at most one block
 none_behind : TextLaws
     → (c : StreamParams) (lines : List StreamLine) (rest : List ℕ) (end : StreamEnd) (p : History) (back pre xs : List History)
     (report : Report)

@@ -285,7 +285,7 @@ fn end_of(mark: u16) -> StreamEnd
     }
 }
 
-/// Compares the two halves, once both threads have returned them. It is for the proof alone, and
+/// Compares the two halves, once both threads have returned them. It is for the proof only, and
 /// changes nothing: by its contract, what was received is a prefix of what was sent, and all of it
 /// if it ends with a mark.
 pub fn halves_agree(producer: &mut Producer<u16>, consumer: &mut Consumer<u16>)

@@ -20,7 +20,7 @@ use std::sync::{OnceLock, OnceToken, Wait};
 use stream_check::laws::over_stays;
 use stream_check::{CheckStatus, Checker, DroppedIds, Gate, Report, RunParams};
 
-/// The most items that one pop takes, and the most bytes that the checker is fed at once.
+/// The maximum number of items that one pop takes, and of bytes that the checker is fed at once.
 const POP_BATCH: usize = PIECE;
 
 /// What a checking thread starts with: a stream's checker and gate, and the receiving half of the

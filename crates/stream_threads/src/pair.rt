@@ -48,7 +48,7 @@ pub fn jobs<R: Source + Drop, G: Gate + Drop>(
     Ok((reading, checking))
 }
 
-/// Compares what both threads returned. It is for the proof alone, and changes nothing: by its
+/// Compares what both threads returned. It is for the proof only, and changes nothing: by its
 /// contract, what was received is a prefix of what was sent, and the bytes that were judged are all
 /// that the reader's reads gave.
 pub fn jobs_agree<R: Source + Drop>(sent: &mut Sent<R>, checked: &mut Checked)

@@ -11,8 +11,8 @@ use rtrb::Producer;
 use std::alloc::{AllocError, Global};
 use std::sync::{OnceLock, OnceToken, Wait};
 
-/// The most bytes that are converted to items before a push, so that the checking thread starts
-/// before a whole piece is pushed.
+/// The maximum number of bytes that are converted to items before a push, so that the checking
+/// thread starts before a whole piece is pushed.
 const PUSH_BATCH: usize = 4_096;
 
 /// What a reading thread starts with: a reader that hasn't failed, and the sending half of the

@@ -16,7 +16,7 @@ use std::thread::Scope;
 use stream_check::Gate;
 
 /// Starts a checking thread, or returns `None` if it can't be started. The task is for the proof
-/// alone: it says what the thread starts with.
+/// only: it says what the thread starts with.
 fn start_checking<'s, 'a: 's, E, W: Wait + Sync, R: Source + Drop, G: Gate + Send + Drop + 's>(
     scope: &Scope<'s, E>,
     wait: &'s W,

@@ -89,7 +89,7 @@ pending_at states.LineEnd partial =
 abbrev pub pending : PartialLine → List ℕ
 pending partial = pending_at partial.state partial
 
--- the spot in the line that this state stands for
+-- the spot in the line in this state
 unfoldable pub spot_at : ParserState → PartialLine → Spot
 spot_at states.Start partial = AtStart
 spot_at states.Lead partial = InLead partial.digits
