@@ -1,4 +1,4 @@
--- A map that was just opened.
+-- A clause map that was just opened.
 use Rattle.std.specs.Prelude.{◌≡◌}
 use Rattle.lrup_model.specs.Layout.{Fits}
 use Rattle.lrup_model.specs.Plain.{Plain, formula_of, plain_state}

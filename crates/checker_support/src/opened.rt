@@ -1,4 +1,4 @@
-//! The map of the worked formula, and checkers before their first byte.
+//! The map of the example formula, and new checkers.
 ghost use Rattle.std.specs.Prelude.{◌≡◌, [], IfOk, replicate};
 ghost use Rattle.lrup_model.specs.Layout.{IsStream};
 ghost use Rattle.lrup_model.specs.Plain.{formula_of, plain_caller_view};
@@ -13,7 +13,8 @@ use stream_check::Checker;
 use stream_check::laws::ready_new;
 use test_support::four_clauses;
 
-/// The map of the four clauses, for `streams` streams, each with `lines` identities and room for `room` literals.
+/// The map of the four clauses, for `streams` streams, each with `lines` identities and room for
+/// `room` literals.
 pub fn open_map(alloc: Global, streams: u64, lines: u64, room: u64) -> Result<PlainMap, Fail>
     ensures opened { IfOk result IsPlainOpened }
     ensures formula { IfOk result (λ map. formula_of map ≡ four) }
@@ -25,7 +26,7 @@ pub fn open_map(alloc: Global, streams: u64, lines: u64, room: u64) -> Result<Pl
     open_formula(alloc, &formula, &layout)
 }
 
-/// The map of a formula, at this layout.
+/// The map of a formula with this layout.
 pub fn open_formula(alloc: Global, formula: &Formula, layout: &Layout) -> Result<PlainMap, Fail>
     ensures opened { IfOk result IsPlainOpened }
     ensures formula { IfOk result (λ map. formula_of map ≡ formula.now) }
@@ -40,7 +41,7 @@ pub fn open_formula(alloc: Global, formula: &Formula, layout: &Layout) -> Result
     Ok(map)
 }
 
-/// A checker of this stream, before its first byte.
+/// A new checker of this stream.
 pub fn checker_at(alloc: Global, map: &PlainMap, stream: u64, tries: u64) -> Result<Checker, Fail>
     requires { IsPlainOpened map.now }
     ensures stream { IfOk result (λ _. IsStream map.now.layout stream) }
@@ -50,7 +51,7 @@ pub fn checker_at(alloc: Global, map: &PlainMap, stream: u64, tries: u64) -> Res
     checker_under(alloc, map, &Cube::empty(alloc), stream, tries)
 }
 
-/// A checker of this stream, under this cube, before its first byte.
+/// A new checker of this stream, under this cube.
 pub fn checker_under(
     alloc: Global,
     map: &PlainMap,

@@ -1,4 +1,4 @@
--- A text of a formula has a token `0` for each clause, and a beginning of a printed text has fewer than its header says.
+-- A text of a formula has a token `0` for each clause, and a prefix of a printed text has fewer than its header says.
 use Rattle.std.proofs.Common.{◌≡◌, ◌≢◌, ◌≤◌, ◌<◌, ◌+◌, ◌-◌, ◌^◌, ◌++◌, ◌⊎◌, ℕ, zero, suc, ℤ, pos, negsuc, List, [], ◌∷◌, length}
 use Rattle.std.proofs.Common.{length-append, map, min, get_or, true, false, not, cond, refl, sym, ap, subst, ◌∙◌, inl, inr, arith}
 use Rattle.std.specs.Prelude.{codes, flat_map, ◌==◌, filter}
@@ -25,7 +25,7 @@ use Rattle.checkpoint.proofs.ReadBack.{token_decimal, token_literal, token_run}
 
 -- ## a list that is cut in two
 
--- the cut lies behind the first list
+-- the cut is after the first list
 record IsBehind (xs ys front back : List ℕ) : Type 0 where
   between : List ℕ
   front_is : front ≡ xs ++ between
@@ -78,7 +78,7 @@ zeros-append (t ∷ ts) ys = elim (cases_Bool (is_zero t)) [
   | inr other ↦ let rest = zeros-append ts ys in rw other (omega (arith, rest))
 ]
 
--- no token that begins with another byte
+-- a token that begins with another byte isn't `0`
 not_zero : (t : List ℕ) → get_or t 0 0 ≢ 48 → is_zero t ≡ false
 not_zero [] first = refl
 not_zero (b ∷ []) first = ne_eqb b 48 first
@@ -97,7 +97,7 @@ first_byte : (vars : ℕ) (l : ℤ) → vars ≤ max_variable → IsLiteral vars
 first_byte vars (pos n) few is = let first = first_decimal n (omega (arith, is.0)) (omega (arith, is.1)) in λ e. omega arith
 first_byte vars (negsuc n) few is = λ e. omega arith
 
--- a clause's tokens have one
+-- the tokens of a clause have one
 clause_zeros : (vars : ℕ) (few : vars ≤ max_variable) (c rest : List ℤ) → AllByRecursion (IsLiteral vars) c
     → zeros (map signed_decimal (c ++ pos 0 ∷ rest)) ≡ 1 + zeros (map signed_decimal rest)
 unfolding zeros
@@ -147,7 +147,7 @@ one_line line end = elim (cases_Bool (is_comment line)) [
   ]
 ]
 
--- the zeros of lines
+-- the zeros of all lines
 line_zeros : List ℕ → ℕ
 line_zeros bytes = zeros (flat_map (λ (line : List (List ℕ)). line) (token_lines bytes))
 
@@ -162,7 +162,7 @@ one_line_zeros line end = elim (one_line line end) [
 
 -- ## a line that is cut
 
--- the cut lies in the first token, or behind the space after it
+-- the cut is in the first token, or after the space that follows it
 token_cut : (t more front back : List ℕ) → t ++ 32 ∷ more ≡ front ++ back
     → ((between : List ℕ) × (t ≡ front ++ between)) ⊎ ((later : List ℕ) × (front ≡ t ++ 32 ∷ later) × (more ≡ later ++ back))
 token_cut t more front back is = elim (cut t (32 ∷ more) front back is) [
@@ -177,7 +177,7 @@ token_cut t more front back is = elim (cut t (32 ∷ more) front back is) [
         let space : 32 ≡ b = cc in
         inr (bs, front_is ∙ ap (λ x. t ++ x ∷ bs) (sym space), cc)
 
--- a beginning of a token is no token, or one
+-- a prefix of a token has no token or just one
 part_runs : (t front between : List ℕ) → IsRun t → t ≡ front ++ between → (runs front ≡ []) ⊎ (runs front ≡ front ∷ [])
 part_runs t [] between run is = inl refl
 part_runs t (b ∷ bs) between run is =
@@ -233,7 +233,7 @@ module _ (vars : ℕ) (few : vars ≤ max_variable) where
       (subst (AllByRecursion (λ b. (b == 10) ≡ false)) last.1 (clause_ends vars few c all)) in
       omega (arith, one_line_zeros front end, front_part c front last.0 all last.1, last.2)
 
-  -- a note that is cut has no tokens
+  -- a note that is cut has no token
   note_part : (id place : ℕ) (front back : List ℕ) → note id place ≡ front ++ back → 0 < length back → line_zeros front ≡ 0
   unfolding line_zeros zeros
   note_part id place front back is some = elim (cases_Bool (id == place)) [
@@ -285,7 +285,7 @@ module _ (vars : ℕ) (few : vars ≤ max_variable) where
       last [] n whole this = omega arith
       last (d ∷ ds) n whole this = omega arith
 
--- ## the header that is cut
+-- ## a header that is cut
 
 run_p : IsRun (codes "p")
 run_p = record { some = omega arith; separators = (refl, tt) }
@@ -293,7 +293,7 @@ run_p = record { some = omega arith; separators = (refl, tt) }
 run_cnf : IsRun (codes "cnf")
 run_cnf = record { some = omega arith; separators = (refl, (refl, (refl, tt))) }
 
--- a line of more than one token goes on behind the first
+-- a line of more than one token continues after the first
 goes_on : (t more front back one : List ℕ) (tokens : List (List ℕ)) → IsRun t → t ++ 32 ∷ more ≡ front ++ back → runs front ≡ one ∷ tokens
     → 0 < length tokens → (later : List ℕ) × (runs later ≡ tokens) × (more ≡ later ++ back)
 goes_on t more front back one tokens run is found some = elim (token_cut t more front back is) [
@@ -312,7 +312,7 @@ zero_alone zero back fits is = (refl, cc (decimal_digit 0 (omega arith)))
 zero_alone (suc n) back fits is = absurd (omega (arith, first_decimal (suc n) (omega arith) fits, ap (λ (t : List ℕ). get_or t 0 0) is))
 
 module _ (vars count : ℕ) (few_vars : vars < 2 ^ 64) (few : count < 2 ^ 64) where
-  -- a header that is cut and read as one is a line alone, and its count isn't 0, or all but the LF is there
+  -- if a header that is cut is read as a header, it is a line alone, and its count isn't 0, or only the LF is missing
   header_part : (front back : List ℕ) → header_line vars count ≡ front ++ back → 0 < length back
       → (v n : ℕ) (lines : List (List (List ℕ))) → token_lines front ≡ (codes "p" ∷ codes "cnf" ∷ decimal v ∷ decimal n ∷ []) ∷ lines
       → (lines ≡ []) × (n ≡ 0 → (count ≡ 0) × (length back ≡ 1))

@@ -1,4 +1,4 @@
--- Lemmas on formulas that follow from others.
+-- Lemmas about formulas that follow from others.
 use Rattle.std.proofs.Common.{List, [], ◌∷◌, refl, ◌∙◌}
 use Rattle.std.specs.List.{AllByRecursion}
 use Rattle.lrup_model.specs.Clause.{Clause}
@@ -7,13 +7,13 @@ use Rattle.lrup_model.specs.Formula.{Cnf}
 use Rattle.lrup_model.specs.lemmas.ListLemmas.{All-map}
 use Rattle.checkpoint.specs.Entails.{EntailsItself, EntailsOnward, RefutesBack, RefutesBackUnder, ChainRefutes, ChainRefutesUnder}
 
--- what satisfies a formula satisfies clauses that follow from it
+-- an assignment that satisfies a formula satisfies the clauses that follow from it
 all_satisfied : (f : Cnf) (a : Assignment) (cs : List Clause) → AllByRecursion (Follows f) cs → SatisfiesAll a f
     → AllByRecursion (Satisfies a) cs
 all_satisfied f a [] follow sat = tt
 all_satisfied f a (c ∷ cs) follow sat = (follow.0.holds a sat, all_satisfied f a cs follow.1 sat)
 
--- clauses all of which are satisfied with a formula follow from it
+-- clauses that are satisfied whenever the formula is follow from it
 all_follow : (f : Cnf) (cs : List Clause) → ((a : Assignment) → SatisfiesAll a f → AllByRecursion (Satisfies a) cs)
     → AllByRecursion (Follows f) cs
 all_follow f [] sat = tt

@@ -25,7 +25,7 @@ fetches-push s id (q ∷ replies) r =
     let same : id + 1 + length replies ≡ id + length (q ∷ replies) = omega arith in
     ap (λ es. fetch s id q ∷ es) (fetches-push s (id + 1) replies r ∙ ap (λ n. fetches s (id + 1) replies ++ fetch s n r ∷ []) same)
 
--- one more in front of both
+-- one more element in front of both
 cond-append : (b : Bool) (e : Entry) (xs ys : List Entry) → cond b (e ∷ (xs ++ ys)) (xs ++ ys) ≡ cond b (e ∷ xs) xs ++ ys
 cond-append true e xs ys = refl
 cond-append false e xs ys = refl
@@ -47,7 +47,7 @@ wanted_of-append wants id (x ∷ xs) ys =
         ∙ cond-append (wants id) (record { id = id; clause = c }) (wanted_of wants (id + 1) xs) (wanted_of wants (id + length (x ∷ xs)) ys)
     at retired after = after
 
--- clips that are known stay so, with their clauses
+-- known clips stay known, with the same clauses
 stay_known : (a b : CallerView) (es : History) (clips : List ClipValue) → CallerStep a b es → AllByRecursion (IsKnown a) clips
     → AllByRecursion (IsKnown b) clips
 stay_known a b es clips step known = All-map (IsKnown a) (IsKnown b) (λ clip is. (known_stays a b es clip step is).0) clips known
@@ -65,7 +65,7 @@ all_follow : (p : CallerView) (clips : List ClipValue) → AllFollow p → AllBy
 all_follow p [] follow known = tt
 all_follow p (clip ∷ clips) follow known = (known_follows p clip follow known.0, all_follow p clips follow known.1)
 
--- the formula's clauses are live, as far as the fetches have come
+-- the formula's clauses are live, as far as they were fetched
 pub record First (f : Cnf) (count : ℕ) (last : ℕ) (replies : List Reply) : Type 0 where
   pub more : List Reply
   pub is : replies ≡ map live (take last f.clauses) ++ more
@@ -100,7 +100,7 @@ first_next f count last replies r all answer first =
           }
     ]
 
--- all of them are, in the end
+-- in the end all of them are
 pub first_whole : (wants : ℕ → Bool) (f : Cnf) (count last : ℕ) (replies : List Reply) → count ≡ length f.clauses → count ≤ last
     → First f count last replies → (more : List Entry) × (wanted_of wants 1 replies ≡ wanted_clauses wants f.clauses ++ more)
 first_whole wants f count last replies all within first = (
@@ -109,7 +109,7 @@ first_whole wants f count last replies all within first = (
       ∙ wanted_of-append wants 1 (map live f.clauses) first.more,
 )
 
--- what was found of the identities 1 to the last, between the two places
+-- what was found for the identities 1 to the last one, between the two views
 pub record Found (wants : ℕ → Bool) (a b : CallerView) (moves : History → Type 0) (last : ℕ) (clips : List ClipValue) : Type 0 where
   pub replies : List Reply
   pub moved : moves (fetches a.caller.stream 1 replies)
@@ -133,7 +133,7 @@ found_none wants a moves none = record {
   first = λ all. record { more = []; is = refl; none = λ _. refl };
 }
 
--- the next identity, under which these clips were kept
+-- the next identity, with the clips kept for it
 pub found_next : (wants : ℕ → Bool) (a b c : CallerView) (before after : History → Type 0) (count : ℕ)
     (clips fresh all : List ClipValue) (r : Reply)
     → Found wants a b before count clips
@@ -170,17 +170,17 @@ found_next wants a b c before after count clips fresh all r found then step form
           (found.first count_is);
     }
 
--- a live clause that is wanted is kept
+-- a live and wanted clause is kept
 pub kept_wanted : (wants : ℕ → Bool) (p : CallerView) (id : ℕ) (clip : ClipValue) → wants id ≡ true → clip.id ≡ id
     → entries_of p (clip ∷ []) ≡ wanted_of wants id (live (clip_clause p clip) ∷ [])
 kept_wanted wants p id clip wanted same = rw wanted (ap (λ n. record { id = n; clause = clip_clause p clip } ∷ []) same)
 
--- one that isn't is left out
+-- an unwanted one is left out
 pub kept_unwanted : (wants : ℕ → Bool) (p : CallerView) (id : ℕ) (clip : ClipValue) → wants id ≡ false
     → wanted_of wants id (live (clip_clause p clip) ∷ []) ≡ []
 kept_unwanted wants p id clip unwanted = rw unwanted refl
 
--- nothing is kept where nothing is live
+-- nothing is kept if nothing is live
 pub kept_none : (wants : ℕ → Bool) (p : CallerView) (id : ℕ) (r : Fetched) → (r ≡ fetched.Vacant) ⊎ (r ≡ fetched.Retired)
     → wanted_of wants id (reply_of p r ∷ []) ≡ []
 kept_none wants p id r (inl vacant_is) = rw vacant_is refl

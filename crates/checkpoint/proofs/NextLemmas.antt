@@ -1,4 +1,4 @@
--- Why the formula that is given is the one whose text was written.
+-- The returned formula is the one whose text was written.
 use Rattle.std.proofs.Common.{◌≡◌, ◌<◌, ◌≤◌, ◌+◌, ◌++◌, ◌∷◌, ℕ, zero, suc, List, [], length, take, get_or, sym, ap, ◌∙◌, arith}
 use Rattle.std.proofs.Common.{subst}
 use Rattle.std.specs.List.{AllByRecursion}
@@ -18,7 +18,7 @@ module _ (p : CallerView) (vars : ℕ) where
   clause_at_clip (c ∷ clips) zero d within all = all.0
   clause_at_clip (c ∷ clips) (suc k) d within all = clause_at_clip clips k d (omega (arith, within)) all.1
 
-  -- the formula of the first clips, and one more
+  -- the formula of the first clips and one more
   pub printed_next : (clips : List ClipValue) (k : ℕ) (d : ClipValue) (f g : Cnf) → k < length clips
       → f ≡ printed vars (entries_of p (take k clips))
       → g ≡ record f { clauses = f.clauses ++ clip_clause p (get_or clips k d) ∷ [] }
@@ -31,7 +31,7 @@ module _ (p : CallerView) (vars : ℕ) where
       next ∙ ap (λ (h : Cnf). record h { clauses = h.clauses ++ clip_clause p (get_or clips k d) ∷ [] }) before
       ∙ ap (λ (cs : List Clause). record { vars = vars; clauses = cs }) (sym more)
 
--- clauses that follow may be those of a formula
+-- clauses that follow are clauses of a formula
 pub derived_clauses : (f : Cnf) (vars : ℕ) (cs : List Clause) → vars ≡ f.vars → AllByRecursion (IsDerived f) cs
     → AllByRecursion (λ c. length c ≤ max_clause_literals) cs → AllByRecursion (IsFormulaClause vars) cs
 derived_clauses f vars [] same derived short = tt

@@ -1,4 +1,4 @@
--- A formula's text by the parts that are written one after the other.
+-- The text of a formula, in the parts that are written one after the other.
 use Rattle.std.proofs.Common.{◌≡◌, ◌≤◌, ◌<◌, ◌≢◌, ◌+◌, ◌*◌, ◌++◌, ◌∷◌, ℕ, ℤ, List, [], length, map, take, drop, get_or, Option, Some, inl}
 use Rattle.std.proofs.Common.{inr, refl, sym, ap, subst, ◌∙◌, add-one, arith}
 use Rattle.std.specs.Prelude.{codes, flat_map, slice_get, Result}
@@ -40,7 +40,7 @@ module _ (c : Clause) (k : ℕ) where
   unfolding clause_line
   literals_all all = ap (λ d. literals_text d ++ codes "0\n") (sym (take_all k c all))
 
--- a pair of literals, the second of which may not be there
+-- a pair of literals, the second of which may be missing
 module _ (c : Clause) (i : ℕ) (first : ℤ) (at : slice_get c (2 * i) ≡ Some first) where
   pub pair_first : literals_text (take (2 * i + 1) c) ≡ literals_text (take (2 * i) c) ++ literal_text first
   pair_first = literals_next c (2 * i) first at
@@ -67,7 +67,7 @@ module _ (c : Clause) (i : ℕ) (first : ℤ) (at : slice_get c (2 * i) ≡ Some
       ] in
       ap literals_text (take_all (2 * (i + 1)) c (omega (arith, short)) ∙ sym (take_all (2 * i + 1) c short)) ∙ pair_first
 
--- a note, where there is one
+-- a note, if there is one
 pub note_none : (id place : ℕ) → id ≡ place → note id place ≡ []
 unfolding note
 note_none id place same = rw (eq-eqb id place same) refl
@@ -110,7 +110,7 @@ module _ (vars : ℕ) (entry : ClipValue → Entry) (clips : List ClipValue) whe
       ∙ ap (λ t. entries_text 1 (map entry (take k clips)) ++ t) (append-nil (entry_text (k + 1) this)))
       ∙ sym (append_assoc (header_line vars (length clips)) (entries_text 1 (map entry (take k clips))) (entry_text (k + 1) this))
 
-  -- all of it, cut after the first clauses
+  -- the whole text, cut after the first clauses
   entries_cut : (k : ℕ) → k ≤ length clips
       → formula_text vars (map entry clips) ≡ header_entries vars entry clips k ++ later_entries entry clips k
   entries_cut k inside =
@@ -132,7 +132,7 @@ module _ (vars : ℕ) (entry : ClipValue → Entry) (clips : List ClipValue) whe
   entries_all k all = header_first
       ∙ ap (λ (cs : List ClipValue). header_line vars (length clips) ++ entries_text 1 (map entry cs)) (sym (take_all k clips all))
 
--- a text that is equal to what was put
+-- a text that is equal to the one that was put
 pub puts_all_as : {E : Type 0} (r : Result (Unit {0}) E) (a b : Option (List ℕ)) (h i : List ℕ) {x z : List ℕ} → PutsAll r a b h i x → z ≡ x
     → PutsAll r a b h i z
 puts_all_as r a b h i {x} {z} puts is = subst (λ t. PutsAll r a b h i t) (sym is) puts

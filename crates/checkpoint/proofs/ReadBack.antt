@@ -23,7 +23,7 @@ use Rattle.checkpoint.proofs.PrintLemmas.{note_none}
 
 -- ## bytes
 
--- no separator, no LF, no letter c
+-- the byte is no separator, no LF and no letter c
 pub record IsPlain (b : ℕ) : Type 0 where
   pub separator : is_separator b ≡ false
   pub end : (b == 10) ≡ false
@@ -96,7 +96,7 @@ runs_more (b ∷ bs) rest run =
 
 -- ## lines
 
--- a line that no LF ends before its end, and which is no comment
+-- a line that contains no LF and isn't a comment
 pub record IsPlainLine (line : List ℕ) : Type 0 where
   pub end : AllByRecursion (λ b. (b == 10) ≡ false) line
   pub comment : is_comment line ≡ false
@@ -114,7 +114,7 @@ line_first line rest t ts plain tokens =
     (slice_split_at (λ b. b == 10) line 10 rest (All-from_recursion (λ b. (b == 10) ≡ false) line plain.end) refl)
     ∙ tokens_first line (slice_split (λ b. b == 10) rest) t ts plain.comment tokens
 
--- a comment is passed over
+-- a comment is skipped
 comment_first : (line rest : List ℕ) → AllByRecursion (λ b. (b == 10) ≡ false) line → is_comment line ≡ true
     → token_lines (line ++ 10 ∷ rest) ≡ token_lines rest
 comment_first line rest end comment =
@@ -170,7 +170,7 @@ module _ (vars count : ℕ) (few_vars : vars < 2 ^ 64) (few : count < 2 ^ 64) wh
 
 -- ## a note
 
--- a note, without its LF
+-- a note without its LF
 unfoldable pub note_front : ℕ → List ℕ
 note_front id = codes "c id " ++ decimal id
 
@@ -200,7 +200,7 @@ note_read id place rest =
 
 -- ## a clause
 
--- the line of a clause, without its LF
+-- the line of a clause without its LF
 unfoldable pub clause_front : Clause → List ℕ
 clause_front c = flat_map (λ l. signed_decimal l ++ codes " ") c ++ codes "0"
 
@@ -272,7 +272,7 @@ all_tokens (c ∷ cs) =
     ap (λ (ts : List (List ℕ)). map signed_decimal (c ++ pos 0 ∷ []) ++ ts) (all_tokens cs)
     ∙ sym (map-append signed_decimal (c ++ pos 0 ∷ []) (flat_map (λ c. c ++ pos 0 ∷ []) cs))
 
--- ## literals that stand once
+-- ## literals that occur once
 
 without_none : (x : ℤ) (ls : List ℤ) → (¬ Has ls x) → filter (λ y. not (int_eq y x)) ls ≡ ls
 without_none x [] missing = refl

@@ -1,4 +1,4 @@
--- Checkpoints: texts of formulas whose clauses follow from another (this project's own).
+-- Checkpoints: texts of formulas whose clauses follow from another formula (this project's own).
 use Rattle.std.specs.Prelude.{◌≡◌, ◌≤◌, ◌++◌, ℕ, List, [], ◌∷◌, length, Option, Result, Ok, Err}
 use Rattle.std.specs.Io.KnownBytes.{Appends}
 use Rattle.std.specs.List.{AllByRecursion}
@@ -14,13 +14,14 @@ use Rattle.checkpoint.specs.Printing.{formula_text, printed}
 use Rattle.checkpoint.specs.declared.saving.SaveFault.{SaveFault}
 use Rattle.checkpoint.specs.declared.saving.SaveFault.TheVariants as faults
 
--- the bytes are a text of a formula over the same variables, each clause of which follows from this one
+-- the bytes are a text of a formula over the same variables whose clauses all follow from this one
 pub record IsCheckpoint (original : Cnf) (bytes : List ℕ) : Type 0 where
   pub formula : Cnf
   pub text : IsFormulaText bytes formula
   pub entails : Entails original formula
 
--- What was written is a checkpoint of the original, and the next formula, if one is given, is the one whose text it is.
+-- What was written is a checkpoint of the original; its formula is the next one, if a next one is
+-- given.
 pub record WritesCheckpoint (original : Cnf) (before after : Option (List ℕ))
     (next : Option Cnf) : Type 0 where
   pub bytes : List ℕ
@@ -28,14 +29,15 @@ pub record WritesCheckpoint (original : Cnf) (before after : Option (List ℕ))
   pub checkpoint : IsCheckpoint original bytes
   pub next_is : ForSome next (λ formula. formula ≡ checkpoint.formula)
 
--- a formula may have so many clauses, and of these lengths
+-- a formula may have this many clauses of these lengths
 abbrev pub AreWithinLimits : List Clause → Type 0
 AreWithinLimits clauses =
     (length clauses ≤ max_clauses)
     × AllByRecursion (λ clause. length clause ≤ max_clause_literals) clauses
 
--- What became of the saving of clauses: their text was written, and the next formula, if one is given, is the one that is printed there; or
--- nothing was written, if they are too many or too long; or, if a write failed, a beginning of the text.
+-- The result of saving clauses: their text was written, and the next formula, if one is given, is
+-- the printed one; or nothing was written, because they are too many or too long; or a write
+-- failed, and a prefix of the text was written.
 abbrev pub Saves : Result (Option Cnf) SaveFault → ℕ → List Entry → Option (List ℕ)
     → Option (List ℕ) → Type 0
 Saves (Ok next) vars entries before after =
@@ -49,7 +51,7 @@ Saves (Err faults.Unwritten) vars entries before after =
 
 -- Chains of files
 
--- each file is a text of a formula, and the next one a checkpoint of that
+-- each file is a text of a formula, and the next one is a checkpoint of that formula
 abbrev pub AreCheckpoints : List ℕ → List (List ℕ) → Type 0
 AreCheckpoints bytes [] = Unit {0}
 AreCheckpoints bytes (next ∷ more) =
@@ -65,7 +67,8 @@ last_file bytes (next ∷ more) = last_file next more
 abbrev pub IsUnsatisfiableText : List ℕ → Type 0
 IsUnsatisfiableText bytes = (formula : Cnf) × IsFormulaText bytes formula × IsUnsatisfiable formula
 
--- the file is a text of a formula that no assignment satisfies that makes each literal of the cube true
+-- the file is a text of a formula, and no assignment satisfies it together with each literal of the
+-- cube
 abbrev pub IsUnsatisfiableTextUnder : CubeValue → List ℕ → Type 0
 IsUnsatisfiableTextUnder cube bytes =
     (formula : Cnf) × IsFormulaText bytes formula × IsUnsatisfiableUnder formula cube
@@ -77,7 +80,7 @@ abbrev pub FilesRefute : Type 0
 FilesRefute = (bytes : List ℕ) (more : List (List ℕ)) → AreCheckpoints bytes more
     → IsUnsatisfiableText (last_file bytes more) → IsUnsatisfiableText bytes
 
--- under a cube too
+-- the same under a cube
 abbrev pub FilesRefuteUnder : Type 0
 FilesRefuteUnder = (cube : CubeValue) (bytes : List ℕ) (more : List (List ℕ))
     → AreCheckpoints bytes more → IsUnsatisfiableTextUnder cube (last_file bytes more)

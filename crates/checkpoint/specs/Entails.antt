@@ -1,4 +1,4 @@
--- Formulas whose clauses all follow from another (textbook), and chains of them.
+-- Formulas whose clauses all follow from another formula (textbook), and chains of them.
 use Rattle.std.specs.Prelude.{◌≡◌, List, [], ◌∷◌}
 use Rattle.std.specs.List.{AllByRecursion}
 use Rattle.lrup_model.specs.Cube.{CubeValue, IsUnsatisfiableUnder}
@@ -32,7 +32,7 @@ EntailsOnward = (f g h : Cnf) → Entails f g → Entails g h → Entails f h
 abbrev pub RefutesBack : Type 0
 RefutesBack = (f g : Cnf) → Entails f g → IsUnsatisfiable g → IsUnsatisfiable f
 
--- under a cube too
+-- the same under a cube
 abbrev pub RefutesBackUnder : Type 0
 RefutesBackUnder = (f g : Cnf) (cube : CubeValue) → Entails f g → IsUnsatisfiableUnder g cube
     → IsUnsatisfiableUnder f cube
@@ -42,7 +42,7 @@ abbrev pub ChainRefutes : Type 0
 ChainRefutes = (f : Cnf) (gs : List Cnf) → IsChain f gs → IsUnsatisfiable (last_of f gs)
     → IsUnsatisfiable f
 
--- under a cube too
+-- the same under a cube
 abbrev pub ChainRefutesUnder : Type 0
 ChainRefutesUnder = (f : Cnf) (gs : List Cnf) (cube : CubeValue) → IsChain f gs
     → IsUnsatisfiableUnder (last_of f gs) cube → IsUnsatisfiableUnder f cube

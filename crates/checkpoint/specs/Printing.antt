@@ -1,4 +1,4 @@
--- The text of a checkpoint, as it is printed (DIMACS CNF; the exact spelling is this project's own).
+-- The printed text of a checkpoint (DIMACS CNF; the exact spelling is this project's own).
 use Rattle.std.specs.Prelude.{◌≡◌, ◌<◌, ◌+◌, ◌==◌, ℕ, List, [], ◌∷◌, ◌++◌, codes, length, flat_map, if◌then◌else◌}
 use Rattle.std.specs.Fmt.{decimal, signed_decimal}
 use Rattle.lrup_model.specs.Clause.{Clause}
@@ -11,7 +11,7 @@ abbrev pub header_line : ℕ → ℕ → List ℕ
 header_line vars count =
     codes "p cnf " ++ decimal vars ++ codes " " ++ decimal count ++ codes "\n"
 
--- a comment that tells a clause's identity, if that isn't its place
+-- a comment with the clause's identity, unless that is its place
 unfoldable pub note : ℕ → ℕ → List ℕ
 note id place = if id == place then [] else codes "c id " ++ decimal id ++ codes "\n"
 
@@ -19,31 +19,31 @@ note id place = if id == place then [] else codes "c id " ++ decimal id ++ codes
 unfoldable pub clause_line : Clause → List ℕ
 clause_line clause = flat_map (λ l. signed_decimal l ++ codes " ") clause ++ codes "0\n"
 
--- the note of a clause at a place, and its line
+-- the note of a clause at a place, and the clause's line
 abbrev pub entry_text : ℕ → Entry → List ℕ
 entry_text place entry = note entry.id place ++ clause_line entry.clause
 
--- the notes and lines of clauses at the places from this one on
+-- the notes and lines of clauses, at the places from this one on
 abbrev pub entries_text : ℕ → List Entry → List ℕ
 entries_text place [] = []
 entries_text place (entry ∷ entries) = entry_text place entry ++ entries_text (place + 1) entries
 
--- the header, and the text of each clause; the places count from 1
+-- the header, and the text of each clause, at the places from 1 on
 unfoldable pub formula_text : ℕ → List Entry → List ℕ
 formula_text vars entries = header_line vars (length entries) ++ entries_text 1 entries
 
--- the formula that is printed
+-- the printed formula
 abbrev pub printed : ℕ → List Entry → Cnf
 printed vars entries = record { vars = vars; clauses = clauses_of entries }
 
 -- Laws
 
--- what is printed is a text of the formula
+-- the printed text is a text of the formula
 abbrev pub PrintedIsRead : Type 0
 PrintedIsRead = (vars : ℕ) (entries : List Entry) → IsCnf (printed vars entries)
     → IsFormulaText (formula_text vars entries) (printed vars entries)
 
--- a beginning that lacks more than the end of the last line is a text of no formula
+-- a prefix that lacks more than the last byte is a text of no formula
 abbrev pub ABeginningIsNoText : Type 0
 ABeginningIsNoText = (vars : ℕ) (entries : List Entry) → IsCnf (printed vars entries)
     → (went rest : List ℕ) → formula_text vars entries ≡ went ++ rest → 1 < length rest

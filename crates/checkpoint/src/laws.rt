@@ -1,5 +1,6 @@
-//! Laws of checkpoints: what a formula whose clauses follow from another says of that one. Each function does nothing: its contract is the
-//! law, and if it calls another, its proof uses that law.
+//! Laws of checkpoints: what a formula whose clauses follow from another formula says about that
+//! one. Each function does nothing: its contract is the law, and if it calls another function, its
+//! proof uses that law.
 ghost use Rattle.checkpoint.specs.Checkpoints.{FilesRefute, FilesRefuteUnder};
 ghost use Rattle.checkpoint.specs.Entails.{ChainRefutes, ChainRefutesUnder, EntailsItself, EntailsOnward, RefutesBack, RefutesBackUnder};
 ghost use Rattle.checkpoint.specs.Printing.{ABeginningIsNoText, PrintedIsRead};
@@ -21,41 +22,43 @@ pub fn refutes_back()
     ensures { RefutesBack }
 {}
 
-/// A formula that entails one that is unsatisfiable under a cube is so, too.
+/// A formula that entails one that is unsatisfiable under a cube is unsatisfiable under it, too.
 pub fn refutes_back_under()
     ensures { RefutesBackUnder }
 {}
 
-/// If each formula of a chain entails the next, and no assignment satisfies the last, none satisfies the first.
+/// If each formula of a chain entails the next, and no assignment satisfies the last, none
+/// satisfies the first.
 pub fn chain_refutes()
     ensures { ChainRefutes }
 {}
 
-/// If each formula of a chain entails the next, and the last is unsatisfiable under a cube, the first is, too.
+/// If each formula of a chain entails the next, and the last is unsatisfiable under a cube, the
+/// first is, too.
 pub fn chain_refutes_under()
     ensures { ChainRefutesUnder }
 {}
 
-/// The text of a checkpoint, as it is printed, is a text of its formula.
+/// The printed text of a checkpoint is a text of its formula.
 pub fn printed_is_read()
     ensures { PrintedIsRead }
 {}
 
-/// A beginning of a checkpoint's text that lacks more than the end of the last line is a text of no formula: a file that was cut
-/// off is refused.
+/// A prefix of a checkpoint's text that lacks more than the last byte is a text of no formula: a
+/// file that was cut off is refused.
 pub fn a_beginning_is_no_text()
     ensures { ABeginningIsNoText }
 {}
 
-/// If each file is a text of a formula, and the next one a checkpoint of it, and no assignment satisfies the last one's formula, then none
-/// satisfies the first one's.
+/// If each file is a text of a formula, and the next file is a checkpoint of that formula, and no
+/// assignment satisfies the last file's formula, then none satisfies the first file's.
 pub fn files_refute()
     ensures { FilesRefute }
 {
     one_formula();
 }
 
-/// The same under a cube: of assignments that make each of its literals true.
+/// The same under a cube: for assignments that satisfy each of its literals.
 pub fn files_refute_under()
     ensures { FilesRefuteUnder }
 {

@@ -1,5 +1,6 @@
-//! Checkpoints: the clauses that are live at a clause map, written as a formula of their own. Each follows from the formula
-//! of the run, so that a later run may take the checkpoint for its formula.
+//! Checkpoints: the clauses that are live at a clause map, written as a formula of their own. Each
+//! clause follows from the formula of the run, so a later run may use the checkpoint as its
+//! formula.
 #![tactic(auto)]
 
 pub mod laws;

@@ -1,4 +1,4 @@
-//! The clauses that are live at a clause map, and wanted.
+//! The live clauses of a clause map that are wanted.
 ghost use Rattle.std.specs.Prelude.{◌≡◌, ◌≤◌, ◌++◌, ℕ, Bool, List, IfOk, length};
 ghost use Rattle.std.specs.List.{AllByRecursion};
 ghost use Rattle.lrup_model.specs.Layout.{last_identity};
@@ -14,13 +14,13 @@ use std::alloc::{AllocError, Global};
 pub trait Wanted {
     ghost wants: { Self → ℕ → Bool };
 
-    /// Whether the clause under this identity goes into it, if it is live.
+    /// Whether the clause under this identity goes into the checkpoint, if it is live.
     fn wants(&self, id: Id) -> bool
         ensures { result ≡ wants self.now id };
 }
 
-/// The clips of the clauses that are live under the identities 1 to `last` and wanted, in order. Each identity is fetched once.
-/// If memory is refused, only the first of these fetches were made.
+/// The clips of the wanted clauses that are live under the identities 1 to `last`, in order. Each
+/// identity is fetched once. If memory is refused, only the first of these fetches were made.
 pub fn live_clauses<M: ClauseMap, K: Wanted>(
     alloc: Global,
     map: &mut M,
@@ -28,7 +28,8 @@ pub fn live_clauses<M: ClauseMap, K: Wanted>(
     wanted: &K,
 ) -> Result<Vec<Clip>, AllocError>
     requires { last ≤ last_identity (M.caller_view map.old).caller.layout }
-    // The calls are these fetches, with the replies given, and the clauses are the live ones that are wanted.
+    // The calls are these fetches, with these replies, and the clauses are the live and wanted
+    // ones.
     ensures fetched { (replies : List Reply)
         × M.moves map.old map.new (fetches (M.caller_view map.old).caller.stream 1 replies)
         × (length replies ≤ last)
@@ -40,7 +41,7 @@ pub fn live_clauses<M: ClauseMap, K: Wanted>(
     ensures follow { IfOk result (λ clips.
         AllByRecursion (IsDerived (M.caller_view map.old).caller.formula)
         (clauses_of (entries_of (M.caller_view map.new) clips.items))) }
-    // Those of the formula that are wanted come first.
+    // The wanted clauses of the formula come first.
     ensures formula { let caller = (M.caller_view map.old).caller in
         IfOk result (λ clips. caller.layout.clauses ≡ length caller.formula.clauses
         → caller.layout.clauses ≤ last → (more : List Entry)

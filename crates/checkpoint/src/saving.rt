@@ -1,4 +1,4 @@
-//! Saves the live clauses of a clause map as a formula's text.
+//! Saves the live clauses of a clause map as the text of a formula.
 ghost use Rattle.std.specs.Prelude.{◌≡◌, ◌↔◌, ◌⊎◌, ◌≤◌, ◌++◌, [], Err, IfOk, IsTrue, List, is_some, false, length, true};
 ghost use Rattle.std.specs.Io.KnownBytes.{Appends};
 ghost use Rattle.std.specs.List.{AllByRecursion};
@@ -26,10 +26,12 @@ pub enum SaveFault {
     /// Out of memory. Nothing was written.
     #[error("checkpoint not written: out of memory")]
     Memory,
-    /// More clauses are wanted than a formula may have, or one is too long. Nothing was written.
+    /// There are more wanted clauses than a formula may have, or one is too long. Nothing was
+    /// written.
     #[error("checkpoint refused: limit")]
     TooLarge,
-    /// A write failed, or the file couldn't be kept. A beginning of the text was written, perhaps all of it.
+    /// A write failed, or the file couldn't be kept. A prefix of the text was written, perhaps all
+    /// of it.
     #[error("checkpoint not written")]
     Unwritten,
 }
@@ -44,9 +46,10 @@ impl From<AllocError> for SaveFault {
     }
 }
 
-/// Writes the formula of the clauses that are live at the map and wanted, which each follow from the run's formula, and gives it if the
-/// run goes on with it. All identities are fetched, each once, before the first write. Before it, memory is taken for the clips, 16 bytes
-/// a clause, and for the formula that is given.
+/// Writes the formula of the clauses that are live at the map and wanted, each of which follows
+/// from the run's formula, and returns it if the run continues. All identities are fetched, each
+/// once, before the first write. Before it, memory is allocated for the clips, 16 bytes for each
+/// clause, and for the formula that is returned.
 pub fn save<M: ClauseMap, K: Wanted, W: Sink>(
     alloc: Global,
     map: &mut M,
@@ -61,13 +64,13 @@ pub fn save<M: ClauseMap, K: Wanted, W: Sink>(
     // What a user relies on.
     ensures checkpoint { IfOk result (WritesCheckpoint (M.caller_view map.old).caller.formula
         (W.written sink.old) (W.written sink.new)) }
-    // A formula is given just if the run goes on with it.
+    // A formula is returned exactly if the run continues.
     ensures goes_on { IfOk result (λ next. is_some next ≡ goes_on) }
-    // The clauses of the run's formula that are wanted come first.
+    // The wanted clauses of the run's formula come first.
     ensures keeps { let f = (M.caller_view map.old).caller.formula in
         IfOk result (λ _. (more : List Entry) × Appends (W.written sink.old) (W.written sink.new)
         (formula_text f.vars (wanted_clauses (K.wants wanted.now) f.clauses ++ more))) }
-    // The map's calls, what went out, and the formula.
+    // The map's calls, what was written, and the formula.
     ensures saves { (replies : List Reply)
         × M.moves map.old map.new (fetches (M.caller_view map.old).caller.stream 1 replies)
         × (length replies ≤ last_identity layout.now)
@@ -81,8 +84,9 @@ pub fn save<M: ClauseMap, K: Wanted, W: Sink>(
     save_clips(alloc, map, &clips, layout.vars(), goes_on, sink)
 }
 
-/// Writes the formula of some clauses, which each follow from the run's, those that are live, or fewer; and gives it if the run goes on
-/// with it, for which alone it takes memory. At the map it is no event.
+/// Writes the formula of these clauses, each of which follows from the run's formula: all that are
+/// live, or fewer. It returns the formula if the run continues; only then does it allocate. It
+/// makes no event at the map.
 pub fn save_clips<M: ClauseMap, W: Sink>(
     alloc: Global,
     map: &mut M,
@@ -118,7 +122,7 @@ pub fn save_clips<M: ClauseMap, W: Sink>(
     }
 }
 
-/// Whether a formula may have as many clauses as there are clips, of these lengths.
+/// Whether a formula may have this many clauses of these lengths.
 fn are_few(clips: &[Clip]) -> bool
     ensures { IsTrue result ↔ ((length clips.now ≤ max_clauses)
         × AllByRecursion (λ clip. clip.len ≤ max_clause_literals) clips.now) }

@@ -10,8 +10,9 @@ ghost use Rattle.checkpoint.specs.Printing.{clause_line, entry_text, formula_tex
 use lrup_model::{ClauseMap, Clip, Id, Lit};
 use lrup_text::{Sink, WriteBuffer, WriteFault};
 
-/// Writes the formula over the variables 1 to `vars` whose clauses are those of the clips, in order. Before a clause whose identity isn't
-/// its number in the new formula, a comment has the identity. After a fault, a beginning of the text went out. It makes no event.
+/// Writes the formula over the variables 1 to `vars` with the clauses of the clips, in order. If a
+/// clause's identity isn't its number in the new formula, a comment before it gives the identity.
+/// If the sink fails, a prefix of the text was written. It makes no event.
 pub fn write_formula<M: ClauseMap, W: Sink>(
     map: &mut M,
     clips: &[Clip],
@@ -73,7 +74,8 @@ fn put_entry<M: ClauseMap, W: Sink>(
     put_clause(buffer, map, clip, sink)
 }
 
-/// Puts the note of a clause, a comment with its identity, unless that is its number in the new formula.
+/// Puts the note of a clause, a comment with its identity, unless the identity is the clause's
+/// number in the new formula.
 fn put_note<W: Sink>(
     buffer: &mut WriteBuffer,
     id: Id,
@@ -93,7 +95,8 @@ fn put_note<W: Sink>(
     buffer.put(b"\n", sink)
 }
 
-/// Puts the literals of the clip's clause, in the order in which the map keeps them, and the end of the line.
+/// Puts the literals of the clip's clause, in the order in which the map keeps them, and the end of
+/// the line.
 fn put_clause<M: ClauseMap, W: Sink>(
     buffer: &mut WriteBuffer,
     map: &mut M,

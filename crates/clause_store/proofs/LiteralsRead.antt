@@ -1,4 +1,4 @@
--- Lemmas on the literals of a clip that is known at a pass.
+-- Lemmas about the literals of a clip that is known at a pass.
 use Rattle.std.proofs.Common.{◌≡◌, ℕ, ℤ, ◌+◌, ◌*◌, ◌/◌, ◌%◌, ◌<◌, zero, suc, [], ◌∷◌, length, Option, None, Some, slice_get, refl, sym, ap}
 use Rattle.std.proofs.Common.{subst, ◌∙◌, arith}
 use Rattle.std.specs.List.{AllByRecursion}
@@ -16,7 +16,7 @@ use Rattle.idwords.specs.RowCalls.{IsText}
 use Rattle.clause_store.specs.Passes.{PassValue}
 use Rattle.clause_store.specs.internal.AtRest.{IsAtRest, pass_value}
 
--- the start that the word of a clause shows is a place of the row
+-- the start that an identity's word shows is below 2^32
 start_shown : (v : View) (id word : ℕ) (o : Option StoredClause) → stored_in v.spelt id ≡ o → ShowsStored o word → 0 < word_state word
     → LieWithin (row_words v.caller.layout) v.spelt → IsFair v → start_of word < 4294967296
 start_shown v id word None here shows some within fair = absurd (omega arith)
@@ -26,7 +26,7 @@ pub start_read : (v : View) (id word : ℕ) → ShowsStored (stored_in v.spelt i
     → LieWithin (row_words v.caller.layout) v.spelt → IsFair v → start_of word < 4294967296
 start_read v id word shows some within fair = start_shown v id word (stored_in v.spelt id) refl shows some within fair
 
--- a place inside a clause has a literal
+-- a clause has a literal at each place below its length
 literal_at : (vars : ℕ) (c : Clause) (k : ℕ) → k < length c → AllByRecursion (IsLiteral vars) c
     → (l : ℤ) × (slice_get c k ≡ Some l) × IsLiteral vars l
 literal_at vars [] k below all = absurd (omega arith)
@@ -38,11 +38,11 @@ module _ (v : View) (clip : ClipValue) (k place : ℕ) (known : IsKnown (pass_ca
   abbrev stored : StoredClause
   stored = record { start = clip.start; literals = clip_clause (pass_caller_view v) clip }
 
-  -- its place is one of the row's
+  -- the place is inside the row
   place_within : LieWithin (row_words v.caller.layout) v.spelt → place < row_words v.caller.layout
   place_within within = omega (arith, within clip.id stored known.stored, known.len, lies)
 
-  -- the literal, and its half of the word there is its code
+  -- the clause has a literal here, and half k % 2 of the word at the place is its code
   literal_of : IsFair v → (word : ℕ) → IsText v.spelt place word
       → (l : ℤ) × (slice_get (clip_clause (pass_caller_view v) clip) k ≡ Some l) × (half_of (k % 2) word ≡ code_of l)
       × IsCode max_variable (half_of (k % 2) word)
@@ -53,14 +53,14 @@ module _ (v : View) (clip : ClipValue) (k place : ℕ) (known : IsKnown (pass_ca
       let code = IsCode-code_of max_variable at.0 (at.2.0, omega (arith, at.2.1, fair.caller.formula.vars)) in
       (at.0, at.1, is, (omega (arith, code.0), omega (arith, code.1)))
 
-  -- the literal that has the code in that half is that one
+  -- a literal whose code is in that half is literal k of the clause
   literal_is : IsFair v → (word : ℕ) (l : ℤ) → IsText v.spelt place word → code_of l ≡ half_of (k % 2) word
       → slice_get (clip_clause (pass_caller_view v) clip) k ≡ Some l
   literal_is fair word l text code =
       let one = literal_of fair word text in
       one.1 ∙ ap Some (code_of-injective one.0 l (sym one.2 ∙ sym code))
 
--- the same of a pass, whose seat is at rest: as `Store::literal` reads them
+-- the same for a pass whose seat is at rest: the word that `Store::literal` reads
 module _ (seat : SeatValue) (stream : ℕ) (p : PassValue) (clip : ClipValue) (k place : ℕ) (rests : IsAtRest seat stream)
     (same : pass_value seat ≡ p)
     (known : IsKnown (pass_caller_view p.view) clip) (lies : place ≡ clip.start + k / 2) (below : k < clip.len) where
@@ -82,7 +82,7 @@ module _ (seat : SeatValue) (stream : ℕ) (p : PassValue) (clip : ClipValue) (k
       subst (λ (v : View). slice_get (clip_clause (pass_caller_view v) clip) k ≡ Some l) here
       (literal_is seat.view clip k place known_here below lies rests.fair word l text code)
 
--- the same by pairs, as `Store::pair` reads them: literal `2 * i + half` is in that half of word `i`
+-- the same for the word that `Store::pair` reads: literal `2 * i + half` is in this half of word `i`
 module _ (seat : SeatValue) (stream : ℕ) (p : PassValue) (clip : ClipValue) (i half place : ℕ) (rests : IsAtRest seat stream)
     (same : pass_value seat ≡ p)
     (known : IsKnown (pass_caller_view p.view) clip) (lies : place ≡ clip.start + i) (is_half : half < 2)

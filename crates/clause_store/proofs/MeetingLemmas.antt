@@ -1,10 +1,10 @@
--- Lemmas on a pass that meets others in turn.
+-- Lemmas about a pass that meets others in turn.
 use Rattle.std.proofs.Common.{◌≡◌, ℕ, ◌+◌, ◌<◌, ◌≤◌, zero, suc, List, [], ◌∷◌, length, get_or, set, refl, sym, subst, arith, add-one}
 use Rattle.lrup_model.specs.Pass.{View, IsFair, PassMoves, SyncViews, SyncInTurn, AreSynced}
 use Rattle.lrup_model.specs.lemmas.PassLemmas.{moves_append, synced_keep, sync_twice}
 use Rattle.clause_store.specs.Passes.{StoreValue, PassValue, store_of, views, AreOf, ShareHistory}
 
--- the pass has met this many of the others, each in its turn, and the rest are as they were
+-- the pass has met the first i of the others in turn, and the rest are unchanged
 abbrev pub IsSynced : ℕ → View → View → List PassValue → List PassValue → Type 0
 IsSynced zero u v xs ys = (v ≡ u) × (ys ≡ xs)
 IsSynced (suc i) u v [] ys = ⊥
@@ -35,7 +35,7 @@ synced_all u v [] (y ∷ ys) synced = absurd (let same : y ∷ ys ≡ [] = synce
 synced_all u v (x ∷ xs) [] synced = absurd synced
 synced_all u v (x ∷ xs) (y ∷ ys) synced = (synced.0, synced.1, synced_all synced.0 v xs ys synced.2)
 
--- passes of one store, with another of it in the place of one
+-- a list of passes of a store, with one replaced by a pass of the same store
 pub are_of-set : (store : StoreValue) (i : ℕ) (ps : List PassValue) (p : PassValue) → store_of p ≡ store → AreOf store ps
     → AreOf store (set ps i p)
 are_of-set store i [] p here all = tt
@@ -52,7 +52,7 @@ are_synced-again (x ∷ xs) (y ∷ ys) [] once again = absurd again
 are_synced-again (x ∷ xs) (y ∷ ys) (z ∷ zs) once again =
     (moves_append x y z [] [] once.0 again.0, again.1, are_synced-again xs ys zs once.2 again.2)
 
--- so many rounds, in each of which the first pass meets all others in turn
+-- n rounds, in each of which the first pass meets all others in turn
 abbrev pub SyncInRounds : ℕ → View → List View → View → List View → Type 0
 SyncInRounds zero u xs v ys = (v ≡ u) × (ys ≡ xs)
 SyncInRounds (suc n) u xs v ys = (w : View) × (ws : List View) × SyncInRounds n u xs w ws × SyncInTurn w ws v ys × IsFair v
@@ -62,7 +62,7 @@ pub rounds_next : (n : ℕ) (u v w : View) (xs ys zs : List View) → SyncInRoun
     → SyncInRounds (n + 1) u xs w zs
 rounds_next n u v w xs ys zs rounds turns fair = subst (λ (m : ℕ). SyncInRounds m u xs w zs) (sym (add-one n)) (v, ys, rounds, turns, fair)
 
--- in one round or more each pass goes on by no call
+-- in one or more rounds no pass makes a call
 rounds_keep : (n : ℕ) (u v : View) (xs ys : List View) → SyncInRounds (suc n) u xs v ys → AreSynced (u ∷ xs) (v ∷ ys)
 rounds_keep zero u v xs ys rounds =
     let once = synced_keep rounds.0 v rounds.1 ys rounds.3 in (
@@ -82,7 +82,7 @@ synced_in_rounds (suc n) p q ps qs rs some all rounds =
     subst (λ (os : List PassValue). AreSynced (views os) (q.view ∷ views rs)) (sym all)
     (rounds_keep n p.view q.view (views qs) (views rs) rounds)
 
--- in two rounds or more they come to one history
+-- after two or more rounds all have seen the same history
 pub one_in_rounds : (n : ℕ) (u v : View) (xs ys : List View) → 2 ≤ n → SyncInRounds n u xs v ys → ShareHistory (v ∷ ys)
 one_in_rounds zero u v xs ys two rounds = absurd (omega arith)
 one_in_rounds (suc zero) u v xs ys two rounds = absurd (omega arith)

@@ -1,4 +1,4 @@
--- Lemmas on the passes of a store that was opened.
+-- Lemmas about the passes of a store that was opened.
 use Rattle.std.proofs.Common.{◌≡◌, ℕ, ◌+◌, ◌-◌, ◌<◌, zero, suc, List, [], ◌∷◌, length, map, Some, slice_get, refl, sym, ap, subst, ◌∙◌}
 use Rattle.std.proofs.Common.{arith}
 use Rattle.std.proofs.lemmas.Option.{slice_get_within}
@@ -22,16 +22,16 @@ one_pass a b same = cc
 one_seat : (a b : SeatValue) → Some a ≡ Some b → a ≡ b
 one_seat a b same = cc
 
--- where the seat at each place is of the store's row and layout, all passes are of the store
+-- if each seat's pass is of the store, all passes are of the store
 are_of : (store : StoreValue) (seats : List SeatValue)
     → ((k : ℕ) (seat : SeatValue) → slice_get seats k ≡ Some seat → store_of (pass_value seat) ≡ store) → AreOf store (map pass_value seats)
 are_of store [] each = tt
 are_of store (seat ∷ seats) each = (each 0 seat refl, are_of store seats (λ k other here. each (suc k) other here))
 
--- what the row gives at the opening
+-- from the seats that the row gives at the opening
 module _ (row : Row) (f : Cnf) (p : LayoutValue) (seats : List SeatValue) (count : length seats ≡ p.streams)
     (given : (s : ℕ) → IsStream p s → slice_get seats (s - 1) ≡ Some (opening_seat row f p s)) where
-  -- each seat is its stream's
+  -- the seat at place k is the opening seat of stream k + 1
   seat_at : (k : ℕ) (seat : SeatValue) → slice_get seats k ≡ Some seat → IsStream p (k + 1) × (seat ≡ opening_seat row f p (k + 1))
   seat_at k seat here =
       let below : k < length seats = slice_get_within seats k seat here in

@@ -1,4 +1,4 @@
--- Lemmas on a pass's seat between two calls.
+-- Lemmas about a pass's seat between two calls.
 use Rattle.std.proofs.Common.{◌≡◌, ℕ, [], sym, ap, ◌∙◌}
 use Rattle.lrup_model.specs.Layout.{row_words}
 use Rattle.lrup_model.specs.CallerView.{Caller}

@@ -12,16 +12,16 @@ pub record StoreValue : Type 0 where
   pub row : Row
   pub layout : LayoutValue
 
--- the name of the row that the pass is of, and what its stream knows
+-- the name of the pass's row, and what its stream knows
 pub record PassValue : Type 0 where
   pub row : Row
   pub view : View
 
--- the store that the pass is of
+-- the store of the pass
 abbrev pub store_of : PassValue → StoreValue
 store_of pass = record { row = pass.row; layout = pass.view.caller.layout }
 
--- the pass of a stream of this store and formula before anything was seen, and before its first call
+-- This is the pass of a stream of this store and formula that has seen nothing and made no call.
 pub record IsOpened (opened : StoreValue) (formula : Cnf) (s : ℕ) (pass : PassValue) : Type 0 where
   pub store : store_of pass ≡ opened
   pub caller : pass.view.caller ≡ record { formula = formula; layout = opened.layout; stream = s }
@@ -37,6 +37,6 @@ views passes = map (λ pass. pass.view) passes
 abbrev pub AreOf : StoreValue → List PassValue → Type 0
 AreOf store passes = AllByRecursion (λ pass. store_of pass ≡ store) passes
 
--- all have seen one history
+-- all have seen the same history
 abbrev pub ShareHistory : List View → Type 0
 ShareHistory passes = (history : History) × AllByRecursion (λ view. view.seen ≡ history) passes

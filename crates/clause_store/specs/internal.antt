@@ -1,2 +1,2 @@
--- What contracts of private functions say.
+-- Definitions for contracts of private functions.
 pub mod AtRest

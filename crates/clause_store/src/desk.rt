@@ -1,4 +1,4 @@
-//! A pass and its store, as a clause map.
+//! A desk: a pass and its store, as a clause map.
 ghost use Rattle.std.specs.Prelude.{◌≡◌};
 ghost use Rattle.clause_store.specs.Passes.{store_of};
 
@@ -6,7 +6,8 @@ use crate::pass::Pass;
 use crate::store::Store;
 use lrup_model::{ClauseMap, Clip, Fetched, Id, Lit, Published, Retired};
 
-/// A pass and the store that opened it: the clause map of the pass's stream. Checkers call the store through it.
+/// A pass and the store that opened it: the clause map of the pass's stream. Checkers call the
+/// store through a desk.
 #[derive(Drop)]
 pub struct Desk<'a> {
     store: &'a Store,
@@ -15,7 +16,7 @@ pub struct Desk<'a> {
 }
 
 impl<'a> Desk<'a> {
-    /// The desk of a pass, at the store that opened the pass.
+    /// A desk of this pass, at the store that opened the pass.
     pub fn new(store: &'a Store, pass: Pass) -> Desk<'a>
         requires { store_of pass ≡ store.now }
         ensures { result.pass ≡ pass }
@@ -23,7 +24,7 @@ impl<'a> Desk<'a> {
         Desk { store, pass }
     }
 
-    /// Gives the desk's pass back.
+    /// Returns the desk's pass.
     pub fn into_pass(self) -> Pass
         ensures { result ≡ self.entry.pass }
     {

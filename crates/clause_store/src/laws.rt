@@ -1,12 +1,14 @@
-//! Laws of passes that meet. Each function is empty: its contract is the law, which holds of all passes.
+//! Laws of passes that meet. Each function does nothing: its contract is the law.
 ghost use Rattle.clause_store.specs.Laws.{SyncTwice, MeetingKeeps};
 
-/// A pass that meets all others in turn, and then all again, with no other call of these passes between, leaves all at one history.
+/// If a pass meets all others in turn, and then all again, and no calls are made in between, then
+/// all passes have seen the same history.
 pub fn sync_twice()
     ensures { SyncTwice }
 {}
 
-/// A pass that meets others one after the other makes no call, nor do they. They are fair then, and the pass is if it was before.
+/// While a pass meets others in turn, no calls are made. Afterwards each of the others is fair, and
+/// the pass is fair if it was before.
 pub fn meeting_keeps()
     ensures { MeetingKeeps }
 {}

@@ -1,4 +1,5 @@
-//! How all passes of a store come to have seen one history. It is for contracts alone: a meeting is a load that changes nothing.
+//! How all passes of a store come to have seen the same history. Used for contracts only: a meeting
+//! is a load that changes nothing.
 ghost use Rattle.std.specs.Prelude.{◌≡◌};
 ghost use Rattle.lrup_model.specs.Pass.{SyncInTurn, AreSynced, IsFair};
 ghost use Rattle.clause_store.specs.Passes.{store_of, views, AreOf, ShareHistory};
@@ -7,8 +8,9 @@ use crate::pass::Pass;
 use crate::store::Store;
 
 impl Store {
-    /// Lets all passes share what they have seen: the first meets all others one after the other, and then all again. All have then seen
-    /// one history, which begins with what each had seen. It is no event.
+    /// Lets all passes share what they have seen: the first pass meets each of the others in turn,
+    /// and then each again. Afterwards all have seen the same history, which begins with what each
+    /// had seen. It is no event.
     #[tactic(auto, using(crate::proofs::MeetingLemmas::rounds_next, crate::proofs::MeetingLemmas::synced_in_rounds, crate::proofs::MeetingLemmas::one_in_rounds))]
     pub fn meet_all(&self, passes: &mut [Pass])
         requires { AreOf self.now passes.old }
@@ -19,13 +21,14 @@ impl Store {
         let Some((first, others)) = passes.split_first_mut() else {
             return;
         };
-        // The first round brings to one pass what all had seen, the second hands it on to all.
+        // After the first round the first pass has seen all that any pass has; the second round
+        // passes that on to all.
         for _round in 0..2u32 {
             self.meet_each(first, others);
         }
     }
 
-    /// Lets the pass meet each of the others, one after the other.
+    /// Lets the pass meet each of the others in turn.
     fn meet_each(&self, pass: &mut Pass, others: &mut [Pass])
         requires pass { store_of pass.old ≡ self.now }
         requires others { AreOf self.now others.old }
@@ -38,7 +41,8 @@ impl Store {
         for other in others.iter_mut() {
             self.meet(pass, other);
         }
-        // For the proof alone: the contract of `stream` says that the pass is fair, which no call has said if there are no others.
+        // For the proof only: the contract of `stream` says that the pass is fair; if there are no
+        // others, no other call says so.
         let _ = pass.stream();
     }
 }

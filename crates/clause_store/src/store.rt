@@ -1,4 +1,5 @@
-//! The store and the calls of its passes. Each call takes a few atomic steps on the row, all of them `SeqCst` (`row.rt` of `idwords`).
+//! The store and the calls of its passes. Each call takes a few atomic steps on the row, all of
+//! them `SeqCst` (see `row.rt` of `idwords`).
 ghost use Rattle.std.specs.Prelude.{◌≡◌, ◌↔◌, ◌+◌, ◌-◌, ◌*◌, ◌≤◌, ◌<◌, ℕ, IfOk, IsTrue, Some, length, slice_get, vec_len};
 ghost use Rattle.lrup_model.specs.Event as events;
 ghost use Rattle.lrup_model.specs.History.{IsPublishable};
@@ -16,8 +17,9 @@ use lrup_model::{Clip, Fetched, Formula, Id, Layout, Lit, Owner, Published, Reti
 use std::alloc::{AllocError, Global};
 use std::marker::Model;
 
-/// The clauses of a formula, which stay live, and those that the streams publish and retire. All threads share a store without a lock,
-/// and only `open` takes memory. By its code no call waits or tries again.
+/// The clauses of a formula, which stay live, and those that the streams publish and retire. All
+/// threads share a store without a lock. In the code only `open` allocates memory, and no call
+/// waits or retries.
 #[derive(Drop)]
 pub struct Store {
     row: Row,
@@ -33,9 +35,10 @@ impl Model for Store {
 }
 
 impl Store {
-    /// Opens a store of a formula's clauses, by a layout that fits the formula, and makes a pass for each stream, in their order. It
-    /// reserves all that it will need, 8 bytes a word of the layout's row, and takes as much again until it returns. If memory is
-    /// refused, nothing is left behind.
+    /// Opens a store of a formula's clauses, with a layout that fits the formula, and makes a pass
+    /// for each stream, in the order of the streams. It allocates all the memory that the store
+    /// will need, 8 bytes for each word of the row, and as much again until it returns. If an
+    /// allocation fails, everything is freed.
     pub fn open(
         alloc: Global,
         formula: &Formula,
@@ -60,14 +63,14 @@ impl Store {
         &self.layout
     }
 
-    /// Whether this is an identity: 1 to the layout's last one.
+    /// Whether this is an identity: 1 to the last one of the layout.
     pub fn covers(&self, id: Id) -> bool
         ensures { IsTrue result ↔ IsIdentity self.now.layout id }
     {
         self.layout.covers(id)
     }
 
-    /// Whether this identity is the pass's own.
+    /// Whether the pass's stream owns this identity.
     pub fn owns(&self, pass: &Pass, id: Id) -> bool
         requires { store_of pass.now ≡ self.now }
         ensures { IsTrue result ↔ Owns pass.now.view.caller.layout pass.now.view.caller.stream id }
@@ -83,8 +86,9 @@ impl Store {
         pass.seat.room()
     }
 
-    /// Looks an identity up, 1 to the last: one load of its word, which has the state, the length and the place of the clause. The answer
-    /// is what the store had there at that moment. It changes nothing; the pass is `&mut` since contracts note in it what was seen.
+    /// Looks up an identity (1 to the last one) by one load of its word, which holds the state, the
+    /// length and the place of the clause. The reply is what the store had there at that moment.
+    /// The call changes nothing; the pass is `&mut` since contracts record in it what was seen.
     #[inline]
     #[tactic(auto, using(crate::proofs::LiteralsRead::start_read))]
     pub fn fetch(&self, pass: &mut Pass, id: Id) -> Fetched
@@ -97,15 +101,17 @@ impl Store {
     {
         let word = self.row.look(&mut pass.seat, id);
         match state_in(word) {
-            // No cast loses a bit: a row has at most 2^28 words, and a length less than 2^20 literals.
+            // No cast loses a bit: a row has at most 2^28 words, and a clause has fewer than 2^20
+            // literals.
             LIVE => Fetched::Live(Clip::new(id, len(word) as u32, start(word) as u32)),
             RETIRED => Fetched::Retired,
             _ => Fetched::Vacant,
         }
     }
 
-    /// Reads literal `k`, from 0 on, of a clause whose clip the pass has fetched, by one load. The order is that in which the clause was
-    /// published, or in which the formula has it. The clause may be retired: its literals stay.
+    /// Reads literal `k`, counted from 0, of a clause whose clip the pass has fetched, by one load.
+    /// The literals are in the order in which the clause was published or is in the formula. The
+    /// clause may be retired: its literals stay.
     #[inline]
     pub fn literal(&self, pass: &mut Pass, clip: &Clip, k: u32) -> Lit
         requires store { store_of pass.old ≡ self.now }
@@ -119,8 +125,8 @@ impl Store {
         lit(self.row.word(&mut pass.seat, place), k % 2)
     }
 
-    /// Reads pair `i`, from 0 on, of a clause whose clip the pass has fetched, by one load: the literals `2 * i` and, if the clause has
-    /// that many, `2 * i + 1`.
+    /// Reads pair `i`, counted from 0, of a clause whose clip the pass has fetched, by one load:
+    /// literal `2 * i` and, if the clause has it, literal `2 * i + 1`.
     #[inline]
     pub fn pair(&self, pass: &mut Pass, clip: &Clip, i: u32) -> (Lit, Option<Lit>)
         requires store { store_of pass.old ≡ self.now }
@@ -143,9 +149,11 @@ impl Store {
         }
     }
 
-    /// Publishes a clause that follows from the formula, of at most 65,535 literals and within the room left, under an identity of the
-    /// pass's own. The literals are written first, two by each atomic store, in the order given. Then one compare-exchange makes the
-    /// clause live. If something was published under the identity before, the answer is `Taken`, and nothing changes.
+    /// Publishes a clause under an identity that the pass's stream owns. The clause follows from
+    /// the formula, has at most 65,535 literals and fits into the room left. The literals are
+    /// written first, in the given order, two by each atomic store. Then one compare-exchange makes
+    /// the clause live. If a clause was published under the identity before, the reply is `Taken`,
+    /// and nothing changes.
     pub fn publish(&self, pass: &mut Pass, id: Id, clause: &[Lit]) -> Published
         requires store { store_of pass.old ≡ self.now }
         requires owns { Owns pass.old.view.caller.layout pass.old.view.caller.stream id }
@@ -168,8 +176,9 @@ impl Store {
         self.row.claim(&mut pass.seat, id)
     }
 
-    /// Retires the clause under an identity of the pass's own: one load, and one compare-exchange if the clause is live. If it isn't, the
-    /// answer is `NotLive`, and nothing changes.
+    /// Retires the clause under an identity that the pass's stream owns: one load, and one
+    /// compare-exchange if the clause is live. If no clause is live there, the reply is `NotLive`,
+    /// and nothing changes.
     pub fn retire(&self, pass: &mut Pass, id: Id) -> Retired
         requires store { store_of pass.old ≡ self.now }
         requires owns { Owns pass.old.view.caller.layout pass.old.view.caller.stream id }
@@ -182,8 +191,9 @@ impl Store {
         self.row.withdraw(&mut pass.seat, id)
     }
 
-    /// Lets two passes share what they have seen: both histories become one, which begins with what each had seen. If one had seen all that
-    /// the other had, it is that one's. It is no event, and changes no clause.
+    /// Lets two passes share what they have seen: afterwards both have seen the same history, which
+    /// begins with what each had seen. If one had seen all that the other had, it is the history of
+    /// that one. It is no event, and changes no clause.
     pub fn meet(&self, first: &mut Pass, second: &mut Pass)
         requires first { store_of first.old ≡ self.now }
         requires second { store_of second.old ≡ self.now }
@@ -195,7 +205,7 @@ impl Store {
     }
 }
 
-/// The place in the row of word `k`, from 0 on, of a clip's clause. Each word has two literals.
+/// The place in the row of word `k`, counted from 0, of a clip's clause.
 #[inline]
 fn place_of(clip: &Clip, k: u32) -> u64
     ensures { result ≡ clip.now.start + k }

@@ -1,4 +1,4 @@
--- What the system gives: arguments, or an error.
+-- What the system gives: arguments or an error.
 use Rattle.std.proofs.Common.{◌≡◌, ◌≢◌, ℕ, IfOk, List, Ok, Result, inl, inr, refl, subst, sym}
 use Rattle.std.specs.Prelude.{IsOkAnd}
 use Rattle.std.specs.declared.alloc.Global.{Global}
@@ -13,7 +13,7 @@ use Rattle.command.specs.Rounds.{ProgramEnds}
 use Rattle.command.specs.declared.fault.CommandFault.TheVariants as faults
 use Rattle.command.specs.declared.files.OpenFault.TheVariants as opens
 
--- What holds of the words and a status holds of the arguments, and of the status that is shown.
+-- What holds for the words and a status holds for the arguments and for the exit status.
 module _ {E : Type 0} (arguments : Result (IntoIter (String Global) Global) E) (given : IntoIter (String Global) Global) (words : List Text)
     (is : arguments ≡ Ok given) (same : words ≡ words_after_name given) where
   pub of_arguments : (P : List Text → ℕ → Type 0) (status shown : ℕ) → shown ≡ status → P words status
@@ -26,7 +26,7 @@ module _ {E : Type 0} (arguments : Result (IntoIter (String Global) Global) E) (
   and_arguments P holds =
       subst (λ (r : Result (IntoIter (String Global) Global) E). IsOkAnd r (λ one. P (words_after_name one))) (sym is) (subst P same holds)
 
--- The program may end for want of memory before it has read the words.
+-- The program may end because memory runs out before it has read the words.
 pub out_of_memory : (files : FilesView) (words : List Text) (out err : SinkChange) (status : ℕ) → IsUntouched out
     → SinkTook err (error_text faults.Memory) → status ≡ status_of faults.Memory → ProgramEnds files words files.first out err status
 out_of_memory files words out err status untouched said is =

@@ -1,4 +1,4 @@
--- From what is read and run to what the words and the files come to.
+-- From what a function read and ran to what the words and the files say.
 use Rattle.std.proofs.Common.{◌≡◌, ◌∙◌, ℕ, Bool, false, List, map, Option, None, Some, IfSome, Result, Ok, Err, IfOk, IfErr, inl}
 use Rattle.std.proofs.Common.{inr, refl, sym, subst, rules}
 use Rattle.std.specs.Prelude.{◌↔◌, IsErrAnd}
@@ -25,7 +25,7 @@ use Rattle.command.specs.internal.FaultSources.{of_run}
 use Rattle.command.specs.declared.fault.CommandFault.{CommandFault}
 use Rattle.command.specs.declared.fault.CommandFault.TheVariants as faults
 
--- what an answer is known by, by what it is known by before
+-- a weaker fact about an `Ok` value
 pub if_ok : {T E : Type 0} (r : Result T E) (P Q : T → Type 0) → ((t : T) → P t → Q t) → IfOk r P → IfOk r Q
 if_ok (Ok t) P Q follows known = follows t known
 if_ok (Err e) P Q follows known = tt
@@ -41,7 +41,7 @@ err_given (Err e) P Q follows known = follows e known
 pub some_given : {T : Type 0} {o : Option T} {t : T} (P : T → Type 0) → o ≡ Some t → IfSome o P → P t
 some_given P is known = subst (λ o. IfSome o P) is known
 
--- a run's fault is one
+-- a run has only one fault
 not_both : {T : Type 0} (stream : ℕ) (fault : LayoutFault)
     → Path (Result T RunFault) (Err (runs.Spawn stream)) (Err (runs.Layout fault)) → ⊥
 not_both stream fault both = search (both, rules)
@@ -49,7 +49,7 @@ not_both stream fault both = search (both, rules)
 no_ring : {T : Type 0} (stream : ℕ) (fault : LayoutFault) → Path (Result T RunFault) (Err (runs.Ring stream)) (Err (runs.Layout fault)) → ⊥
 no_ring stream fault both = search (both, rules)
 
--- the cause of a run's fault
+-- the cause for a run's fault
 pub run_cause : {T R : Type 0} (view : SourceView R) (serial : Bool) (f : Cnf) (run_params : RunParamsValue) (readers : List R)
     (result : Result T RunFault) (fault : RunFault) → result ≡ Err fault
     → ((fault : LayoutFault) → (result ≡ Err (runs.Layout fault)) ↔ IsFault run_params.layout fault)
@@ -73,11 +73,11 @@ has_layout p result outcome is layout fault refused =
     let both : Ok outcome ≡ Err (runs.Layout fault) = sym is ∙ (layout fault).1 refused in
     search (both, rules)
 
--- what words ask for that are a command line
+-- what the words of a command line ask for
 pub ask_for : (words : List Text) (given : CommandLine) → IsCommandLineOf words given → AskFor words given.formula.now (assumed_at given)
 ask_for words given line = record { good = line.good; formula_is = line.said.formula; assume_is = sym line.said.assume }
 
--- what was read is a text of a formula that no assignment satisfies
+-- the bytes that were read are a text of a formula that no assignment satisfies
 pub names_unsatisfiable : (files : FilesView) (words : List Text) (given : CommandLine) (bytes : List ℕ) (next : files.its.State)
     → IsCommandLineOf words given
     → WasReadIn files files.first given.formula.now bytes next → IsUnsatisfiableText bytes
@@ -85,7 +85,7 @@ pub names_unsatisfiable : (files : FilesView) (words : List Text) (given : Comma
 names_unsatisfiable files words given bytes next line read refuted =
     (given.formula.now, assumed_at given, bytes, refuted.0, next, ask_for words given line, read, refuted.1, refuted.2)
 
--- so with the assumed literals, of files that tell the same as before
+-- the same with the assumed literals, if the files' contents are known as before
 pub names_unsatisfiable_under : (files : FilesView) (words : List Text) (given : CommandLine) (bytes : List ℕ) (next : files.its.State)
     (tells : Text → Option (List ℕ))
     → tells ≡ files.tells → IsCommandLineOf words given → WasReadIn files files.first given.formula.now bytes next
@@ -162,7 +162,7 @@ module _ (files : FilesView) (words : List Text) (given : CommandLine) (line : I
           inr (given, line, inr (f, next, at, inr (cube, later, assumed, inr (readers, last, opened, left, cause))))
       start_cause readers last opened left fault after cause = absurd cause
 
--- why streams that were opened weren't checked: there is no layout
+-- why streams that were opened weren't checked: they have no layout
 module _ (its : Deeds) (serial : Bool) (f : Cnf) (run_params : RunParamsValue) (readers : List its.Reader) (before : its.State)
     (path : Option Text) where
   abbrev Starts : CommandFault → its.State → Type 0
@@ -179,7 +179,7 @@ module _ (its : Deeds) (serial : Bool) (f : Cnf) (run_params : RunParamsValue) (
   create_start faults.Memory after none cause = inr (none, inl cause)
   create_start fault after none cause = absurd cause
 
-  -- or it was, and was discarded since the run had a fault
+  -- or it was created and discarded, because the run had a fault
   pub run_start : (fault : CommandFault) (after : its.State) → HasNoFault run_params.layout
       → IsRunCause its.reading serial f run_params readers fault → IsLeftUnused its before path after → Starts fault after
   run_start (faults.Layout fault) after none cause unused = absurd (none fault cause)
@@ -188,7 +188,7 @@ module _ (its : Deeds) (serial : Bool) (f : Cnf) (run_params : RunParamsValue) (
   run_start faults.Memory after none cause unused = inr (none, inr unused)
   run_start fault after none cause unused = absurd cause
 
--- so of a round, by what the program has of it
+-- the same for a round, by what the program holds of it
 pub round_start : (its : Deeds) (given : CommandLine) (cube : CubeValue) (number : ℕ) (f : Cnf) (sizes : Sizes)
     (readers : List its.Reader) (before : its.State) (serial : Bool) (run_params : RunParamsValue) (path : Option Text)
     → serial ≡ given.serial → run_params ≡ run_params_by given cube f sizes → path ≡ created_path given.next number

@@ -28,7 +28,7 @@ module _ (itself : EntailsItself) (onward : EntailsOnward) {its : Deeds} {given 
     },
   )
 
-  -- each round's formula does
+  -- each round's formula follows from the first one
   round_entailed : (first : its.State) (round : Round its given cube) (before : List (Round its given cube))
       → AreRounds formula first (round ∷ before) → Entails formula round.formula
   round_entailed first round [] rounds = subst (Entails formula) (sym rounds.formula_is) (itself formula)
@@ -36,7 +36,7 @@ module _ (itself : EntailsItself) (onward : EntailsOnward) {its : Deeds} {given 
       onward formula b.formula round.formula (round_entailed first b more rounds.1)
       (carried_entails b round.formula rounds.0.goes_on)
 
-  -- so what each round but the last saved does
+  -- so what each round but the last saved follows from it
   save_entailed : (first : its.State) (round : Round its given cube) (before : List (Round its given cube))
       → AreRounds formula first (round ∷ before) → SaveEntailed folder formula before
   save_entailed first round [] rounds = tt

@@ -43,7 +43,7 @@ was_read files before path reader after items (Ok bytes) opened left gave all =
     record { reader = reader; opened = opened; gave = gave; told = λ whole told. all whole (left ∙ told) }
 was_read files before path reader after items (Err fault) opened left gave all = tt
 
--- so of the formula's file, and of that of the assumed literals
+-- the same for the formula's file, and for that of the assumed literals
 pub formula_file_cause : (files : FilesView) (given : CommandLine) (fault : CommandFault) (after : files.its.State)
     → IsFileCause files files.first given.formula.now fault after → IsReadCause files given fault after
 formula_file_cause files given (faults.Refused fault) after cause = absurd cause
@@ -56,7 +56,7 @@ cube_file_cause files vars before path faults.Unread after cause = cause
 cube_file_cause files vars before path faults.Memory after cause = cause
 cube_file_cause files vars before path fault after cause = absurd cause
 
--- why what was read is no formula, or no text of literals
+-- why the bytes that were read are no formula, or no text of literals
 pub text_cause : (files : FilesView) (given : CommandLine) (bytes : List ℕ) (after : files.its.State)
     → WasReadIn files files.first given.formula.now bytes after
     → (fault : DimacsFault) → (fault ≢ formulas.Memory → IsFormulaFault bytes fault) → IsReadCause files given (of_formula fault) after
@@ -78,7 +78,7 @@ cube_text_cause files vars before path bytes after was cubes.TooLong is = (λ e.
 cube_text_cause files vars before path bytes after was cubes.Range is = (λ e. cc, (bytes, was, is))
 cube_text_cause files vars before path bytes after was cubes.Memory is = inr (inr (was.reader, was.opened))
 
--- Which files were the first ones is nothing to a cause of a later one.
+-- A cause of a later file doesn't depend on which files were the first ones.
 module _ (files : FilesView) (first : files.its.State) where
   abbrev later : FilesView
   later = from_first files first

@@ -7,7 +7,7 @@ use Rattle.std.proofs.lemmas.Option.{slice_get-get_or, slice_get-map}
 use Rattle.command.specs.Commands.{AreOpened, Deeds, Text, WasRefused}
 use Rattle.command.specs.declared.files.OpenFault.{OpenFault}
 
--- what is told of the readers is what the files at the paths so far tell, and so with one more
+-- the readers so far have what the files at the paths so far hold, and so they do with one more
 pub opened_more : {R B T : Type 0} {L : Type 0} (left : R → L) (tells later : T → L) (text : B → T) (before after : List R) (reader : R)
     (paths : List B) (k : ℕ) (d : B)
     → k < length paths → after ≡ before ++ reader ∷ [] → map left before ≡ map tells (take k (map text paths))
@@ -30,7 +30,7 @@ one_path_more text paths k d inside =
     take-map text (k + 1) paths ∙ ap (map text) (take_more paths k d inside) ∙ map-append text (take k paths) (get_or paths k d ∷ [])
     ∙ ap (λ ts. ts ++ text (get_or paths k d) ∷ []) (sym (take-map text k paths))
 
--- the files so far were opened as these readers, and so with the next one
+-- the files so far were opened as these readers, and the next one, too
 push_opened : {F R : Type 0} (opens : F → Text → R → F → Type 0) (first : F) (paths : List Text) (readers : List R) (before : F)
     (path : Text) (reader : R) (after : F)
     → AreOpened opens first paths readers before → opens before path reader after
@@ -50,7 +50,7 @@ all_opened_more opens text first so_far all_now reader paths k d before after in
     (subst (λ rs. AreOpened opens first (take k (map text paths) ++ text (get_or paths k d) ∷ []) rs after) (sym is)
     (push_opened opens first (take k (map text paths)) so_far before (text (get_or paths k d)) reader after all one))
 
--- the text of an element of a list, in the list of the texts
+-- the text of an element of a list is an element of the list of texts
 pub read_at : {B T : Type 0} (text : B → T) (paths : List B) (k : ℕ) (d : B) → k < length paths
     → slice_get (map text paths) k ≡ Some (text (get_or paths k d))
 read_at text paths k d inside = slice_get-map text paths k ∙ ap (option_map text) (slice_get-get_or paths k d inside)

@@ -35,14 +35,14 @@ use Rattle.command.specs.declared.fault.CommandFault.{CommandFault}
 use Rattle.command.specs.declared.fault.CommandFault.TheVariants as faults
 use Rattle.command.specs.lemmas.SavedLemmas.{carried_entails}
 
--- the paths of one more stream
+-- the paths with one more stream
 pub paths_next : (folder : Text) (number k : ℕ)
     → stream_paths folder number (k + 1) ≡ stream_paths folder number k ++ stream_path folder number (k + 1) ∷ []
 paths_next folder number k =
     ap (stream_paths folder number) (add-one k)
     ∙ ap (λ n. stream_paths folder number k ++ stream_path folder number n ∷ []) (sym (add-one k))
 
--- so many paths
+-- the number of paths
 pub paths_count : (folder : Text) (number count : ℕ) → length (stream_paths folder number count) ≡ count
 paths_count folder number zero = refl
 paths_count folder number (suc count) =
@@ -76,11 +76,11 @@ path_and_rest folder number (suc count) some =
     let rest : drop 1 (stream_paths folder number (suc count)) ≡ begins.0 = ap (drop 1) begins.1 in
     begins.1 ∙ ap (λ ps. stream_path folder number 1 ∷ ps) (sym rest)
 
--- what holds of the one that is there
+-- what holds for a value holds for `Some` of it
 pub for_some : {A : Type 0} (P : A → Type 0) (x : A) → P x → ForSome (Some x) P
 for_some P x is other same = let told : x ≡ other = cc in subst P told is
 
--- streams that have a layout are some
+-- with a layout there is at least one stream
 pub some_streams : (layout : LayoutValue) → ((fault : LayoutFault) → IsFault layout fault → ⊥) → 0 < layout.streams
 some_streams layout none = elim (cases_lt 0 layout.streams) [
   | inl some ↦ some
@@ -94,11 +94,11 @@ some_streams layout none = elim (cases_lt 0 layout.streams) [
 ]
 
 module _ (its : Deeds) (given : CommandLine) (cube : CubeValue) (formula : Cnf) (first : its.State) where
-  -- how rounds stand
+  -- the rounds so far
   abbrev Stand : LastRound → Option Cnf → its.State → Type 0
   Stand last next after = RoundsStand its given cube formula first last next after
 
-  -- round 1
+  -- after round 1
   pub stands_first : (last : LastRound) (next : Option Cnf) (opened after : its.State) (readers : List its.Reader) → last.number ≡ 1
       → StreamsOpened its first given.streams readers opened → WasFound its given cube formula readers opened last next after
       → last.sizes ≡ sizes_of given → Stand last next after
@@ -116,7 +116,7 @@ module _ (its : Deeds) (given : CommandLine) (cube : CubeValue) (formula : Cnf) 
   now {last} {next} {after} stands =
       round_of stands.current stands.readers stands.opened last stands.is_found.saved after stands.is_found.was
 
-  -- a round after another
+  -- after a later round
   pub stands_next : (last found : LastRound) (formula_now : Cnf) (next : Option Cnf) (before sized opened after : its.State)
       (readers : List its.Reader) (folder : Text) → rounds_of given.next ≡ Some folder
       → found.number ≡ last.number + 1 → Stand last (Some formula_now) before
@@ -146,7 +146,7 @@ module _ (its : Deeds) (given : CommandLine) (cube : CubeValue) (formula : Cnf) 
         );
       }
 
-  -- The rounds end.
+  -- The rounds end:
   ends_so : (last : LastRound) (next : Option Cnf) (before after : its.State) → (stands : Stand last next before)
       → RoundsEnd (now stands) after → EndsAt its given cube formula first last after
   ends_so last next before after stands over = record {
@@ -157,16 +157,16 @@ module _ (its : Deeds) (given : CommandLine) (cube : CubeValue) (formula : Cnf) 
     over = over;
   }
 
-  -- since the words ask for no others
+  -- the words ask for no others;
   pub ends_alone : (last : LastRound) (next : Option Cnf) (after : its.State) → rounds_of given.next ≡ None → Stand last next after
       → EndsAt its given cube formula first last after
   ends_alone last next after once stands = ends_so last next after after stands (inl (inl once, refl))
 
-  -- since the last one doesn't go on
+  -- the run doesn't continue after the last one;
   pub ends_barred : (last : LastRound) (after : its.State) → Stand last None after → EndsAt its given cube formula first last after
   ends_barred last after stands = ends_so last None after after stands (inl (stands.is_found.over refl, refl))
 
-  -- since there is no stream 1
+  -- there is no stream 1;
   pub ends_without : (last : LastRound) (next : Cnf) (before after : its.State) (folder : Text) → rounds_of given.next ≡ Some folder
       → Stand last (Some next) before → IsAlone its folder last before after → EndsAt its given cube formula first last after
   ends_without last next before after folder asked stands alone =
@@ -176,14 +176,14 @@ module _ (its : Deeds) (given : CommandLine) (cube : CubeValue) (formula : Cnf) 
       ends_so last (Some next) before after stands
       (inr (next, on, inl (subst (λ (f : Text). IsAlone its f last before after) same alone)))
 
-  -- since the number of the next one would be too high
+  -- the number of the next one would be too high.
   pub ends_high : (last : LastRound) (next : Option Cnf) (after : its.State) → Stand last next after
       → 2 ^ 64 < last.number + 3 → EndsAt its given cube formula first last after
   ends_high last None after stands high = ends_barred last after stands
   ends_high last (Some next) after stands high =
       ends_so last (Some next) after after stands (inr (next, stands.is_found.goes_on next refl, inr (high, refl)))
 
-  -- the next one has no report
+  -- The next one has no report.
   pub fails_after : (last : LastRound) (next : Cnf) (before after : its.State) (failed : RoundFault) (folder : Text)
       → rounds_of given.next ≡ Some folder → Stand last (Some next) before
       → IsRoundCause its given cube folder failed.round last.sizes next before failed.fault after → failed.round ≡ last.number + 1
@@ -201,7 +201,7 @@ module _ (its : Deeds) (given : CommandLine) (cube : CubeValue) (formula : Cnf) 
         cause = (next, on, subst (Cause on.folder) number_is (subst (λ (f : Text). Cause f failed.round) same cause));
       }
 
-  -- a formula that a round refutes was refuted from the first one on
+  -- if a round refutes its formula, the first formula is refuted
   rounds_refute : RefutesBack → (round : Round its given cube) (before : List (Round its given cube))
       → AreRounds formula first (round ∷ before) → IsUnsatisfiable round.formula → IsUnsatisfiable formula
   rounds_refute law round [] rounds refuted = subst IsUnsatisfiable rounds.formula_is refuted
@@ -226,7 +226,7 @@ module _ (its : Deeds) (given : CommandLine) (cube : CubeValue) (formula : Cnf) 
   ends_sound_under law last after ends is =
       rounds_refute_under law ends.round ends.before ends.rounds (ends.round.checked.sound_under (sym ends.is.verdict ∙ is))
 
--- so much is true of streams that were opened behind stream 1
+-- streams that were opened after stream 1, and stream 1, were opened in order
 pub opened_from : {F R : Type 0} (opens : F → Text → R → F → Type 0) (before next after : F) (first : R) (readers others : List R)
     (paths rest : List Text) (path : Text) → paths ≡ path ∷ rest → readers ≡ first ∷ others → opens before path first next
     → AreOpened opens next rest others after → AreOpened opens before paths readers after
@@ -240,7 +240,7 @@ left_from left tells later first readers others paths rest path paths_are reader
     let others_are = more ∙ ap (λ t. map t rest) same in
     rw (paths_are, readers_are) (cc)
 
--- the first word, and those behind it
+-- the first word, and those after it
 pub first_word : (words : List (Bor Text)) (word : Bor Text) (path : Text) (rest : List Text) → texts words ≡ path ∷ rest
     → word ≡ get_or words 0 word → word.now ≡ path
 first_word [] word path rest is at = absurd (let no : [] ≡ path ∷ rest = is in cc)
@@ -252,7 +252,7 @@ other_words (w ∷ ws) =
     let count : length (w ∷ ws) - 1 ≡ length ws = omega arith in
     ap texts (take_all (length (w ∷ ws) - 1) ws (omega (arith, count)))
 
--- what a round is checked by, by the options, the cube and the count that the program has
+-- the parameters of a round, from the options, the cube and the count that the program has
 pub run_params_same : (f : Cnf) (given : CommandLine) (cube other : CubeValue) (options : OptionsValue) (sizes : Sizes) (count : ℕ)
     → options ≡ options_by given.tries sizes → other ≡ cube → count ≡ sizes.streams
     → run_params_of options other f count ≡ run_params_by given cube f sizes
@@ -260,7 +260,7 @@ run_params_same f given cube other options sizes count options_are cube_is count
     ap₂ (λ o n. run_params_of o other f n) options_are count_is
     ∙ ap (λ c. run_params_of (options_by given.tries sizes) c f sizes.streams) cube_is
 
--- why there are no sizes, of a file that was opened
+-- why there are no sizes, if their file was opened
 pub sizes_cause : (its : Deeds) (before : its.State) (path : Text) (reader : its.Reader) (after : its.State)
     → its.opens before path reader after → its.reading.left reader ≡ its.tells before path
     → (fault : CommandFault) → IsUnsized its.reading reader fault → IsSizesCause its before path fault after
@@ -285,7 +285,7 @@ sizes_cause its before path reader after opened left faults.Sizes (inr (bytes, l
 sizes_cause its before path reader after opened left faults.Memory cause = inr (inr (reader, opened))
 sizes_cause its before path reader after opened left fault cause = absurd cause
 
--- why a round doesn't go on, which has no next formula
+-- why the run doesn't continue after a round that has no next formula
 pub barred_by : (next : Next) (verdict : Verdict) (unsaved : Option SaveFault) (Ended : Type 0)
     → ((folder : Text) → rounds_of next ≡ Some folder
     → (verdict ≡ Unsatisfiable) ⊎ ((fault : SaveFault) × (unsaved ≡ Some fault)))
@@ -299,7 +299,7 @@ barred_by (Rounds folder) verdict unsaved Ended (inl unless) = elim (unless fold
 ]
 barred_by (Rounds folder) verdict unsaved Ended (inr why) = inr why
 
--- the folder of rounds that are asked for
+-- the folder of the rounds that the words ask for
 pub folder_of : (next : Next) → is_some (rounds_of next) ≡ true → (folder : Text) × (rounds_of next ≡ Some folder)
 folder_of Nothing asked = absurd (let no : false ≡ true = asked in cc)
 folder_of (Checkpoint path) asked = absurd (let no : false ≡ true = asked in cc)

@@ -1,4 +1,4 @@
--- A checkpoint's file, from its creation to its end.
+-- A checkpoint's file, from creating it to closing it.
 use Rattle.std.proofs.Common.{◌≡◌, ◌∙◌, Bool, IfOk, IsTrue, List, Option, None, Some, Result, Err, is_some, refl, subst, sym, true}
 use Rattle.std.specs.Prelude.{◌↔◌}
 use Rattle.lrup_model.specs.Event.{History}
@@ -22,7 +22,7 @@ use Rattle.command.specs.internal.Running.{StandsBehind}
 use Rattle.command.specs.internal.Saving.{ClosesCheckpoint, CreatesCheckpoint, DiscardsIt, SavesAndCloses}
 
 module _ (its : Deeds) (Saves : Result (Option Cnf) SaveFault → its.Output → its.Output → Type 0) where
-  -- what was created and closed was left
+  -- a file that was created and closed is left at the path
   leaves_file : (verdict : Verdict) (before opened after : its.State) (path : Text) (first : its.Output) (unsaved : Option SaveFault)
       (next : Option Cnf)
       → CreatesCheckpoint its before (Some path) (Some first) opened
@@ -87,7 +87,7 @@ module _ (its : Deeds) (f : Cnf) (h : History) (clauses : Clauses) (dropped : Li
   saving : Saved result first last
   saving = record { checkpoint = checkpoint f h has; exactly = saves f h has; failed = failed }
 
-  -- what was saved of what was left, and closed
+  -- what was saved, and how the file was closed
   pub saves_and_closes : (unsaved : Option SaveFault) (next : Option Cnf) (other : Result (Option Cnf) SaveFault) → result ≡ other
       → ClosesSink its other before last unsaved next after → SavesAndCloses its Saved before first unsaved next after
   saves_and_closes unsaved next other same closed = record {
@@ -97,7 +97,7 @@ module _ (its : Deeds) (f : Cnf) (h : History) (clauses : Clauses) (dropped : Li
     closed = subst (λ (r : Result (Option Cnf) SaveFault). ClosesSink its r before last unsaved next after) (sym same) closed;
   }
 
--- What was saved of what was left was saved of the run: by its layout, and with what its streams dropped.
+-- A save of what a run left is a save for the run: with its layout, and with what its streams dropped.
 pub left_moved : {R : Type 0} {view : SourceView R} {serial : Bool} {f : Cnf} {run_params : RunParamsValue} {firsts : List R}
     {reports : List Report} {verdict : Verdict} {clauses : Clauses} {dropped : List DroppedIdsValue}
     (stands : StandsBehind view serial f run_params firsts reports verdict clauses dropped)
@@ -106,7 +106,8 @@ pub left_moved : {R : Type 0} {view : SourceView R} {serial : Bool} {f : Cnf} {r
 left_moved {run_params = run_params} {dropped = dropped} stands P is =
     subst (P run_params.layout) stands.dropped_is (subst (λ (p : LayoutValue). P p dropped) stands.layout is)
 
--- Streams of this formula, opened as these readers, were checked, and left their clauses at the path, if there is one, as the verdict says.
+-- Streams of this formula, opened as these readers, were checked, and their clauses were left at the path, if there is one, as the verdict
+-- says.
 pub record RanAndLeft (its : Deeds) (formula : Cnf) (readers : List its.Reader) (reports : List Report) (verdict : Verdict)
     (before : its.State) (unsaved : Option SaveFault) (next : Option Cnf) (after : its.State) (serial : Bool)
     (run_params : RunParamsValue) (path : Option Text) : Type 0 where
@@ -114,7 +115,7 @@ pub record RanAndLeft (its : Deeds) (formula : Cnf) (readers : List its.Reader) 
   pub leaves : LeavesBehind its (SavesCheckpoint its formula run_params.layout checked.ran.run.history checked.dropped) verdict before
       path unsaved next after
 
--- if a file is to be created, there is one
+-- with a path there is a file
 pub creates_some : (its : Deeds) (before after : its.State) (path : Option Text) (output : Option its.Output) (at : Text)
     → CreatesCheckpoint its before path output after → path ≡ Some at → is_some output ≡ true
 creates_some its before after None output at created is = absurd (let no : None ≡ Some at = is in cc)

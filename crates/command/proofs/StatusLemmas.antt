@@ -1,4 +1,4 @@
--- What a status says.
+-- What a status means.
 use Rattle.std.proofs.Common.{◌≡◌, ◌∙◌, ◌⊎◌, ℕ, Bool, IsTrue, true, false, List}
 use Rattle.std.proofs.Common.{Option, None, Some, inl, inr, refl, sym, subst}
 use Rattle.std.specs.Prelude.{◌↔◌}
@@ -65,7 +65,7 @@ open_is false None Unknown is = (refl, λ no. let never : Unknown ≡ Unsatisfia
 
 -- ---- the status of a fault
 
--- what holds of each status holds of that of a fault
+-- what holds for each status of a fault holds for a fault's status
 by_status : (P : CommandFault → ℕ → Type 0) → ((n : ℕ) (f : CommandFault) → (n ≡ 2) ⊎ ((n ≡ 4) ⊎ ((n ≡ 5) ⊎ (n ≡ 6))) → P f n)
     → P faults.Unwritten 7 → ((unsaved : SaveFault) → P (faults.NotSaved unsaved) 9) → (fault : CommandFault) → P fault (status_of fault)
 by_status P low seven nine (faults.Usage text) = low 2 _ (inl refl)
@@ -113,20 +113,20 @@ low_unreported n (inr (inl four)) is = not_of_report 4 (λ e. cc) (λ e. cc) (λ
 low_unreported n (inr (inr (inl five))) is = not_of_report 5 (λ e. cc) (λ e. cc) (λ e. cc) (λ e. cc) (subst IsOfReport five is)
 low_unreported n (inr (inr (inr six))) is = not_of_report 6 (λ e. cc) (λ e. cc) (λ e. cc) (λ e. cc) (subst IsOfReport six is)
 
--- only the fault of the report's writing has status 7
+-- only a report that couldn't be written has status 7
 seven_is : (fault : CommandFault) → status_of fault ≡ 7 → fault ≡ faults.Unwritten
 seven_is fault =
     by_status (λ f n. n ≡ 7 → f ≡ faults.Unwritten) (λ n f low is. absurd (low_not_7 n low is)) (λ is. refl)
     (λ unsaved is. absurd (let no : Path ℕ 9 7 = is in cc)) fault
 
--- and only that of a checkpoint that wasn't saved has one of a report
+-- and only a checkpoint that wasn't saved has a status of a report
 unsaved_is : (fault : CommandFault) → IsOfReport (status_of fault) → (unsaved : SaveFault) × (fault ≡ faults.NotSaved unsaved)
 unsaved_is fault =
     by_status (λ f n. IsOfReport n → (unsaved : SaveFault) × (f ≡ faults.NotSaved unsaved))
     (λ n f low is. absurd (low_unreported n low is))
     (λ is. absurd (not_of_report 7 (λ e. cc) (λ e. cc) (λ e. cc) (λ e. cc) is)) (λ unsaved is. (unsaved, refl)) fault
 
--- neither is a cause of a round without a report
+-- neither is a cause for a round without a report
 module _ (files : FilesView) (words : List Text) (after : files.its.State) where
   unassumed : (vars : ℕ) (before : files.its.State) (path : Option Text) → IsAssumeCause files vars before path faults.Unwritten after
       → ⊥
@@ -171,7 +171,7 @@ module _ (files : FilesView) (words : List Text) (after : files.its.State) where
   ]
 
 module _ (files : FilesView) (words : List Text) (after : files.its.State) (out err : SinkChange) (status : ℕ) where
-  -- so the program doesn't end with such a status without a report
+  -- so no program that ends without a report has a status of a report
   pub never_reported : EndsWithFault files words after out err status → IsOfReport status → ⊥
   never_reported ends is =
       let fault = unsaved_is ends.fault (subst IsOfReport ends.status_is is) in
@@ -183,7 +183,7 @@ module _ (files : FilesView) (words : List Text) (after : files.its.State) (out 
       never_unwritten files words after ends.number (subst (λ (f : CommandFault). IsCauseIn files words ends.number f after)
       (seven_is ends.fault (sym ends.status_is ∙ is)) ends.cause)
 
-  -- however the program ends, its status is 7 exactly where the sink failed
+  -- in any case, the status is 7 exactly if the sink failed
   pub all_unwritten : ProgramEnds files words after out err status → IsTrue out.failed ↔ (status ≡ 7)
   all_unwritten (inl report) = (
     (λ failed. report.status_is ∙ has_7 out.failed report.last.unsaved report.last.verdict failed),
@@ -210,7 +210,7 @@ module _ (files : FilesView) (words : List Text) (after : files.its.State) (out 
   created : created_path report.given.next last.number ≡ Some path
   created = creates_checkpoint report.given.next path last.number asked
 
-  -- what was done last
+  -- what was done to the files at the end
   comes_last : (Came : Cnf → files.its.State → files.its.State → Type 0) → Came last.formula last.opened last.after
       → ComesLast files.its.opens (WasReadIn files) Came files.first words after
   comes_last Came came =
@@ -256,7 +256,7 @@ module _ (files : FilesView) (words : List Text) (after : files.its.State) (out 
       comes_last _ empty.2
 
 module _ (files : FilesView) (words : List Text) (after : files.its.State) (out err : SinkChange) (status : ℕ) where
-  -- with status 3 or 8 it was saved
+  -- with status 3 or 8 the checkpoint was saved
   pub all_saved : ProgramEnds files words after out err status
       → CheckpointEntailed files.its.opens (WasReadIn files) (WasSavedBy files.its) files.first words after status
   all_saved (inl report) path ask is = report_saved files words after out err status report path ask is

@@ -1,4 +1,4 @@
--- What is written.
+-- What goes to a sink.
 use Rattle.std.proofs.Common.{◌≡◌, ◌≢◌, ◌++◌, ◌∙◌, ℕ, Bool, true, false, List, [], Option, None, Some, refl, sym, ap, subst}
 use Rattle.std.proofs.lemmas.List.{append_assoc}
 use Rattle.std.proofs.KnownBytes.{Appends-trans}
@@ -21,7 +21,7 @@ use Rattle.command.specs.declared.fault.CommandFault.TheVariants as faults
 pub starts_empty : {held text all : List ℕ} → held ≡ [] → held ++ text ≡ all → text ≡ all
 starts_empty {held} {text} {all} empty is = sym (ap (λ h. h ++ text) empty) ∙ is
 
--- what follows nothing
+-- a write after nothing was written
 after_nothing : (a b c : Option (List ℕ)) (text : List ℕ) → Keeps a b → Appends b c text → Appends a c text
 after_nothing None b c text keeps appends = tt
 after_nothing (Some xs) None c text keeps appends = absurd keeps
@@ -43,11 +43,11 @@ took_after_text true a b c first text one took = (
   Appends-trans a b c first took.0 one took.3,
 )
 
--- what became of a sink, by its parts
+-- the change of a sink, from its parts
 abbrev changed : Option (List ℕ) → Option (List ℕ) → Bool → SinkChange
 changed before after failed = record { before = before; after = after; failed = failed }
 
--- A line on the report follows what was said of the checkpoint of the round, if that went out whole.
+-- The message about the report follows the one about the round's checkpoint, if that was written whole.
 pub says_both : (round : ℕ) (a b c : Option (List ℕ)) (broken failed : Bool) (unsaved : Option SaveFault)
     → SaysOfRound round false unsaved (changed a b broken)
     → (broken ≡ true → (c ≡ b) × (failed ≡ true)) → (broken ≡ false → SinkTook (changed b c failed) (error_text faults.Unwritten))
@@ -65,7 +65,7 @@ says_both round a b c true failed (Some fault) said stays goes =
     subst (λ (f : Bool). TakesUnlessFailed f a c text) (sym same.1)
     (said.0, rest, is, subst (λ (o : Option (List ℕ)). Appends a o said.0) (sym same.0) said.3)
 
--- a text that goes out after another
+-- a text that is written after another one
 pub writes_after : {E : Type 0} (r : Result (Unit {0}) E) (a b c : Option (List ℕ)) (one two : List ℕ) → Appends a b one
     → WritesText r b c two → WritesText r a c (one ++ two)
 writes_after (Ok u) a b c one two first next = Appends-trans a b c one two first next
@@ -76,13 +76,13 @@ writes_after (Err e) a b c one two first next = (
   Appends-trans a b c one next.0 first next.3,
 )
 
--- one that broke off before the other
+-- a write that broke off before the second text
 pub breaks_before : (a b : Option (List ℕ)) (one two : List ℕ) → (went rest : List ℕ) × (one ≡ went ++ rest) × Appends a b went
     → (went rest : List ℕ) × (one ++ two ≡ went ++ rest) × Appends a b went
 breaks_before a b one two broken =
     (broken.0, broken.1 ++ two, ap (λ t. t ++ two) broken.2 ∙ append_assoc broken.0 broken.1 two, broken.3)
 
--- the text of the last round, whichever it is
+-- the text of the last round: round 1, or a later one
 pub last_of_one : (number : ℕ) (reports : List Report) (verdict : Verdict) → number ≡ 1
     → last_text number reports verdict ≡ report_text reports verdict
 last_of_one number reports verdict is = rw (eq-eqb number 1 is) refl
@@ -91,14 +91,14 @@ pub last_of_more : (number : ℕ) (reports : List Report) (verdict : Verdict) �
     → last_text number reports verdict ≡ round_text number ++ report_text reports verdict
 last_of_more number reports verdict other = rw (ne_eqb number 1 other) refl
 
--- so the words on a round before a fault
+-- the prefix that names a round, from round 2 on
 pub of_more : (number : ℕ) → number ≢ 1 → of_round number ≡ codes "round " ++ decimal number ++ codes ": "
 of_more number other = rw (ne_eqb number 1 other) refl
 
 pub of_one : (number : ℕ) → number ≡ 1 → of_round number ≡ []
 of_one number is = rw (eq-eqb number 1 is) refl
 
--- of round 1 just the fault is said
+-- for a fault of round 1 just the fault is reported
 pub first_error : (fault : CommandFault) → round_error_text 1 fault ≡ error_text fault
 first_error (faults.Usage text) = refl
 first_error fault = refl

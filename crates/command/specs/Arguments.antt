@@ -16,12 +16,12 @@ use Rattle.command.specs.declared.files.OpenFault.TheVariants as opens
 abbrev pub words_after_name : IntoIter (String Global) Global → List Text
 words_after_name arguments = map string_bytes (drop 1 (into_iter_items arguments))
 
--- what is said of an argument that isn't UTF-8, in the words of the command line's reader
+-- the message for an argument that isn't UTF-8, as `clap` words it
 abbrev pub not_utf8 : List ℕ
 not_utf8 = codes "error: invalid UTF-8 was detected in one or more arguments\n"
 
--- what is said where the system gives no arguments, and the status: memory ran out, or one of
--- them isn't UTF-8
+-- the message and the status if the system gives no arguments: memory ran out, or an argument isn't
+-- UTF-8
 abbrev pub refusal_text : ErrorKind → List ℕ
 refusal_text kinds.OutOfMemory = error_text faults.Memory
 refusal_text kind = not_utf8
@@ -30,7 +30,7 @@ abbrev pub refusal_status : ErrorKind → ℕ
 refusal_status kinds.OutOfMemory = status_of faults.Memory
 refusal_status kind = 2
 
--- The program ends without arguments, and says why.
+-- The program ends because the system gives no arguments, and reports the cause.
 pub record EndsWithoutArguments (kind : ErrorKind) (out err : SinkChange)
     (status : ℕ) : Type 0 where
   pub untouched : IsUntouched out

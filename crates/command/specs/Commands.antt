@@ -1,4 +1,4 @@
--- What a whole run of the program comes to (this project's own).
+-- What a whole run of the program does (this project's own).
 use Rattle.std.specs.Prelude.{◌≡◌, ◌≢◌, ◌+◌, ◌++◌, ◌⊎◌, ℕ, Bool, true, false, List, [], ◌∷◌, map, length, slice_get, take, Option, None, Some, option_map}
 use Rattle.std.specs.Io.KnownBytes.{Appends, Keeps}
 use Rattle.std.specs.Borrow.{Bor}
@@ -43,12 +43,12 @@ use Rattle.command.specs.declared.files.OpenFault.TheVariants as open_faults
 use Rattle.command.specs.declared.fault.CommandFault.{CommandFault}
 use Rattle.command.specs.declared.fault.CommandFault.TheVariants as faults
 
--- a word, and a path
+-- a word or a path
 abbrev pub Text : Type 0
 Text = List ℕ
 
--- The opening of the path led from the files before to those after, and reads of its file gave these
--- bytes, up to its first end. Where the device gives the file's bytes, they are these.
+-- The file at the path was opened, which led from the files `before` to those `after`, and reading
+-- it up to its first end gave these bytes. If its contents are known, they are these bytes.
 pub record WasRead {F R : Type 0} (opens : F → Text → R → F → Type 0) (reads : ReadsOf R)
     (tells : Text → Option (List ℕ)) (before : F) (path : Text) (bytes : List ℕ)
     (after : F) : Type 0 where
@@ -57,8 +57,8 @@ pub record WasRead {F R : Type 0} (opens : F → Text → R → F → Type 0) (r
   pub gave : GaveAll R reads reader bytes
   pub told : ForSome (tells path) (λ all. all ≡ bytes)
 
--- The words ask for a formula, and what was read of the file at its path, the first to be opened, is
--- a text of one that no assignment satisfies.
+-- The words name a formula, and the bytes read of its file, the first to be opened, are a text of a
+-- formula that no assignment satisfies.
 abbrev pub NameUnsatisfiable : (F : Type 0) → (F → Text → List ℕ → F → Type 0) → F → List Text
     → Type 0
 NameUnsatisfiable F Read first words =
@@ -66,8 +66,8 @@ NameUnsatisfiable F Read first words =
     × (after : F) × AskFor words formula_path assume × Read first formula_path bytes after
     × IsFormulaText bytes formula × IsUnsatisfiable formula
 
--- A file was created at the path and kept. Where its device tells its bytes, it was empty first, and
--- these are all that went to it.
+-- A file was created at the path and kept. If its contents are known, it was empty at first, and
+-- these bytes are all that was written to it.
 pub record WasSaved {F W : Type 0} (creates : F → Text → W → F → Type 0)
     (written : W → Option (List ℕ)) (keeps : F → W → F → Type 0) (before : F) (path : Text)
     (bytes : List ℕ) (after : F) : Type 0 where
@@ -79,8 +79,8 @@ pub record WasSaved {F W : Type 0} (creates : F → Text → W → F → Type 0)
   pub wrote : Appends (written first) (written last) bytes
   pub kept : keeps next last after
 
--- A file was created at the path, from the files before, and discarded as it was created: nothing went
--- to it. Where its device tells its bytes, it was empty.
+-- A file was created at the path and discarded as it was: nothing was written to it. If its
+-- contents are known, it was empty.
 pub record IsLeftEmpty {F W : Type 0} (creates : F → Text → W → F → Type 0)
     (written : W → Option (List ℕ)) (discards : F → W → F → Type 0) (before : F) (path : Text)
     (after : F) : Type 0 where
@@ -90,24 +90,24 @@ pub record IsLeftEmpty {F W : Type 0} (creates : F → Text → W → F → Type
   pub empty : ForSome (written output) (λ all. all ≡ [])
   pub discarded : discards next output after
 
--- what was read of the file of the assumed literals, over the variables 1 to vars; without a path
--- there are none, and nothing is opened
+-- the cube is what was read of the file of assumed literals at the path, over the variables 1 to
+-- vars; without a path it is empty, and nothing is opened
 abbrev pub AreAssumed : {F : Type 0} → (F → Text → List ℕ → F → Type 0) → ℕ → F → Option Text
     → CubeValue → F → Type 0
 AreAssumed Read vars before None cube after = (cube ≡ []) × (after ≡ before)
 AreAssumed Read vars before (Some path) cube after =
     (bytes : List ℕ) × Read before path bytes after × IsCubeText vars bytes cube
 
--- The bytes are a text of a formula that no assignment satisfies under the literals that are assumed next, at the path if there is one.
+-- The bytes are a text of a formula that no assignment satisfies under the assumed literals, which
+-- are read next, from the path if there is one.
 abbrev pub IsUnsatisfiableTextWith : {F : Type 0} → (F → Text → List ℕ → F → Type 0) → List ℕ → F
     → Option Text → Type 0
 IsUnsatisfiableTextWith {F = F} Read bytes before path =
     (formula : Cnf) × (cube : CubeValue) × (after : F) × IsFormulaText bytes formula
     × AreAssumed Read formula.vars before path cube after × IsUnsatisfiableUnder formula cube
 
--- The words ask for a formula and for assumed literals, and what was read of their files, the first
--- two to be opened, is a text of the one and of the others, under which no assignment satisfies the
--- formula.
+-- The words name a formula and, if given, a file of assumed literals. These two files, the first to
+-- be opened, hold texts of them, and no assignment satisfies the formula under the literals.
 abbrev pub NameUnsatisfiableUnder : (F : Type 0) → (F → Text → List ℕ → F → Type 0) → F
     → List Text → Type 0
 NameUnsatisfiableUnder F Read first words =
@@ -117,16 +117,17 @@ NameUnsatisfiableUnder F Read first words =
     × IsFormulaText bytes formula × AreAssumed Read formula.vars next assume cube last
     × IsUnsatisfiableUnder formula cube
 
--- the path that is lent, if any
+-- the borrowed path, if any
 abbrev pub path_of : Option (Bor Text) → Option Text
 path_of path = option_map (λ lent. lent.now) path
 
--- the path of the assumed literals that the words have, if any
+-- the path of the assumed literals in a command line, if any
 abbrev pub assumed_at : CommandLine → Option Text
 assumed_at given = path_of given.assume
 
--- The files at the paths were opened as these readers, each by the opening next after the one before it: the first from the files
--- before, the last to those after.
+-- The files at the paths were opened as these readers, one after the other: the first opening
+-- starts from the files `before`, each other one from those that the one before it left, and the
+-- last one leaves the files `after`.
 abbrev pub AreOpened : {F R : Type 0} → (F → Text → R → F → Type 0) → F → List Text → List R → F
     → Type 0
 AreOpened opens before [] [] after = after ≡ before
@@ -134,8 +135,9 @@ AreOpened {F = F} opens before (path ∷ paths) (reader ∷ readers) after =
     (next : F) × opens before path reader next × AreOpened opens next paths readers after
 AreOpened opens before _ _ after = ⊥
 
--- The bytes that were read of the file at FORMULA, the first to be opened, are a text of a formula; then the assumed literals were read,
--- if any, and the streams opened. What came after that, as the last that was done to the files, is `Came` of the formula.
+-- The bytes read of FORMULA, the first file to be opened, are a text of a formula. Then the assumed
+-- literals were read, if any, and the streams were opened. `Came` of the formula describes the rest
+-- of what was done to the files.
 pub record ComesLast {F R : Type 0} (opens : F → Text → R → F → Type 0)
     (Read : F → Text → List ℕ → F → Type 0) (Came : Cnf → F → F → Type 0) (first : F)
     (words : List Text) (last : F) : Type 0 where
@@ -154,8 +156,8 @@ pub record ComesLast {F R : Type 0} (opens : F → Text → R → F → Type 0)
   pub opened : AreOpened opens later given.streams readers before
   pub came : Came formula before last
 
--- With status 3 or 8, if the words ask for a checkpoint at a path: a checkpoint of the formula was saved there, as the last that was done
--- to the files.
+-- With status 3 or 8, if the words ask for a checkpoint at a path, a checkpoint of the formula was
+-- saved there, and nothing was done to the files after that.
 abbrev pub CheckpointEntailed : {F R : Type 0} → (F → Text → R → F → Type 0)
     → (F → Text → List ℕ → F → Type 0) → (F → Text → List ℕ → F → Type 0) → F → List Text → F → ℕ
     → Type 0
@@ -164,7 +166,7 @@ CheckpointEntailed opens Read Save first words last status =
     → ComesLast opens Read (λ formula before after. (saved : List ℕ)
     × Save before path saved after × IsCheckpoint formula saved) first words last
 
--- the sizes of round 1, by a command line
+-- the sizes of round 1, as a command line gives them
 abbrev pub sizes_of : CommandLine → Sizes
 sizes_of given =
     record { streams = length given.streams; lines = given.lines; room = given.room }
@@ -173,13 +175,14 @@ sizes_of given =
 abbrev pub options_by : ℕ → Sizes → OptionsValue
 options_by tries sizes = record { tries = tries; lines = sizes.lines; room = sizes.room }
 
--- what the streams of a round of this formula and of these sizes are checked by, under a cube
+-- the parameters for checking the streams of a round with this formula and these sizes, under a
+-- cube
 abbrev pub run_params_by : CommandLine → CubeValue → Cnf → Sizes → RunParamsValue
 run_params_by given cube formula sizes =
     run_params_of (options_by given.tries sizes) cube formula sizes.streams
 
--- The reports and the verdict of a formula's streams are those of one check of them. `firsts` are the readers of the streams as they were opened,
--- and `lasts` those in the end.
+-- The reports and the verdict come from one run over the formula's streams. `firsts` are the
+-- readers of the streams as they were opened, and `lasts` the readers at the end.
 pub record AreChecked {R : Type 0} (reading : SourceView R) (serial : Bool) (formula : Cnf)
     (run_params : RunParamsValue) (firsts : List R) (reports : List Report)
     (verdict : Verdict) : Type 0 where
@@ -191,9 +194,10 @@ pub record AreChecked {R : Type 0} (reading : SourceView R) (serial : Bool) (for
   pub sound : verdict ≡ Unsatisfiable → IsUnsatisfiable formula
   pub sound_under : verdict ≡ UnsatisfiableUnder → IsUnsatisfiableUnder formula run_params.cube
 
--- What files do and tell, whichever they are: of an opening, and of one that was refused; of what is seen where a path has no file, and of
--- an opening that failed although it may have one; of a creation, and of one that was refused; of a file that was kept, of one that wasn't,
--- and of one that was discarded; and what is known of the readers and of the sinks.
+-- The effects of calls on files, for any files: opening a file, and a refused opening; finding no
+-- file at a path, and failing to open one that may be there; creating a file, and a refused
+-- creation; keeping a file, failing to keep it, and discarding it. The other fields say what is
+-- known of the files, of their readers and of their sinks.
 pub record Deeds : Type 1 where
   pub State : Type 0
   pub Reader : Type 0
@@ -212,7 +216,7 @@ pub record Deeds : Type 1 where
   pub written : Output → Option (List ℕ)
   pub has_failed : Output → Bool
 
--- what files do and tell, as the types of files, of their readers and of their sinks say it
+-- the effects that the implementations of files, of readers and of sinks state
 abbrev pub deeds_of : {F R W M : Type 0} → Files.Ghosts F R → Machine.Ghosts F W M R
     → Source.Ghosts R → Sink.Ghosts W → Deeds
 deeds_of {F = F} {R = R} {W = W} its more input output = record {
@@ -234,34 +238,35 @@ deeds_of {F = F} {R = R} {W = W} its more input output = record {
   has_failed = output.has_failed;
 }
 
--- What is known of files: what they do; which they are at first; and what the file at each path tells, where the device tells it, which
--- stays while files are opened.
+-- What is known of files: the effects of calls on them; their first state; and the contents of the
+-- file at each path, if known, which stay the same while files are opened.
 pub record FilesView : Type 1 where
   pub its : Deeds
   pub first : its.State
   pub tells : Text → Option (List ℕ)
 
--- what is known of files, as these types say it, where these are the first ones
+-- what these implementations say of files, with `first` as the first state
 abbrev pub files_view : {F R W M : Type 0} → Files.Ghosts F R → Machine.Ghosts F W M R
     → Source.Ghosts R → Sink.Ghosts W → F → FilesView
 files_view its more input output first =
     record { its = deeds_of its more input output; first = first; tells = its.tells first }
 
--- what is known of the same files, where others were the first ones
+-- the same with another first state
 abbrev pub from_first : (files : FilesView) → files.its.State → FilesView
 from_first files first = record { its = files.its; first = first; tells = files.tells }
 
--- what was read of the file at a path, by what is known of files
+-- `WasRead` for these files
 abbrev pub WasReadIn : (files : FilesView) → files.its.State → Text → List ℕ → files.its.State
     → Type 0
 WasReadIn files = WasRead files.its.opens files.its.reading.reads files.tells
 
--- what was saved at a path, by what files do
+-- `WasSaved` with these effects
 abbrev pub WasSavedBy : (its : Deeds) → its.State → Text → List ℕ → its.State → Type 0
 WasSavedBy its = WasSaved its.creates its.written its.keeps
 
--- With status 0, if the words ask for a checkpoint at a path, none was written: its file was created there, and discarded before anything
--- went to it, as the last that was done to the files.
+-- With status 0, if the words ask for a checkpoint at a path, none was written: its file was
+-- created there and discarded before anything was written to it, and nothing was done to the files
+-- after that.
 abbrev pub CheckpointLeftEmpty : (files : FilesView) → List Text → files.its.State → ℕ → Type 0
 CheckpointLeftEmpty files words last status =
     (path : Text) → AskToSave words path → status ≡ 0
@@ -269,22 +274,25 @@ CheckpointLeftEmpty files words last status =
     IsLeftEmpty files.its.creates files.its.written files.its.discards before path after)
     files.first words last
 
--- the formula whose text was read of the file at a path, the first to be opened, and the files after that
+-- the file at the path, the first to be opened, holds a text of the formula, and these are the
+-- files after that
 abbrev pub IsFormulaAt : (files : FilesView) → Text → Cnf → files.its.State → Type 0
 IsFormulaAt files path formula after =
     (bytes : List ℕ) × WasReadIn files files.first path bytes after × IsFormulaText bytes formula
 
--- the path of the file that the round with this number creates for what comes after it, if any: the checkpoint that the words ask for,
--- or the formula of the next round
+-- the path of the file to which the round with this number saves its clauses, if any: the
+-- checkpoint that the words ask for, or the formula of the next round
 abbrev pub created_path : Next → ℕ → Option Text
 created_path Nothing number = None
 created_path (Checkpoint path) number = Some path.now
 created_path (Rounds folder) number = Some (round_paths.formula_path folder.now (number + 1))
 
--- Causes, and the files then: what was opened and created of them by then, in order, and nothing more. Nothing shows afterwards that
--- memory ran out or that a thread wasn't started, so these are taken as causes whatever the files hold.
+-- Causes, and the files at that point: just those openings and creations that came before, in
+-- order, were done to them. Nothing shows afterwards that memory ran out or that a thread wasn't
+-- started, so these are possible causes for any files.
 
--- Reads of a file gave some bytes, and then one failed. If the device tells what was left of the file, it began with these bytes.
+-- Reads of a file gave some bytes, and then a read failed. If what was left of the file is known,
+-- it began with these bytes.
 pub record HasBrokenOff {R : Type 0} (reading : SourceView R) (first : R) : Type 0 where
   pub bytes : List ℕ
   pub after : R
@@ -292,7 +300,7 @@ pub record HasBrokenOff {R : Type 0} (reading : SourceView R) (first : R) : Type
   pub failed : reading.has_failed after ≡ true
   pub told : ForSome (reading.left first) (λ all. (rest : List ℕ) × (all ≡ bytes ++ rest))
 
--- The file at the path was opened, and its reading failed.
+-- The file at the path was opened, and reading it failed.
 pub record WasUnread (files : FilesView) (before : files.its.State) (path : Text)
     (after : files.its.State) : Type 0 where
   pub reader : files.its.Reader
@@ -300,14 +308,14 @@ pub record WasUnread (files : FilesView) (before : files.its.State) (path : Text
   pub left : files.its.reading.left reader ≡ files.tells path
   pub broken : HasBrokenOff files.its.reading reader
 
--- memory ran out before the file at the path was opened, or at its opening, or after it
+-- memory ran out before, during or after the opening of the file at the path
 abbrev pub IsOutOfMemory : (its : Deeds) → its.State → Text → its.State → Type 0
 IsOutOfMemory its before path after =
     (after ≡ before)
     ⊎ (its.refuses before path open_faults.Memory after
     ⊎ ((reader : its.Reader) × its.opens before path reader after))
 
--- why the file at a path wasn't read: it was refused, or its reading failed
+-- why the file at a path wasn't read: it couldn't be opened or read, or memory ran out
 abbrev pub IsFileCause : (files : FilesView) → files.its.State → Text → CommandFault
     → files.its.State → Type 0
 IsFileCause files before path faults.Unread after =
@@ -315,7 +323,7 @@ IsFileCause files before path faults.Unread after =
 IsFileCause files before path faults.Memory after = IsOutOfMemory files.its before path after
 IsFileCause files before path fault after = ⊥
 
--- why the formula wasn't read: its file, the first to be opened, was refused, or its reading failed, or it holds no formula
+-- why there is no formula: its file, the first to be opened, couldn't be read, or holds no formula
 abbrev pub IsReadCause : (files : FilesView) → CommandLine → CommandFault → files.its.State → Type 0
 IsReadCause files given (faults.Refused fault) after =
     (fault ≢ formulas.Memory)
@@ -323,8 +331,8 @@ IsReadCause files given (faults.Refused fault) after =
     × IsFormulaFault bytes fault)
 IsReadCause files given fault after = IsFileCause files files.first given.formula.now fault after
 
--- why the assumed literals at a path, over the variables 1 to vars, weren't read: their file, the next to be opened, was refused, or
--- its reading failed, or it holds no text of them; without a path there is no cause
+-- why there are no assumed literals over the variables 1 to vars: their file, the next to be
+-- opened, couldn't be read, or holds no text of literals; without a path there is no cause
 abbrev pub IsAssumeCause : (files : FilesView) → ℕ → files.its.State → Option Text → CommandFault
     → files.its.State → Type 0
 IsAssumeCause files vars before None fault after = ⊥
@@ -337,7 +345,7 @@ IsAssumeCause files vars before (Some path) faults.Memory after =
     IsFileCause files before path faults.Memory after
 IsAssumeCause files vars before (Some path) fault after = ⊥
 
--- Of the files at these paths those before one were opened, in order, and that one, which has this place, was refused.
+-- The files at the first `place` paths were opened, in order, and opening the next one was refused.
 pub record WasRefused (its : Deeds) (before : its.State) (paths : List Text) (place : ℕ)
     (fault : OpenFault) (after : its.State) : Type 0 where
   pub path : Text
@@ -347,8 +355,8 @@ pub record WasRefused (its : Deeds) (before : its.State) (paths : List Text) (pl
   pub opened : AreOpened its.opens before (take place paths) readers next
   pub refused : its.refuses next path fault after
 
--- why not all of the streams at these paths were opened, before the first of which come this many: one of them was refused; or memory
--- ran out before they were opened, at the opening of one, or after it
+-- why opening these streams stopped, after this many earlier streams: one of them was refused; or
+-- memory ran out before, during or after one of the openings
 abbrev pub IsOpenCause : (its : Deeds) → ℕ → its.State → List Text → CommandFault → its.State
     → Type 0
 IsOpenCause its behind before paths (faults.NotOpened stream) after =
@@ -360,24 +368,26 @@ IsOpenCause its behind before paths faults.Memory after =
     × AreOpened its.opens before (take place paths) readers after)
 IsOpenCause its behind before paths fault after = ⊥
 
--- a file was created at the path, if there is one, and nothing went to it; else the files are as before
+-- with a path, a file was created there and nothing was written to it; without one, the files are
+-- as before
 abbrev pub IsLeftUnused : (its : Deeds) → its.State → Option Text → its.State → Type 0
 IsLeftUnused its before None after = after ≡ before
 IsLeftUnused its before (Some path) after =
     IsLeftEmpty its.creates its.written its.discards before path after
 
--- the creation of the file at the path, if there is one, was refused
+-- creating the file at the path was refused; without a path, that can't be
 abbrev pub IsRefusedNew : (its : Deeds) → its.State → Option Text → OpenFault → its.State → Type 0
 IsRefusedNew its before None fault after = ⊥
 IsRefusedNew its before (Some path) fault after = its.refuses_new before path fault after
 
--- a layout has no fault
+-- the layout has no fault
 abbrev pub HasNoFault : LayoutValue → Type 0
 HasNoFault layout = (fault : LayoutFault) → IsFault layout fault → ⊥
 
--- why the streams of a formula, which were opened as these readers, weren't checked: there is no layout; or there is one, and the file at
--- the path wasn't created, if there is to be one; or it was, and a thread wasn't started, or a ring lost the end of a stream, which was read
--- out, as the streams before it were, which were judged
+-- why the streams of a formula, opened as these readers, weren't checked: they have no layout; or
+-- they have one, and the file at the path, if there is one, wasn't created; or it was, and a thread
+-- wasn't started, or a ring lost the end of a stream that was read to its end, after the streams
+-- before it were judged; or memory ran out
 abbrev pub IsStartCause : (its : Deeds) → Bool → Cnf → RunParamsValue → List its.Reader → its.State
     → Option Text → CommandFault → its.State → Type 0
 IsStartCause its serial formula run_params readers before path (faults.Layout fault) after =
@@ -397,15 +407,17 @@ IsStartCause its serial formula run_params readers before path faults.Memory aft
     ⊎ IsLeftUnused its before path after))
 IsStartCause its serial formula run_params readers before path fault after = ⊥
 
--- why the streams of the round with this number weren't checked: as above, with the file that it creates for what comes after it, if any
+-- why the streams of the round with this number weren't checked: as `IsStartCause` says, for the
+-- file to which the round saves its clauses
 abbrev pub IsRoundStartCause : (its : Deeds) → CommandLine → CubeValue → ℕ → Cnf → Sizes
     → List its.Reader → its.State → CommandFault → its.State → Type 0
 IsRoundStartCause its given cube number formula sizes readers opened fault after =
     IsStartCause its given.serial formula (run_params_by given cube formula sizes) readers opened
     (created_path given.next number) fault after
 
--- the cause of a fault of the formula; or, of a formula that was read, of a fault of the assumed literals; or, of both that were read,
--- of a fault of the opening of the streams; or, of streams that were opened, of their check
+-- the cause is a fault of the formula; or the formula was read, and it is a fault of the assumed
+-- literals; or both were read, and it is a fault of opening the streams; or the streams were
+-- opened, and it is a fault of checking them
 abbrev pub IsCauseAt : (files : FilesView) → CommandLine → CommandFault → files.its.State → Type 0
 IsCauseAt files given fault after =
     IsReadCause files given fault after
@@ -421,8 +433,9 @@ IsCauseAt files given fault after =
     × IsRoundStartCause files.its given cube 1 formula (sizes_of given) readers last fault
     after)))))
 
--- Why round 1 has no report, by the words and the files, and the files then. Words with a fault, words that ask for a checkpoint and for
--- rounds, or memory that ran out while they were read, leave the files as they were.
+-- Why round 1 has no report, for these words and files, and the files at that point. Words with a
+-- fault leave the files as they were, and so do words that ask both for a checkpoint and for
+-- rounds, and memory that runs out while the words are read.
 abbrev pub IsCause : (files : FilesView) → List Text → CommandFault → files.its.State → Type 0
 IsCause files words (faults.Usage text) after = HaveFault words × (after ≡ files.first)
 IsCause files words faults.TwoCheckpoints after = AskForBoth words × (after ≡ files.first)
@@ -433,15 +446,15 @@ IsCause files words faults.Memory after =
 IsCause files words fault after =
     (given : CommandLine) × IsCommandLineOf words given × IsCauseAt files given fault after
 
--- What goes out.
+-- The output.
 
--- a sink: what was written to it before, and is now, and whether it has failed now
+-- a sink: what had been written to it before and after, and whether it has failed at the end
 pub record SinkChange : Type 0 where
   pub before : Option (List ℕ)
   pub after : Option (List ℕ)
   pub failed : Bool
 
--- what became of a sink, as its type says it
+-- the change of a sink, in the terms of its type
 abbrev pub change : {W : Type 0} → Sink.Ghosts W → W → W → SinkChange
 change its before after = record {
   before = its.written before;
@@ -449,7 +462,7 @@ change its before after = record {
   failed = its.has_failed after;
 }
 
--- a text went out to the sink; or a beginning of it, where the sink failed
+-- the text was written to the sink; or a prefix of it, if the sink failed
 abbrev pub TakesUnlessFailed : Bool → Option (List ℕ) → Option (List ℕ) → List ℕ → Type 0
 TakesUnlessFailed false before after text = Appends before after text
 TakesUnlessFailed true before after text =
@@ -458,7 +471,7 @@ TakesUnlessFailed true before after text =
 abbrev pub SinkTook : SinkChange → List ℕ → Type 0
 SinkTook sink text = TakesUnlessFailed sink.failed sink.before sink.after text
 
--- nothing went out to the sink
+-- nothing was written to the sink, and it hasn't failed
 pub record IsUntouched (sink : SinkChange) : Type 0 where
   pub written : Keeps sink.before sink.after
   pub failed : sink.failed ≡ false
@@ -468,13 +481,14 @@ verdict_status Unsatisfiable = 0
 verdict_status UnsatisfiableUnder = 8
 verdict_status Unknown = 3
 
--- the status: of a report that wasn't written; else of a checkpoint that wasn't saved; else of the verdict
+-- the status: for a report that wasn't written; else for a checkpoint that wasn't saved; else for
+-- the verdict
 abbrev pub report_status : Bool → Option SaveFault → Verdict → ℕ
 report_status true unsaved verdict = status_of faults.Unwritten
 report_status false (Some fault) verdict = status_of (faults.NotSaved fault)
 report_status false None verdict = verdict_status verdict
 
--- what standard error says then, of the round with this number
+-- the messages on standard error then, for the round with this number
 abbrev pub SaysOfRound : ℕ → Bool → Option SaveFault → SinkChange → Type 0
 SaysOfRound round true (Some fault) err =
     SinkTook err (round_error_text round (faults.NotSaved fault) ++ error_text faults.Unwritten)

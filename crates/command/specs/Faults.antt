@@ -1,4 +1,5 @@
--- Why the program ends without a report, or without its checkpoint: what it says of that, and its status (this project's own).
+-- Why the program ends without a report or without its checkpoint: the messages and the statuses
+-- (this project's own).
 use Rattle.std.specs.Prelude.{ℕ, List, [], ◌++◌, ◌==◌, if◌then◌else◌, codes}
 use Rattle.std.specs.Fmt.{decimal}
 use Rattle.checkpoint.specs.declared.saving.SaveFault.{SaveFault}
@@ -13,7 +14,7 @@ use Rattle.lrup_text.specs.declared.cube.CubeFault.TheVariants as cubes
 use Rattle.command.specs.declared.fault.CommandFault.{CommandFault}
 use Rattle.command.specs.declared.fault.CommandFault.TheVariants as faults
 
--- The status.
+-- The statuses.
 abbrev pub layout_status : LayoutFault → ℕ
 layout_status layouts.TooManyVariables = 4
 layout_status layouts.TooManyClauses = 4
@@ -38,7 +39,7 @@ status_of faults.TwoCheckpoints = 2
 status_of faults.SizesUnread = 5
 status_of faults.Sizes = 2
 
--- What is said: a usage fault in the words of the command line's reader, each other fault in one line.
+-- The messages: for a usage fault the text from `clap`, for each other fault one line.
 abbrev pub formula_fault_text : DimacsFault → List ℕ
 formula_fault_text formulas.NoHeader = codes "formula refused: no header"
 formula_fault_text formulas.BadHeader = codes "formula refused: bad header"
@@ -82,7 +83,7 @@ cause_text faults.TwoCheckpoints = codes "--checkpoint and --rounds exclude each
 cause_text faults.SizesUnread = codes "cannot read sizes"
 cause_text faults.Sizes = codes "sizes"
 
--- a line of the program's
+-- an error line
 abbrev pub error_line : List ℕ → List ℕ
 error_line cause = codes "lrupd: " ++ cause ++ codes "\n"
 
@@ -90,15 +91,15 @@ abbrev pub error_text : CommandFault → List ℕ
 error_text (faults.Usage text) = text
 error_text fault = error_line (cause_text fault)
 
--- what a line says of a round first, from the second one on
+-- the prefix of a line that names the round, from round 2 on
 abbrev pub of_round : ℕ → List ℕ
 of_round round = if round == 1 then [] else codes "round " ++ decimal round ++ codes ": "
 
--- a line of the program's, of a round
+-- an error line about a round
 abbrev pub round_error_line : ℕ → List ℕ → List ℕ
 round_error_line round cause = error_line (of_round round ++ cause)
 
--- what is said of a fault of a round: in round 1 just what is said of that fault
+-- the message for a fault of a round: in round 1 just that of the fault
 abbrev pub round_error_text : ℕ → CommandFault → List ℕ
 round_error_text round (faults.Usage text) = text
 round_error_text round fault = round_error_line round (cause_text fault)

@@ -6,19 +6,19 @@ use Rattle.std.specs.Fmt.{decimal}
 abbrev pub round_path : List ℕ → ℕ → List ℕ → List ℕ
 round_path folder number rest = folder ++ (codes "/round-" ++ (decimal number ++ rest))
 
--- of the text of a round's formula
+-- the path of a round's formula
 abbrev pub formula_path : List ℕ → ℕ → List ℕ
 formula_path folder number = round_path folder number (codes ".cnf")
 
--- of a round's sizes
+-- the path of a round's sizes
 abbrev pub sizes_path : List ℕ → ℕ → List ℕ
 sizes_path folder number = round_path folder number (codes ".sizes")
 
--- of a stream of a round, from 1 on
+-- the path of a round's stream, counted from 1
 abbrev pub stream_path : List ℕ → ℕ → ℕ → List ℕ
 stream_path folder number stream = round_path folder number (codes ".stream-" ++ decimal stream)
 
--- of this many streams, from 1 on
+-- the paths of the first `count` streams
 abbrev pub stream_paths : List ℕ → ℕ → ℕ → List (List ℕ)
 stream_paths folder number zero = []
 stream_paths folder number (suc count) =

@@ -1,4 +1,4 @@
--- A run is a list of rounds: each goes on with what the one before it saved (this project's own).
+-- A run is a list of rounds: each starts from what the one before it saved (this project's own).
 use Rattle.std.specs.Prelude.{◌≡◌, ◌==◌, ◌↔◌, if◌then◌else◌, ◌+◌, ◌++◌, ◌∷◌, ◌⊎◌, ◌<◌, ◌≤◌, ◌^◌, ℕ, IsTrue, List, [], Option, None, Some, Result, Ok, Err, IfOk, codes, drop, length, map}
 use Rattle.std.specs.Fmt.{decimal}
 use Rattle.std.specs.List.{AllByRecursion}
@@ -33,7 +33,8 @@ use Rattle.command.specs.declared.fault.CommandFault.{CommandFault}
 use Rattle.command.specs.declared.fault.CommandFault.TheVariants as faults
 use Rattle.command.specs.declared.files.OpenFault.TheVariants as open_faults
 
--- The files at the paths were opened as these readers, in order, and where it is known what a path has, its reader has just that left.
+-- The files at the paths were opened as these readers, in order. Each reader has all of its file
+-- left, if that is known.
 pub record StreamsOpened (its : Deeds) (before : its.State) (paths : List Text)
     (readers : List its.Reader) (after : its.State) : Type 0 where
   pub opened : AreOpened its.opens before paths readers after
@@ -43,10 +44,12 @@ pub record StreamsOpened (its : Deeds) (before : its.State) (paths : List Text)
 abbrev pub HaveEnded : List Report → Type 0
 HaveEnded reports = AllByRecursion (λ report. report.ending ≡ endings.Ended) reports
 
--- What became of the saving of a checkpoint to a sink, which is `first` before it and `last` after it, once streams of the formula with this
--- layout were checked, whose history and dropped identities these are. What was written whole is a text of a formula over the same
--- variables, each clause of which follows from this one, and it is the next formula, if one is given. It is that of the clauses that the
--- history leaves live, but for those that all streams dropped, and no others. Just where the sink failed, the result is that a write failed.
+-- An attempt to save a checkpoint to a sink, which was `first` before and `last` after. The streams
+-- of the formula with this layout had been checked, with this history and these dropped identities.
+-- A successful save wrote a text of a formula over the same variables, whose clauses all follow
+-- from this formula; that is the next formula, if one is given. Its clauses are exactly those that
+-- the history leaves live, except those that all streams dropped. The result is `Unwritten` exactly
+-- if the sink has failed.
 pub record SavesCheckpoint (its : Deeds) (formula : Cnf) (layout : LayoutValue) (history : History)
     (dropped : List DroppedIdsValue) (result : Result (Option Cnf) SaveFault)
     (first last : its.Output) : Type 0 where
@@ -56,8 +59,9 @@ pub record SavesCheckpoint (its : Deeds) (formula : Cnf) (layout : LayoutValue) 
       first last
   pub failed : IsTrue (its.has_failed last) ↔ (result ≡ Err saves.Unwritten)
 
--- How a file was closed, after a save with this result. If the save succeeded, the file was kept, or keeping it failed; if the save failed,
--- the file was discarded. `unsaved` is why nothing is saved, if so, and `next` is the formula that was saved, if the save gives it.
+-- How a file was closed after a save with this result. If the save succeeded, the file was kept, or
+-- keeping it failed; if the save failed, the file was discarded. `unsaved` is why nothing was
+-- saved, if so, and `next` is the formula that was saved, if the save gives it.
 abbrev pub ClosesSink : (its : Deeds) → Result (Option Cnf) SaveFault → its.State → its.Output
     → Option SaveFault → Option Cnf → its.State → Type 0
 ClosesSink its (Ok made) before last None next after = (next ≡ made) × its.keeps before last after
@@ -66,8 +70,8 @@ ClosesSink its (Ok made) before last (Some fault) next after =
 ClosesSink its (Err fault) before last unsaved next after =
     (unsaved ≡ Some fault) × (next ≡ None) × its.discards before last after
 
--- A file was created at the path, from the files before. Where its bytes are known, it was empty. Something was saved to it, and it was
--- closed.
+-- A file was created at the path, saved to and closed. If its contents are known, it was empty at
+-- first.
 pub record LeavesFile (its : Deeds)
     (Saves : Result (Option Cnf) SaveFault → its.Output → its.Output → Type 0) (before : its.State)
     (path : Text) (unsaved : Option SaveFault) (next : Option Cnf)
@@ -81,9 +85,10 @@ pub record LeavesFile (its : Deeds)
   pub saving : Saves result first last
   pub closed : ClosesSink its result opened last unsaved next after
 
--- What a round with this verdict leaves at the path, why that wasn't saved, if it wasn't, and the next formula, if there is one. Without a
--- path: nothing. With 'unsatisfiable': a new file, which was discarded before anything was written to it. Else a new file, to which the
--- program tried to save the checkpoint.
+-- What a round with this verdict leaves at the path; why that wasn't saved, if it wasn't; and the
+-- next formula, if there is one. Without a path: nothing. With 'unsatisfiable': a new file,
+-- discarded before anything was written to it. Else: a new file, to which the program tried to save
+-- the checkpoint.
 abbrev pub LeavesBehind : (its : Deeds)
     → (Result (Option Cnf) SaveFault → its.Output → its.Output → Type 0) → Verdict → its.State
     → Option Text → Option SaveFault → Option Cnf → its.State → Type 0
@@ -95,9 +100,10 @@ LeavesBehind its Saves Unsatisfiable before (Some path) unsaved next after =
 LeavesBehind its Saves verdict before (Some path) unsaved next after =
     LeavesFile its Saves before path unsaved next after
 
--- A round: its number, its formula and its sizes; the readers of its streams as they were opened, and the files after that; its reports and
--- its verdict; why its checkpoint wasn't saved, if it wasn't; the next formula, if there is one; and the files after that. Its streams were
--- checked, and `leaves` says what became of the clauses that they left.
+-- A round: its number, formula and sizes; the readers of its streams as they were opened, and the
+-- files then; its reports and its verdict; why its checkpoint wasn't saved, if it wasn't; the next
+-- formula, if there is one; and the files at its end. Its streams were checked, and `leaves` says
+-- what became of their clauses.
 pub record Round (its : Deeds) (given : CommandLine) (cube : CubeValue) : Type 0 where
   pub number : ℕ
   pub formula : Cnf
@@ -117,8 +123,8 @@ pub record Round (its : Deeds) (given : CommandLine) (cube : CubeValue) : Type 0
       checked.ran.run.history checked.dropped)
       verdict opened (created_path given.next number) unsaved next after
 
--- The words ask for rounds of a folder, and the round goes on: its verdict is 'unknown', its streams ended, and its checkpoint, a text of the
--- next formula, was saved.
+-- The run continues after this round: the words ask for rounds in a folder, the verdict is
+-- 'unknown', all streams ended, and the checkpoint, a text of the next formula, was saved.
 pub record CarriesOn {its : Deeds} {given : CommandLine} {cube : CubeValue}
     (round : Round its given cube) (next : Cnf) : Type 0 where
   pub folder : Text
@@ -128,14 +134,16 @@ pub record CarriesOn {its : Deeds} {given : CommandLine} {cube : CubeValue}
   pub unsaved : round.unsaved ≡ None
   pub next_is : round.next ≡ Some next
 
--- It doesn't: the words ask for no rounds, it has another verdict, its checkpoint wasn't saved, or a stream didn't end.
+-- The run doesn't continue after this round: the words ask for no rounds, the verdict isn't
+-- 'unknown', the checkpoint wasn't saved, or a stream didn't end.
 abbrev pub IsBarred : {its : Deeds} {given : CommandLine} {cube : CubeValue} → Round its given cube
     → Type 0
 IsBarred {given = given} round =
     (rounds_of given.next ≡ None) ⊎ ((¬ (round.verdict ≡ Unknown))
     ⊎ (((fault : SaveFault) × (round.unsaved ≡ Some fault)) ⊎ (¬ HaveEnded round.reports)))
 
--- the sizes of the round after: those before, if there is no file of them; else what was read of the file is a text of them
+-- the sizes of the next round: the old ones, if new ones have no file; else those whose text was
+-- read of the file
 abbrev pub AreSized : (its : Deeds) → Text → Sizes → its.State → Sizes → its.State → Type 0
 AreSized its path old before new after =
     (its.lacks before path after × (new ≡ old))
@@ -143,8 +151,8 @@ AreSized its path old before new after =
     × WasRead its.opens its.reading.reads (its.tells before) before path bytes after
     × IsSizesText bytes new)
 
--- A round follows another: it has the next number and the formula that was carried on, its sizes were read, and then its streams were
--- opened.
+-- A round follows another: it has the next number and the formula that the other one saved, its
+-- sizes were read, and then its streams were opened.
 pub record ComesNext {its : Deeds} {given : CommandLine} {cube : CubeValue}
     (before round : Round its given cube) : Type 0 where
   pub number : round.number ≡ before.number + 1
@@ -155,7 +163,8 @@ pub record ComesNext {its : Deeds} {given : CommandLine} {cube : CubeValue}
   pub opened : StreamsOpened its sized
       (stream_paths goes_on.folder round.number round.sizes.streams) round.readers round.opened
 
--- Round 1, of this formula, from these files: its sizes and its streams are those of the command line.
+-- Round 1, with this formula and from these files: its sizes and its streams are those of the
+-- command line.
 pub record IsFirst {its : Deeds} {given : CommandLine} {cube : CubeValue} (formula : Cnf)
     (first : its.State) (round : Round its given cube) : Type 0 where
   pub number : round.number ≡ 1
@@ -163,8 +172,9 @@ pub record IsFirst {its : Deeds} {given : CommandLine} {cube : CubeValue} (formu
   pub sizes_are : round.sizes ≡ sizes_of given
   pub opened : StreamsOpened its first given.streams round.readers round.opened
 
--- Rounds, listed from the last one back to round 1. Round 1 has this formula and starts from these files, and each other round follows the
--- one before it. So a round's number is how many there are up to it.
+-- Rounds, listed from the last one back to round 1. Round 1 has this formula and starts from these
+-- files, and each other round follows the one before it. So the last round's number is the length
+-- of the list.
 abbrev pub AreRounds : {its : Deeds} {given : CommandLine} {cube : CubeValue} → Cnf → its.State
     → List (Round its given cube) → Type 0
 AreRounds formula first [] = ⊥
@@ -172,8 +182,9 @@ AreRounds formula first (round ∷ []) = IsFirst formula first round
 AreRounds formula first (round ∷ before ∷ more) =
     ComesNext before round × AreRounds formula first (before ∷ more)
 
--- why there is no round after the last one, and what became of the files: it doesn't go on; or it does, and the next one has its sizes, and
--- there is no file of its stream 1; or the next one's number would be 2 ^ 64 - 1 or more
+-- why there is no round after the last one, and the files at the end: the run doesn't continue; or
+-- it would, and the next round has sizes but no file for its stream 1; or the next round's number
+-- would be 2 ^ 64 - 1 or more
 abbrev pub RoundsEnd : {its : Deeds} {given : CommandLine} {cube : CubeValue} → Round its given cube
     → its.State → Type 0
 RoundsEnd {its} last after =
@@ -186,9 +197,9 @@ RoundsEnd {its} last after =
 
 -- Causes.
 
--- The file at the path was opened, and what it holds is no text of sizes: at most 64 bytes were read of it to its end, and they aren't; or
--- 64 bytes were read of it, which are more than the longest has. Where the device gives the file's bytes, they are these, or begin with
--- them.
+-- The file at the path was opened, and holds no text of sizes: reading it to its end gave at most
+-- 64 bytes, which are no such text; or 64 bytes were read, which is longer than any such text. If
+-- the file's contents are known, they are these bytes, or begin with them.
 pub record HoldsNoSizes (its : Deeds) (before : its.State) (path : Text)
     (after : its.State) : Type 0 where
   pub reader : its.Reader
@@ -201,7 +212,7 @@ pub record HoldsNoSizes (its : Deeds) (before : its.State) (path : Text)
       × (length bytes ≡ 64)
       × ForSome (its.tells before path) (λ all. (rest : List ℕ) × (all ≡ bytes ++ rest)))
 
--- The file at the path was opened, and its reading failed, after 64 bytes at most.
+-- The file at the path was opened, and reading it failed after at most 64 bytes.
 pub record BrokeOff (its : Deeds) (before : its.State) (path : Text)
     (after : its.State) : Type 0 where
   pub reader : its.Reader
@@ -210,14 +221,15 @@ pub record BrokeOff (its : Deeds) (before : its.State) (path : Text)
   pub broken : HasBrokenOff its.reading reader
   pub few : length broken.bytes ≤ 64
 
--- memory ran out before the file at the path was opened, which may not be there, or at its opening, or after it
+-- memory ran out before, during or after the opening of the file at the path, which may be missing
 abbrev pub IsOutOfMemoryAt : (its : Deeds) → its.State → Text → its.State → Type 0
 IsOutOfMemoryAt its before path after =
     (after ≡ before)
     ⊎ (its.fails before path open_faults.Memory after
     ⊎ ((reader : its.Reader) × its.opens before path reader after))
 
--- why the sizes at a path weren't read: the opening of their file failed, or its reading did, or it holds none; or memory ran out
+-- why the sizes at a path weren't read: their file couldn't be opened or read, or holds none; or
+-- memory ran out
 abbrev pub IsSizesCause : (its : Deeds) → its.State → Text → CommandFault → its.State → Type 0
 IsSizesCause its before path faults.SizesUnread after =
     its.fails before path open_faults.NotOpened after ⊎ BrokeOff its before path after
@@ -225,7 +237,8 @@ IsSizesCause its before path faults.Sizes after = HoldsNoSizes its before path a
 IsSizesCause its before path faults.Memory after = IsOutOfMemoryAt its before path after
 IsSizesCause its before path fault after = ⊥
 
--- why the file of stream 1 at the path wasn't opened: that failed; or memory ran out before it, or at it
+-- why the file of stream 1 at the path wasn't opened: opening it failed, or memory ran out before
+-- or during that
 abbrev pub IsFirstCause : (its : Deeds) → its.State → Text → CommandFault → its.State → Type 0
 IsFirstCause its before path (faults.NotOpened stream) after =
     (stream ≡ 1) × its.fails before path open_faults.NotOpened after
@@ -233,7 +246,8 @@ IsFirstCause its before path faults.Memory after =
     (after ≡ before) ⊎ its.fails before path open_faults.Memory after
 IsFirstCause its before path fault after = ⊥
 
--- why not all streams of a round were opened: the first wasn't; or it was, and the others as in round 1, from the second stream on
+-- why not all streams of a round were opened: stream 1 wasn't; or it was, and one of the others
+-- wasn't, as in round 1
 abbrev pub IsStreamCause : (its : Deeds) → its.State → Text → ℕ → ℕ → CommandFault → its.State
     → Type 0
 IsStreamCause its before folder number streams fault after =
@@ -242,8 +256,9 @@ IsStreamCause its before folder number streams fault after =
     × its.opens before (stream_path folder number 1) first next
     × IsOpenCause its 1 next (drop 1 (stream_paths folder number streams)) fault after)
 
--- why the round with this number, which follows one of the old sizes and has this formula, has no report: because of its sizes; or, once
--- these were read, because a stream wasn't opened; or, once all were open, because they weren't checked
+-- why the round with this number and this formula, after one with the old sizes, has no report: its
+-- sizes weren't read; or they were, and a stream wasn't opened; or all streams were opened, and
+-- weren't checked
 abbrev pub IsRoundCause : (its : Deeds) → CommandLine → CubeValue → Text → ℕ → Sizes → Cnf
     → its.State → CommandFault → its.State → Type 0
 IsRoundCause its given cube folder number old formula before fault after =
@@ -255,25 +270,26 @@ IsRoundCause its given cube folder number old formula before fault after =
     × StreamsOpened its sized (stream_paths folder number sizes.streams) readers opened
     × IsRoundStartCause its given cube number formula sizes readers opened fault after)))
 
--- why the round after this one, which goes on, has no report, and the files then
+-- why the round after this one has no report although the run continues, and the files at that
+-- point
 abbrev pub IsNextCause : {its : Deeds} {given : CommandLine} {cube : CubeValue}
     → Round its given cube → CommandFault → its.State → Type 0
 IsNextCause {its} {given} {cube} last fault after =
     (next : Cnf) × (on : CarriesOn last next)
     × IsRoundCause its given cube on.folder (last.number + 1) last.sizes next last.after fault after
 
--- What goes out.
+-- The output.
 
--- the line of a round's number, from the second round on
+-- the line with a round's number, from round 2 on
 abbrev pub round_text : ℕ → List ℕ
 round_text number = codes "c round " ++ decimal number ++ codes "\n"
 
--- the report of the last round, from round 2 on after the line of its number
+-- the report of the last round, from round 2 on after the line with its number
 abbrev pub last_text : ℕ → List Report → Verdict → List ℕ
 last_text number reports verdict =
     (if number == 1 then [] else round_text number) ++ report_text reports verdict
 
--- The formula and the assumed literals were read, and then came these rounds.
+-- The formula and the assumed literals were read, and then these rounds were checked.
 pub record WereRounds (files : FilesView) (given : CommandLine) (cube : CubeValue)
     (last : Round files.its given cube) (before : List (Round files.its given cube)) : Type 0 where
   pub formula : Cnf
@@ -284,7 +300,8 @@ pub record WereRounds (files : FilesView) (given : CommandLine) (cube : CubeValu
   pub told : files.its.tells later ≡ files.tells
   pub rounds : AreRounds formula later (last ∷ before)
 
--- The words have a command line, and the program ends with a report, that of the last round, and leaves these files.
+-- The words give a command line. The program ends with the report of the last round and leaves
+-- these files.
 pub record EndsWithReport (files : FilesView) (words : List Text) (after : files.its.State)
     (out err : SinkChange) (status : ℕ) : Type 0 where
   pub given : CommandLine
@@ -298,7 +315,8 @@ pub record EndsWithReport (files : FilesView) (words : List Text) (after : files
   pub said : SaysOfRound last.number out.failed last.unsaved err
   pub status_is : status ≡ report_status out.failed last.unsaved last.verdict
 
--- The words have a command line, and the round with this number, which comes after others, has no report for this cause.
+-- The words give a command line, and the round with this number, which follows others, has no
+-- report for this cause.
 pub record FailsLater (files : FilesView) (words : List Text) (number : ℕ) (fault : CommandFault)
     (after : files.its.State) : Type 0 where
   pub given : CommandLine
@@ -310,13 +328,14 @@ pub record FailsLater (files : FilesView) (words : List Text) (number : ℕ) (fa
   pub number_is : number ≡ last.number + 1
   pub cause : IsNextCause last fault after
 
--- why the round with this number has no report, and the files then
+-- why the round with this number has no report, and the files at that point
 abbrev pub IsCauseIn : (files : FilesView) → List Text → ℕ → CommandFault → files.its.State → Type 0
 IsCauseIn files words number fault after =
     ((number ≡ 1) × IsCause files words fault after)
     ⊎ FailsLater files words number fault after
 
--- The program ends without a report, says why the round with this number has none, and leaves these files.
+-- The program ends without a report, reports why the round with this number has none, and leaves
+-- these files.
 pub record EndsWithFault (files : FilesView) (words : List Text) (after : files.its.State)
     (out err : SinkChange) (status : ℕ) : Type 0 where
   pub number : ℕ
@@ -334,8 +353,8 @@ ProgramEnds files words after out err status =
 
 -- What rounds saved.
 
--- The round saved, for the next one of the folder, a text of a formula over the same variables, each clause of which follows from this
--- formula.
+-- The round saved, for the next one in the folder, a text of a formula over the same variables,
+-- whose clauses all follow from this formula.
 abbrev pub SavesEntailed : {its : Deeds} {given : CommandLine} {cube : CubeValue} → Text → Cnf
     → Round its given cube → Type 0
 SavesEntailed {its} folder formula round =
@@ -343,15 +362,16 @@ SavesEntailed {its} folder formula round =
     × WasSavedBy its round.opened (formula_path folder (round.number + 1)) bytes round.after
     × IsCheckpoint formula bytes
 
--- so did each of these rounds
+-- each of these rounds did so
 abbrev pub SaveEntailed : {its : Deeds} {given : CommandLine} {cube : CubeValue} → Text → Cnf
     → List (Round its given cube) → Type 0
 SaveEntailed folder formula [] = Unit {0}
 SaveEntailed folder formula (round ∷ before) =
     SavesEntailed folder formula round × SaveEntailed folder formula before
 
--- The program ends with the report of rounds. Each round but the last saved, for the next one, a text of a formula over the same variables,
--- each clause of which follows from that of FORMULA. With status 3 or 8 so did the last one.
+-- The program ends with the report of rounds. Each round but the last saved, for the next one, a
+-- text of a formula over the same variables, whose clauses all follow from FORMULA. With status 3
+-- or 8 the last round did so, too.
 pub record ReportsEntailed (files : FilesView) (words : List Text) (folder : Text)
     (after : files.its.State) (out err : SinkChange) (status : ℕ) : Type 0 where
   pub ending : EndsWithReport files words after out err status
@@ -359,7 +379,8 @@ pub record ReportsEntailed (files : FilesView) (words : List Text) (folder : Tex
   pub last_saved : (status ≡ 3) ⊎ (status ≡ 8)
       → SavesEntailed folder ending.were.formula ending.last
 
--- If the words ask for rounds, and a report was written, which has status 0, 3, 8 or 9, it is the one of such rounds.
+-- If the words ask for rounds, and the status says that a report was written (0, 3, 8 or 9), it is
+-- the report of rounds as `ReportsEntailed` describes them.
 abbrev pub RoundsEntailed : (files : FilesView) → List Text → files.its.State → SinkChange
     → SinkChange → ℕ → Type 0
 RoundsEntailed files words after out err status =

@@ -1,4 +1,4 @@
--- What contracts of private functions say.
+-- Definitions for contracts of private functions.
 pub mod FaultSources
 pub mod Saving
 pub mod Running

@@ -1,4 +1,4 @@
-//! The program, with the arguments that the system gives it.
+//! Runs the program with the arguments that the system gives it.
 ghost use Rattle.std.specs.Prelude.{◌≡◌, ◌↔◌, ◌⊎◌, IfErr, IfOk, IsOkAnd, IsTrue, drop, false, map, string_bytes};
 ghost use Rattle.std.specs.IoError.{error_kind};
 ghost use Rattle.std.specs.Process.{exit_status};
@@ -23,8 +23,9 @@ use std::sync::Wait;
 use std::thread::Threads;
 use std::time::Clock;
 
-/// Runs `command` with the program's arguments, of which the first is its name, and gives the exit status. If the system
-/// gives none, `err` gets the cause: out of memory, with status 6, or an argument that isn't UTF-8, with status 2.
+/// Runs `command` with the arguments after the first, which is the program's name, and returns the
+/// exit status. If the system gives no arguments, the cause goes to `err`: out of memory, with
+/// status 6, or an argument that isn't UTF-8, with status 2.
 pub fn command_with_arguments<
     T: Threads + Wait + Sync,
     C: Clock + Sync,
@@ -42,7 +43,8 @@ pub fn command_with_arguments<
 ) -> ExitCode
     requires out { O.has_failed out.old ≡ false }
     requires err { E.has_failed err.old ≡ false }
-    // If the system gives arguments, all that `command` promises holds of those after the program's name.
+    // If the system gives arguments, every promise of `command` holds for those after the program's
+    // name.
     ensures sound { let read = WasRead F.opens F.Input.Source.reads (F.tells files.old) in
         exit_status result ≡ 0
         → IsOkAnd arguments (λ given.
@@ -65,12 +67,12 @@ pub fn command_with_arguments<
         (⟦<F as Viewed>⟧.view files.old) (words_after_name given) files.new (exit_status result)) }
     ensures usage { IfOk arguments (λ given. HaveFault (words_after_name given)
         → (exit_status result ≡ 2) ⊎ (exit_status result ≡ 6)) }
-    // If it gives none, the program says why.
+    // If it gives none, the program reports the cause,
     ensures refused { IfErr arguments (λ error. EndsWithoutArguments (error_kind error)
         (change O.Sink out.old out.new) (change E.Sink err.old err.new) (exit_status result)) }
-    // Then nothing was done to the files.
+    // and leaves the files unchanged.
     ensures untouched { IfErr arguments (λ _. files.new ≡ files.old) }
-    // A report that wasn't written has a status of its own.
+    // The status is 7 exactly if `out` has failed.
     ensures unwritten { IsTrue (O.has_failed out.new) ↔ (exit_status result ≡ 7) }
 {
     let arguments = match arguments {
@@ -94,7 +96,7 @@ fn after_name(alloc: Global, arguments: Args) -> Result<Vec<String>, AllocError>
     arguments.skip(1).collect(alloc)
 }
 
-/// The arguments as words.
+/// The arguments as string slices.
 pub(crate) fn words_of<'a>(
     alloc: Global,
     arguments: &'a [String],
@@ -108,7 +110,7 @@ pub(crate) fn words_of<'a>(
     Ok(words)
 }
 
-/// Says why the system gave no arguments, and gives the status.
+/// Reports why the system gave no arguments, and returns the status.
 fn refuse<E: Sink>(kind: io::ErrorKind, err: &mut E) -> u8
     requires err { E.has_failed err.old ≡ false }
     ensures said { SinkTook (change E.Sink err.old err.new) (refusal_text kind) }
@@ -120,7 +122,7 @@ fn refuse<E: Sink>(kind: io::ErrorKind, err: &mut E) -> u8
     }
 }
 
-/// Says that an argument isn't UTF-8, and gives the status.
+/// Reports that an argument isn't UTF-8, and returns the status.
 fn say_not_utf8<E: Sink>(err: &mut E) -> u8
     requires err { E.has_failed err.old ≡ false }
     ensures said { SinkTook (change E.Sink err.old err.new) not_utf8 }

@@ -1,4 +1,4 @@
-//! From the words to streams that are open, and their check.
+//! Reads what the words ask for, opens the streams, and checks them.
 ghost use Rattle.std.specs.Prelude.{◌≡◌, ◌≢◌, ◌↔◌, ◌⊎◌, ◌<◌, ◌≤◌, List, None, false, IfErr, IfOk, IfSome, IsTrue, Some, length, map};
 ghost use Rattle.std.specs.List.{AllByRecursion};
 ghost use Rattle.std.specs.Option.{ForSome};
@@ -33,16 +33,16 @@ use std::thread::Threads;
 use std::time::Clock;
 use stream_check::{Ending, Report};
 
-/// A command line, and what was read of the formula's file.
+/// A command line, and the bytes of its formula's file.
 #[derive(Drop)]
 pub struct Asked<'a> {
     /// What the words ask for.
     pub line: CommandLine<'a>,
-    /// The bytes of the file.
+    /// The bytes of the formula's file.
     pub formula: Vec<u8>,
 }
 
-/// Reads the words, and the file of the formula that they ask for. It blocks while the file does.
+/// Parses the words, and reads the formula's file. It blocks while the file does.
 pub fn read_asked<'a, W: Wait, F: Machine>(
     wait: &W,
     alloc: Global,
@@ -61,9 +61,10 @@ pub fn read_asked<'a, W: Wait, F: Machine>(
     Ok(Asked { line, formula })
 }
 
-/// Finds the layout of the round's streams, which are open, creates the file at the path if there is one, checks the streams, and saves the
-/// clauses that they left unless one of them refuted the formula. It gives the next formula, if the round goes on, and the round's own back
-/// before that one is made.
+/// Checks the open streams of a round. Before the check, it finds their layout, and creates the
+/// file at `path` if there is one. After the check, it saves their clauses, unless the verdict is
+/// 'unsatisfiable'. If the run continues, it frees the round's formula, makes the next one, and
+/// returns it.
 pub(crate) fn check_streams<T: Threads + Wait + Sync, C: Clock + Sync, F: Machine>(
     threads: &T,
     clock: &C,
@@ -126,7 +127,8 @@ pub(crate) fn check_streams<T: Threads + Wait + Sync, C: Clock + Sync, F: Machin
     Ok(CheckedRound { last, next })
 }
 
-/// The formula that a round goes on with: none, if its verdict isn't 'unknown', its checkpoint wasn't saved or a stream didn't end.
+/// The next round's formula: `next`, if the verdict is 'unknown', the checkpoint was saved and all
+/// streams ended; else `None`.
 fn next_of(
     reports: &[Report],
     verdict: Verdict,
@@ -164,7 +166,8 @@ pub(crate) struct Beginning<R: Drop> {
     pub(crate) readers: Vec<R>,
 }
 
-/// Parses the formula, reads the assumed literals, and opens the streams of the command line. It blocks while a file does.
+/// Parses the formula, reads the assumed literals, and opens the streams of the command line. It
+/// blocks while a file does.
 pub(crate) fn begin<W: Wait, F: Machine>(
     wait: &W,
     alloc: Global,
@@ -193,7 +196,7 @@ pub(crate) fn begin<W: Wait, F: Machine>(
     })
 }
 
-/// Parses a formula, and gives the memory of its text back.
+/// Parses a formula, and frees its text.
 fn parse_text(alloc: Global, bytes: Vec<u8>) -> Result<Formula, DimacsFault>
     ensures formula { IfOk result (λ formula. IsFormulaText bytes.items formula) }
     ensures fault { IfErr result
@@ -202,7 +205,8 @@ fn parse_text(alloc: Global, bytes: Vec<u8>) -> Result<Formula, DimacsFault>
     dimacs::parse(alloc, &bytes)
 }
 
-/// Opens, reads and parses the file of the assumed literals, over the formula's variables. Without a path there are none.
+/// Opens, reads and parses the file of the assumed literals, whose variables must be the formula's.
+/// Without a path, no literals are assumed.
 fn read_assumed<W: Wait, F: Machine>(
     wait: &W,
     alloc: Global,
@@ -242,7 +246,7 @@ fn read_cube_at<W: Wait, F: Machine>(
     }
 }
 
-/// The fault of a cube's file, by the one that the formula's file would have.
+/// Turns a fault of reading the formula's file into that of a cube's file.
 fn of_cube_file(fault: CommandFault) -> CommandFault
     ensures { result ≡ of_cube_file fault }
 {
@@ -324,7 +328,8 @@ pub(crate) fn open_streams<F: Machine>(
     Ok(readers)
 }
 
-/// Refuses streams that have no layout, before a file is created that would be left empty.
+/// Refuses streams that have no layout. It runs before the checkpoint's file is created, since a
+/// later refusal would leave that file empty.
 fn find_layout(setup: &Setup<'_>, formula: &Formula, streams: usize) -> Result<(), CommandFault>
     ensures found { let run_params = run_params_on setup.now formula.now streams in
         IfOk result (λ _. HasNoFault run_params.layout) }

@@ -1,4 +1,4 @@
-//! A checkpoint's file, from its creation to its end.
+//! The checkpoint's file, from creating it to closing it.
 ghost use Rattle.std.specs.Prelude.{◌≡◌, ◌⊎◌, [], None, Some, false, IfErr, IfOk, IfSome, is_some, true};
 ghost use Rattle.std.specs.Option.{ForSome};
 ghost use Rattle.lrup_model.specs.Event.{History};
@@ -17,7 +17,7 @@ use portfolio::{Clauses, Verdict};
 use std::alloc::Global;
 use stream_check::DroppedIds;
 
-/// Creates the checkpoint's file, if there is to be one.
+/// Creates the checkpoint's file, if there is a path.
 pub(crate) fn create_checkpoint<F: Machine>(
     files: &mut F,
     path: Option<&str>,
@@ -38,7 +38,7 @@ pub(crate) fn create_checkpoint<F: Machine>(
     }
 }
 
-/// Creates a file at a path that has none.
+/// Creates a new file at the path.
 pub(crate) fn create_new<F: Machine>(files: &mut F, path: &str) -> Result<F::Output, CommandFault>
     ensures created { IfOk result (λ output. F.creates files.old path.now output files.new) }
     ensures empty { IfOk result (λ output.
@@ -63,7 +63,8 @@ pub(crate) fn discard_it<F: Machine>(files: &mut F, output: Option<F::Output>)
     }
 }
 
-/// What became of a checkpoint: why it wasn't saved, if it wasn't; and its formula, if it was, and the run may go on with it.
+/// What closing a checkpoint gives: why it wasn't saved, if it wasn't; and the next round's
+/// formula, if it was saved and the run may continue.
 #[derive(Drop)]
 pub(crate) struct Closed {
     pub(crate) unsaved: Option<SaveFault>,
@@ -71,7 +72,7 @@ pub(crate) struct Closed {
 }
 
 impl Closed {
-    /// Nothing to go on with.
+    /// There is no next formula.
     fn without_next(unsaved: Option<SaveFault>) -> Closed
         ensures unsaved { result.unsaved ≡ unsaved }
         ensures next { result.next ≡ None }
@@ -83,7 +84,8 @@ impl Closed {
     }
 }
 
-/// Saves the clauses that were left to the checkpoint's file, if there is one, unless the verdict is 'unsatisfiable', and closes it.
+/// Saves the run's clauses to the checkpoint's file, if there is one, and closes it. With the
+/// verdict 'unsatisfiable' it discards the file unwritten.
 pub(crate) fn close_checkpoint<F: Machine>(
     alloc: Global,
     files: &mut F,
@@ -118,7 +120,7 @@ pub(crate) fn close_checkpoint<F: Machine>(
     }
 }
 
-/// Saves the clauses that were left to the file, and closes it.
+/// Saves the run's clauses to the file, and closes it.
 fn save_and_close<F: Machine>(
     alloc: Global,
     files: &mut F,

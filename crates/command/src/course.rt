@@ -1,4 +1,4 @@
-//! What the rounds of a run have in common, and what one hands to the next.
+//! What the rounds of a run share, and what one round hands to the next.
 ghost use Rattle.std.specs.Prelude.{◌≡◌, ◌<◌, ◌≤◌};
 ghost use Rattle.stream_check.specs.StreamParams.{max_tries};
 ghost use Rattle.command.specs.Commands.{options_by};
@@ -12,7 +12,7 @@ use portfolio::{Options, Verdict};
 use std::time::Instant;
 use stream_check::Report;
 
-/// What stays the same in all rounds.
+/// What is the same in all rounds.
 #[derive(Clone, Copy)]
 pub(crate) struct Course<'a> {
     pub(crate) line: &'a CommandLine<'a>,
@@ -39,32 +39,33 @@ impl<'a> Course<'a> {
 /// A round whose streams are open.
 #[derive(Drop)]
 pub(crate) struct OpenRound<R: Drop> {
-    /// The round's number, from 1 on.
+    /// The round's number, counted from 1.
     pub(crate) number: u64,
     pub(crate) sizes: Sizes,
     pub(crate) formula: Formula,
-    /// The readers of its streams, as many as the sizes say.
+    /// The readers of its streams, `sizes.streams` in number.
     pub(crate) readers: Vec<R>,
 }
 
 /// A round that was checked.
 #[derive(Drop)]
 pub(crate) struct LastRound {
-    /// The round's number, from 1 on.
+    /// The round's number, counted from 1.
     pub(crate) number: u64,
     pub(crate) sizes: Sizes,
     /// The report of each stream, in order.
     pub(crate) reports: Vec<Report>,
     /// The verdict of the reports.
     pub(crate) verdict: Verdict,
-    /// Why the checkpoint wasn't saved, if one was to be.
+    /// Why the checkpoint wasn't saved, if it wasn't.
     pub(crate) unsaved: Option<SaveFault>,
-    /// When its streams were over, if rounds are watched.
+    /// When its streams finished, if rounds and `--watch` were asked for and the clock gave the
+    /// time.
     pub(crate) ended: Option<Instant>,
     ghost some: { 0 < sizes.streams },
 }
 
-/// A round that was checked, and the formula of the round after it, if it goes on.
+/// A round that was checked, and the next round's formula, if the run continues.
 #[derive(Drop)]
 pub(crate) struct CheckedRound {
     pub(crate) last: LastRound,
@@ -74,7 +75,7 @@ pub(crate) struct CheckedRound {
 /// Why a round has no report.
 #[derive(Drop)]
 pub(crate) struct RoundFault {
-    /// The round's number, from 1 on.
+    /// The round's number, counted from 1.
     pub(crate) round: u64,
     pub(crate) fault: CommandFault,
 }

@@ -1,4 +1,4 @@
-//! Why there is no report or no checkpoint, what is said of it, and the status.
+//! Why there is no report or no checkpoint, with the message and the status.
 ghost use Rattle.std.specs.Prelude.{◌≡◌, [], Some, false, is_err};
 ghost use Rattle.lrup_text.specs.Writing.{PutsAll, WritesText};
 ghost use Rattle.lrup_model.specs.Layout.{layout_fault_text};
@@ -16,40 +16,41 @@ use lrup_text::{CubeFault, ReadFault, Sink, WriteBuffer, WriteFault, write_all};
 use portfolio::RunFault;
 use std::alloc::AllocError;
 
-/// Why there is no report, or not all of it, or no checkpoint.
+/// Why there is no report, only part of it, or no checkpoint.
 #[derive(Debug, Drop)]
 pub enum CommandFault {
     /// The words have a mistake, or ask for help.
     Usage(UsageText),
-    /// The formula's file wasn't opened, or not read to its end.
+    /// The formula's file couldn't be opened, or couldn't be read to its end.
     Unread,
-    /// The formula's file is no formula; never `DimacsFault::Memory`.
+    /// The formula's file holds no formula; never `DimacsFault::Memory`.
     Refused(DimacsFault),
-    /// The file of the assumed literals wasn't opened, or not read to its end.
+    /// The file of the assumed literals couldn't be opened, or couldn't be read to its end.
     CubeUnread,
-    /// The file of the assumed literals is no text of them; never `CubeFault::Memory`.
+    /// The file of the assumed literals holds no text of literals; never `CubeFault::Memory`.
     CubeRefused(CubeFault),
-    /// The file of this stream, from 1 on, wasn't opened.
+    /// The file of this stream, counted from 1, couldn't be opened.
     NotOpened(u64),
     /// There is no layout for this formula, the options and this number of streams.
     Layout(LayoutFault),
-    /// A thread of this stream, from 1 on, couldn't be started.
+    /// A thread of this stream, counted from 1, couldn't be started.
     Spawn(u64),
-    /// The mark for the end of this stream, from 1 on, got lost in the ring between its two threads, though the stream was read out.
+    /// The ring between the two threads of this stream, counted from 1, lost the mark for its end,
+    /// although the stream was read to its end.
     Ring(u64),
     /// Out of memory.
     Memory,
-    /// The report wasn't written to its end.
+    /// The report couldn't be written to its end.
     Unwritten,
-    /// The checkpoint's file wasn't created.
+    /// The checkpoint's file couldn't be created.
     NotCreated,
-    /// The checkpoint wasn't saved.
+    /// The checkpoint couldn't be saved.
     NotSaved(SaveFault),
-    /// The words ask for a checkpoint and for rounds, whose checkpoints have names of their own.
+    /// The words ask both for a checkpoint and for rounds, which name their checkpoints themselves.
     TwoCheckpoints,
-    /// The file of a round's sizes is there, and wasn't opened or not read to its end.
+    /// The file of a round's sizes exists, but couldn't be opened, or couldn't be read to its end.
     SizesUnread,
-    /// The file of a round's sizes holds no text of them.
+    /// The file of a round's sizes holds no text of sizes.
     Sizes,
 }
 
@@ -82,7 +83,7 @@ impl From<OpenFault> for CommandFault {
 
     ghost from_gives = { λ opening fault. fault ≡ of_open opening };
 
-    /// The fault of the formula's file; `of_cube_file` makes the cube's of it.
+    /// The fault of the formula's file; `of_cube_file` turns it into that of the cube's.
     fn from(fault: OpenFault) -> CommandFault {
         match fault {
             OpenFault::NotOpened => CommandFault::Unread,
@@ -96,7 +97,7 @@ impl From<ReadFault> for CommandFault {
 
     ghost from_gives = { λ _ fault. fault ≡ Unread };
 
-    /// The fault of the formula's file; `of_cube_file` makes the cube's of it.
+    /// The fault of the formula's file; `of_cube_file` turns it into that of the cube's.
     fn from(_fault: ReadFault) -> CommandFault {
         CommandFault::Unread
     }
@@ -144,7 +145,7 @@ impl From<RunFault> for CommandFault {
 }
 
 impl CommandFault {
-    /// The status that the program ends with.
+    /// The exit status.
     pub fn status(&self) -> u8
         ensures { result ≡ status_of self.now }
     {
@@ -162,8 +163,8 @@ impl CommandFault {
         }
     }
 
-    /// Writes the text of the fault of a round, from 1 on, without taking memory. After a fault of the sink, what went out is a
-    /// beginning of the text.
+    /// Writes the message for this fault of a round, counted from 1, without allocating. If the
+    /// sink fails, a prefix of the message was written.
     pub fn write<W: Sink>(&self, round: u64, sink: &mut W) -> Result<(), WriteFault>
         requires running { W.has_failed sink.old ≡ false }
         ensures text { WritesText result (W.written sink.old) (W.written sink.new)
@@ -176,7 +177,7 @@ impl CommandFault {
         }
     }
 
-    /// The contents of the fault's line.
+    /// The cause that the fault's line gives.
     fn cause(&self) -> Cause<'_>
         ensures { cause_bytes result.text.now result.number result.rest.now ≡ cause_text self.now }
     {
@@ -206,7 +207,7 @@ impl CommandFault {
     }
 }
 
-/// The contents of a line: a text, a number if there is one, and the rest.
+/// The cause in a line: a text, a number if there is one, and the rest.
 #[derive(Clone, Copy)]
 struct Cause<'a> {
     text: &'a [u8],
@@ -215,7 +216,7 @@ struct Cause<'a> {
 }
 
 impl<'a> Cause<'a> {
-    /// A text alone.
+    /// A text without a number in it.
     fn plain(text: &'a [u8]) -> Cause<'a>
         ensures { cause_bytes result.text.now result.number result.rest.now ≡ text.now }
     {
@@ -299,7 +300,7 @@ fn save_cause(fault: SaveFault) -> Cause<'static>
     }
 }
 
-/// Writes a line, which begins with the program's name, and has the round's number behind it, if that isn't 1.
+/// Writes a line: the program's name, the round's number if it isn't 1, and the cause.
 fn write_line<W: Sink>(round: u64, cause: &Cause<'_>, sink: &mut W) -> Result<(), WriteFault>
     requires running { W.has_failed sink.old ≡ false }
     ensures text { WritesText result (W.written sink.old) (W.written sink.new)
@@ -315,7 +316,7 @@ fn write_line<W: Sink>(round: u64, cause: &Cause<'_>, sink: &mut W) -> Result<()
     buffer.flush(sink)
 }
 
-/// Puts what a line says of a round first, if its number isn't 1.
+/// Puts the prefix that names the round, unless its number is 1.
 fn put_round<W: Sink>(buffer: &mut WriteBuffer, round: u64, sink: &mut W) -> Result<(), WriteFault>
     requires running { W.has_failed sink.old ≡ false }
     ensures puts { PutsAll result (W.written sink.old) (W.written sink.new) buffer.old buffer.new
@@ -330,7 +331,7 @@ fn put_round<W: Sink>(buffer: &mut WriteBuffer, round: u64, sink: &mut W) -> Res
     buffer.put(b": ", sink)
 }
 
-/// Puts the contents of a line.
+/// Puts the cause.
 fn put_cause<W: Sink>(
     buffer: &mut WriteBuffer,
     cause: &Cause<'_>,

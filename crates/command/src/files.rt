@@ -1,4 +1,4 @@
-//! Where a formula, the assumed literals and the streams come from, and where a checkpoint goes to.
+//! Where the formula, the assumed literals and the streams come from, and where a checkpoint goes.
 ghost use Rattle.std.specs.Prelude.{◌≡◌, ℕ, List, [], Option, None, IfErr, IfOk, IfSome, Ok, false};
 ghost use Rattle.std.specs.Option.{ForSome};
 
@@ -9,7 +9,8 @@ use thiserror::Error;
 /// Why a file wasn't opened or created.
 #[derive(Clone, Copy, Debug, PartialEq, Eq, Error)]
 pub enum OpenFault {
-    /// It isn't there, or can't be read; or one is there already, or none can be created.
+    /// Opening: there is no such file, or it can't be read. Creating: there is one already, or none
+    /// can be created.
     #[error("not opened")]
     NotOpened,
     /// Out of memory.
@@ -23,7 +24,7 @@ impl From<io::Error> for OpenFault {
 
     ghost from_gives = { λ error fault. fault ≡ of_kind (error_kind error) };
 
-    /// Out of memory if the system says so, and not opened for any other error.
+    /// `Memory` if the system ran out of memory, `NotOpened` for any other error.
     fn from(error: io::Error) -> OpenFault {
         match error.kind() {
             io::ErrorKind::OutOfMemory => OpenFault::Memory,
@@ -32,23 +33,27 @@ impl From<io::Error> for OpenFault {
     }
 }
 
-/// The files that paths name. Each device says itself what its openings do, also if they are refused: a default would allow everything.
+/// The files that paths name. Each implementation states the effects of its openings, also of the
+/// refused ones: a default would allow everything.
 pub trait Files {
     ghost use Rattle.command.specs.declared.files.OpenFault.{OpenFault};
 
     /// A file that is open.
     type Input: Source + Send + Drop;
 
-    /// All bytes of the file at a path, if the device tells them: a file of the machine doesn't. They stay when it is opened.
+    /// All bytes of the file at a path, if they are known; those of the machine's files aren't.
+    /// Opening a file doesn't change what is known.
     ghost tells: { Self → List ℕ → Option (List ℕ) };
 
-    /// What an opening does: the files before it, the path, the file that is open then, and the files after it.
+    /// The effect of an opening: the files before it, the path, the open file, and the files after
+    /// it.
     ghost opens: { Self → List ℕ → Self.Input → Self → Type 0 };
 
-    /// What an opening does that is refused: the files before it, the path, why, and the files after it.
+    /// The effect of a refused opening: the files before it, the path, the cause, and the files
+    /// after it.
     ghost refuses: { Self → List ℕ → OpenFault → Self → Type 0 };
 
-    /// Opens the file at a path, which is read from its beginning.
+    /// Opens the file at a path, to be read from its beginning.
     fn open(&mut self, path: &str) -> Result<Self::Input, OpenFault>
         ensures left { IfOk result (λ input.
             Self.Input.Source.left input ≡ tells self.old path.now) }
@@ -58,38 +63,43 @@ pub trait Files {
         ensures stays { tells self.new ≡ tells self.old };
 }
 
-/// What options need besides: files that may be there, files that are created, and sinks on which progress is reported.
+/// What some options also need: files that may be missing, files to create, and sinks for progress
+/// reports.
 pub trait Machine: Files {
     ghost use Rattle.command.specs.declared.files.OpenFault.{OpenFault};
 
     /// A file that was created.
     type Output: Sink + Drop;
 
-    /// Where the thread of a stream reports its progress.
+    /// Where progress is reported.
     type Watcher: Sink + Send + Drop;
 
-    /// What is seen if a path has no file: the files before, the path, and the files after.
+    /// The effect of finding no file at a path: the files before, the path, and the files after.
     ghost lacks: { Self → List ℕ → Self → Type 0 };
 
-    /// What an opening does that fails, although the path may have a file: the files before it, the path, why, and the files after it.
+    /// The effect of an opening that fails, although there may be a file at the path: the files
+    /// before it, the path, the cause, and the files after it.
     ghost fails: { Self → List ℕ → OpenFault → Self → Type 0 };
 
-    /// What the creation of a file does: the files before it, the path, the new file, and the files after it.
+    /// The effect of creating a file: the files before, the path, the new file, and the files
+    /// after.
     ghost creates: { Self → List ℕ → Self.Output → Self → Type 0 };
 
-    /// What a creation does that is refused: the files before it, the path, why, and the files after it.
+    /// The effect of a refused creation: the files before it, the path, the cause, and the files
+    /// after it.
     ghost refuses_new: { Self → List ℕ → OpenFault → Self → Type 0 };
 
-    /// What the keeping of a file does: the files before it, the file with what was written, and the files after it.
+    /// The effect of keeping a file: the files before, the file as written, and the files after.
     ghost keeps: { Self → Self.Output → Self → Type 0 };
 
-    /// What a keeping does that fails: the files before it, the file with what was written, and the files after it.
+    /// The effect of failing to keep a file: the files before, the file as written, and the files
+    /// after.
     ghost loses: { Self → Self.Output → Self → Type 0 };
 
-    /// What the discarding of a file does: the files before it, the file with what was written, and the files after it.
+    /// The effect of discarding a file: the files before, the file as written, and the files after.
     ghost discards: { Self → Self.Output → Self → Type 0 };
 
-    /// Opens the file at a path, as `open` does, if there is one. An answer of none is no fault.
+    /// Opens the file at a path as `open` does, if there is one. `None` is no fault.
     fn open_if_there(&mut self, path: &str) -> Result<Option<Self::Input>, OpenFault>
         ensures left { IfOk result (λ found. IfSome found (λ input.
             Self.Input.Source.left input ≡ Self.tells self.old path.now)) }
@@ -101,7 +111,7 @@ pub trait Machine: Files {
         ensures fails { IfErr result (λ fault. fails self.old path.now fault self.new) }
         ensures stays { Self.tells self.new ≡ Self.tells self.old };
 
-    /// Creates a file at a path that has none.
+    /// Creates a new file at the path.
     fn create(&mut self, path: &str) -> Result<Self::Output, OpenFault>
         ensures empty { IfOk result (λ output.
             ForSome (Self.Output.Sink.written output) (λ all. all ≡ [])) }
@@ -114,23 +124,24 @@ pub trait Machine: Files {
         ensures keeps { IfOk result (λ _. keeps self.old output self.new) }
         ensures loses { IfErr result (λ _. loses self.old output self.new) };
 
-    /// Closes a file that was created, and that nobody will read.
+    /// Closes a created file that nobody will read.
     fn discard(&mut self, output: Self::Output)
         ensures { discards self.old output self.new };
 
-    /// A sink before its first write.
+    /// A watcher that hasn't failed.
     fn watcher(&self) -> Self::Watcher
         ensures { Self.Watcher.Sink.has_failed result ≡ false };
 }
 
-/// What contracts see of any machine's files: all that the two traits say of them, as one value. It has no code.
+/// What contracts see of a machine's files: the ghost items of both traits, as one value. It has no
+/// code.
 pub trait Viewed {
     ghost use Rattle.command.specs.Commands.{Deeds, FilesView};
 
-    /// What files do and tell.
+    /// The effects of calls on files, and what is known of files.
     ghost deeds: { Deeds };
 
-    /// The same, and these files as the first ones.
+    /// The same, with these files as the first ones.
     ghost view: { Self → FilesView };
 }
 

@@ -1,4 +1,4 @@
-//! The whole run of `lrupd` over the files, sinks, clock and threads that a program hands in.
+//! A whole run of `lrupd`, over the files, sinks, clock and threads that the caller passes in.
 #![tactic(auto)]
 
 mod arguments;

@@ -1,4 +1,4 @@
-//! The whole program, over the files, threads, clock and sinks that its caller hands in.
+//! The whole program, over the files, threads, clock and sinks that its caller passes in.
 ghost use Rattle.std.specs.Prelude.{◌≡◌, ◌↔◌, ◌⊎◌, ◌≤◌, IsTrue, List, false, is_err, true};
 ghost use Rattle.clap.specs.Walk.{texts};
 ghost use Rattle.checkpoint.specs.Checkpoints.{IsUnsatisfiableText};
@@ -25,32 +25,40 @@ use std::sync::Wait;
 use std::thread::Threads;
 use std::time::Clock;
 
-/// Runs `lrupd` with the words after the program's name, and returns the exit status. In this order:
+/// Runs `lrupd` with the words after the program's name, and returns the exit status. In this
+/// order:
 ///
-/// 1. The words are read, then the file of the formula, and it is parsed. So is the file of the assumed literals, if there is one.
-/// 2. The streams are opened. If they have a layout, and the words have `--checkpoint` or `--rounds`, the file of the checkpoint, or of
-///    the next round's formula, is created.
-/// 3. The streams are checked. If the words have `--watch`, each stream's progress is reported on a watcher.
-/// 4. The checkpoint is saved, unless the verdict is 'unsatisfiable'. If that fails, `err` says why.
-/// 5. If the words have `--rounds`, the checkpoint of a round is the next one's formula, and the folder has the next one's sizes and
-///    streams. A round is the last if its verdict isn't 'unknown', a stream didn't end, its checkpoint wasn't saved, or the folder has no
-///    stream 1 of the next.
-/// 6. The report goes to `out`: that of the last round.
+/// 1. It parses the words, reads the formula's file and parses it, and then the file of the assumed
+///    literals, if there is one.
+/// 2. It opens the streams. If they have a layout, and the words have `--checkpoint` or `--rounds`,
+///    it creates the file for the checkpoint or for the next round's formula.
+/// 3. It checks the streams. With `--watch`, each stream's progress is reported on a watcher.
+/// 4. It saves the checkpoint, unless the verdict is 'unsatisfiable'. If that fails, `err` gets the
+///    cause.
+/// 5. With `--rounds`, the checkpoint of a round is the next round's formula, and the folder holds
+///    the next round's sizes and streams. A round is the last one if its verdict isn't 'unknown', a
+///    stream didn't end, its checkpoint wasn't saved, or the folder has no stream 1 for the next
+///    round.
+/// 6. It writes the report of the last round to `out`.
 ///
-/// If there is no report, `out` gets nothing, and `err` the cause. If the report can't be written, `out` has a beginning of it, and `err`
-/// says so. It blocks while a file does.
+/// If there is no report, nothing goes to `out`, and the cause goes to `err`. If the report can't
+/// be written, `out` has a prefix of it, and `err` gets a message. The call blocks while a file
+/// does.
 ///
-/// | status | where |
-/// |---|---|
-/// | 0 | the report says `s UNSATISFIABLE` |
-/// | 2 | the words have a mistake, ask for help, or ask for a checkpoint and for rounds; too many streams; the row would be too long; the sizes of a round have a mistake |
-/// | 3 | the report says `s UNKNOWN` |
-/// | 4 | the formula or the assumptions were refused for another cause than memory |
-/// | 5 | the file of the formula, of the assumptions or of a round's sizes wasn't opened or read; a stream's wasn't opened; the checkpoint's wasn't created |
-/// | 6 | out of memory, outside a report and the saving; a thread couldn't be started; a stream's end got lost between its two threads |
-/// | 7 | the report couldn't be written |
-/// | 8 | the report says `s UNSATISFIABLE UNDER ASSUMPTIONS` |
-/// | 9 | in place of 3 and 8, if the checkpoint wasn't saved |
+/// The statuses:
+///
+/// - 0: the report says `s UNSATISFIABLE`.
+/// - 2: the words have a mistake, ask for help, or ask both for a checkpoint and for rounds; there
+///   are too many streams; the row would be too long; the sizes of a round have a mistake.
+/// - 3: the report says `s UNKNOWN`.
+/// - 4: the formula or the assumptions were refused for another cause than memory.
+/// - 5: the file of the formula, of the assumptions or of a round's sizes couldn't be opened or
+///   read; a stream's couldn't be opened; the checkpoint's couldn't be created.
+/// - 6: out of memory, except within a report and while saving; a thread couldn't be started; a
+///   stream's end got lost between its two threads.
+/// - 7: the report couldn't be written.
+/// - 8: the report says `s UNSATISFIABLE UNDER ASSUMPTIONS`.
+/// - 9: in place of 3 and 8, if the checkpoint couldn't be saved.
 pub fn command<T: Threads + Wait + Sync, C: Clock + Sync, F: Machine, O: Sink, E: Sink>(
     threads: &T,
     clock: &C,
@@ -62,34 +70,39 @@ pub fn command<T: Threads + Wait + Sync, C: Clock + Sync, F: Machine, O: Sink, E
 ) -> u8
     requires out { O.has_failed out.old ≡ false }
     requires err { E.has_failed err.old ≡ false }
-    // What a user relies on: with status 0 the bytes that were read of FORMULA are a text of a formula that no assignment satisfies.
+    // What a user relies on: with status 0, the bytes read of FORMULA are a text of a formula that
+    // no assignment satisfies.
     ensures sound { let read = WasRead F.opens F.Input.Source.reads (F.tells files.old) in
         result ≡ 0 → NameUnsatisfiable _ read files.old (texts words.now) }
-    // With status 8 no assignment makes it and every literal of the assumptions' file true.
+    // With status 8, no assignment satisfies both that formula and every literal in the
+    // assumptions' file.
     ensures sound_under { let read = WasRead F.opens F.Input.Source.reads (F.tells files.old) in
         result ≡ 8 → NameUnsatisfiableUnder _ read files.old (texts words.now) }
-    // There is a report, or none and the text of one cause; and the exit status matches.
+    // There is either a report, or no report and the message for one cause; and the exit status
+    // matches.
     ensures ends { ProgramEnds (⟦<F as Viewed>⟧.view files.old) (texts words.now) files.new
         (change O.Sink out.old out.new) (change E.Sink err.old err.new) result }
-    // With status 3 or 8, if the words ask for a checkpoint, what was saved there is a text of a formula each clause of which
-    // follows from that of FORMULA.
+    // With status 3 or 8, if the words ask for a checkpoint, what was saved there is a text of a
+    // formula whose clauses all follow from FORMULA.
     ensures saved { let read = WasRead F.opens F.Input.Source.reads (F.tells files.old) in
         let save = WasSaved F.creates F.Output.Sink.written F.keeps in
         CheckpointEntailed F.opens read save files.old (texts words.now) files.new result }
-    // If a report was written (status 0, 3, 8 or 9), and the words ask for rounds, each round but the last saved, for the next one, a text
-    // of a formula over the same variables, each clause of which follows from that of FORMULA. With status 3 or 8 so did the last one.
+    // If a report was written (status 0, 3, 8 or 9), and the words ask for rounds, each round but
+    // the last saved, for the next one, a text of a formula over the same variables, whose clauses
+    // all follow from FORMULA. With status 3 or 8 the last round did so, too.
     ensures saved_rounds { RoundsEntailed (⟦<F as Viewed>⟧.view files.old) (texts words.now)
         files.new (change O.Sink out.old out.new) (change E.Sink err.old err.new) result }
-    // With status 0, where the words ask for a checkpoint, none was written: once the streams were opened, its file was created, and
-    // discarded before anything went to it. That is the last that was done to the files.
+    // With status 0, if the words ask for a checkpoint, none was written: its file was created
+    // after the streams were opened, and discarded before anything was written to it. Nothing was
+    // done to the files after that.
     ensures none_saved { CheckpointLeftEmpty (⟦<F as Viewed>⟧.view files.old) (texts words.now)
         files.new result }
-    // Words with a fault have a status of their own, unless memory ran out.
+    // If the words have a fault, the status is 2, or 6 if memory ran out.
     ensures usage { HaveFault (texts words.now) → (result ≡ 2) ⊎ (result ≡ 6) }
-    // So does a report that wasn't written.
+    // The status is 7 exactly if `out` has failed.
     ensures unwritten { IsTrue (O.has_failed out.new) ↔ (result ≡ 7) }
 {
-    // Laws: they do nothing when the program runs.
+    // Laws, with no effect at run time.
     entails_itself();
     entails_onward();
     match read_asked(threads, alloc, words, files) {
@@ -98,10 +111,11 @@ pub fn command<T: Threads + Wait + Sync, C: Clock + Sync, F: Machine, O: Sink, E
     }
 }
 
-/// Checks the streams against a formula's text, as `command` does with what it has read. In this order: the text is parsed, and its
-/// memory given back, the file of the assumed literals is read and parsed, the streams are opened, the checkpoint's file is created
-/// if one is asked for, the streams are checked, the checkpoint is saved, other rounds follow if they are asked for, and the report
-/// goes to `out`. The bytes are those of any source, so the clause `sound` knows of no file.
+/// Checks the streams against a formula's text, as `command` does once it has read the formula's
+/// file. In this order: it parses the text and frees it, reads and parses the file of the assumed
+/// literals, opens the streams, creates the checkpoint's file if one is asked for, checks the
+/// streams, saves the checkpoint, checks further rounds if they are asked for, and writes the
+/// report to `out`. The text may come from any source, so the clause `sound` mentions no file.
 pub fn check_formula<T: Threads + Wait + Sync, C: Clock + Sync, F: Machine, O: Sink, E: Sink>(
     threads: &T,
     clock: &C,
@@ -115,15 +129,16 @@ pub fn check_formula<T: Threads + Wait + Sync, C: Clock + Sync, F: Machine, O: S
     requires err { E.has_failed err.old ≡ false }
     // The words allow no greater number.
     requires tries { asked.line.tries ≤ max_tries }
-    // With status 0 the bytes are a text of a formula that no assignment satisfies.
+    // With status 0, the bytes are a text of a formula that no assignment satisfies.
     ensures sound { result ≡ 0 → IsUnsatisfiableText asked.entry.formula.items }
-    // With status 8 no assignment makes it and every literal of the assumptions' file true, which is the next to be opened.
+    // With status 8, no assignment satisfies both that formula and every literal in the
+    // assumptions' file, which is opened next.
     ensures sound_under { let read = WasRead F.opens F.Input.Source.reads (F.tells files.old) in
         result ≡ 8 → IsUnsatisfiableTextWith read asked.entry.formula.items files.old
         (assumed_at asked.entry.line) }
-    // Where words give this command line, and the bytes are what was read of FORMULA by the first opening of files that were `first`
-    // before it, the program ends with a report of what these words and files come to, or with none and the cause; and what goes out
-    // and the status match.
+    // If words give this command line, and the bytes were read of FORMULA by the first opening, of
+    // files that were `first`, the program ends as `ProgramEnds` says for these words and files:
+    // with a report, or without one and with the cause; and the output and the status match.
     ensures ends { (words : List Text) (first : F) →
         let view = from_first (⟦<F as Viewed>⟧.view files.old) first in
         IsCommandLineOf words asked.entry.line
@@ -137,7 +152,8 @@ pub fn check_formula<T: Threads + Wait + Sync, C: Clock + Sync, F: Machine, O: S
     }
 }
 
-/// Says why the checkpoint wasn't saved, if it wasn't, writes the report of the last round, and gives the status.
+/// Reports why the checkpoint wasn't saved, if it wasn't, writes the report of the last round, and
+/// returns the status.
 fn report<O: Sink, E: Sink>(last: &LastRound, out: &mut O, err: &mut E) -> u8
     requires out { O.has_failed out.old ≡ false }
     requires err { E.has_failed err.old ≡ false }
@@ -155,7 +171,7 @@ fn report<O: Sink, E: Sink>(last: &LastRound, out: &mut O, err: &mut E) -> u8
     }
 }
 
-/// Writes the report of the last round, after its number if that isn't 1.
+/// Writes the report of the last round, after the round's number if that isn't 1.
 fn write_last<O: Sink>(last: &LastRound, out: &mut O) -> Result<(), WriteFault>
     requires running { O.has_failed out.old ≡ false }
     ensures text { WritesText result (O.written out.old) (O.written out.new)
@@ -171,7 +187,7 @@ fn write_last<O: Sink>(last: &LastRound, out: &mut O) -> Result<(), WriteFault>
     }
 }
 
-/// Writes the line of a round's number.
+/// Writes the line with a round's number.
 fn write_number<O: Sink>(number: u64, out: &mut O) -> Result<(), WriteFault>
     requires running { O.has_failed out.old ≡ false }
     ensures text { WritesText result (O.written out.old) (O.written out.new) (round_text number) }
@@ -184,7 +200,7 @@ fn write_number<O: Sink>(number: u64, out: &mut O) -> Result<(), WriteFault>
     buffer.flush(out)
 }
 
-/// Says why the checkpoint of a round wasn't saved, if it wasn't.
+/// Reports why the checkpoint of a round wasn't saved, if it wasn't.
 fn say_unsaved<E: Sink>(round: u64, unsaved: Option<SaveFault>, err: &mut E)
     requires err { E.has_failed err.old ≡ false }
     ensures { SaysOfRound round false unsaved (change E.Sink err.old err.new) }
@@ -194,7 +210,7 @@ fn say_unsaved<E: Sink>(round: u64, unsaved: Option<SaveFault>, err: &mut E)
     }
 }
 
-/// The status of a report that was written.
+/// The status once the report was written.
 fn written_status(last: &LastRound) -> u8
     ensures { result ≡ report_status false last.now.unsaved last.now.verdict }
 {
@@ -208,7 +224,7 @@ fn written_status(last: &LastRound) -> u8
     }
 }
 
-/// Reports a fault, unless the sink has failed, and gives the status.
+/// Reports a fault, unless the sink has failed, and returns the status.
 fn say_next<E: Sink>(fault: &CommandFault, err: &mut E) -> u8
     ensures failed { E.has_failed err.old ≡ true → err.new ≡ err.old }
     ensures said { E.has_failed err.old ≡ false
@@ -221,7 +237,7 @@ fn say_next<E: Sink>(fault: &CommandFault, err: &mut E) -> u8
     say(fault, err)
 }
 
-/// Reports a fault, and gives the status, whether the fault could be written or not.
+/// Reports a fault and returns its status, even if the report couldn't be written.
 pub fn say<E: Sink>(fault: &CommandFault, err: &mut E) -> u8
     requires err { E.has_failed err.old ≡ false }
     ensures said { SinkTook (change E.Sink err.old err.new) (error_text fault.now) }
@@ -230,7 +246,8 @@ pub fn say<E: Sink>(fault: &CommandFault, err: &mut E) -> u8
     say_of_round(1, fault, err)
 }
 
-/// Reports a fault of a round, from 1 on, and gives the status, whether the fault could be written or not.
+/// Reports a fault of a round, counted from 1, and returns its status, even if the report couldn't
+/// be written.
 fn say_of_round<E: Sink>(round: u64, fault: &CommandFault, err: &mut E) -> u8
     requires err { E.has_failed err.old ≡ false }
     ensures said { SinkTook (change E.Sink err.old err.new) (round_error_text round fault.now) }

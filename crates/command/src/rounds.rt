@@ -1,4 +1,4 @@
-//! A run is a list of rounds: each goes on with the clauses that the one before it saved.
+//! A run is a list of rounds: each starts from the clauses that the one before it saved.
 ghost use Rattle.std.specs.Prelude.{◌≡◌, ◌↔◌, ◌⊎◌, ◌<◌, ◌≤◌, ◌+◌, ◌∷◌, List, None, false, IfErr, IfOk, IfSome, IsTrue, Ok, Some, length, map, option_map, string_bytes};
 ghost use Rattle.std.specs.Cow.{cow_str_bytes};
 ghost use Rattle.std.specs.List.{AllByRecursion};
@@ -33,8 +33,8 @@ use std::sync::Wait;
 use std::thread::Threads;
 use std::time::Clock;
 
-/// Checks the streams of a round, saves the clauses that they left if the words ask for that, and gives the next formula, if the round
-/// goes on. The round's formula is given back before that one is made.
+/// Checks the streams of a round, and saves their clauses if the words ask for that. If the run
+/// continues, it frees the round's formula, makes the next one, and returns it.
 fn check_round<T: Threads + Wait + Sync, C: Clock + Sync, F: Machine>(
     threads: &T,
     clock: &C,
@@ -60,7 +60,7 @@ fn check_round<T: Threads + Wait + Sync, C: Clock + Sync, F: Machine>(
     check_streams(threads, clock, alloc, course, round, lent(&path), files)
 }
 
-/// The path of the file that the round with this number creates for what comes after it, if it creates one.
+/// The path of the file to which the round with this number saves its clauses, if there is one.
 fn created_path<'a>(
     alloc: Global,
     next: Next<'a>,
@@ -80,7 +80,7 @@ fn created_path<'a>(
     }
 }
 
-/// The path, lent.
+/// Borrows the path.
 fn lent<'a>(path: &'a Option<CowStr<'_>>) -> Option<&'a str>
     ensures { path_of result ≡ option_map cow_str_bytes path.now }
 {
@@ -114,14 +114,14 @@ fn stream_paths(
     Ok(paths)
 }
 
-/// The path of a round's stream `stream`, from 1 on.
+/// The path of stream `stream` of a round, counted from 1.
 fn stream_path(alloc: Global, folder: &str, number: u64, stream: u64) -> Result<String, AllocError>
     ensures { IfOk result (λ path. string_bytes path ≡ stream_path folder.now number stream) }
 {
     format!(in alloc; "{folder}/round-{number}.stream-{stream}")
 }
 
-/// Opens the streams of a round, if there is a file of its stream 1. It blocks while a file does.
+/// Opens the streams of a round, if there is a file for its stream 1. It blocks while a file does.
 fn open_round<F: Machine>(
     alloc: Global,
     files: &mut F,
@@ -155,7 +155,7 @@ fn open_round<F: Machine>(
     }
 }
 
-/// Opens the streams behind stream 1, in order.
+/// Opens the streams after stream 1, in order, and puts them after its reader.
 fn open_others<F: Machine>(
     alloc: Global,
     files: &mut F,
@@ -183,7 +183,8 @@ fn open_others<F: Machine>(
     }
 }
 
-/// Checks the round with this number, which is the one after the last, if there is a file of its stream 1.
+/// Checks the round with this number, which follows the last one, if there is a file for its stream
+/// 1.
 fn next_round<T: Threads + Wait + Sync, C: Clock + Sync, F: Machine>(
     threads: &T,
     clock: &C,
@@ -231,7 +232,7 @@ fn next_round<T: Threads + Wait + Sync, C: Clock + Sync, F: Machine>(
     }
 }
 
-/// Checks round 1, whose streams are open, and then one round after the other, if the words ask for rounds.
+/// Checks round 1, whose streams are open, and then the later rounds, if the words ask for rounds.
 fn go_on<T: Threads + Wait + Sync, C: Clock + Sync, F: Machine>(
     threads: &T,
     clock: &C,
@@ -288,8 +289,8 @@ fn go_on<T: Threads + Wait + Sync, C: Clock + Sync, F: Machine>(
     Ok(last)
 }
 
-/// Parses the formula, reads the assumed literals, opens the streams, and checks them: those of round 1, and then those of each round
-/// after it. It blocks while a file does.
+/// Parses the formula, reads the assumed literals, opens the streams of round 1, and checks the
+/// rounds. It blocks while a file does.
 pub(crate) fn check_rounds<T: Threads + Wait + Sync, C: Clock + Sync, F: Machine>(
     threads: &T,
     clock: &C,
@@ -319,7 +320,8 @@ pub(crate) fn check_rounds<T: Threads + Wait + Sync, C: Clock + Sync, F: Machine
         line,
         formula: bytes,
     } = asked;
-    // Laws, which do nothing: the proof uses that a checkpoint with no satisfying assignment refutes the formula before it.
+    // Laws, with no effect at run time: if no assignment satisfies a checkpoint, none satisfies the
+    // formula before it.
     refutes_back();
     refutes_back_under();
     let begun = match begin(threads, alloc, &line, bytes, files) {

@@ -1,4 +1,4 @@
-//! The check of streams: a thread for each, or one thread for all.
+//! Checks streams: each in two threads of its own, or all on one thread.
 ghost use Rattle.std.specs.Prelude.{◌≡◌, true, false, IfErr, IfOk, length, vec_len};
 ghost use Rattle.std.specs.List.{AllByRecursion};
 ghost use Rattle.run_outcome.specs.Saving.{CanBeSaved};
@@ -22,13 +22,13 @@ use stream_check::{DroppedIds, Report};
 pub(crate) struct Setup<'a> {
     pub(crate) cube: &'a Cube,
     pub(crate) options: Options,
-    /// Whether one thread checks all of them.
+    /// Whether one thread checks all streams.
     pub(crate) serial: bool,
     /// Whether their progress is reported.
     pub(crate) watch: bool,
 }
 
-/// What the check of streams found, and what it left.
+/// What the check of the streams found, and what it left.
 #[derive(Drop)]
 pub(crate) struct EndedRun {
     pub(crate) reports: Vec<Report>,
@@ -37,8 +37,8 @@ pub(crate) struct EndedRun {
     pub(crate) dropped: Vec<DroppedIds>,
 }
 
-/// Checks the streams, by turns on this thread or each in two threads of its own. If they are watched, the watchers are of these
-/// files.
+/// Checks the streams, round-robin on this thread or each in two threads of its own. If `watched`
+/// is given, its watchers report the progress.
 pub(crate) fn run_streams<T: Threads + Wait + Sync, C: Clock + Sync, F: Machine>(
     threads: &T,
     clock: &C,
@@ -65,7 +65,7 @@ pub(crate) fn run_streams<T: Threads + Wait + Sync, C: Clock + Sync, F: Machine>
     }
 }
 
-/// Checks the streams on this thread, by turns.
+/// Checks the streams round-robin on this thread.
 fn run_by_turns<W: Wait, C: Clock + Sync, F: Machine>(
     wait: &W,
     clock: &C,
@@ -154,7 +154,8 @@ fn run_in_threads<T: Threads + Wait + Sync, C: Clock + Sync, F: Machine>(
     })
 }
 
-/// A gate for each of `count` streams that are checked in threads. If they are watched, each reports on a watcher of its own.
+/// A gate for each of `count` streams that are checked in threads. If `watched` is given, each gate
+/// reports on a watcher of its own.
 fn thread_gates<'a, C: Clock + Sync, F: Machine>(
     alloc: Global,
     clock: &'a C,
@@ -171,7 +172,8 @@ fn thread_gates<'a, C: Clock + Sync, F: Machine>(
     Ok(gates)
 }
 
-/// A gate for each of `count` streams that are checked on one thread. If they are watched, each reports on a watcher of its own.
+/// A gate for each of `count` streams that are checked on one thread. If `watched` is given, each
+/// gate reports on a watcher of its own.
 fn turn_gates<'a, C: Clock + Sync, F: Machine>(
     alloc: Global,
     clock: &'a C,
@@ -187,7 +189,7 @@ fn turn_gates<'a, C: Clock + Sync, F: Machine>(
     Ok(gates)
 }
 
-/// A watcher of these files, if there are any.
+/// A new watcher, if `watched` is given.
 fn watcher_of<F: Machine>(watched: Option<&F>) -> Option<F::Watcher> {
     match watched {
         None => None,

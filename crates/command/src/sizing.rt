@@ -1,4 +1,4 @@
-//! The sizes of a round, from their file.
+//! Reads the sizes of a round from their file.
 ghost use Rattle.std.specs.Prelude.{◌≡◌, false, IfErr, IfNone, IfOk, IfSome, string_bytes};
 ghost use Rattle.stream_check.specs.Readings.{readers_view};
 ghost use Rattle.command.specs.Paths.{sizes_path};
@@ -11,10 +11,11 @@ use command_line::{Sizes, read_sizes};
 use lrup_text::{ReadFault, Source};
 use std::alloc::{AllocError, Global};
 
-/// More bytes than the text of any sizes has.
+/// Longer than any text of sizes.
 const MOST: usize = 64;
 
-/// Reads the sizes of a round, if there is a file of them; else they stay as they are. It blocks while the file does.
+/// Reads the sizes of a round, if they have a file; else returns `sizes`. It blocks while the file
+/// does.
 pub(crate) fn sizes_of_round<F: Machine>(
     alloc: Global,
     files: &mut F,
@@ -43,7 +44,7 @@ fn sizes_path(alloc: Global, folder: &str, number: u64) -> Result<String, AllocE
     format!(in alloc; "{folder}/round-{number}.sizes")
 }
 
-/// Reads sizes from a file, of which it reads 64 bytes at most.
+/// Reads sizes from a file, at most 64 bytes of it.
 fn sizes_in<S: Source>(alloc: Global, source: &mut S) -> Result<Sizes, CommandFault>
     requires running { S.has_failed source.old ≡ false }
     ensures sizes { IfOk result (ReadsSizes (readers_view S.Source) source.old) }

@@ -1,4 +1,4 @@
-//! What is said on standard error as a round begins.
+//! The report on standard error when a round begins.
 ghost use Rattle.std.specs.Prelude.{◌≡◌, IfOk, string_bytes};
 ghost use Rattle.command.specs.internal.Watching.{begin_line, paused_line};
 
@@ -8,7 +8,7 @@ use lrup_text::write_all;
 use std::alloc::{AllocError, Global};
 use std::time::{Clock, Instant};
 
-/// The time, if it is asked for and the clock tells it.
+/// The time, if it is asked for and the clock gives it.
 pub(crate) fn now_if<C: Clock + Sync>(clock: &C, asked: bool) -> Option<Instant> {
     if asked {
         Instant::now(clock).ok()
@@ -17,8 +17,9 @@ pub(crate) fn now_if<C: Clock + Sync>(clock: &C, asked: bool) -> Option<Instant>
     }
 }
 
-/// Reports on a watcher of the files that a round begins, with which formula, and how long after the end of the one before it. What the
-/// clock or the memory doesn't give is left out.
+/// Reports on a watcher that a round begins, the size of its formula, and the pause since the round
+/// before it ended. Without a time from the clock the pause is left out; without memory, the
+/// report.
 pub(crate) fn report_begin<C: Clock + Sync, F: Machine>(
     clock: &C,
     alloc: Global,
@@ -39,7 +40,7 @@ pub(crate) fn report_begin<C: Clock + Sync, F: Machine>(
     }
 }
 
-/// The milliseconds since then, if the clock tells them.
+/// The milliseconds since `ended`, if the clock gives the time.
 fn pause_since<C: Clock + Sync>(clock: &C, ended: Option<Instant>) -> Option<u64> {
     let ended = ended?;
     let now = Instant::now(clock).ok()?;
@@ -53,7 +54,7 @@ fn pause_since<C: Clock + Sync>(clock: &C, ended: Option<Instant>) -> Option<u64
     )
 }
 
-/// The line of a round that begins, with so many clauses and literals.
+/// The line for a round that begins, with its counts of clauses and literals.
 fn begin_line(
     alloc: Global,
     number: u64,
@@ -65,7 +66,7 @@ fn begin_line(
     format!(in alloc; "lrupd: round {number}: {clauses} clauses, {literals} literals\n")
 }
 
-/// The line of a round that begins, with so many clauses and literals, after a pause of so many milliseconds.
+/// The same line, with the pause before the round in milliseconds.
 fn paused_line(
     alloc: Global,
     number: u64,

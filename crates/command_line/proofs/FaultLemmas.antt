@@ -9,7 +9,7 @@ use Rattle.clap.specs.Simple.{Shape, entered, names_of}
 use Rattle.clap.proofs.OnLiterals.{clap_on_literals}
 use Rattle.command_line.specs.CommandLine.{lrupd}
 
--- `clap` says exactly what a parse of the command gives
+-- the result of `clap` is exactly that of a parse of the command
 pub simple : is_simple lrupd ≡ true
 simple = refl
 
@@ -17,12 +17,12 @@ pub simple_and_free : is_simple_and_free lrupd ≡ true
 unfolding clap_on_literals
 simple_and_free = refl
 
--- where there is no fault, the later steps have none
+-- if there is no fault, the later steps have none
 rest_empty : (a b : Kinds) → or_else a b ≡ [] → b ≡ []
 rest_empty [] b e = e
 rest_empty (k ∷ ks) b e = cc
 
--- where nothing is missing, what is required is given
+-- if nothing is missing, what is required is given
 both_given : (formula stream has : Bool)
     → check_kinds (not has && (false && true)) (not has && false) (not (false && has) && (not formula || (not stream || false))) ≡ []
     → (formula ≡ true) × (stream ≡ true)
@@ -49,7 +49,7 @@ last_checks s names h words has below e =
     (rest_empty below (or_else settling (or_else defaults checks))
     (rest_empty (walk_fault s names (walk_from h) words) (or_else below (or_else settling (or_else defaults checks))) e)))
 
--- FORMULA and STREAM are given where the words have no fault
+-- if the words have no fault, FORMULA and STREAM are given
 pub given : (words : List Text) → fault_of lrupd words ≡ []
     → (is_given (codes "FORMULA") (matches_of lrupd words) ≡ true) × (is_given (codes "STREAM") (matches_of lrupd words) ≡ true)
 given words e =

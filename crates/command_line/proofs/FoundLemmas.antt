@@ -1,4 +1,4 @@
--- What is found in words without a fault, by what `clap` says of each entry.
+-- What is found in words without a fault, from the contracts of `clap` for each entry.
 use Rattle.std.proofs.Common.{◌≡◌, ◌∙◌, ◌⊎◌, ◌<◌, ◌||◌, ap, sym, subst, refl, inl, inr, arith, ℕ, Bool, true, false, List, [], ◌∷◌, length}
 use Rattle.std.proofs.Common.{Option, Some, None, is_some, codes, Result, Ok, Err, IfOk}
 use Rattle.std.specs.Prelude.{IsErrAnd, find, option_map, slice_get, unwrap_or}
@@ -35,7 +35,7 @@ use Rattle.command_line.specs.internal.Matches.{AreRowsOf, HasTruth, HasUpTo}
 use Rattle.command_line.proofs.FaultLemmas.{given, simple, simple_and_free}
 use Rattle.command_line.proofs.ProgramLemmas.{EachArgument, IsProgram, argument_has, is_program, program_simple}
 
--- what holds of the entry of an argument
+-- what holds for the entry of an argument
 record Holds (d : Command) (id : Text) (x : MatchedArg) : Type 0 where
   values : All (λ v. PassesArg d id v.now) x.vals.items
   reading : HasReading d id x.reading
@@ -70,7 +70,7 @@ HasParser id q r = bytes_eq r.id id ≡ true → parser_of_value r.parser ≡ q
 abbrev Parses : Text → ValueParser → Type 0
 Parses id q = EachArgument (HasParser id q)
 
--- the text that is read of an argument passed its parser, where that reads what is written
+-- the text read for an argument passed its parser, if that reads texts as written
 text_passed : (d : Command) (f : Found) (id : Text) (q : ValueParser) → IsProgram d → ValuesPass d f → (id ≡ [] → ⊥) → Parses id q
     → reading_of q ≡ AsWritten → (text : Text) → one_of id (rows_of f) ≡ Some text → (ignore_case : Bool) × Accepts ignore_case q text
 text_passed d f id q is pass named parses plain text found = go (matched_of f id) refl (one_text-rows f id ∙ found)
@@ -103,7 +103,7 @@ text_passed d f id q is pass named parses plain text found = go (matched_of f id
 named : (x : ℕ) (xs : Text) → x ∷ xs ≡ [] → ⊥
 named x xs e = cc
 
--- another argument than the one that is asked for
+-- an argument other than the one asked for
 other : {A : Type 0} → false ≡ true → A
 other e = cc
 
@@ -161,7 +161,7 @@ abbrev TakesOne : Text → Rule → Type 0
 TakesOne id r = bytes_eq r.id id ≡ true
     → (unwrap_or r.action Set ≡ Count → ⊥) × ((unwrap_or_range r.range).start_inclusive ≡ 0 → ⊥)
 
--- one that is given has a value
+-- an argument that is given has a value
 filled : (d : Command) (f : Found) (id : Text) → IsProgram d → ValuesPass d f → (id ≡ [] → ⊥) → EachArgument (TakesOne id)
     → is_given id (rows_of f) ≡ true → (x : MatchedArg) × (matched_of f id ≡ Some x) × (0 < length x.vals.items)
 filled d f id is pass named takes_one used =
@@ -192,7 +192,7 @@ filled d f id is pass named takes_one used =
         let held = entry_holds d f id entry.1 pass (program_simple d is).groups named found in
         (entry.1, found, elim held.filled [ inl lt ↦ lt | inr or ↦ absurd (none or) ])
 
--- it is set or appended, by a value at least
+-- it is set or appended, with at least one value
 sets : (Set ≡ Count → ⊥) × (◌≡◌ {A = ℕ} 1 0 → ⊥)
 sets = (λ e. cc, λ e. absurd (omega arith))
 
@@ -248,13 +248,13 @@ are_found words c d f is after whole pass good found =
         → is_some (first_value f id) ≡ true
     has_first f id x e lt = rw e (first_some x.vals.items lt)
 
--- a parse of `lrupd` fails by the words' fault
+-- a parse of `lrupd` fails with the words' fault
 pub fails_by : (words : List Text) (c : Command) (r : Result ArgMatches Error) → app_of c ≡ lrupd
     → (is_simple_and_free (app_of c) ≡ true → FailsBy (fault_of (app_of c) words) r) → FailsBy (fault_of lrupd words) r
 fails_by words c r is kinds =
     subst (λ (a : App). is_simple_and_free a ≡ true → FailsBy (fault_of a words) r) is kinds simple_and_free
 
--- and finds what there is in words that have none
+-- and finds what the words contain if they have none
 pub finds : (words : List Text) (c d : Command) (r : Result ArgMatches Error) → app_of c ≡ lrupd → BuildsOrBreaks c d
     → (is_broken d ≡ true → IsErrAnd r (λ e. kind_of e ≡ OutOfMemory))
     → IfOk r (λ m. BuildsTo c d × ((out-Command d).has_globals ≡ false → IsParsed d (found_of m) (has_subcommand m))

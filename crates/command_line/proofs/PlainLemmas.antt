@@ -1,4 +1,4 @@
--- The walk over words of which none begins with a hyphen.
+-- The walk over words none of which begins with a hyphen.
 use Rattle.std.proofs.Common.{◌≡◌, ◌∙◌, ◌<◌, ◌^◌, ap, sym, refl, arith, ℕ, Bool, true, false, not, cond, List, [], ◌∷◌, ◌++◌, length}
 use Rattle.std.proofs.Common.{Option, Some, None, codes, is_some}
 use Rattle.std.specs.Option.{option_map_or}
@@ -49,7 +49,7 @@ formula_row formula = record {
   reading = AsWritten;
 }
 
--- and after it and some streams
+-- the walk after the formula and some streams
 abbrev after_streams : Text → List Text → Walk
 after_streams formula streams = record {
   held = record { rows = formula_row formula ∷ []; pending = Some (codes "STREAM", streams); skip = 0 };
@@ -97,7 +97,7 @@ met (option id) position word h plain =
     ∙ ap (λ o. long_or_other rules (option id) word o h) (not_long word plain)
     ∙ ap (λ o. short_or_plain rules (option id) word o h) (not_short word plain)
 
--- a step of the walk that is at a positional
+-- a step of the walk at a positional argument
 step : (w : Walk) (word : Text) (p : Held × Step) → p ≡ (w.held, value)
     → after_step rules word w p.0 p.1 ≡ to_positional rules (arg_by_index rules w.position) word w w.held
 step w word p e = ap (λ (q : Held × Step). after_step rules word w q.0 q.1) e
@@ -130,7 +130,7 @@ walk_streams formula before (word ∷ rest) plain =
     ap (λ (w : Walk). fold (walked rules []) w rest) (step_next formula before word p.0)
     ∙ walk_streams formula (before ++ word ∷ []) rest p.1 ∙ ap (after_streams formula) (append_assoc before (word ∷ []) rest)
 
--- and over all words
+-- the walk over all words
 walk_all : (formula first : Text) (rest : List Text) → is_plain formula ≡ true → list_all is_plain (first ∷ rest) ≡ true
     → walk rules [] nothing_held (formula ∷ first ∷ rest) ≡ after_streams formula (first ∷ rest)
 walk_all formula first rest plain all =
@@ -163,12 +163,12 @@ pub plain_rows : (formula first : Text) (rest : List Text) → is_plain formula 
     ∷ flag_row (codes "watch") ∷ []
 plain_rows formula first rest plain all = ap (λ (w : Walk). finished rules w.held) (walk_all formula first rest plain all)
 
--- ---- they have no fault
+-- ---- the words have no fault
 
 abbrev top : Shape
 top = (built lrupd).top
 
--- the word is no flag that could be refused
+-- no word is a flag that could be refused
 word_good : (waiting : Waiting) (word : Text) (h : Held) → is_plain word ≡ true → word_fault top [] false waiting word h ≡ []
 word_good idle word h plain =
     ap (λ b. cond b [] (flag_word_fault rules false (long_of word) word h)) (not_two_hyphens word plain)
@@ -225,7 +225,7 @@ walk_good formula first rest plain all =
     (turn_good two first refl (met idle 2 first two.held p.0) (word_good idle first two.held p.0) refl)
     (step_first formula first p.0) (streams_good formula (first ∷ []) rest p.1))
 
--- STREAM, as building leaves it
+-- STREAM in the built command
 abbrev streams_rule : Rule
 streams_rule = with_index 2 (filled stream_rule)
 
@@ -246,7 +246,7 @@ use_good again first rest rows few =
     ap (λ f. or_else f (values_fault streams_rule (first ∷ rest))) (range_good (length (first ∷ rest)) (omega arith) few)
     ∙ values_good (first ∷ rest)
 
--- what follows the walk
+-- what comes after the walk
 abbrev tail : Walk → Kinds
 tail w = or_else (entered_fault (built lrupd) w.stopped) (or_else (settle_fault rules false w.held)
     (or_else (defaults_fault (settled rules w.held).rows rules)

@@ -24,7 +24,7 @@ is_program c d is after whole = elim after [
   ]
 ]
 
--- it is simple: no argument has a delimiter, and there is no group
+-- the command is simple: no argument has a delimiter, and there is no group
 pub program_simple : (d : Command) → IsProgram d → IsSimple d
 program_simple d is = ready_simple d (ready is) (leaves is)
   where

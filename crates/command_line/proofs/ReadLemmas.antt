@@ -1,4 +1,4 @@
--- What is read of the rows by clap's getters.
+-- What clap's getters read in the rows.
 use Rattle.std.proofs.Common.{◌≡◌, ◌∙◌, ◌⊎◌, ◌≤◌, ◌<◌, refl, sym, ap, subst, inl, inr, codes, ℕ, Bool, true, false, List, [], length}
 use Rattle.std.proofs.Common.{Option, Some, None, Result, Ok, Err}
 use Rattle.std.specs.Str.{bytes_eq}
@@ -11,7 +11,7 @@ use Rattle.command_line.specs.declared.words.WordsFault.{WordsFault}
 use Rattle.command_line.specs.declared.words.WordsFault.TheVariants.{Memory, TwoCheckpoints, Usage}
 use Rattle.command_line.specs.internal.Matches.{AreRowsOf, HasNumber, HasUpTo, IsRowsFault, IsNumber}
 
--- a text that is a number of 64 bits reads as this number, and none as the default
+-- a text that is a number of 64 bits is read as this number, and a missing one as the default
 pub number_read : (E : Type 0) (G : Text → Result ℕ E → Type 0) → ((t : Text) (r : Result ℕ E) → G t r → ParsesUnsigned 64 10 t r)
     → (found : Option Text) (read : Option ℕ) (default : ℕ) → (found ≡ None → read ≡ None)
     → ((t : Text) → found ≡ Some t → ReadsOne G t read) → ForSome found IsNumber
@@ -22,7 +22,7 @@ number_read E G only (Some t) None default none some number =
     absurd (only t (Err failed.0) failed.1 (number t refl))
 number_read E G only (Some t) (Some n) default none some number = (only t (Ok n) (some t refl)).1
 
--- a number from 0 to `most` is one of 64 bits
+-- a number from 0 to `most` is a number of 64 bits
 pub up_to_is_number : (most : ℕ) (name : Text) (rows : List Row) → HasUpTo most name rows → HasNumber name rows
 up_to_is_number most name rows up_to text is = ((up_to text is).0, (up_to text is).1)
 
@@ -36,7 +36,7 @@ number_within most name default rows up_to small = go (one_of name rows) up_to
     go None h = small
     go (Some t) h = (h t refl).3
 
--- a flag whose text is `true` or `false` reads as that, and none as false
+-- a flag whose text is `true` or `false` is read as that, and a missing one as false
 pub flag_read : (found : Option Text) (read : Bool) → (found ≡ None → read ≡ false) → (found ≡ Some (codes "true") → read ≡ true)
     → (found ≡ Some (codes "false") → read ≡ false) → ForSome found (λ t. (t ≡ codes "true") ⊎ (t ≡ codes "false"))
     → read ≡ option_map_or (λ t. bytes_eq t (codes "true")) found false
@@ -46,7 +46,7 @@ flag_read (Some t) read none on off truth = elim (truth t refl) [
   | inr is ↦ off (ap Some is) ∙ sym (ap (λ (u : Text). bytes_eq u (codes "true")) is)
 ]
 
--- what is read twice of one place has one length
+-- two lists read from the same place have the same length
 pub same_length : {A : Type 0} {o : Option (List A)} {a b : List A} → o ≡ Some a → o ≡ Some b → 0 < length a → 0 < length b
 same_length {A} {o} {a} {b} one two some = subst (λ (r : Option (List A)). 0 < length (unwrap_or r [])) (sym one ∙ two) some
 

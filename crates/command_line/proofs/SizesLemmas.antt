@@ -1,4 +1,4 @@
--- A number in decimal before a character that is no digit, and the text of sizes.
+-- A number in decimal before a character that isn't a digit, and the text of sizes.
 use Rattle.std.proofs.Common.{◌≡◌, ◌∙◌, refl, sym, ap, subst, arith, ℕ, zero, suc, ◌^◌, ◌<◌, List, [], ◌∷◌, ◌++◌, length, get_or}
 use Rattle.std.proofs.Common.{Option, Some, None, Result, Ok, Err, MatchOption, Bor, append_assoc}
 use Rattle.std.specs.Result.{result_ok}
@@ -24,7 +24,7 @@ pub splits : (text : List ℕ) (end : ℕ) (r : Option (Bor (List ℕ) × Bor (L
 splits text end None split low = tt
 splits text end (Some x) split low = (split_parts end text (Some x) split (omega arith)).0
 
--- what `split_once` gives of a number before `end`
+-- what `split_once` gives for a number before `end`
 pub number_splits : (text : List ℕ) (end number : ℕ) (rest : List ℕ) (r : Option (Bor (List ℕ) × Bor (List ℕ)))
     → IsSplitOnceResult end text r → end < 48 → IsNumberBefore text end number rest
     → MatchOption r ⊥ (λ x. (x.0.now ≡ decimal number) × (x.1.now ≡ rest))
@@ -32,7 +32,7 @@ number_splits text end number rest r split low is =
     split_after end text (decimal number) rest r split (omega arith) is.parts
     (not_in_digits own (decimal number) end (digits_decimal own number is.small) (λ range. omega (arith, range)))
 
--- a number in decimal begins as one
+-- a number in decimal begins as a number
 pub decimal_begins : (number : ℕ) → number < 2 ^ 64 → BeginsAsNumber (decimal number)
 decimal_begins number small = record {
   some = decimal_nonempty number small;
@@ -61,14 +61,14 @@ number_read E text number r small is parses = ap result_ok (parse-decimal 64 num
 
 -- ---- the text of sizes
 
--- what stands behind the first space, and behind the second
+-- what comes after the first space, and after the second
 abbrev pub after_streams : Sizes → List ℕ
 after_streams sizes = decimal sizes.lines ++ 32 ∷ (decimal sizes.room ++ 10 ∷ [])
 
 abbrev pub after_lines : Sizes → List ℕ
 after_lines sizes = decimal sizes.room ++ 10 ∷ []
 
--- it is three numbers, each before its character
+-- a text of sizes is three numbers, each before its character
 pub record HasThreeNumbers (bytes : List ℕ) (sizes : Sizes) : Type 0 where
   pub streams : IsNumberBefore bytes 32 sizes.streams (after_streams sizes)
   pub lines : IsNumberBefore (after_streams sizes) 32 sizes.lines (after_lines sizes)
@@ -84,7 +84,7 @@ three_numbers bytes sizes is = record {
   room = record { parts = refl; small = omega (arith, is.within.small_room) };
 }
 
--- a number, a character and a text in ASCII are one
+-- a number, a character and an ASCII text are ASCII together
 ascii : (number end : ℕ) (rest : List ℕ) → number < 2 ^ 64 → end < 128 → IsAscii rest → IsAscii (decimal number ++ end ∷ rest)
 ascii number end rest small low tail = IsAscii-append (decimal number) (end ∷ rest) (IsAscii-decimal number small) after
   where
@@ -100,7 +100,7 @@ sizes_utf8 bytes sizes is =
     let all = ascii sizes.streams 32 (after_streams sizes) numbers.streams.small (omega arith) lines in
     IsUtf8-from_ascii bytes (subst IsAscii (sym numbers.streams.parts) all)
 
--- sizes whose numbers are those of a text are its sizes
+-- if the numbers of a text are these, its sizes are these
 pub same_sizes : (bytes : List ℕ) (sizes : Sizes) (streams lines room : ℕ) → IsSizesText bytes sizes
     → streams ≡ sizes.streams → lines ≡ sizes.lines → room ≡ sizes.room
     → AreWithinSizes (record { streams = streams; lines = lines; room = room })

@@ -1,4 +1,4 @@
--- The command line of `lrupd`: what `clap` is told of it, and what it finds in the words.
+-- The command line of `lrupd`: how it is defined for `clap`, and what `clap` finds in the words.
 use Rattle.std.specs.Prelude.{◌≡◌, ◌≢◌, ◌<◌, ◌≤◌, ⊤, ℕ, Bool, true, false, List, [], ◌∷◌, None, Option, Some, codes, length, option_map}
 use Rattle.std.specs.Option.{option_map_or}
 use Rattle.std.specs.Str.{bytes_eq}
@@ -15,7 +15,7 @@ use Rattle.command_line.specs.declared.words.Next.TheVariants.{Checkpoint, Nothi
 use Rattle.command_line.specs.declared.words.WordsFault.{WordsFault}
 use Rattle.command_line.specs.declared.words.WordsFault.TheVariants.{Memory, TwoCheckpoints, Usage}
 
--- an option `--name N`, of a number from 0 to `most`
+-- an option `--name N` for a number from 0 to `most`
 abbrev pub number_rule : Text → ℕ → Rule
 number_rule name most = record (new_rule name) {
   long = Some name;
@@ -35,7 +35,7 @@ flag_rule name = record (new_rule name) {
   parser = Some parser.Bool;
 }
 
--- STREAM...: one word or more
+-- STREAM...: one or more words
 abbrev pub stream_rule : Rule
 stream_rule = record (new_rule (codes "STREAM")) {
   required = true;
@@ -43,9 +43,9 @@ stream_rule = record (new_rule (codes "STREAM")) {
   range = Some (record { start_inclusive = 1; end_inclusive = usize_max });
 }
 
--- The command, with its arguments in the order of the help; its words don't begin with the program's
--- name. Arguments without `long` are found by their places. The numbers are how often a vacant hint
--- is looked up again, how many identities a stream has, and how many literals its clauses may have
+-- The command, with its arguments in the order of the help; its words don't begin with the
+-- program's name. Arguments without `long` are positional. The numbers are how often a vacant hint
+-- is fetched again, how many identities a stream has, and how many literals its clauses may have
 -- together.
 abbrev pub lrupd : App
 lrupd = record {
@@ -64,8 +64,8 @@ lrupd = record {
   subs = [];
 }
 
--- The words have no fault. They ask for the formula at a path, and for the assumed literals at
--- another, if any.
+-- The words have no fault, and ask for the formula at a path, and for the assumed literals at
+-- another path, if any.
 pub record AskFor (words : List Text) (formula : Text) (assume : Option Text) : Type 0 where
   pub good : fault_of lrupd words ≡ []
   pub formula_is : first_of (codes "FORMULA") (matches_of lrupd words) ≡ Some formula
@@ -76,18 +76,18 @@ pub record AskToSave (words : List Text) (path : Text) : Type 0 where
   pub good : fault_of lrupd words ≡ []
   pub path_is : first_of (codes "checkpoint") (matches_of lrupd words) ≡ Some path
 
--- The words have no fault, and ask for rounds, of a folder.
+-- The words have no fault, and ask for rounds in a folder.
 pub record AskForRounds (words : List Text) (folder : Text) : Type 0 where
   pub good : fault_of lrupd words ≡ []
   pub folder_is : first_of (codes "rounds") (matches_of lrupd words) ≡ Some folder
 
--- The words have no fault, and ask for a checkpoint and for rounds.
+-- The words have no fault, and ask both for a checkpoint and for rounds.
 abbrev pub AskForBoth : List Text → Type 0
 AskForBoth words = (path folder : Text) × AskToSave words path × AskForRounds words folder
 
--- ---- what the words say, by the rows that are found in them
+-- ---- what the words say, from the rows that are found in them
 
--- the number that an option has, or `default` if the words don't have the option
+-- the number of an option, or `default` if the words don't have the option
 abbrev pub option_number : Text → ℕ → List Row → ℕ
 option_number name default rows =
     option_map_or (λ text. digits_value 10 (without_leading_plus text)) (one_of name rows) default
@@ -96,13 +96,13 @@ option_number name default rows =
 abbrev pub is_set : Text → List Row → Bool
 is_set name rows = option_map_or (λ text. bytes_eq text (codes "true")) (one_of name rows) false
 
--- the path of the checkpoint that is to be saved, if one is
+-- the path at which the checkpoint is to be saved, if any
 abbrev pub checkpoint_of : Next → Option Text
 checkpoint_of Nothing = None
 checkpoint_of (Checkpoint path) = Some path.now
 checkpoint_of (Rounds folder) = None
 
--- the folder of the rounds, if the run goes on in rounds
+-- the folder of the rounds, if the words ask for rounds
 abbrev pub rounds_of : Next → Option Text
 rounds_of Nothing = None
 rounds_of (Checkpoint path) = None
@@ -134,7 +134,8 @@ pub record IsCommandLineOf (words : List Text) (given : CommandLine) : Type 0 wh
   pub good : fault_of lrupd words ≡ []
   pub said : IsSaidBy (matches_of lrupd words) given
 
--- Why there is none: the words have a fault, or ask for a checkpoint and for rounds; or memory ran out.
+-- Why there is none: the words have a fault, or ask both for a checkpoint and for rounds; or memory
+-- ran out.
 abbrev pub IsWordsFault : List Text → WordsFault → Type 0
 IsWordsFault words (Usage text) = HaveFault words
 IsWordsFault words TwoCheckpoints = AskForBoth words

@@ -1,4 +1,4 @@
--- What the words say in the plainest case, as a law over all texts.
+-- What the words mean in the simplest case, as a law for all texts.
 use Rattle.std.specs.Prelude.{◌≡◌, ◌==◌, ◌<◌, ◌^◌, Bool, true, false, not, List, [], ◌∷◌, Option, None, length}
 use Rattle.std.specs.List.{list_all}
 use Rattle.clap.specs.Words.{Text, fault_of}
@@ -23,8 +23,8 @@ pub record HasDefaults (first : Text) (rest : List Text) (given : CommandLine) :
   pub serial : given.serial ≡ false
   pub watch : given.watch ≡ false
 
--- Words of which none begins with a hyphen are a formula and its streams in order, whatever they
--- are, and ask for no checkpoint and for no rounds.
+-- If no word begins with a hyphen, the words are a formula and its streams in order, and ask for no
+-- checkpoint and for no rounds.
 abbrev pub PlainWords : Type 0
 PlainWords = (formula : Text) (streams : List Text) → is_plain formula ≡ true
     → list_all is_plain streams ≡ true → 0 < length streams → length streams < 2 ^ 64

@@ -1,3 +1,3 @@
--- What contracts of private functions say.
+-- Definitions for contracts of private functions.
 pub mod Matches
 pub mod Numbers

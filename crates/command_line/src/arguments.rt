@@ -9,13 +9,13 @@ use clap::builder::ValueParser;
 use clap::{Arg, ArgAction, Command};
 use std::alloc::{AllocError, Global};
 
-/// The greatest value of `--tries`.
+/// The largest value of `--tries`.
 const MAX_TRIES: u64 = 1_000_000;
 
-/// The greatest value of `--lines`.
+/// The largest value of `--lines`.
 pub(crate) const MAX_LINES: u64 = 268_435_456;
 
-/// The greatest value of `--room`.
+/// The largest value of `--room`.
 pub(crate) const MAX_ROOM: u64 = 268_435_456;
 
 /// The command, with its arguments.
@@ -32,7 +32,7 @@ pub fn program<'a>(alloc: Global) -> Result<Command<'a>, AllocError>
     command.arg(stream(alloc))
 }
 
-/// The command, with the options that have a number.
+/// The command with the options that have a number.
 fn with_numbers<'a>(alloc: Global) -> Result<Command<'a>, AllocError>
     ensures { IfOk result (λ command. app_of command ≡ with_numbers) }
 {
@@ -42,7 +42,7 @@ fn with_numbers<'a>(alloc: Global) -> Result<Command<'a>, AllocError>
     command.arg(number(alloc, "room", MAX_ROOM, help::ROOM))
 }
 
-/// The command, with what help says of it and no argument yet.
+/// The command with its help text and without arguments.
 fn bare<'a>(alloc: Global) -> Command<'a>
     ensures { app_of result ≡ without_arguments }
 {
@@ -54,7 +54,7 @@ fn bare<'a>(alloc: Global) -> Command<'a>
         .next_line_help(true)
 }
 
-/// The option `--name N`, of a number from 0 to `most`.
+/// The option `--name N` for a number from 0 to `most`.
 fn number<'a>(alloc: Global, name: &'a str, most: u64, help: &'a str) -> Arg<'a>
     ensures rule { rule_of result ≡ number_rule name.now most }
     ensures local { result.global ≡ false }

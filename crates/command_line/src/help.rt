@@ -1,6 +1,6 @@
-//! What `--help` says of the program and of its arguments, and `--version` of the program.
+//! The texts of `--help` for the program and its arguments, and of `--version`.
 
-/// The program's version, that of the file VERSION.
+/// The program's version, the same as in the file VERSION.
 pub const VERSION: &str = "1.1.0";
 
 /// What the program does.
@@ -9,10 +9,10 @@ Checks the proofs of SAT solvers that share their clauses, while the solvers
 write them. The answer is 's UNSATISFIABLE' only if a checked line derived the
 empty clause.";
 
-/// Of FORMULA.
+/// The help for FORMULA.
 pub const FORMULA: &str = "The formula, a file in DIMACS CNF.";
 
-/// Of STREAM.
+/// The help for STREAM.
 pub const STREAM: &str = "\
 The proofs, 1 to 64 files or pipes, one from each solver, in LRAT text
 without RAT steps: a line 'id literals 0 hints 0' derives a clause, a
@@ -22,39 +22,39 @@ With M clauses in the formula and N streams, the first stream derives
 the clauses M+1, M+1+N, M+1+2N and so on, the second M+2, M+2+N and
 so on, each in rising order.";
 
-/// Of `--tries`.
+/// The help for `--tries`.
 pub const TRIES: &str = "\
 How often a hint is looked up again while another stream hasn't
 derived its clause yet, each time after a microsecond.
 0 to 1,000,000, default 1,000. Raise it to 1000000 for streams that
 cite each other, or where a report says 'missing'.";
 
-/// Of `--lines`.
+/// The help for `--lines`.
 pub const LINES: &str = "\
 How many identities each stream has. Each takes 8 bytes, 12 with
 --serial. 0 to 268,435,456, default 65,536. Raise it for streams that
 derive more clauses or leave gaps, or where a report says 'identity'.";
 
-/// Of `--room`.
+/// The help for `--room`.
 pub const ROOM: &str = "\
 How many literals the clauses that a stream derives may have together,
 deleted ones too. Each takes 8 bytes in each stream, 4 with --serial.
 0 to 268,435,456, default 1,048,576. Raise it for streams with more or
 longer clauses, or where a report says 'no room'.";
 
-/// Of `--assume`.
+/// The help for `--assume`.
 pub const ASSUME: &str = "\
 A file of assumed literals, in one line that ends with 0: '-2 5 0'. Where a
 checked line derived a clause whose literals are all false under them, and
 none the empty clause, the answer is 's UNSATISFIABLE UNDER ASSUMPTIONS'.";
 
-/// Of `--checkpoint`.
+/// The help for `--checkpoint`.
 pub const CHECKPOINT: &str = "\
 Save the clauses that are live at the end as a formula for a later run to go
 on with: FILE, which must not be there yet, is the FORMULA of that run. With
 the answer 's UNSATISFIABLE' nothing is saved, and FILE stays empty.";
 
-/// Of `--rounds`.
+/// The help for `--rounds`.
 pub const ROUNDS: &str = "\
 Go on in rounds, each over the live clauses of the one before: FORMULA and
 STREAM... are those of round 1. After it the live clauses are saved, as by
@@ -65,20 +65,20 @@ on. DIR/round-2.sizes, if it is there, has their number, then the round's
 over. Round 3 has a 3 in these names, and so on. Not together with
 --checkpoint.";
 
-/// Of `--serial`.
+/// The help for `--serial`.
 pub const SERIAL: &str = "\
 Check all streams on one thread, a line of each by turns. Two runs over the
 same bytes, with the same options and assumptions, then have the same report,
 unless memory runs out or a read fails. Without it each stream has its
 threads.";
 
-/// Of `--watch`.
+/// The help for `--watch`.
 pub const WATCH: &str = "\
 Say on standard error what goes on while streams are checked: that one is
 over, and how it is judged; that one has waited a second for a clause; every
 ten seconds how many clauses each has added. With --serial none waits.";
 
-/// What follows the options.
+/// The text after the options.
 pub const EXAMPLE: &str = "\
 The clauses and literals of the formula, the identities and the room of all
 streams are at most 268,435,455 together.

@@ -1,7 +1,8 @@
-//! Laws of the definitions. Each function is empty: its contract is the law.
+//! Laws of the definitions. Each function does nothing: its contract is the law.
 ghost use Rattle.command_line.specs.Laws.{PlainWords};
 
-/// Words of which none begins with a hyphen are a formula and its streams, with each option's default.
+/// If no word begins with a hyphen, the words are a formula and its streams, with each option's
+/// default.
 pub fn plain_words()
     ensures { PlainWords }
 {}

@@ -6,7 +6,7 @@ ghost use Rattle.command_line.specs.internal.Numbers.{BeginsAsNumber, IsNumberBe
 use crate::arguments::{MAX_LINES, MAX_ROOM};
 use std::str;
 
-/// The greatest number of streams.
+/// The largest number of streams.
 const MAX_STREAMS: u64 = 64;
 
 /// The sizes of a round.
@@ -21,7 +21,7 @@ pub struct Sizes {
 }
 
 impl Sizes {
-    /// Whether each number is within its range.
+    /// Whether each number is in its range.
     fn are_within(self) -> bool
         ensures { IsTrue result ↔ AreWithinSizes self }
     {
@@ -32,8 +32,8 @@ impl Sizes {
     }
 }
 
-/// Reads sizes: `STREAMS LINES ROOM` and LF, in decimal, without a leading 0. None if the bytes are anything else, or a
-/// number is out of its range.
+/// Reads sizes: `STREAMS LINES ROOM` and LF, in decimal, without a leading 0. `None` if the bytes
+/// are anything else, or a number is out of its range.
 pub fn read_sizes(bytes: &[u8]) -> Option<Sizes>
     ensures some { IfSome result (IsSizesText bytes.now) }
     ensures none { IfNone result (HaveNoSizes bytes.now) }
@@ -56,7 +56,7 @@ pub fn read_sizes(bytes: &[u8]) -> Option<Sizes>
     }
 }
 
-/// Whether the text begins with a digit, and with 0 only if it has nothing else.
+/// Whether the text begins with a digit, and has nothing after a leading 0.
 fn begins_as_number(text: &str) -> bool
     ensures { IsTrue result ↔ BeginsAsNumber text.now }
 {
@@ -66,8 +66,8 @@ fn begins_as_number(text: &str) -> bool
     }
 }
 
-/// The number that the text begins with and the text after it, if one stands there in decimal, without a leading 0, and
-/// the character `end` follows it.
+/// The number at the beginning of the text, in decimal without a leading 0, and the text after it
+/// and after the character `end`, which has to follow the number.
 fn number_before(text: &str, end: char) -> Option<(u64, &str)>
     requires { end < 48 }
     ensures some { IfSome result (λ found. IsNumberBefore text.now end found.0 found.1.now) }

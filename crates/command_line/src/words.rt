@@ -80,7 +80,7 @@ impl<'a> Paths<'a> {
     }
 }
 
-/// The text of a usage fault or of the help, with LF at its end.
+/// The text of a usage fault or of the help, which ends with LF.
 #[derive(Debug, Drop)]
 pub struct UsageText {
     text: String,
@@ -114,10 +114,10 @@ impl fmt::Display for UsageText {
 /// Why the words give no command line.
 #[derive(Debug, Drop, Error)]
 pub enum WordsFault {
-    /// They have a mistake, or ask for help: what `clap` says to that.
+    /// They have a mistake, or ask for help; this is the text from `clap`.
     #[error("{0}")]
     Usage(UsageText),
-    /// They ask for a checkpoint and for rounds, whose checkpoints have names of their own.
+    /// They ask both for a checkpoint and for rounds, which name their checkpoints themselves.
     #[error("--checkpoint and --rounds exclude each other")]
     TwoCheckpoints,
     /// Out of memory.
@@ -155,7 +155,7 @@ fn matches_in<'a>(alloc: Global, words: &'a [&str]) -> Result<ArgMatches<'a>, Cl
     program.try_get_matches_from_mut(words)
 }
 
-/// The number that an option has, or its default.
+/// The number of an option, or its default.
 fn option_number(matches: &ArgMatches<'_>, name: &str, default: u64) -> u64
     requires { HasNumber name.now (rows_of (found_of matches.now)) }
     ensures { result ≡ option_number name.now default (rows_of (found_of matches.now)) }
@@ -163,7 +163,7 @@ fn option_number(matches: &ArgMatches<'_>, name: &str, default: u64) -> u64
     matches.get_one::<u64>(name).unwrap_or(default)
 }
 
-/// The command line that the words give, by what `clap` found in them.
+/// The command line that the words give, from what `clap` found in them.
 fn command_line<'a>(alloc: Global, matches: &ArgMatches<'a>) -> Result<CommandLine<'a>, WordsFault>
     requires { AreWhole (rows_of (found_of matches.now)) }
     ensures ok { IfOk result (IsSaidBy (rows_of (found_of matches.now))) }
@@ -193,7 +193,7 @@ fn is_set(matches: &ArgMatches<'_>, name: &str) -> bool
     matches.get_flag(name)
 }
 
-/// What the clauses are saved for; none if the words have both options.
+/// What the clauses are saved for; `None` if the words have both options.
 fn next_of<'a>(matches: &ArgMatches<'a>) -> Option<Next<'a>>
     ensures checkpoint { IfSome result (λ next. checkpoint_of next
         ≡ first_of (codes "checkpoint") (rows_of (found_of matches.now))) }
@@ -209,7 +209,7 @@ fn next_of<'a>(matches: &ArgMatches<'a>) -> Option<Next<'a>>
     }
 }
 
-/// The path that an option has, if it is there.
+/// The path of an option, if the words have the option.
 fn file_of<'a>(matches: &ArgMatches<'a>, name: &str) -> Option<&'a str>
     ensures { option_map (λ path. path.now) result
         ≡ first_of name.now (rows_of (found_of matches.now)) }
@@ -236,7 +236,7 @@ fn streams_of<'a>(alloc: Global, matches: &ArgMatches<'a>) -> Result<Paths<'a>, 
     Ok(Paths { paths })
 }
 
-/// The fault for an error of `clap`.
+/// The fault for an error from `clap`.
 fn words_fault(alloc: Global, error: &ClapError) -> WordsFault
     ensures { IsFaultFrom error.now result }
 {

@@ -1,4 +1,4 @@
--- The fault that a step of the reader gives is that of the tokens.
+-- The fault that a step of the reader gives is the fault of the tokens.
 use Rattle.std.proofs.Common.{◌≡◌, ◌≢◌, ◌⊎◌, ◌<◌, ◌≤◌, ℕ, ℤ, pos, List, [], ◌∷◌, Some, ⊎_elim, arith}
 use Rattle.lrup_model.specs.Literal.{IsLiteral}
 use Rattle.lrup_model.specs.Formula.{max_clause_literals}

@@ -1,4 +1,4 @@
--- A file is a text of one formula at most, up to the order of the literals in its clauses.
+-- A file is a text of at most one formula, up to the order of the literals in its clauses.
 use Rattle.std.proofs.Common.{◌≡◌, ◌<◌, ℕ, ℤ, pos, nat_abs, List, [], ◌∷◌, ◌++◌, flat_map, refl, sym, ap, ◌∙◌, subst, arith}
 use Rattle.std.specs.List.{AllByRecursion}
 use Rattle.std.proofs.lemmas.List.{append-nil, append_assoc}

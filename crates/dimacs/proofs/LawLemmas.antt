@@ -1,4 +1,4 @@
--- A text of a formula has no fault, and a file has one fault at most.
+-- A text of a formula has no fault, and a file has at most one fault.
 use Rattle.std.proofs.Common.{◌≡◌, ◌⊎◌, ◌<◌, ◌≤◌, ℕ, ℤ, pos, nat_abs, List, [], ◌∷◌, ◌++◌, map, flat_map, length, Option, Some, refl, sym}
 use Rattle.std.proofs.Common.{ap, ◌∙◌, ⊎_elim, arith}
 use Rattle.std.specs.List.{AllByRecursion}
@@ -25,7 +25,7 @@ somes zs = map (λ (z : ℤ). Some z) zs
 
 -- ## a token among tokens without a fault
 
--- the numbers, cut at one token
+-- the numbers, split at one token
 record IsCut (all before : List ℤ) (at : Option ℤ) : Type 0 where
   number : ℤ
   rest : List ℤ
@@ -68,7 +68,7 @@ within_at : (vars : ℕ) (before : List ℤ) (z : ℤ) (rest : List ℤ) → All
 within_at vars [] z rest all = all.0
 within_at vars (y ∷ before) z rest all = within_at vars before z rest all.1
 
--- a token that stands after tokens without a fault, with them and others without one
+-- a token that comes after tokens without a fault, and is followed by others without one
 pub record IsFine (vars count : ℕ) (token : Token) (closed : List (List ℤ)) (begun : List ℤ) : Type 0 where
   pub number : ℤ
   pub spelled : number_of token.text ≡ Some number
@@ -133,7 +133,7 @@ somes-injective (x ∷ xs) (y ∷ ys) e =
     let tail : somes xs ≡ somes ys = cc in
     let below = somes-injective xs ys tail in cc
 
--- two readings have as many clauses, and as many literals after them
+-- two readings have equally many clauses, and equally many literals after them
 pub one_reading : (vars count : ℕ) (all : List Token) (closed closed' : List (List ℤ)) (begun begun' : List ℤ)
     → TokensSpell vars count all closed begun → TokensSpell vars count all closed' begun'
     → (length closed ≡ length closed') × (length begun ≡ length begun')

@@ -1,4 +1,4 @@
--- How the lines and the tokens of what is left change, step by step.
+-- How the lines and the tokens of the rest change, step by step.
 use Rattle.std.proofs.Common.{◌≡◌, ◌≢◌, ◌+◌, ◌<◌, ℕ, Bool, true, false, not, cond, ◌||◌, ◌==◌, List, [], ◌∷◌, ◌++◌, filter, length, take}
 use Rattle.std.proofs.Common.{drop, get_or, Option, Some, None, refl, sym, ap, ◌∙◌, arith, ⊎_elim, zero, suc, add-one, unwrap_or, ◌-◌}
 use Rattle.std.specs.List.{slice_split, onto_first, All}
@@ -53,7 +53,7 @@ lines_at_start-no_comment n b bs ne =
       | false ↦ from_no_comment n b (slice_split ends_line bs) e
     ]
 
--- where memchr finds the first line end
+-- memchr found the first line end here
 pub split_at_line_end : (bs : List ℕ) (k : ℕ) → NoneBefore (Passes (is_byte 10) bs) 0 (length bs) k → Passes (is_byte 10) bs k
     → slice_split ends_line bs ≡ take k bs ∷ slice_split ends_line (drop (k + 1) bs)
 split_at_line_end bs k h found =
@@ -66,13 +66,13 @@ split_at_line_end bs k h found =
     ap (slice_split ends_line) whole ∙ slice_split_at ends_line (take k bs) (get_or bs k 0) (drop (suc k) bs) none found
     ∙ ap (λ (m : ℕ). take k bs ∷ slice_split ends_line (drop m bs)) (sym (add-one k))
 
--- where memchr finds none
+-- memchr found none
 pub split_no_line_end : (bs : List ℕ) → Nowhere (Passes (is_byte 10) bs) 0 (length bs) → slice_split ends_line bs ≡ bs ∷ []
 split_no_line_end bs h =
     slice_split_none ends_line bs (λ i d lt.
     rw (get_or_default bs i d 0 lt) (⊎_elim (λ yes. absurd (h i (omega arith) lt yes)) (λ x. x) (cases_Bool (ends_line (get_or bs i 0)))))
 
--- a comment that the file ends with
+-- a comment that ends with the file
 pub lines_at_start-last_comment : (n b : ℕ) (bs : List ℕ) → b ≡ 99 → Nowhere (Passes (is_byte 10) bs) 0 (length bs)
     → lines_at_start n (b ∷ bs) ≡ []
 unfolding lines_at_start
@@ -86,7 +86,7 @@ lines_at_start-comment n b bs k e h found = rw (e, split_at_line_end bs k h foun
 
 -- ## a token
 
--- the bytes stand before the first part
+-- the bytes go in front of the first part
 onto : List ℕ → List (List ℕ) → List (List ℕ)
 onto [] parts = parts
 onto (b ∷ bs) parts = onto_first b (onto bs parts)
@@ -96,7 +96,7 @@ unfolding onto
 onto_is [] part parts = refl
 onto_is (b ∷ bs) part parts = rw (onto_is bs part parts) refl
 
--- no byte separates
+-- no byte is a separator
 abbrev pub IsRun : List ℕ → Type 0
 IsRun [] = Unit {0}
 IsRun (b ∷ bs) = (is_separator b ≡ false) × IsRun bs

@@ -36,7 +36,7 @@ IsMarked-read words p =
     let e = shr_and_one (get_or words (p / 64) 0) (p % 64) in
     (λ h. sym e ∙ eqb-true _ 1 h, λ h. eq-eqb _ 1 (e ∙ h))
 
--- a bit more, at place k of word i
+-- one more bit, at place k of word i
 pub IsMarked-set : (words : List ℕ) (i k p : ℕ) → i < length words → k < 64
     → IsBitSet (set words i (bit_or (get_or words i 0) (1 * 2 ^ k % 2 ^ 64))) p ↔ (IsBitSet words p ⊎ ((p / 64 ≡ i) × (p % 64 ≡ k)))
 unfolding IsBitSet
@@ -64,7 +64,7 @@ IsMarked-set words i k p within small =
     (λ h. inl (sym same ∙ h), λ h. ⊎_elim (λ old. same ∙ old) (λ both. absurd (elsewhere both.0)) h))
     (cases_eq (p / 64) i)
 
--- a bit less
+-- one bit less
 pub IsMarked-cleared : (words : List ℕ) (i k p : ℕ) → i < length words → k < 64
     → IsBitSet (set words i (bit_and (get_or words i 0) (bit_not w64 (1 * 2 ^ k % 2 ^ 64)))) p
     ↔ (IsBitSet words p × ((p / 64 ≡ i) × (p % 64 ≡ k) → ⊥))
@@ -95,7 +95,7 @@ IsMarked-cleared words i k p within small =
     (λ h. (sym same ∙ h, λ both. elsewhere both.0), λ h. same ∙ h.0))
     (cases_eq (p / 64) i)
 
--- words that were there or are 0 have no more marks
+-- words that are unchanged or 0 have no more marks
 IsMarked-fewer : (old new : List ℕ) → ((k : ℕ) → (get_or new k 0 ≡ get_or old k 0) ⊎ (get_or new k 0 ≡ 0)) → (p : ℕ) → IsBitSet new p
     → IsBitSet old p
 unfolding IsBitSet
@@ -144,9 +144,9 @@ AddsLiteral-none c l each has = record {
   order = inl (has, refl);
 }
 
--- ## taking the marks away
+-- ## clearing the marks
 
--- no literal is marked but those that are left
+-- only the literals that are left are marked
 abbrev pub LeavesMarks : List ℕ → List ℤ → Type 0
 LeavesMarks words left = (l : ℤ) → IsBitSet words (code_of l) → Has left l
 

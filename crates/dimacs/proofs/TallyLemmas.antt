@@ -1,4 +1,4 @@
--- How many clauses and literals a list of numbers spells, counted from the left; what the two laws compare.
+-- How many clauses and literals a list of numbers spells, counted from the left; the two laws compare these counts.
 use Rattle.std.proofs.Common.{◌≡◌, ◌⊎◌, ◌+◌, ◌<◌, ◌≤◌, ℕ, ℤ, pos, negsuc, nat_abs, List, [], ◌∷◌, ◌++◌, flat_map, length, max, zero, suc}
 use Rattle.std.proofs.Common.{refl, ap, ◌∙◌, inl, inr, ⊎_elim, arith}
 use Rattle.std.specs.List.{AllByRecursion}
@@ -8,7 +8,7 @@ use Rattle.lrup_model.specs.Formula.{max_clause_literals}
 use Rattle.dimacs.specs.Lines.{Token}
 use Rattle.dimacs.specs.FormulaTokens.{IsWritten, TokensSpell, ended}
 
--- clauses ended, literals of the clause begun, and the most literals of any clause
+-- clauses that ended, literals of the clause begun, and the largest number of literals of any clause
 pub record Tally : Type 0 where
   pub ended_clauses : ℕ
   pub begun : ℕ
@@ -29,7 +29,7 @@ tally-append n k l (pos zero ∷ xs) ys = tally-append (n + 1) 0 l xs ys
 tally-append n k l (pos (suc m) ∷ xs) ys = tally-append n (k + 1) (max l (k + 1)) xs ys
 tally-append n k l (negsuc m ∷ xs) ys = tally-append n (k + 1) (max l (k + 1)) xs ys
 
--- it goes on
+-- the counts, which later numbers only increase
 record GoesOn (n k l : ℕ) (t : Tally) : Type 0 where
   further : (n < t.ended_clauses) ⊎ ((t.ended_clauses ≡ n) × (k ≤ t.begun))
   longer : l ≤ t.longest
@@ -52,7 +52,7 @@ goes_on n k l (negsuc m ∷ zs) =
       longer = omega (arith, next.longer);
     }
 
--- one number more
+-- one more number
 pub further_by_one : (n k l : ℕ) (z : ℤ) (zs : List ℤ) → let t = tally n k l (z ∷ zs) in
     (n < t.ended_clauses) ⊎ ((t.ended_clauses ≡ n) × (k < t.begun))
 further_by_one n k l (pos zero) zs =
@@ -62,13 +62,13 @@ further_by_one n k l (pos (suc m)) zs =
 further_by_one n k l (negsuc m) zs =
     ⊎_elim (λ more. inl more) (λ same. inr (same.0, omega (arith, same.1))) (goes_on n (k + 1) (max l (k + 1)) zs).further
 
--- one literal more
+-- one more literal
 pub longer_by_one : (n k l : ℕ) (z : ℤ) (zs : List ℤ) → 0 < nat_abs z → k < (tally n k l (z ∷ zs)).longest
 longer_by_one n k l (pos zero) zs some = absurd (omega arith)
 longer_by_one n k l (pos (suc m)) zs some = omega (arith, (goes_on n (k + 1) (max l (k + 1)) zs).longer)
 longer_by_one n k l (negsuc m) zs some = omega (arith, (goes_on n (k + 1) (max l (k + 1)) zs).longer)
 
--- what tokens without a fault come to
+-- the counts of tokens without a fault
 pub record Comes (t : Tally) (clauses literals : ℕ) : Type 0 where
   pub clauses_are : t.ended_clauses ≡ clauses
   pub literals_are : t.begun ≡ literals

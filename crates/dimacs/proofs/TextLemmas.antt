@@ -1,4 +1,4 @@
--- A text of a formula, as it is printed, is the text that is read token by token.
+-- The printed text of a formula is the text that is read token by token.
 use Rattle.std.proofs.Common.{inl, inr, ◌≡◌, ◌+◌, ◌-◌, ◌*◌, ◌^◌, ◌<◌, ◌≤◌, ◌&&◌, ◌==◌, ℕ, ℤ, pos, negsuc, neg_ℤ, nat_abs, zero, suc, true}
 use Rattle.std.proofs.Common.{false, not, leb, List, [], ◌∷◌, ◌++◌, codes, map, flat_map, filter, length, get_or, Option, Some, None, refl}
 use Rattle.std.proofs.Common.{sym, ap, ◌∙◌, subst, arith}
@@ -37,7 +37,7 @@ folds = record { empty = λ n. refl; more = λ n c cs k. ap (λ (m : ℕ). value
 own : IsNumeralModel (λ ds. all_digits ds ≡ true) value
 own = numerals_by_fold (λ ds. all_digits ds ≡ true) tells value_after folds
 
--- digits of which the first isn't 0
+-- digits, the first of which isn't 0
 numeral_from : (ds : List ℕ) → 48 < get_or ds 0 0 → all_digits ds ≡ true → (is_zero ds ≡ false) × (is_numeral ds ≡ true)
 numeral_from [] some all = absurd (omega (arith, some))
 numeral_from (b ∷ bs) some all =

@@ -1,4 +1,4 @@
--- What stands next: the spelling of a token that has begun, by its first byte.
+-- The next token: the spelling of a token that has begun, from its first byte.
 use Rattle.std.proofs.Common.{◌≡◌, ◌⊎◌, ◌<◌, ◌≤◌, ℕ, pos, neg_ℤ, nat_abs, Bool, true, false, cond, ◌==◌, List, [], ◌∷◌, length, Option}
 use Rattle.std.proofs.Common.{Some, None, refl, sym, ap, ◌∙◌, inl, inr, ⊎_elim, arith, eq-eqb, take, drop, unwrap_or, rules}
 use Rattle.std.proofs.lemmas.Bool.{ne_eqb, cases_eq}
@@ -16,7 +16,7 @@ pub tokens_from_lines : (n m : ℕ) (xs ys : List ℕ) → lines_at n xs ≡ lin
 unfolding tokens_at
 tokens_from_lines n m xs ys e = ap all_tokens e
 
--- old tokens, in line n from a place on that is after separators and comments
+-- the old tokens, read in line n from a place after separators and comments
 pub token_taken : (n m : ℕ) (old rest : List ℕ) (b : ℕ) (after : List ℕ) → lines_at n rest ≡ lines_at m old → IsAtToken rest
     → rest ≡ b ∷ after → tokens_at m old ≡ record { line = n; text = b ∷ first_run after } ∷ tokens_at n (after_run after)
 token_taken n m old rest b after same place whole =
@@ -61,7 +61,7 @@ not_positive : (b : ℕ) (bs : List ℕ) → (b == 48) ≡ false → (b == 45) �
 unfolding number_of
 not_positive b bs other unsigned e = rw (is_zero-other b bs other, e, unsigned) refl
 
--- the digits are what stands after a minus sign, or all of the token
+-- the digits come after a minus sign, or are the whole token
 abbrev pub IsDigitsOf : ℕ → List ℕ → List ℕ → List ℕ → Type 0
 IsDigitsOf b after rest digits = ((b ≡ 45) × (digits ≡ after)) ⊎ ((b ≡ 45 → ⊥) × (digits ≡ rest))
 

@@ -1,4 +1,4 @@
--- A file has one fault at most.
+-- A file has at most one fault.
 use Rattle.std.proofs.Common.{◌≡◌, ◌⊎◌, ◌<◌, ◌≤◌, ℕ, ℤ, nat_abs, cond, ltb, eqb, List, [], ◌∷◌, ◌++◌, length, Option, Some, None, refl, sym}
 use Rattle.std.proofs.Common.{ap, ◌∙◌, inl, inr, ⊎_elim, arith, eq-eqb}
 use Rattle.std.proofs.lemmas.Bool.{lt-ltb, le-ltb, ne_eqb}
@@ -15,7 +15,7 @@ use Rattle.dimacs.proofs.LawLemmas.{IsFine, fine, fine_at, one_reading, one_head
 
 -- ## which fault a token has
 
--- the fault of this token, after so many clauses and literals
+-- the fault of this token, after this many clauses and literals
 abbrev IsTokenFault : DimacsFault → ℕ → ℕ → Token → ℕ → ℕ → Type 0
 IsTokenFault fault vars count t clauses literals =
     ((fault ≡ BadNumber t.line) × (number_of t.text ≡ None))

@@ -1,6 +1,6 @@
--- The first fault of a file that is no text of a formula, in byte order: the header is judged as a whole, the tokens
--- after it one by one. Of several faults of one token, or of the header, it is the first by the order of DimacsFault.
--- (The faults and their order are this project's own.)
+-- The first fault, in byte order, of a file that isn't a text of a formula: the header is judged as
+-- a whole, and the tokens after it one by one. If one token, or the header, has several faults, it
+-- is the first in the order of DimacsFault. (The faults and their order are this project's own.)
 use Rattle.std.specs.Prelude.{◌≡◌, ◌⊎◌, ◌≤◌, ◌<◌, ℕ, ℤ, nat_abs, Some, None, List, [], ◌∷◌, ◌++◌, codes, length}
 use Rattle.lrup_model.specs.Literal.{IsLiteral, max_variable}
 use Rattle.lrup_model.specs.Formula.{max_clauses, max_clause_literals}
@@ -24,7 +24,7 @@ HasBadHeader [] = ⊥
 HasBadHeader (header ∷ lines) =
     BeginsHeader header.tokens × ((vars count : ℕ) → ¬ IsHeader header.tokens vars count)
 
--- a header that is spelled right and says too much
+-- a header that is spelled right, but says too much
 pub record SaysTooMuch (header : List (List ℕ)) : Type 0 where
   pub vars : ℕ
   pub count : ℕ
@@ -35,7 +35,8 @@ abbrev pub HasLargeHeader : List Line → Type 0
 HasLargeHeader [] = ⊥
 HasLargeHeader (header ∷ lines) = SaysTooMuch header.tokens
 
--- The tokens before this one have no fault, and spell the clauses of closed and, without its 0, begun.
+-- The tokens before this one have no fault, and spell the clauses of `closed` and, without its 0,
+-- `begun`.
 pub record StandsAt (token : Token) (vars count : ℕ) (tokens : List Token) (closed : List (List ℤ))
     (begun : List ℤ) : Type 0 where
   pub before : List Token
@@ -69,7 +70,7 @@ pub record HasMoreClauses (line vars count : ℕ) (tokens : List Token) : Type 0
   pub within : nat_abs number ≤ vars
   pub fault : length closed ≡ count
 
--- one literal more than a clause may have
+-- one more literal than a clause may have
 pub record HasLongClause (vars count : ℕ) (tokens : List Token) : Type 0 where
   pub token : Token
   pub number : ℤ
@@ -111,6 +112,6 @@ IsHeaderFault BadHeader lines = HasBadHeader lines
 IsHeaderFault Limit lines = HasLargeHeader lines
 IsHeaderFault _ lines = ⊥
 
--- the first fault of the file; out of memory is no file's fault
+-- the first fault of the file; out of memory isn't a fault of a file
 abbrev pub IsFormulaFault : List ℕ → DimacsFault → Type 0
 IsFormulaFault bytes fault = IsHeaderFault fault (lines_of bytes) ⊎ InBody bytes (IsBodyFault fault)

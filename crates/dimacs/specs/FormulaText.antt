@@ -1,4 +1,5 @@
--- What it is for a file to be the text of a formula (DIMACS CNF; the limits are this project's own).
+-- What it means that a file is the text of a formula (DIMACS CNF; the limits are this project's
+-- own).
 use Rattle.std.specs.Prelude.{◌≡◌, ◌≤◌, ℕ, ℤ, pos, List, [], ◌∷◌, ◌++◌, codes, length, map, flat_map}
 use Rattle.std.specs.Fmt.{decimal, signed_decimal}
 use Rattle.std.specs.List.{AllByRecursion}
@@ -7,9 +8,9 @@ use Rattle.lrup_model.specs.Formula.{Cnf, max_clauses, max_clause_literals}
 use Rattle.lrup_model.specs.Literal.{IsLiteral, max_variable}
 use Rattle.dimacs.specs.Lines.{token_lines}
 
--- The bytes are a text of the formula. The first line of tokens is the header, and the tokens of the
--- others are the literals of the clauses as they are written, each clause with a 0 after it. The
--- formula has each literal of a clause once.
+-- The bytes are a text of the formula. The first line of tokens is the header, and the tokens of
+-- the other lines are the literals of the clauses as they are written, each clause followed by a 0.
+-- The formula has each literal of a clause once.
 pub record IsFormulaText (bytes : List ℕ) (formula : Cnf) : Type 0 where
   pub lines : List (List (List ℕ))
   pub header : token_lines bytes

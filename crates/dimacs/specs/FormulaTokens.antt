@@ -1,5 +1,5 @@
--- A text of a formula, read token by token: the words of this crate's own functions, and of the faults. What a text is says
--- FormulaText, and a law that it is the same.
+-- A text of a formula, read token by token: definitions for this crate's own functions, and for the
+-- faults. `IsFormulaText` says what a text is, and a law says that this is the same.
 use Rattle.std.specs.Prelude.{◌≡◌, ◌↔◌, ◌≤◌, ◌<◌, ℕ, ℤ, pos, IsTrue, Some, List, [], ◌∷◌, ◌++◌, codes, length, map, flat_map}
 use Rattle.std.specs.List.{AllByRecursion}
 use Rattle.lrup_model.specs.Literal.{IsLiteral, max_variable}
@@ -19,7 +19,8 @@ IsHeader (p ∷ cnf ∷ variables ∷ clauses ∷ []) vars count =
     (p ≡ codes "p") × (cnf ≡ codes "cnf") × IsCount variables vars × IsCount clauses count
 IsHeader _ vars count = ⊥
 
--- what holds after a header that is spelled right and within the limits: of its two counts, and of the later tokens
+-- what holds after a header that is spelled right and within the limits, for its two counts and the
+-- later tokens
 pub record AfterHeader (header : Line) (lines : List Line)
     (P : ℕ → ℕ → List Token → Type 0) : Type 0 where
   pub vars : ℕ
@@ -29,17 +30,17 @@ pub record AfterHeader (header : Line) (lines : List Line)
   pub few_clauses : count ≤ max_clauses
   pub later : P vars count (all_tokens lines)
 
--- The first of these lines, which are no comments and hold a token, is a header, and P holds of its
--- two counts and of the tokens after it.
+-- The first of these lines, which aren't comments and have a token, is a header, and P holds for
+-- its two counts and the tokens after it.
 abbrev pub InBodyOf : List Line → (ℕ → ℕ → List Token → Type 0) → Type 0
 InBodyOf [] P = ⊥
 InBodyOf (header ∷ lines) P = AfterHeader header lines P
 
--- the same of the lines of a whole file, given as bytes
+-- the same for the lines of a whole file, given as bytes
 abbrev pub InBody : List ℕ → (ℕ → ℕ → List Token → Type 0) → Type 0
 InBody bytes P = InBodyOf (lines_of bytes) P
 
--- the literals of a clause as the text has them, repeats counted
+-- the literals of a clause as the text has them, counting repeats
 pub record IsWritten (vars : ℕ) (literals : List ℤ) : Type 0 where
   pub within : AllByRecursion (IsLiteral vars) literals
   pub size : length literals ≤ max_clause_literals
@@ -48,8 +49,8 @@ pub record IsWritten (vars : ℕ) (literals : List ℤ) : Type 0 where
 abbrev pub ended : List ℤ → List ℤ
 ended literals = literals ++ pos 0 ∷ []
 
--- These tokens have no fault: they spell the clauses of closed, each with its 0, and then the literals of begun, whose
--- clause has not ended.
+-- These tokens have no fault: they spell the clauses of `closed`, each with its 0, and then the
+-- literals of `begun`, whose clause hasn't ended.
 pub record TokensSpell (vars count : ℕ) (tokens : List Token) (closed : List (List ℤ))
     (begun : List ℤ) : Type 0 where
   pub numbers : map (λ (token : Token). number_of token.text) tokens
@@ -59,21 +60,21 @@ pub record TokensSpell (vars count : ℕ) (tokens : List Token) (closed : List (
   pub closed_count : length closed ≤ count
   pub begun_count : 0 < length begun → length closed < count
 
--- The clause is the set of the literals, and has each of them once, in the order of their first
--- places. The last member alone gives the other two, which say it as textbooks do.
+-- The clause is the set of the literals, and has each literal once, in the order of first
+-- occurrence. The last field alone implies the other two, which say it as textbooks do.
 pub record IsSetOf (literals : List ℤ) (clause : Clause) : Type 0 where
   pub members : (l : ℤ) → Has clause l ↔ Has literals l
   pub each_once : EachOnce clause
   pub order : clause ≡ distinct literals
 
--- clause by clause, in order
+-- the same clause by clause, in order
 abbrev pub AreSetsOf : List (List ℤ) → List Clause → Type 0
 AreSetsOf [] [] = Unit {0}
 AreSetsOf (literals ∷ rest) (clause ∷ clauses) = IsSetOf literals clause × AreSetsOf rest clauses
 AreSetsOf [] (clause ∷ clauses) = ⊥
 AreSetsOf (literals ∷ rest) [] = ⊥
 
--- the tokens after the header are the formula's clauses
+-- the tokens after the header spell the formula's clauses
 pub record AreClauses (formula : Cnf) (vars count : ℕ) (tokens : List Token) : Type 0 where
   pub written : List (List ℤ)
   pub vars_are : formula.vars ≡ vars

@@ -1,4 +1,5 @@
--- A file of DIMACS CNF, cut into lines and tokens (DIMACS CNF; the exact spelling is this project's own).
+-- A file of DIMACS CNF, cut into lines and tokens (DIMACS CNF; the exact spelling is this project's
+-- own).
 use Rattle.std.specs.Prelude.{ℕ, ◌+◌, Bool, true, false, not, ◌||◌, ◌==◌, List, [], ◌∷◌, map, filter, flat_map, if◌then◌else◌}
 use Rattle.std.specs.List.{slice_split}
 
@@ -24,7 +25,7 @@ abbrev pub is_comment : List ℕ → Bool
 is_comment [] = false
 is_comment (byte ∷ bytes) = byte == 99
 
--- The tokens of each line that is no comment and has some; a line ends at LF.
+-- The tokens of each line that isn't a comment and has any; a line ends at LF.
 abbrev pub token_lines : List ℕ → List (List (List ℕ))
 token_lines bytes =
     filter (λ tokens. not (is_empty tokens))
@@ -35,14 +36,14 @@ pub record Line : Type 0 where
   pub number : ℕ
   pub tokens : List (List ℕ)
 
--- the lines that are no comments and hold a token, if the first line has this number
+-- the lines that aren't comments and have a token, if the first line has this number
 abbrev pub lines_from : ℕ → List (List ℕ) → List Line
 lines_from number [] = []
 lines_from number (line ∷ lines) =
     if is_comment line || is_empty (runs line) then lines_from (number + 1) lines
     else record { number = number; tokens = runs line } ∷ lines_from (number + 1) lines
 
--- the lines of a whole file that are no comments and hold a token
+-- the lines of a whole file that aren't comments and have a token
 abbrev pub lines_of : List ℕ → List Line
 lines_of bytes = lines_from 1 (slice_split ends_line bytes)
 

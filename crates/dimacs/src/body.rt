@@ -14,10 +14,11 @@ use crate::tokens::{Next, Tokens};
 use lrup_model::{Formula, Lit};
 use std::alloc::Global;
 
-/// The greatest number of literals that may be written in one clause.
+/// The largest number of literals that may be written in one clause.
 const MAX_CLAUSE_LITERALS: u32 = Formula::MAX_CLAUSE_LITERALS;
 
-/// The formula so far, the clause that has begun, and how many literals were written in it, repeats counted.
+/// The formula so far, the clause being read, and how many literals were written in it, counting
+/// repeats.
 #[derive(Drop)]
 struct Builder {
     formula: Formula,
@@ -27,7 +28,7 @@ struct Builder {
 }
 
 impl Builder {
-    /// Adds a literal to the clause. `line` is where it stands.
+    /// Adds a literal to the clause. `line` is the number of its line.
     fn literal(&mut self, l: Lit, line: u64) -> Result<(), DimacsFault>
         ensures formula { self.new.formula ≡ self.old.formula }
         ensures left { self.new.left ≡ self.old.left }
@@ -49,7 +50,7 @@ impl Builder {
         Ok(())
     }
 
-    /// Ends the clause. `line` is where its 0 stands.
+    /// Ends the clause. `line` is the number of the line with its 0.
     fn end_clause(&mut self, line: u64) -> Result<(), DimacsFault>
         requires count { length self.old.formula.clauses + self.old.left ≤ max_clauses }
         requires clause { IsFormulaClause self.old.formula.vars self.old.clause }
@@ -70,7 +71,7 @@ impl Builder {
         Ok(())
     }
 
-    /// The formula, once the file ends.
+    /// The formula, at the end of the file.
     fn finish(self) -> Result<Formula, DimacsFault>
         ensures ok { IfOk result (λ formula. (formula ≡ self.formula) × (self.written ≡ 0)
             × (self.left ≡ 0)) }

@@ -1,18 +1,20 @@
-//! Why a file is no formula.
+//! Why a file isn't a formula.
 ghost use Rattle.std.specs.Prelude.{◌≡◌};
 ghost use Rattle.dimacs.specs.declared.fault.DimacsFault.TheVariants.{Memory};
 
 use std::alloc::AllocError;
 use thiserror::Error;
 
-/// Why a file was refused: its first fault in byte order. The header is judged as a whole line, and the tokens after it one by one. Of
-/// several faults of one token, or of the header, the first of this list is given. Lines count from 1.
+/// Why a file was refused: its first fault in byte order. The header is judged as a whole line, and
+/// the tokens after it one by one. If one token, or the header, has several faults, the first one
+/// in this list is given. Lines are counted from 1.
 #[derive(Clone, Copy, Debug, PartialEq, Eq, Error)]
 pub enum DimacsFault {
-    /// No line has a token, or the first that has one does not begin with the token `p`.
+    /// No line has a token, or the first line that has one doesn't begin with the token `p`.
     #[error("formula refused: no header")]
     NoHeader,
-    /// The header is not spelled `p cnf V C`, with two numbers that have no sign and no leading zero.
+    /// The header isn't spelled `p cnf V C`, with two numbers that have no sign and no leading
+    /// zero.
     #[error("formula refused: bad header")]
     BadHeader,
     /// A token in this line is neither 0 nor a number without plus sign and leading zero.
@@ -27,13 +29,14 @@ pub enum DimacsFault {
     /// The file has fewer clauses than the header says.
     #[error("formula refused: too few clauses")]
     TooFew,
-    /// A token in this line stands after the last clause that the header announces.
+    /// There is a token in this line after the last clause that the header announces.
     #[error("formula refused: too many clauses in line {0}")]
     TooMany(u64),
-    /// More than 16,777,215 variables or clauses, or more than 1,048,575 literals written in one clause.
+    /// More than 16,777,215 variables or clauses, or more than 1,048,575 literals written in one
+    /// clause.
     #[error("formula refused: limit")]
     Limit,
-    /// Memory was refused. The file may well be a formula.
+    /// Memory was refused. The file may be a formula.
     #[error("out of memory")]
     Memory,
 }

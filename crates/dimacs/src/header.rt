@@ -8,14 +8,14 @@ use crate::fault::DimacsFault;
 use crate::tokens::{MAX_VARIABLE, is_separator, numeral};
 use lrup_model::Formula;
 
-/// What the header says: the numbers of variables and of clauses, each at most 16,777,215.
+/// The header: the numbers of variables and of clauses, each at most 16,777,215.
 #[derive(Clone, Copy)]
 pub struct Header {
     pub vars: u32,
     pub clauses: u32,
 }
 
-/// The greatest number of clauses.
+/// The largest number of clauses.
 const MAX_CLAUSES: u32 = Formula::MAX_CLAUSES;
 
 fn skip_separators(line: &[u8]) -> &[u8]
@@ -32,7 +32,7 @@ fn skip_separators(line: &[u8]) -> &[u8]
     rest
 }
 
-/// The bytes before the next separator, and those from it on.
+/// The bytes before the next separator, and the bytes from the separator on.
 fn split_run(text: &[u8]) -> (&[u8], &[u8])
     ensures run { result.0.now ≡ first_run text.now }
     ensures after { result.1.now ≡ after_run text.now }
@@ -44,7 +44,7 @@ fn split_run(text: &[u8]) -> (&[u8], &[u8])
     text.split_at(end)
 }
 
-/// The first token of a line, and what stands after it. If there is none, it is empty.
+/// The first token of a line, and the rest of the line after it. If there is none, it is empty.
 fn next_run(line: &[u8]) -> (&[u8], &[u8])
     ensures runs { runs line.now ≡ with_run result.0.now (runs result.1.now) }
     ensures whole { first_run result.0.now ≡ result.0.now }
@@ -52,7 +52,8 @@ fn next_run(line: &[u8]) -> (&[u8], &[u8])
     split_run(skip_separators(line))
 }
 
-/// The number of a token that spells one, without a sign. A number above `MAX_VARIABLE` is given as any number above it.
+/// The number that a token spells, without a sign; `None` if it spells none. For a number above
+/// `MAX_VARIABLE` the result is any number above it.
 fn count(text: &[u8]) -> Option<u32>
     requires { first_run text.now ≡ text.now }
     ensures { MatchOption result (is_count text.now ≡ false) (ReadsCount text.now) }

@@ -1,5 +1,5 @@
-//! Reads a formula in DIMACS CNF: what is read is exactly what the text says, and what is refused is refused at its first
-//! fault.
+//! Reads a formula in DIMACS CNF: the result is exactly what the text says, and a refused text is
+//! refused at its first fault.
 #![tactic(auto)]
 
 ghost use Rattle.std.specs.Prelude.{◌≢◌, IfOk, IfErr};
@@ -19,13 +19,14 @@ pub use fault::DimacsFault;
 use lrup_model::Formula;
 use std::alloc::Global;
 
-/// Reads the formula of a whole file. What is given is what the bytes say: a literal that a clause repeats stands in it
-/// once. A file that is no formula is refused with its first fault in byte order, and keeps no memory; `Memory` says
-/// nothing of the file.
+/// Reads the formula of a whole file. The result is what the bytes say, with each literal of a
+/// clause once. A file that isn't a formula is refused with its first fault in byte order, and all
+/// memory is freed; `Memory` says nothing about the file.
 ///
-/// By the code, and by no clause: the time is linear in the file, however long clauses and numbers are. A formula has 4 bytes a
-/// literal and 8 a clause in two lists, which double if they are full: so they take up to twice as much, and for a moment three times.
-/// The clause that is being read takes at most 11 MB besides.
+/// In the code, though no clause says so, the time is linear in the size of the file, however long
+/// clauses and numbers are. A formula takes 4 bytes for each literal and 8 for each clause, in two
+/// lists that double when they are full: so they take up to twice as much, and three times as much
+/// while they grow. The clause being read takes at most 11 MB more.
 pub fn parse(alloc: Global, bytes: &[u8]) -> Result<Formula, DimacsFault>
     ensures formula { IfOk result (λ f. IsFormulaText bytes.now f) }
     ensures fault { IfErr result (λ fault. fault ≢ Memory → IsFormulaFault bytes.now fault) }

@@ -1,4 +1,4 @@
-//! A mark for each literal: a bit, 4 MB for all of them.
+//! A mark for each literal: one bit, 4 MB for all literals.
 ghost use Rattle.std.specs.Prelude.{◌≡◌, ◌↔◌, ◌⊎◌, ◌*◌, ◌<◌, ◌≤◌, ℕ, ℤ, [], IsTrue, OnOk, OnErr, length};
 ghost use Rattle.lrup_model.specs.Literal.{code_of};
 ghost use Rattle.dimacs.specs.internal.Marks.{IsBitSet, MarksAre, all_words};
@@ -6,7 +6,7 @@ ghost use Rattle.dimacs.specs.internal.Marks.{IsBitSet, MarksAre, all_words};
 use lrup_model::Lit;
 use std::alloc::AllocError;
 
-/// The number of words in which each literal has a place.
+/// The number of words that have a bit for each literal.
 const WORDS: usize = 524_288;
 
 /// The place of a literal's mark.
@@ -48,7 +48,7 @@ pub fn has_mark(words: &[u64], l: Lit) -> bool
     is_marked(words, place(l))
 }
 
-/// Marks one literal more.
+/// Marks one more literal.
 pub fn set_mark(words: &mut [u64], l: Lit)
     requires { all_words ≤ length words.old }
     ensures { (m : ℤ) → IsBitSet words.new (code_of m)
@@ -57,7 +57,7 @@ pub fn set_mark(words: &mut [u64], l: Lit)
     mark(words, place(l));
 }
 
-/// Marks the literals, none of which has a mark yet. The words have a place for each.
+/// Marks the literals; no mark is set before. The words have a place for each literal.
 fn mark_all(words: &mut [u64], literals: &[Lit])
     requires marks { MarksAre words.old [] }
     requires words { all_words ≤ length words.old }
@@ -68,7 +68,7 @@ fn mark_all(words: &mut [u64], literals: &[Lit])
     }
 }
 
-/// Marks the literals, none of which has a mark yet. The first call takes memory for the marks of all literals.
+/// Marks the literals; no mark is set before. The first call allocates the marks of all literals.
 pub fn set_marks(words: &mut Vec<u64>, literals: &[Lit]) -> Result<(), AllocError>
     requires { MarksAre words.old.items [] }
     ensures ok { OnOk result (MarksAre words.new.items literals.now
@@ -80,7 +80,7 @@ pub fn set_marks(words: &mut Vec<u64>, literals: &[Lit]) -> Result<(), AllocErro
     Ok(())
 }
 
-/// Takes the literals' marks away.
+/// Clears the literals' marks.
 pub fn clear_marks(words: &mut [u64], literals: &[Lit])
     requires marks { MarksAre words.old literals.now }
     requires words { all_words ≤ length words.old }

@@ -1,4 +1,4 @@
-//! The clause that is being read, as the set of its literals.
+//! The clause being read, as the set of its literals.
 ghost use Rattle.std.specs.Prelude.{◌≡◌, ◌↔◌, ◌<◌, ◌≤◌, ℤ, [], List, IsTrue, length, OnOk, OnErr};
 ghost use Rattle.lrup_model.specs.Clause.{EachOnce, Has};
 ghost use Rattle.dimacs.specs.internal.Places.{AddsLiteral};
@@ -9,8 +9,8 @@ use lrup_model::Lit;
 use std::alloc::{AllocError, Global};
 use std::marker::Model;
 
-/// The literals of a clause, each once. A short clause is searched from its start; of a longer one each literal has a
-/// mark.
+/// The literals of a clause, each once. A short clause is searched from its start; in a longer one,
+/// each literal has a mark.
 #[derive(Drop)]
 pub struct OpenClause {
     literals: Vec<Lit>,
@@ -30,7 +30,7 @@ impl Model for OpenClause {
     ghost invariant = { λ c. EachOnce c.literals.items × MarksFit c.marked c.marks.items c.literals.items };
 }
 
-/// The most literals of a clause that has no marks.
+/// The maximum number of literals of a clause without marks.
 const SHORT: usize = 8;
 
 fn has(literals: &[Lit], l: Lit) -> bool
@@ -44,7 +44,7 @@ fn has(literals: &[Lit], l: Lit) -> bool
     false
 }
 
-/// Adds a literal to a clause whose literals have marks, unless the clause has it.
+/// Adds a literal to a clause whose literals have marks, unless the clause already has it.
 fn add_marked(literals: &mut Vec<Lit>, marks: &mut [u64], l: Lit) -> Result<(), AllocError>
     requires each_once { EachOnce literals.old.items }
     requires marks { MarksAre marks.old literals.old.items }
@@ -82,7 +82,7 @@ impl OpenClause {
         self.literals.as_slice()
     }
 
-    /// Adds a literal, unless the clause has it. A refusal changes nothing.
+    /// Adds a literal, unless the clause already has it. A refusal changes nothing.
     pub fn add(&mut self, l: Lit) -> Result<(), AllocError>
         ensures ok { OnOk result (AddsLiteral self.old self.new l) }
         ensures err { OnErr result (self.new ≡ self.old) }
@@ -101,7 +101,7 @@ impl OpenClause {
         add_marked(&mut self.literals, &mut self.marks, l)
     }
 
-    /// Takes all literals away.
+    /// Removes all literals.
     pub fn clear(&mut self)
         ensures { self.new ≡ [] }
     {

@@ -1,4 +1,4 @@
-//! Lines, comments and tokens, read once from the left.
+//! Lines, comments and tokens, read once from left to right.
 ghost use Rattle.std.specs.Prelude.{neg_ℤ, pos, ◌↔◌, true, false, MatchOption, IsTrue, ◌≡◌, ◌+◌, ◌-◌, ◌<◌, ◌≤◌, ◌^◌, [], ◌∷◌, length, drop, if◌then◌else◌};
 ghost use Rattle.dimacs.specs.Lines.{lines_of, runs, is_separator as separates};
 ghost use Rattle.dimacs.specs.internal.Places.{lines_at, lines_at_start, tokens_at, first_run, after_run, IsAtToken, ReadsNumeral, FindsNext};
@@ -11,7 +11,7 @@ use memchr::memchr;
 /// The first byte of a comment.
 const COMMENT: u8 = b'c';
 
-/// What is left of a file after some place that is not inside a token or a comment.
+/// The rest of a file from some place on, which isn't inside a token or a comment.
 #[derive(Drop)]
 pub struct Tokens<'a> {
     rest: &'a [u8],
@@ -19,12 +19,12 @@ pub struct Tokens<'a> {
     ghost countable: { line + length rest.now < 2 ^ 64 },
 }
 
-/// What stands next among the tokens of a formula's clauses.
+/// The next token of a formula's clauses.
 #[derive(Clone, Copy)]
 pub enum Next {
-    /// Nothing more.
+    /// There is none.
     End,
-    /// A token that no clause may have.
+    /// A token that can't occur in a clause.
     Bad,
     /// A number whose magnitude is above the number of variables.
     Range,
@@ -34,7 +34,7 @@ pub enum Next {
     Literal(Lit),
 }
 
-/// Whether the byte stands between tokens: space, tab, CR or LF.
+/// Whether the byte separates tokens: space, tab, CR or LF.
 pub(crate) fn is_separator(byte: u8) -> bool
     ensures { result ≡ separates byte }
 {
@@ -48,7 +48,7 @@ fn is_digit(byte: u8) -> bool
     byte.is_ascii_digit()
 }
 
-/// Whether no token goes on here.
+/// Whether a token ends here.
 fn ends_token(rest: &[u8]) -> bool
     ensures { IsTrue result ↔ (first_run rest.now ≡ []) }
 {
@@ -58,10 +58,11 @@ fn ends_token(rest: &[u8]) -> bool
     }
 }
 
-/// The greatest variable that any formula may have.
+/// The largest variable that any formula may have.
 pub(crate) const MAX_VARIABLE: u32 = Lit::MAX_VARIABLE;
 
-/// Goes past digits to the end of their token, and gives what is left. None if the token has another byte, too.
+/// Skips digits up to the end of their token, and returns the rest. `None` if the token contains
+/// another byte.
 #[cold]
 #[inline(never)]
 fn skip_digits(text: &[u8]) -> Option<&[u8]>
@@ -82,8 +83,9 @@ fn skip_digits(text: &[u8]) -> Option<&[u8]>
     Some(rest)
 }
 
-/// Reads a number that begins with a digit from 1 to 9, up to the end of its token, and gives what is left. A number above
-/// `MAX_VARIABLE` is given as any number above it. None if the token has another spelling.
+/// Reads a number that begins with a digit from 1 to 9, up to the end of its token, and returns it
+/// and the rest. For a number above `MAX_VARIABLE` the result is any number above it. `None` if the
+/// token has another spelling.
 pub(crate) fn numeral(text: &[u8]) -> Option<(u32, &[u8])>
     ensures { MatchOption result (is_numeral (first_run text.now) ≡ false)
         (λ r. ReadsNumeral text.now r.0 r.1.now) }
@@ -145,15 +147,15 @@ impl<'a> Tokens<'a> {
         tokens
     }
 
-    /// The number of the line at this place, from 1 on.
+    /// The number of the line at this place, counted from 1.
     pub fn line(&self) -> u64
         ensures { result ≡ self.now.line }
     {
         self.line
     }
 
-    /// Goes to the end of the next line that has a token, and gives that line from its first token on. None at the end of
-    /// the file.
+    /// Goes to the end of the next line that has a token, and returns that line from its first
+    /// token on. `None` at the end of the file.
     pub fn next_line(&mut self) -> Option<&'a [u8]>
         ensures { MatchOption result
             (lines_at self.old.line self.old.rest.now ≡ [])
@@ -171,7 +173,7 @@ impl<'a> Tokens<'a> {
         Some(line)
     }
 
-    /// Takes the next token, of a formula of `vars` variables.
+    /// Takes the next token, for a formula of `vars` variables.
     pub fn next(&mut self, vars: u32) -> Next
         requires { vars ≤ max_variable }
         ensures { FindsNext vars self.new.line
@@ -201,7 +203,7 @@ impl<'a> Tokens<'a> {
         Next::Literal(literal(value, negative))
     }
 
-    /// Goes past the comments that begin here, at the start of a line.
+    /// Skips the comments that begin here, at the start of a line.
     fn skip_comments(&mut self)
         ensures same { lines_at self.new.line self.new.rest.now
             ≡ lines_at_start self.old.line self.old.rest.now }

@@ -1,4 +1,4 @@
--- Lemmas on a publish: its exchange wins exactly where the own identity is vacant.
+-- Lemmas about a publish: its compare-exchange succeeds exactly if the identity is vacant.
 use Rattle.std.proofs.Common.{◌≡◌, ◌≢◌, ℕ, ◌+◌, eqb, List, [], ◌∷◌, ◌++◌, length, set, slice_index, slice_set, Option, None, Some, refl}
 use Rattle.std.proofs.Common.{sym, ap, subst, ◌∙◌, inl, inr, arith, eq-eqb, ne_eqb}
 use mathlib.Core.Option.{some}
@@ -36,7 +36,7 @@ module _ (v : ThreadState) (seat id new : ℕ) (owns : Owns v.view.caller.layout
     (clause : IsPublishable v.view.caller.formula v.draft)
     (is : new ≡ identity_word 1 (length v.draft) v.top) (more : History) (words : List ℕ) (views : List (List ThreadState))
     (kept : OwnKeeps v more words views) (here : get_elem? views seat ≡ some (v ∷ [])) where
-  -- the row is kept with this word at the identity, and the publish was answered so
+  -- the row fits a history after this word is written at the identity, and the publish has its reply
   abbrev Claimed : ℕ → Type 0
   Claimed word = (w : ThreadState) × (log : History)
       × Keeps v.view.caller.formula v.view.caller.layout log (slice_set words id word) (set views seat (w ∷ []))

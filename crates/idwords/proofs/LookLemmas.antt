@@ -1,4 +1,4 @@
--- Lemmas on a step that changes no word: a fetch, and every other event that changes nothing of the map.
+-- Lemmas about a step that changes no word: a fetch, and every other event that doesn't change the map.
 use Rattle.std.proofs.Common.{◌≡◌, ℕ, ◌<◌, ◌≤◌, cond, eqb, List, [], ◌∷◌, ◌++◌, length, set, slice_index, slice_set, Option, None, Some}
 use Rattle.std.proofs.Common.{refl, sym, ap, subst, ◌∙◌, arith, append-nil, eq-eqb, ne_eqb}
 use mathlib.Core.Option.{some}
@@ -26,7 +26,7 @@ use Rattle.idwords.proofs.WordLemmas.{IsShort, shows_slot, state-identity_word}
 use Rattle.idwords.proofs.RuleLemmas.{OwnKeeps, advanced, event_top, stands_at, Serves, advance}
 use Rattle.idwords.proofs.StepLemmas.{OwnStep}
 
--- An event that changes nothing of the map
+-- An event that doesn't change the map
 
 pub record IsPlain (f : Cnf) (p : LayoutValue) (log : History) (e : Event) : Type 0 where
   pub state : (id : ℕ) → after (state f log) e id ≡ state f log id
@@ -67,7 +67,7 @@ module _ (v : ThreadState) (more : History) (words : List ℕ) (views : List (Li
 
 -- A fetch
 
--- the reply that a slot gives
+-- the reply of a fetch that finds this slot
 abbrev pub slot_reply : Slot → Reply
 slot_reply absent = events.vacant
 slot_reply (live c) = events.live c
@@ -107,7 +107,7 @@ short_option : (o o' : Option StoredClause) → o ≡ o' → ((stored : StoredCl
 short_option o None same all = tt
 short_option o (Some stored) same all = all stored same
 
--- the word of an identity shows what is stored, and spells its slot
+-- the word of an identity shows what is stored for it, and determines the reply of a fetch
 pub shown : (f : Cnf) (p : LayoutValue) (log : History) (words : List ℕ) (views : List (List ThreadState)) (id : ℕ)
     → Keeps f p log words views
     → IsIdentity p id → ShowsStored (stored_in (spelling_of f p log) id) (slice_index words id)

@@ -1,4 +1,4 @@
--- Lemmas on a meeting: thread states are dealt out and put together, and of two thread states each sees the longer history.
+-- Lemmas about a meeting: thread states move between tokens, and of two thread states each sees the longer history.
 use Rattle.std.proofs.Common.{◌≡◌, ◌⊎◌, ℕ, ◌+◌, ◌≤◌, List, [], ◌∷◌, ◌++◌, length, set, slice_index, refl, sym, ap, subst, ◌∙◌, inl, inr}
 use Rattle.std.proofs.Common.{arith, ap₂, cond, eqb, append-nil, append_assoc, length-append}
 use Rattle.std.specs.List.{AllByRecursion}
@@ -26,7 +26,7 @@ use Rattle.idwords.proofs.SpellingLemmas.{lies_within, keeps_spelt, spelt}
 use Rattle.idwords.proofs.ViewLemmas.{all_at, all-set, all-snoc, times-set, times-snoc}
 use Rattle.idwords.proofs.RuleLemmas.{own_rest, between, fair_thread}
 
--- Parts change hands
+-- Thread states move between tokens
 
 all-back : (P : ThreadState → Type 0) (vs ws : List ThreadState) → AllByRecursion P (vs ++ ws) → AllByRecursion P ws
 all-back P [] ws all = all
@@ -40,7 +40,7 @@ count-append : (s : ℕ) (vs ws : List ThreadState) → count_in s (vs ++ ws) �
 count-append s [] ws = omega arith
 count-append s (v ∷ vs) ws = let rest = count-append s vs ws in omega arith
 
--- the invariant holds by other views that have the same thread states
+-- the row still fits the history if tokens have other thread states, each of which agrees with it, and no stream has more than before
 with_views : (f : Cnf) (p : LayoutValue) (log : History) (words : List ℕ) (views views' : List (List ThreadState))
     → Keeps f p log words views
     → AllThreads (Stands f p log words) views' → ((s : ℕ) → times s views' ≤ times s views) → Keeps f p log words views'
@@ -56,7 +56,7 @@ with_views f p log words views views' kept threads once = record {
 }
 
 module _ {S : Type 0} where
-  -- a seat's thread states are cut in two, and a new seat has the front
+  -- a token's thread states are split, and a new token has the front
   pub splits_front : (f : Cnf) (p : LayoutValue) (id : ℕ) (front back : List ThreadState)
       → Splits {S = S} (HoldsRowInvariant f p) id (front ++ back) back front
   splits_front f p id front back s kept here =
@@ -70,7 +70,7 @@ module _ {S : Type 0} where
             (arith, times-snoc t (set s.views id back) front, times-set t s.views id (front ++ back) back here, count-append t front back)),
       )
 
-  -- or the back
+  -- a new token has the back
   pub splits_back : (f : Cnf) (p : LayoutValue) (id : ℕ) (front back : List ThreadState)
       → Splits {S = S} (HoldsRowInvariant f p) id (front ++ back) front back
   splits_back f p id front back s kept here =
@@ -88,7 +88,7 @@ module _ {S : Type 0} where
             )),
       )
 
-  -- a seat takes in the thread states of another
+  -- a token takes over the thread states of another
   pub joins : (f : Cnf) (p : LayoutValue) (id : ℕ) (vs : List ThreadState) (other : ℕ) (ws : List ThreadState)
       → Joins {S = S} (HoldsRowInvariant f p) id vs other ws (vs ++ ws) []
   joins f p id vs other ws s kept here apart there =
@@ -106,7 +106,7 @@ module _ {S : Type 0} where
             )),
       )
 
--- Of two histories that begin one log, one begins the other
+-- Of two prefixes of a log, one is a prefix of the other
 
 abbrev Begins : History → History → Type 0
 Begins g h = (rest : History) × (h ≡ g ++ rest)
@@ -122,7 +122,7 @@ comparable (e ∷ g) (d ∷ h) k l same =
       | inr longer ↦ inr (longer.0, ap (λ (x : Event). x ∷ g) (sym first) ∙ ap (λ (x : History). d ∷ x) longer.1)
     ]
 
--- The thread state that has seen this much more of the log
+-- The thread state after it has seen this much more of the log
 
 abbrev pub informed : ThreadState → History → ThreadState
 informed v rest = record {
@@ -142,7 +142,7 @@ own_all seen rest more mine s here all =
     own-append seen rest s ∙ ap (λ (h : History). own seen s ++ h) (front_nil (own rest s) (own more s) nothing)
     ∙ append-nil (own seen s) ∙ here
 
--- it stands, and has moved by no call
+-- it agrees with the log, and has made no call
 pub record Learns (f : Cnf) (p : LayoutValue) (log : History) (words : List ℕ) (v w : ThreadState) (h : History) : Type 0 where
   pub stands : Stands f p log words w
   pub moves : PassMoves v.view w.view []
@@ -214,7 +214,7 @@ learns_cut f p log words views v h more rest kept stands cut same =
     let at_layout : Learns g p log words v w h = subst (λ (x : LayoutValue). Learns g x log words v w h) stands.layout at_h in
     (w, refl, subst (λ (x : Cnf). Learns x p log words v w h) stands.formula at_layout)
 
--- from a history that begins with what the thread state has seen, and begins the log
+-- a thread state learns a history that begins with what it has seen and is a prefix of the log
 learns : (f : Cnf) (p : LayoutValue) (log : History) (words : List ℕ) (views : List (List ThreadState)) (v : ThreadState) (h more : History)
     → Keeps f p log words views → Stands f p log words v
     → log ≡ h ++ more → Begins v.view.seen h → (w : ThreadState) × (thread_stream w ≡ thread_stream v) × Learns f p log words v w h
@@ -223,7 +223,7 @@ learns f p log words views v h more kept stands whole begins =
     let cut : log ≡ v.view.seen ++ (rest ++ more) = whole ∙ ap (λ (g : History). g ++ more) begins.1 ∙ append_assoc v.view.seen rest more in
     learns_cut f p log words views v h more rest kept stands (sym cut) (sym begins.1)
 
--- Two thread states of one seat
+-- Two thread states of one token
 
 no_rest : (g h k : History) → g ≡ g ++ h ++ k → h ≡ []
 no_rest g [] k same = refl
@@ -231,7 +231,7 @@ no_rest g (e ∷ h) k same =
     absurd (let len : length g ≡ length (g ++ e ∷ h ++ k) = ap length same in
     omega (arith, length-append (g ++ e ∷ h) k, length-append g (e ∷ h)))
 
--- a history that begins with another and is begun by it is that one
+-- two histories that are prefixes of each other are equal
 begins_both : (g h : History) → Begins g h → Begins h g → g ≡ h
 begins_both g h longer shorter =
     let none : longer.0 ≡ [] = no_rest g longer.0 shorter.0 (shorter.1 ∙ ap (λ (x : History). x ++ shorter.0) longer.1) in
@@ -313,23 +313,23 @@ module _ {S : Type 0} where
       )
 
 module _ {S : Type 0} where
-  -- the first thread state goes to a new seat
+  -- the first thread state moves to a new token
   pub splits_first : (f : Cnf) (p : LayoutValue) (id : ℕ) (vs : List ThreadState)
       → Splits {S = S} (HoldsRowInvariant f p) id vs (others vs) (first_only vs)
   splits_first f p id [] = splits_front f p id [] []
   splits_first f p id (v ∷ vs) = splits_front f p id (v ∷ []) vs
 
-  -- all thread states do
+  -- all thread states move
   pub splits_all : (f : Cnf) (p : LayoutValue) (id : ℕ) (vs : List ThreadState) → Splits {S = S} (HoldsRowInvariant f p) id vs [] vs
   splits_all f p id vs = splits_back f p id [] vs
 
-  -- all thread states but the first do
+  -- all thread states except the first move
   pub splits_thread : (f : Cnf) (p : LayoutValue) (id : ℕ) (vs : List ThreadState)
       → Splits {S = S} (HoldsRowInvariant f p) id vs (first_only vs) (others vs)
   splits_thread f p id [] = splits_back f p id [] []
   splits_thread f p id (v ∷ vs) = splits_back f p id (v ∷ []) vs
 
-  -- what is told of two thread states is told of a seat that has both
+  -- a token that has both thread states, from the two thread states
   pub joined : (step : Step S) (v v' : ThreadState) (n : ℕ) (w w' : ThreadState) → SyncThreads v v' w w'
       → Joined step (v ∷ v' ∷ [], []) n (w ∷ w' ∷ [], [])
   joined step v v' n w w' met u u' same =
@@ -342,7 +342,7 @@ module _ {S : Type 0} where
             (subst (λ (x : ThreadState). SyncThreads v x w w') both.1 met),
       )
 
-  -- what a load told of the two thread states, once each has its seat again
+  -- what the two thread states know after the load, once each is back in its own token
   pub parted : (step : Step S) (me met left right : Me S (List ThreadState)) (v v' : ThreadState) (n : ℕ) → me ≡ (v ∷ v' ∷ [], [])
       → Joined step me n met
       → left ≡ (first_only met.0, met.1) → right ≡ (others met.0, [])

@@ -1,4 +1,4 @@
--- Lemmas on the row at the opening: the loops that make its words, and the rule for them.
+-- Lemmas about the row at the opening: the loops that make its words, and the rule for these words.
 use Rattle.std.proofs.Common.{◌≡◌, ℕ, zero, suc, ◌+◌, ◌-◌, ◌*◌, ◌<◌, ◌≤◌, cond, eqb, List, [], ◌∷◌, ◌++◌, length, get_or, take, replicate}
 use Rattle.std.proofs.Common.{slice_index, slice_get, Some, refl, sym, ap, subst, ◌∙◌, inl, inr, arith, append-nil, append_assoc}
 use Rattle.std.proofs.Common.{length-append, eq-eqb, ne_eqb}
@@ -27,7 +27,7 @@ use Rattle.idwords.proofs.SpellingLemmas.{either_kept, spelt}
 use Rattle.idwords.proofs.WordLemmas.{length-packed}
 use Rattle.idwords.specs.internal.Opening.{clause_words, literal_words, opening_words}
 
--- The words that clauses' literals take
+-- How many words the literals of clauses take
 
 abbrev pub words_in : List Clause → ℕ
 words_in cs = sum_by (λ c. words_for (length c)) cs
@@ -90,7 +90,7 @@ words_more cs i c within here =
     let last = words_in-cons c [] in
     omega (arith, ap words_in cut)
 
--- How long the pieces are
+-- The lengths of the parts
 
 pub length-clause_words : (start : ℕ) (cs : List Clause) → length (clause_words start cs) ≡ length cs
 length-clause_words start [] = refl
@@ -101,7 +101,7 @@ length-literal_words [] = refl
 length-literal_words (c ∷ cs) =
     let rest = length-literal_words cs in omega (arith, length-append (packed c) (literal_words cs), length-packed c, words_in-cons c cs)
 
--- All words, from what each step of the loops leaves
+-- all words, from what each step of the loops leaves
 pub opened_words : (f : Cnf) (p : LayoutValue) (first n k : ℕ) (w1 w2 w3 w4 w5 : List ℕ) → Fits p f → first ≡ last_identity p + 1
     → n ≡ last_identity p + 1 → k ≡ row_words p
     → w1 ≡ 0 ∷ [] → w2 ≡ w1 ++ clause_words first f.clauses → w3 ≡ take n w2 ++ replicate (n - length w2) 0
@@ -130,7 +130,7 @@ opened_words f p first n k w1 w2 w3 w4 w5 fits from to all e1 e2 e3 e4 e5 =
     e5 ∙ ap (λ (ws : List ℕ). ws ++ replicate (k - length w4) 0) (take_all k w4 (omega arith) ∙ w4_is)
     ∙ ap (λ (m : ℕ). front ++ vacant ++ literal_words cs ++ replicate m 0) (omega arith)
 
--- The words that lie at the places
+-- The words at each place
 
 pub length-opening_words : (f : Cnf) (p : LayoutValue) → Fits p f → length (opening_words f p) ≡ row_words p
 length-opening_words f p fits =
@@ -170,7 +170,7 @@ vacant_at : (n k : ℕ) (back : List ℕ) → k < n → get_or (replicate n 0 ++
 vacant_at n k back within = get_or_append_left (replicate n 0) back 0 k (omega (arith, length-replicate {A = ℕ} n 0))
     ∙ get_or-replicate n k 0 0 within
 
--- words stand at their place
+-- the row has words from a place on, if it has them after a front of that length
 stand_front : (pre back ws : List ℕ) (place : ℕ) → length pre ≡ place → StandAt (pre ++ (ws ++ back)) place ws
 stand_front pre back [] place len = tt
 stand_front pre back (w ∷ ws) place len = (
@@ -288,7 +288,7 @@ counted_once f p s (suc count) t =
           omega arith
     ]
 
--- the rule at the opening
+-- the rule holds at the opening
 pub opens : {S : Type 0} (f : Cnf) (p : LayoutValue) (homes : List (Maybe.Option S)) → IsCnf f → IsLayout p → Fits p f
     → HoldsRowInvariant {S = S} f p (record { words = opening_words f p; homes = homes; views = opening_threads f p 1 p.streams ∷ [] })
 opens f p homes cnf layout fits =
@@ -330,7 +330,7 @@ first_next p i =
     let there : (i + 1 + 1 - 1) * p.room ≡ (i + 1) * p.room = ap (λ (n : ℕ). n * p.room) (omega arith) in
     omega arith
 
--- the seat that is dealt out
+-- a new seat
 pub dealt : {S : Type 0} (f : Cnf) (p : LayoutValue) (s : ℕ) (table : TableId) (me : Me S (List ThreadState)) (top room : ℕ) → IsPlan f p
     → IsStream p s → table.words ≡ row_words p
     → me ≡ (opening_thread f p s ∷ [], []) → top ≡ first_place p s → room ≡ p.room → IsSeated {S = S} table me top 0 room

@@ -1,4 +1,4 @@
--- Lemmas on a stream's own identities: what lies there follows from its own calls, and only its own steps change it.
+-- Lemmas about a stream's own identities: what is stored there follows from its own calls, and only its own steps change it.
 use Rattle.std.proofs.Common.{◌≡◌, ◌≢◌, ℕ, ◌+◌, ◌<◌, List, [], ◌∷◌, ◌++◌, length, slice_index, slice_set, Option, None, Some, refl, sym, ap}
 use Rattle.std.proofs.Common.{ap₂, ◌∙◌, inl, inr, arith, length-set, get_or-set_same, get_or-set_other}
 use mathlib.Core.Option.{some}
@@ -21,7 +21,7 @@ use Rattle.idwords.proofs.SpellingLemmas.{IsLodged, lodged, own_stored}
 use Rattle.idwords.proofs.WordLemmas.{lies-set, state-identity_word}
 use Rattle.idwords.proofs.RuleLemmas.{OwnKeeps, stands_at}
 
--- What a word says of its slot
+-- What a word shows of its slot
 
 pub absent_word : (slot : Slot) (o : Option StoredClause) → Spells slot o → word_of slot o ≡ 0 → slot ≡ absent
 absent_word absent o spells nil = refl
@@ -71,7 +71,7 @@ module _ (v : ThreadState) (more : History) (words : List ℕ) (views : List (Li
       (legal-front f p (opening f) v.view.seen more kept.legal.events) owns refl
       ∙ ap (λ (h : History). state f h id) (stands_at v more words views seat kept here).seen
 
-  -- what is stored for it too
+  -- and so is what is stored for it
   pub own_text : (id : ℕ) → Owns v.view.caller.layout (thread_stream v) id
       → stored_in (spelling_of v.view.caller.formula v.view.caller.layout (v.view.seen ++ more)) id ≡ stored_in v.view.spelt id
   own_text id owns =
@@ -108,7 +108,7 @@ module _ (f : Cnf) (p : LayoutValue) (log : History) (words : List ℕ) (views :
       → slice_index (slice_set words id new) j ≡ word_of (state f log j) (stored_in (spelling_of f p log) j)
   slots-write j other there = get_or-set_other words id j new 0 other ∙ kept.slots j there
 
-  -- literals lie as before, since they lie above all identities
+  -- literals stay where they are, since they are stored after all identities
   pub literals-write : (place : ℕ) (c : Clause) → last_identity p < place → LiesAt words place c → LiesAt (slice_set words id new) place c
   literals-write place c above lies = lies-set words place c id new lies (inl (omega (arith, identity.1)))
 

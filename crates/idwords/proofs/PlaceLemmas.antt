@@ -1,4 +1,4 @@
--- Lemmas on places: streams write apart from each other, from the formula and from the identities; and steps on literals.
+-- Lemmas about places: a stream writes into words that no other stream, the formula or the identities use; and steps on literals.
 use Rattle.std.proofs.Common.{◌≡◌, ◌≢◌, ℕ, ℤ, ◌+◌, ◌-◌, ◌*◌, ◌/◌, ◌%◌, ◌<◌, ◌≤◌, ◌⊎◌, List, [], ◌∷◌, ◌++◌, Option, length, set, slice_index}
 use Rattle.std.proofs.Common.{slice_set, refl, sym, ap, subst, ◌∙◌, inl, inr, arith, length-append, length-set, get_or-set_same}
 use Rattle.std.proofs.Common.{get_or-set_other}
@@ -27,7 +27,7 @@ use Rattle.idwords.proofs.ViewLemmas.{moved, times-same}
 use Rattle.idwords.proofs.RuleLemmas.{stands_at, stands_words, fair_thread}
 use Rattle.idwords.proofs.StepLemmas.{OwnStep}
 
--- Rooms apart
+-- Rooms are disjoint
 
 -- an earlier stream's room ends before a later one's begins
 rooms_apart : (p : LayoutValue) (s t : ℕ) → 0 < s → s < t → first_place p s + p.room ≤ first_place p t
@@ -35,7 +35,7 @@ rooms_apart p s t positive less =
     let more : (s - 1 + 1) * p.room ≤ (t - 1) * p.room = mul-le-mul_right p.room (omega arith) in
     omega arith
 
--- a place in a stream's room, at or above its top, lies outside what another piece of the row takes
+-- a place in a stream's room is outside of every part of another stream's room
 outside_room : (p : LayoutValue) (s t place from to : ℕ) → IsStream p s → IsStream p t → t ≢ s → first_place p s ≤ place
     → place < first_place p s + p.room → first_place p t ≤ from → to ≤ first_place p t + p.room → (place < from) ⊎ (to ≤ place)
 outside_room p s t place from to mine theirs other above below first last =
@@ -45,7 +45,7 @@ outside_room p s t place from to mine theirs other above below first last =
     ]
 
 module _ (f : Cnf) (p : LayoutValue) (log : History) (legal : IsLegal f p log) where
-  -- no clause's literals lie at a place of a stream's room at or above its top
+  -- no stored clause has literals at a place of a stream's room from its top on
   pub outside_text : (s place : ℕ) (stored : StoredClause) → IsStream p s → top_after p s log ≤ place → place < first_place p s + p.room
       → IsLodged p log stored → (place < stored.start) ⊎ (stored.start + words_for (length stored.literals) ≤ place)
   outside_text s place stored mine above below (inl formula) = inr (omega (arith, formula.last))
@@ -59,13 +59,13 @@ module _ (f : Cnf) (p : LayoutValue) (log : History) (legal : IsLegal f p log) w
             (omega (arith, lodging.last, legal.room t, words_within t log))
       ]
 
--- a stream's room lies inside the row
+-- a stream's room is inside the row
 pub within_row : (p : LayoutValue) (s place all : ℕ) → IsStream p s → all ≡ row_words p → place < first_place p s + p.room → place < all
 within_row p s place all mine count below =
     let more : (s - 1 + 1) * p.room ≤ p.streams * p.room = mul-le-mul_right p.room (omega (arith, mine.0, mine.1)) in
     omega arith
 
--- and so what a stream's clauses take, and a draft inside what they leave
+-- and so are the words of its clauses, and of a draft that fits into the room left
 pub top_within : (p : LayoutValue) (s top n room : ℕ) (mine : History) → IsStream p s → top ≡ top_after p s mine
     → room + spent s mine ≡ p.room → n ≤ room → top + n ≤ row_words p
 top_within p s top n room mine stream at left short =
@@ -158,7 +158,7 @@ written v seat l m even room first second more words views kept here small =
       λ k n code code' same. ap (λ (d : Clause). record v { draft = v.draft ++ d }) (word_injective l k m n first code second code' same),
     )
 
--- the same, by the place and the word
+-- the same, with the place and the word given by equations
 pub written_at : (v : ThreadState) (seat : ℕ) (l : ℤ) (m : Option ℤ) (place word : ℕ) → length v.draft % 2 ≡ 0
     → spent (thread_stream v) v.view.mine + length (v.draft ++ pair_of l m) ≤ v.view.caller.layout.room → HasCode l → IfSome m HasCode
     → v.top + length v.draft / 2 ≡ place → literal_word l m ≡ word → OwnStep v seat place (λ _. word) (λ n w. Writes word v w)

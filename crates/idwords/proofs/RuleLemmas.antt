@@ -1,4 +1,4 @@
--- Lemmas on the rule: how a thread state and the others stand after one event more.
+-- Lemmas about the rule: a thread state and the others after one more event.
 use Rattle.std.proofs.Common.{◌≡◌, ◌≢◌, ℕ, ◌+◌, ◌≤◌, List, [], ◌∷◌, ◌++◌, length, set, slice_index, Some, refl, sym, ap, ap₂, subst, ◌∙◌}
 use Rattle.std.proofs.Common.{inl, inr, arith, append-nil, append_assoc, length-append}
 use Rattle.std.specs.List.{AllByRecursion, sum_by}
@@ -39,27 +39,27 @@ others_from_own (e ∷ h) s none =
       | inr other ↦ (other, others_from_own h s (sym (own-other e h s other) ∙ none))
     ]
 
--- between what a thread state has seen and the log, its stream made no call
+-- after what a thread state has seen, its stream makes no call in the rest of the log
 pub between : (seen more mine : History) (s : ℕ) → own seen s ≡ mine → own (seen ++ more) s ≡ mine
     → AllByRecursion (λ d. stream_of d ≢ s) more
 between seen more mine s here all =
     others_from_own more s (own_rest (own seen s) (own more s) mine (sym here) (sym (own-append seen more s) ∙ all))
 
--- what a thread state's calls spent is what its stream spent in the log
+-- a thread state's calls spent what its stream spent in the log
 pub spent_log : (log mine : History) (s : ℕ) → own log s ≡ mine → spent s mine ≡ spent s log
 spent_log log mine s all = ap (λ (h : History). spent s h) (sym all) ∙ spent-own s log
 
--- A thread state by its own plan
+-- A thread state with its own formula and layout
 
 module _ (v : ThreadState) (more : History) where
   abbrev pub own_log : History
   own_log = v.view.seen ++ more
 
-  -- the invariant holds by this log, which the thread state's own plan has
+  -- the row fits this log, with the thread state's own formula and layout
   abbrev pub OwnKeeps : List ℕ → List (List ThreadState) → Type 0
   OwnKeeps words views = Keeps v.view.caller.formula v.view.caller.layout (v.view.seen ++ more) words views
 
--- the thread state after it saw the log and made a call, with this draft
+-- the thread state after it saw more of the log and made a call, with this draft
 abbrev pub advanced : ThreadState → History → Event → Clause → ThreadState
 advanced v more e draft = record {
   view = stepped v.view more e (spelling_of v.view.caller.formula v.view.caller.layout (v.view.seen ++ more ++ e ∷ []));
@@ -72,7 +72,7 @@ pub stands_at : (v : ThreadState) (more : History) (words : List ℕ) (views : L
 stands_at v more words views id keeps here =
     (all_at (Stands v.view.caller.formula v.view.caller.layout (v.view.seen ++ more) words) views id (v ∷ []) here keeps.threads).0
 
--- a thread state that stands is fair
+-- a thread state that agrees with the log is fair
 pub fair_thread : (v : ThreadState) (more : History) (words : List ℕ) (plan : IsPlan v.view.caller.formula v.view.caller.layout)
     → IsLegal v.view.caller.formula v.view.caller.layout (v.view.seen ++ more)
     → Stands v.view.caller.formula v.view.caller.layout (v.view.seen ++ more) words v → IsFair v.view
@@ -87,7 +87,7 @@ fair_thread v more words plan legal stands =
       spelt = subst (λ (xs : List Spelling). IsSpelt f v.view.seen xs) (sym stands.spelt) (spelt f p v.view.seen front.events);
     }
 
--- One event more
+-- One more event
 
 own_past : (log : History) (e : Event) (t : ℕ) → (stream_of e ≡ t → ⊥) → own (log ++ e ∷ []) t ≡ own log t
 own_past log e t other = own-append log (e ∷ []) t ∙ ap (λ (h : History). own log t ++ h) (own-other e [] t other) ∙ append-nil (own log t)
@@ -112,7 +112,7 @@ legal_next f p log e legal answers allowed room = record {
   ];
 }
 
--- other words serve a thread state as well, where its draft lies in them
+-- a thread state agrees with other words too, if they have its draft
 pub stands_words : (f : Cnf) (p : LayoutValue) (log : History) (words words' : List ℕ) (q : ThreadState) → Stands f p log words q
     → LiesAt words' q.top q.draft → Stands f p log words' q
 stands_words f p log words words' q stands lies = record {
@@ -128,7 +128,7 @@ stands_words f p log words words' q stands lies = record {
   draft = lies;
 }
 
--- another stream's thread state stands as before
+-- another stream's thread state agrees with the log after the event
 stands_on : (f : Cnf) (p : LayoutValue) (log : History) (words words' : List ℕ) (e : Event) (q : ThreadState)
     → (stream_of e ≡ thread_stream q → ⊥)
     → Stands f p log words q → LiesAt words' q.top q.draft → Stands f p (log ++ e ∷ []) words' q
@@ -149,7 +149,7 @@ stands_on f p log words words' e q other stands lies = record {
 state_next : (f : Cnf) (log : History) (e : Event) (id : ℕ) → state f (log ++ e ∷ []) id ≡ after (state f log) e id
 state_next f log e id = ap (λ (m : State). m id) (run-append (opening f) log (e ∷ []))
 
--- the top after a call of the stream
+-- the top after an event of the stream
 pub event_top : (p : LayoutValue) (s : ℕ) (mine : History) (e : Event) → stream_of e ≡ s
     → top_after p s (mine ++ e ∷ []) ≡ top_after p s mine + words_taken e
 event_top p s mine e is =
@@ -157,7 +157,7 @@ event_top p s mine e is =
     let one : words_spent s (e ∷ []) ≡ words_taken e = words_spent_one s e is in
     omega arith
 
--- what an event's words have to do
+-- The words fit the log with this event: they show each identity, and have the literals of each clause and the drafts of other streams.
 pub record Serves (f : Cnf) (p : LayoutValue) (log : History) (words : List ℕ) (e : Event) (words' : List ℕ) : Type 0 where
   pub count : length words' ≡ row_words p
   pub first : slice_index words' 0 ≡ 0

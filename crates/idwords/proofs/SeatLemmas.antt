@@ -1,4 +1,4 @@
--- Lemmas on a seat: what a step asks of its token, from what the contract's value of the seat has.
+-- Lemmas about seats: what a step requires of the token, from what contracts say of the seat.
 use Rattle.std.proofs.Common.{◌≡◌, ◌≢◌, ◌+◌, ◌-◌, ◌<◌, ◌≤◌, ℕ, eqb, List, [], ◌∷◌, length, refl, sym, ap, ap₂, subst, ◌∙◌, arith, eq-eqb}
 use Rattle.std.proofs.Common.{ne_eqb, ◌++◌, length-append}
 use Rattle.std.proofs.lemmas.Bool.{cond-true, cond-false}
@@ -25,13 +25,13 @@ use Rattle.idwords.specs.internal.Seating.{first_thread, thread_of, IsSeated}
 use Rattle.idwords.proofs.SpellingLemmas.{words_spent-append, words_spent_one, words_within}
 use Rattle.idwords.proofs.StepLemmas.{OwnStep, allows}
 
--- the row that a seat is of has as many words as the seat's layout says
+-- the row of a seat has as many words as the seat's layout says
 pub words_of : {S : Type 0} (table row : TableId) (me : Me S (List ThreadState)) (top drafted room : ℕ)
     → IsSeated table me top drafted room → table ≡ row → row.words ≡ row_words (first_thread me.0).view.caller.layout
 words_of table row me top drafted room seated same = ap (λ (t : TableId). t.words) (sym same) ∙ seated.words
 
 module _ {S : Type 0} where
-  -- by the token's own thread state
+  -- from the token's one thread state
   pub asks_thread : (f : Cnf) (p : LayoutValue) (slots id i : ℕ) (g : ℕ → ℕ) (told : ThreadState → ℕ → ThreadState → Type 0)
       (then : Me S (List ThreadState) → ℕ → Me S (List ThreadState) → Type 0)
       (table row : TableId) (me : Me S (List ThreadState)) (v : ThreadState)
@@ -70,7 +70,7 @@ module _ {S : Type 0} where
       let whole : (w ∷ [], []) ≡ me = sym (ap₂ (λ (vs : List ThreadState) (slots : List (ℕ × S)). (vs, slots)) one none) in
       subst (λ (m : Me S (List ThreadState)). IsSeated table m top drafted room) whole seated
 
-  -- after a step in which the stream spent nothing and its draft stayed
+  -- after a step in which the stream spent nothing, and its top and its draft stayed
   pub seated_on : (table table' : TableId) (me me' : Me S (List ThreadState)) (top drafted room : ℕ) (w : ThreadState) (es : History)
       → IsSeated table me top drafted room → table' ≡ table
       → me'.0 ≡ w ∷ [] → me'.1 ≡ [] → PassMoves (first_thread me.0).view w.view es → IsFair w.view
@@ -135,7 +135,7 @@ module _ {S : Type 0} where
         within = fits;
       })
 
-  -- after a publish that found a word
+  -- after a publish whose compare-exchange found this word
   pub seated_claim : (table table' : TableId) (me me' : Me S (List ThreadState)) (top drafted room found id : ℕ) (one : Step S)
       → IsSeated table me top drafted room → table' ≡ table → Changes Claims one me found me'
       → (found ≡ 0 → IsSeated table' me' (top + words_for drafted) 0 (room - drafted)) × (found ≢ 0 → IsSeated table' me' top 0 room)

@@ -1,4 +1,4 @@
--- Lemmas on where the clauses of a history lie.
+-- Lemmas about where the clauses of a history are stored.
 use Rattle.std.proofs.Common.{◌≡◌, ℕ, ◌+◌, ◌-◌, ◌*◌, ◌<◌, ◌≤◌, ◌⊎◌, Bool, true, false, cond, eqb, zero, suc, List, [], ◌∷◌, ◌++◌, length}
 use Rattle.std.proofs.Common.{get_or, Option, None, Some, refl, sym, ap, subst, ◌∙◌, inl, inr, arith, append-nil, append_assoc, eq-eqb}
 use Rattle.std.proofs.Common.{ne_eqb}
@@ -25,7 +25,7 @@ use Rattle.idwords.specs.Words.{words_for}
 use Rattle.idwords.specs.Spelling.{spelling, clauses_spelling, first_place, words_taken, words_spent, top_after, event_spelling}
 use Rattle.idwords.specs.Spelling.{added_spelling, spelling_of, LieWithin}
 
--- The words that were spent
+-- How many words were spent
 
 pub words_spent-append : (s : ℕ) (g h : History) → words_spent s (g ++ h) ≡ words_spent s g + words_spent s h
 words_spent-append s g h = ap (sum_by words_taken) (own-append g h s) ∙ sum_by-append words_taken (own g s) (own h s)
@@ -33,7 +33,7 @@ words_spent-append s g h = ap (sum_by words_taken) (own-append g h s) ∙ sum_by
 pub words_spent_one : (s : ℕ) (e : Event) → stream_of e ≡ s → words_spent s (e ∷ []) ≡ words_taken e
 words_spent_one s e is = ap (sum_by words_taken) (own-mine e [] s is) ∙ omega (arith, sum_by-cons words_taken e [])
 
--- what a stream's calls spent is what it spent in the whole history
+-- what a stream's own calls spent is what it spent in the whole history
 pub words_spent-own : (log mine : History) (s : ℕ) → own log s ≡ mine → words_spent s mine ≡ words_spent s log
 words_spent-own log mine s all = ap (λ (h : History). words_spent s h) (sym all) ∙ ap (sum_by words_taken) (own-own log s)
 
@@ -41,7 +41,7 @@ words_spent-own log mine s all = ap (λ (h : History). words_spent s h) (sym all
 pub words_within : (s : ℕ) (h : History) → words_spent s h ≤ spent s h
 words_within s h = omega (arith, spent-sizes s h, sum_by-le-sum_by words_taken size_of (own h s) (λ e. omega arith))
 
--- One history behind another
+-- One history after another
 
 pub added-append : (p : LayoutValue) (b g h : History) → added_spelling p b (g ++ h) ≡ added_spelling p b g ++ added_spelling p (b ++ g) h
 added-append p b [] h = ap (λ (x : History). added_spelling p x h) (sym (append-nil b))
@@ -63,7 +63,7 @@ pub spelling-snoc : (f : Cnf) (p : LayoutValue) (h : History) (e : Event)
 spelling-snoc f p h e =
     spelling-append f p h (e ∷ []) ∙ ap (λ (xs : List Spelling). spelling_of f p h ++ xs) (append-nil (event_spelling p h e))
 
--- What a list keeps
+-- What a list has stays when it grows
 
 past_some : (b : Bool) (a o o' : Option StoredClause) (k : StoredClause) → (o ≡ Some k → o' ≡ Some k) → cond b a o ≡ Some k
     → cond b a o' ≡ Some k
@@ -106,9 +106,9 @@ once-snoc (y ∷ ys) x once none =
       once-snoc ys x once.1 threads.1,
     )
 
--- The map is spelt
+-- What is stored are the clauses of the map
 
--- what is stored is the clause of each slot
+-- for each slot its clause is stored, once
 pub record SpellsState (m : State) (xs : List Spelling) : Type 0 where
   pub once : IsOncePerIdentity xs
   pub slots : (id : ℕ) → Spells (m id) (stored_in xs id)
@@ -255,7 +255,7 @@ spelt f p h legal =
 
 -- Inside the row
 
--- the clause lies between the formula's first place and the end of its literals, or inside a stream's room below its top
+-- the clause is stored in a stream's room, below the stream's top
 pub record LodgedOf (p : LayoutValue) (h : History) (stored : StoredClause) (s : ℕ) : Type 0 where
   pub stream : IsStream p s
   pub first : first_place p s ≤ stored.start
@@ -339,14 +339,14 @@ lodged_either f p h j stored some fits legal here (Some k) there =
     let at = clauses_lodged 1 (1 + last_identity p) f.clauses j stored (there ∙ same) in
     inl (record { first = at.0; last = omega (arith, at.1, fits.literals) })
 
--- each stored clause lies inside the row, apart from what other streams may write
+-- each stored clause is among the formula's literals, or in a stream's room below the stream's top
 pub lodged : (f : Cnf) (p : LayoutValue) (h : History) (j : ℕ) (stored : StoredClause) → 0 < p.streams → Fits p f
     → LegalFrom f p (opening f) h
     → stored_in (spelling_of f p h) j ≡ Some stored → IsLodged p h stored
 lodged f p h j stored some fits legal here =
     lodged_either f p h j stored some fits legal here (stored_in (clauses_spelling 1 (1 + last_identity p) f.clauses) j) refl
 
--- Inside the row
+-- All stored clauses are inside the row
 
 pub lies_within : (f : Cnf) (p : LayoutValue) (h : History) → 0 < p.streams → Fits p f → IsLegal f p h
     → LieWithin (row_words p) (spelling_of f p h)
@@ -359,7 +359,7 @@ lies_within f p h some fits legal j stored there =
           omega (arith, lodging.last, legal.room s, words_within s h)
     ]
 
--- Of a length that an identity's word can hold
+-- The length of a clause fits into an identity's word
 
 clauses_short : (vars id start : ℕ) (cs : List Clause) (j : ℕ) (stored : StoredClause) → AllByRecursion (IsFormulaClause vars) cs
     → stored_in (clauses_spelling id start cs) j ≡ Some stored → length stored.literals < 1048576
@@ -409,7 +409,7 @@ pub short : (f : Cnf) (p : LayoutValue) (h : History) (j : ℕ) (stored : Stored
 short f p h j stored cnf legal here =
     short_either f p h j stored cnf legal here (stored_in (clauses_spelling 1 (1 + last_identity p) f.clauses) j) refl
 
--- What is stored for a stream's own identity is the same in what the stream has seen and in any later history in which it made no call
+-- What is stored for an identity stays through events that leave its slot as it was
 
 own_either : (f : Cnf) (p : LayoutValue) (seen more : History) (id : ℕ) → IsSpelt f seen (spelling_of f p seen)
     → IsSpelt f (seen ++ more) (spelling_of f p (seen ++ more))

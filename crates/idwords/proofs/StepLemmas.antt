@@ -1,4 +1,4 @@
--- Lemmas on steps: from what a step does to a thread state of its own plan to what the row asks of it.
+-- Lemmas about steps: from what a step does to a thread state with its own formula and layout to what the row requires of it.
 use Rattle.std.proofs.Common.{◌≡◌, ℕ, ◌<◌, List, [], ◌∷◌, set, slice_index, slice_set, refl, sym, subst}
 use mathlib.Core.Option.{some}
 use lib.ListN.{get_elem?}
@@ -12,8 +12,8 @@ use Rattle.idwords.specs.internal.Steps.{Changes, Writes, Stores}
 use Rattle.idwords.proofs.RuleLemmas.{OwnKeeps}
 use Rattle.idwords.proofs.ViewLemmas.{all_at}
 
--- Whatever the row is, the thread state has another that stands to it in this way, and the invariant holds with it: by the thread state's
--- own plan, and from the log that begins with what the thread state has seen.
+-- In every row with this thread state as the only one of token id, that fits a log beginning with what the thread state has seen: after the
+-- step on word i there is a new thread state with which the row fits a log, and of which `then` is true.
 abbrev pub OwnStep : ThreadState → ℕ → ℕ → (ℕ → ℕ) → (ℕ → ThreadState → Type 0) → Type 0
 OwnStep v id i f then =
     (more : History) (words : List ℕ) (views : List (List ThreadState)) → OwnKeeps v more words views → get_elem? views id ≡ some (v ∷ [])
@@ -59,7 +59,7 @@ module _ {S : Type 0} where
         tell (slice_index s.words i) done.0 done.3,
       )
 
-  -- what is told of one thread state is told of a seat that has it
+  -- a token that has one thread state, from the thread state
   pub changes : (R : ℕ → ThreadState → ℕ → ThreadState → Type 0) (step : Step S) (v : ThreadState) (n : ℕ) (w : ThreadState)
       → R step.word v n w
       → Changes R step (v ∷ [], []) n (w ∷ [], [])

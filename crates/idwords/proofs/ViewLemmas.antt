@@ -1,4 +1,4 @@
--- Lemmas on the thread states of all seats.
+-- Lemmas about the thread states of all tokens.
 use Rattle.std.proofs.Common.{inl, inr, ◌≡◌, ◌≢◌, ℕ, ◌+◌, ◌≤◌, zero, suc, cond, eqb, List, [], ◌∷◌, ◌++◌, set, refl, sym, ap, subst, arith}
 use Rattle.std.proofs.Common.{eq-eqb}
 use Rattle.std.specs.List.{AllByRecursion}
@@ -30,7 +30,7 @@ pub all-snoc : (P : ThreadState → Type 0) (views : List (List ThreadState)) (v
 all-snoc P [] vs all new = (new, tt)
 all-snoc P (us ∷ views) vs all new = (all.0, all-snoc P views vs all.1 new)
 
--- Each stream's thread states, counted
+-- How many thread states each stream has
 
 pub times-set : (s : ℕ) (views : List (List ThreadState)) (id : ℕ) (vs ws : List ThreadState) → get_elem? views id ≡ some vs
     → times s (set views id ws) + count_in s vs ≡ times s views + count_in s ws
@@ -44,7 +44,7 @@ pub times-snoc : (s : ℕ) (views : List (List ThreadState)) (vs : List ThreadSt
 times-snoc s [] vs = omega arith
 times-snoc s (us ∷ views) vs = let rest = times-snoc s views vs in omega arith
 
--- a thread state that changes keeps its stream
+-- if a thread state changes and keeps its stream, each stream still has one at most
 pub times-same : (views : List (List ThreadState)) (id : ℕ) (v w : ThreadState) → get_elem? views id ≡ some (v ∷ [])
     → thread_stream w ≡ thread_stream v
     → ((s : ℕ) → times s views ≤ 1) → (s : ℕ) → times s (set views id (w ∷ [])) ≤ 1
@@ -57,7 +57,7 @@ times-same views id v w here stream once s =
 one_of : (a b : ℕ) → a ≡ b → ◌≡◌ {A = ℕ} (cond (eqb a b) 1 0) 1
 one_of a b same = cond-true (eqb a b) 1 0 (eq-eqb a b same)
 
--- where a stream is counted nowhere, no thread state is its own
+-- if none of the thread states is the stream's, what changes for all other streams changes for all
 all_others : (P Q : ThreadState → Type 0) (s : ℕ) (vs : List ThreadState) → count_in s vs ≤ 0 → AllByRecursion P vs
     → ((q : ThreadState) → thread_stream q ≢ s → P q → Q q) → AllByRecursion Q vs
 all_others P Q s [] none all go = tt
@@ -72,7 +72,7 @@ none_others : (P Q : ThreadState → Type 0) (s : ℕ) (views : List (List Threa
 none_others P Q s [] none all go = tt
 none_others P Q s (vs ∷ views) none all go = (all_others P Q s vs (omega arith) all.0 go, none_others P Q s views (omega arith) all.1 go)
 
--- a thread state is counted
+-- a thread state of a token is counted
 counted : (views : List (List ThreadState)) (id : ℕ) (v : ThreadState) → get_elem? views id ≡ some (v ∷ [])
     → 1 ≤ times (thread_stream v) views
 counted [] id v here = absurd (some-ne-none (v ∷ []) (sym here))
@@ -83,7 +83,7 @@ counted (us ∷ views) zero v here =
     omega arith
 counted (us ∷ views) (suc id) v here = let rest = counted views id v here in omega arith
 
--- a seat's one thread state changes, and the thread states of all other streams change so
+-- one thread state of a token changes, and those of all other streams go from P to Q
 pub moved : (P Q : ThreadState → Type 0) (views : List (List ThreadState)) (id : ℕ) (v w : ThreadState) → get_elem? views id ≡ some (v ∷ [])
     → times (thread_stream v) views ≤ 1 → AllThreads P views
     → ((q : ThreadState) → thread_stream q ≢ thread_stream v → P q → Q q) → Q w → AllThreads Q (set views id (w ∷ []))

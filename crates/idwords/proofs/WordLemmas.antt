@@ -1,4 +1,4 @@
--- Lemmas on words: the fields of an identity's word, and literals that lie in the row.
+-- Lemmas about words: the fields of an identity's word, and literals in the row.
 use Rattle.std.proofs.Common.{◌≡◌, ◌≢◌, ℕ, ◌+◌, ◌*◌, ◌/◌, ◌%◌, ◌^◌, bit_and, ◌<◌, ◌≤◌, ◌⊎◌, true, false, ℤ, zero, suc, eqb, List, [], ◌∷◌}
 use Rattle.std.proofs.Common.{◌++◌, length, slice_index, slice_set, slice_get, Option, None, Some, refl, ap, ap₂, ◌∙◌, inl, inr, arith}
 use Rattle.std.proofs.Common.{get_or-set_other, eq-eqb, ne_eqb}
@@ -37,7 +37,7 @@ shows_word state stored some small short =
       start-identity_word state (length stored.literals) stored.start (omega arith) short,
     )
 
--- what is stored for a slot has at most this many literals
+-- what is stored has fewer than 2^20 literals
 abbrev pub IsShort : Option StoredClause → Type 0
 IsShort None = Unit {0}
 IsShort (Some stored) = length stored.literals < 1048576
@@ -52,7 +52,7 @@ shows_slot (retired c) (Some stored) spells short = shows_word 2 stored (omega a
 
 -- Words in the row
 
--- they stand there after a write elsewhere
+-- words are still at their place after a write elsewhere
 stand-set : (words : List ℕ) (place : ℕ) (ws : List ℕ) (at n : ℕ) → StandAt words place ws → (at < place) ⊎ (place + length ws ≤ at)
     → StandAt (slice_set words at n) place ws
 stand-set words place [] at n stand apart = tt
@@ -83,7 +83,7 @@ pub one_literal : (l : ℤ) (m : Option ℤ) → is_some m ≡ false → length 
 one_literal l None alone = refl
 one_literal l (Some m) alone = cc
 
--- the words of an even count of literals, and then those of one or two more
+-- the words of an even number of literals and one or two more
 pub packed-pair : (d : Clause) (l : ℤ) (m : Option ℤ) → length d % 2 ≡ 0 → packed (d ++ pair_of l m) ≡ packed d ++ literal_word l m ∷ []
 packed-pair [] l None even = refl
 packed-pair [] l (Some m) even = refl
@@ -112,7 +112,7 @@ half_zero half word is = cond-true (eqb half 0) (word % 4294967296) (word / 4294
 half_one : (half word : ℕ) → half ≢ 0 → half_of half word ≡ word / 4294967296
 half_one half word is = cond-false (eqb half 0) (word % 4294967296) (word / 4294967296) (ne_eqb half 0 is)
 
--- a half, as it is read
+-- a half of a word, as the code reads it
 pub half_read : (half word : ℕ) → half < 2 → word < 18446744073709551616 → bit_and (word / 2 ^ (32 * half)) 4294967295 ≡ half_of half word
 half_read zero word some small = and_mask (word / 1) 32 ∙ omega arith
 half_read (suc zero) word some small = and_mask (word / 4294967296) 32 ∙ omega arith
@@ -121,7 +121,7 @@ half_read (suc (suc half)) word some small = absurd (omega arith)
 code_small : (vars : ℕ) (l : ℤ) → vars ≤ max_variable → IsLiteral vars l → code_of l < 4294967296
 code_small vars l few is = let code = IsCode-code_of vars l is in omega (arith, code.1)
 
--- what the halves of literals' words are
+-- the halves of a word of literals
 first_half : (l : ℤ) (m : Option ℤ) (half word : ℕ) → half ≡ 0 → code_of l < 4294967296 → word ≡ literal_word l m
     → half_of half word ≡ code_of l
 first_half l None half word is small here = half_zero half word is ∙ omega arith
@@ -155,7 +155,7 @@ lies_get vars words place (x ∷ y ∷ c) (suc (suc k)) l few all lies here =
 
 -- A word has one literal or two
 
--- each is below 2^25
+-- the literal has a code, which is below 2^25
 abbrev pub HasCode : ℤ → Type 0
 HasCode l = IsCode max_variable (code_of l)
 

@@ -11,22 +11,23 @@ use Rattle.lrup_model.specs.Literal.{code_of}
 use Rattle.idwords.specs.Words.{words_for, half_of}
 use Rattle.idwords.specs.Spelling.{LieWithin}
 
--- a fair pass that moved by one call, which is the last that it has seen; its clauses lie inside the row
+-- The pass made one call, which is the last event that it has seen. It is fair, and its clauses are
+-- inside the row.
 pub record Calls (old new : View) (event : Event) : Type 0 where
   pub moves : PassMoves old new (event ∷ [])
   pub last : (before : History) × (new.seen ≡ before ++ event ∷ [])
   pub fair : IsFair new
   pub within : LieWithin (row_words new.caller.layout) new.spelt
 
--- If a stored clause has a literal at this place of the row, the word has the literal's code in one half: in the lower, 0, if the literal's
--- place in the clause is even, else in the upper, 1.
+-- If a literal of a stored clause is at this place of the row, the word has the literal's code: in
+-- half 0 if the literal's index in the clause is even, else in half 1.
 abbrev pub IsText : List Spelling → ℕ → ℕ → Type 0
 IsText spellings place word =
     (id k : ℕ) (stored : StoredClause) (l : ℤ) → stored_in spellings id ≡ Some stored
     → slice_get stored.literals k ≡ Some l → place ≡ stored.start + k / 2
     → half_of (k % 2) word ≡ code_of l
 
--- the top after a publish of a draft
+-- the top after a publish of a draft, by the reply
 abbrev pub top_after_reply : Published → ℕ → Clause → ℕ
 top_after_reply publishing.Done top draft = top + words_for (length draft)
 top_after_reply publishing.Taken top draft = top

@@ -7,15 +7,17 @@ use Rattle.lrup_model.specs.Layout.{LayoutValue}
 use Rattle.lrup_model.specs.Pass.{View}
 use Rattle.idwords.specs.Spelling.{spelling_of, first_place}
 
--- Which row it is of, what its stream knows, its first place that belongs to no published clause, and the literals stored from there on.
+-- The row of the seat, what its stream knows, the first place of its room after its published
+-- clauses, and the literals stored from there on.
 pub record SeatValue : Type 0 where
   pub table : TableId
   pub view : View
   pub top : ℕ
   pub draft : Clause
 
--- What one stream knows: its view, its top, and its draft, the literals stored from the top on. A seat has one thread state; while two seats meet,
--- one has both, and at the opening the first seat has all.
+-- What one stream knows: its view, its top, and its draft, i.e. the literals stored from the top
+-- on. A seat has one thread state; while two seats meet, one of them has both, and at the opening
+-- the first seat has all.
 pub record ThreadState : Type 0 where
   pub view : View
   pub top : ℕ

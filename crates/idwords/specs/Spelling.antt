@@ -1,5 +1,6 @@
--- Where the clauses of a history lie in the row, and their literals (this project's own): the formula's one after the other, then those of each
--- stream in its own room, in the order in which they were published. Each begins in a word of its own.
+-- Where in the row the clauses of a history are stored, and their literals (this project's own):
+-- the formula's clauses one after the other, then those of each stream in the stream's room, in the
+-- order in which they were published. Each clause begins in a new word.
 use Rattle.std.specs.Prelude.{◌≡◌, ◌≤◌, ◌+◌, ◌-◌, ◌*◌, ◌++◌, ℕ, List, [], ◌∷◌, length, Some}
 use Rattle.std.specs.List.{sum_by}
 use Rattle.lrup_model.specs.Clause.{Clause}
@@ -12,33 +13,33 @@ use Rattle.lrup_model.specs.Pass.{Spelling, stored_in}
 use Rattle.lrup_model.specs.declared.clause_map.Published.TheVariants as publishing
 use Rattle.idwords.specs.Words.{words_for}
 
--- the clause of this identity lies at this place
+-- this clause of this identity, stored at this place
 abbrev pub spelling : ℕ → ℕ → Clause → Spelling
 spelling id start clause = record { id = id; stored = record { start = start; literals = clause } }
 
--- clauses under the identities from this one on, and from this place on
+-- clauses one after the other, from this identity and this place on
 abbrev pub clauses_spelling : ℕ → ℕ → List Clause → List Spelling
 clauses_spelling id start [] = []
 clauses_spelling id start (clause ∷ clauses) =
     spelling id start clause ∷ clauses_spelling (id + 1) (start + words_for (length clause)) clauses
 
--- the first place of a stream's literals
+-- the first place of a stream's room
 abbrev pub first_place : LayoutValue → ℕ → ℕ
 first_place layout s = 1 + last_identity layout + layout.literals + (s - 1) * layout.room
 
--- the words that an event takes of its stream's room
+-- the words of its stream's room that an event takes
 abbrev pub words_taken : Event → ℕ
 words_taken event = words_for (size_of event)
 
--- the words of the clauses that a stream published with Done, added up
+-- the words of the clauses that a stream published with `Done`, added up
 abbrev pub words_spent : ℕ → History → ℕ
 words_spent s history = sum_by words_taken (own history s)
 
--- the first place of a stream that belongs to no published clause
+-- the first place of a stream's room after its published clauses
 abbrev pub top_after : LayoutValue → ℕ → History → ℕ
 top_after layout s history = first_place layout s + words_spent s history
 
--- the clause that the event publishes, if any, lies at its stream's top
+-- the clause that the event publishes, if any, stored at its stream's top
 abbrev pub event_spelling : LayoutValue → History → Event → List Spelling
 event_spelling layout before (events.fetch s id reply) = []
 event_spelling layout before (events.publish s id clause publishing.Done) =
@@ -46,7 +47,7 @@ event_spelling layout before (events.publish s id clause publishing.Done) =
 event_spelling layout before (events.publish s id clause publishing.Taken) = []
 event_spelling layout before (events.retire s id reply) = []
 
--- what the events after some others add
+-- what the events of a history add after those before
 abbrev pub added_spelling : LayoutValue → History → History → List Spelling
 added_spelling layout before [] = []
 added_spelling layout before (event ∷ history) =
@@ -58,7 +59,7 @@ spelling_of formula layout history =
     clauses_spelling 1 (1 + last_identity layout) formula.clauses
     ++ added_spelling layout [] history
 
--- every stored clause lies inside a row of so many words
+-- every stored clause is inside a row of this many words
 abbrev pub LieWithin : ℕ → List Spelling → Type 0
 LieWithin words spellings = (id : ℕ) (stored : StoredClause) → stored_in spellings id ≡ Some stored
     → stored.start + words_for (length stored.literals) ≤ words

@@ -1,4 +1,4 @@
--- What contracts of private functions say.
+-- Definitions for contracts of private functions.
 pub mod RowWords
 pub mod Opening
 pub mod Rule

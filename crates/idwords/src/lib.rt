@@ -1,5 +1,6 @@
-//! The row of words that all streams share, without a lock. Each call takes a few steps on single words, all of them `SeqCst`. The row's
-//! rule says what the words spell between any two steps of any threads.
+//! The row of words that all streams share, without a lock. Each call takes a few steps on single
+//! words, all of them `SeqCst`. The row's rule says what the words mean between any two steps of
+//! any threads.
 #![tactic(auto)]
 
 mod opening;

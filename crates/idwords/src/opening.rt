@@ -10,7 +10,8 @@ use crate::word::{live_word, pair_word};
 use lrup_model::{Formula, Layout, Lit};
 use std::alloc::{AllocError, Global};
 
-/// Makes all words of the row, 8 bytes each: word 0, those of identities, those of literals. It reads the formula twice.
+/// Makes all words of the row, 8 bytes each: word 0, those of identities, those of literals. It
+/// reads the formula twice.
 pub(crate) fn all_words(
     alloc: Global,
     formula: &Formula,
@@ -29,7 +30,8 @@ pub(crate) fn all_words(
     Ok(words)
 }
 
-/// Adds the words of the formula's identities. The literals of the first clause will lie from the place `first` on.
+/// Adds the words of the formula's identities. The literals of the first clause are at the place
+/// `first`.
 fn add_clauses(words: &mut Vec<u64>, formula: &Formula, first: u64) -> Result<(), AllocError>
     requires { first + formula_literals formula.now < 2 ^ 41 }
     ensures words { OnOk result

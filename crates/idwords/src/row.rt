@@ -1,8 +1,9 @@
 //! The row and the steps on it.
 //!
-//! Every step is `SeqCst`, the one ordering that `atomic_table` has: all threads see all steps in one order, and the row's rule
-//! (`rule.rt`) holds between any two steps of it. So a thread that loads a live word also finds the literals that were stored before
-//! the compare-exchange that made it live, and no fence is needed.
+//! Every step is `SeqCst`, the only ordering that `atomic_table` has: all threads see all steps in
+//! the same order, and the row's rule (`rule.rt`) holds between any two of them. So a thread that
+//! loads a live word also finds the literals that were stored before the compare-exchange that made
+//! it live. No fence is needed.
 ghost use Rattle.std.specs.Prelude.{◌≡◌, ◌↔◌, ◌+◌, ◌-◌, ◌%◌, ◌≤◌, ◌<◌, ◌++◌, ℕ, [], Some, IfOk, length, slice_get, vec_len};
 ghost use Rattle.lrup_model.specs.Event as events;
 ghost use Rattle.lrup_model.specs.History.{IsPublishable};
@@ -27,7 +28,8 @@ use std::alloc::{AllocError, Global};
 use std::marker::Model;
 use std::snapshot::Snapshot;
 
-/// Makes a seat for each stream, in their order, from the one token that has the thread states of all.
+/// Makes a seat for each stream, in their order, from the one token that has the thread states of
+/// all streams.
 fn seats_of(
     alloc: Global,
     table: &WordTable,
@@ -47,10 +49,11 @@ fn seats_of(
         ≡ Some (opening_seat table.now.shared.table_id formula layout.now (k + 1))) }
 {
     let mut seats = Vec::with_capacity(alloc, layout.streams() as usize)?;
-    // The streams' rooms are the last words of the row, stream 1 first. A room of n literals has n words.
+    // The rooms of the streams are the last words of the row, stream 1 first. A room of n literals
+    // has n words.
     let mut top = layout.row_words() - layout.all_room();
     for _s in 0..layout.streams() {
-        // A new token, which `atomic_table` calls a seat, with the next stream's thread state.
+        // A new token (`atomic_table` calls it a seat) with the thread state of the next stream.
         let own = table.shared.split_seat::<SplitFirst>(&mut token);
         seats.push_reserved(Seat {
             token: own,
@@ -63,10 +66,12 @@ fn seats_of(
     Ok(seats)
 }
 
-/// The row of words, which all streams share: word 0, which is always 0, a word for each identity, and a word for each literal of
-/// the formula and of the streams' room. A word holds two literals, so a clause of n literals takes (n + 1) / 2 words: with a word for
-/// each literal there is enough room also for unit clauses alone. Words that are left over stay 0; the row's length follows from the
-/// layout, which doesn't know how long clauses are. Contracts know the row by its name alone.
+/// The row of words, which all streams share: word 0, which is always 0, a word for each identity,
+/// and a word for each literal of the formula and of the streams' room. A word holds two literals,
+/// so a clause of n literals takes (n + 1) / 2 words: with a word for each literal there is enough
+/// room even if all clauses are unit clauses. Words that aren't needed stay 0: the length of the
+/// row follows from the layout, which doesn't say how long each clause is. To contracts the row is
+/// only a name.
 #[derive(Drop)]
 pub struct Row {
     table: WordTable,
@@ -83,8 +88,9 @@ impl Model for Row {
 }
 
 impl Row {
-    /// Makes the row of a formula and a layout that fits it, and a seat for each stream, in their order. It takes 8 bytes a word of
-    /// the row, and as much again until it returns. If memory is refused, nothing is left behind.
+    /// Makes the row of a formula and a layout that fits it, and a seat for each stream, in their
+    /// order. It allocates 8 bytes for each word of the row, and as much again until it returns. If
+    /// an allocation fails, everything is freed.
     pub fn open(
         alloc: Global,
         formula: &Formula,
@@ -111,7 +117,8 @@ impl Row {
         Ok((Row { table }, seats))
     }
 
-    /// Loads the word of an identity, 1 to the last, which spells the reply of a fetch: the event of this one load.
+    /// Loads the word of an identity, 1 to the last one. This load is the event of a fetch, and the
+    /// word determines the reply.
     #[inline]
     pub fn look(&self, seat: &mut Seat, id: u64) -> u64
         requires row { seat.old.table ≡ self.now }
@@ -127,8 +134,9 @@ impl Row {
         shared.load::<Look>(&mut seat.token, id as usize)
     }
 
-    /// Loads the word at a place of the row, which is no event. If a clause lies there that the seat's stream has fetched, the word has
-    /// the codes of one or two of its literals. It never changes, not even when the clause is retired.
+    /// Loads the word at a place of the row, which is no event. If a clause is stored there that
+    /// the seat's stream has fetched, the word has the codes of one or two of its literals. Such a
+    /// word never changes, not even when the clause is retired.
     #[inline]
     pub fn word(&self, seat: &mut Seat, place: u64) -> u64
         requires row { seat.old.table ≡ self.now }
@@ -140,8 +148,8 @@ impl Row {
         shared.load::<Read>(&mut seat.token, place as usize)
     }
 
-    /// Adds two literals to the draft, or a last one, by one store. Its place is in the stream's own room, behind all published
-    /// clauses, where no other thread loads.
+    /// Adds two literals to the draft, or one last literal, by one store. The word is in the
+    /// stream's own room, after all clauses that the stream has published.
     #[inline]
     pub fn write(&self, seat: &mut Seat, first: Lit, second: Option<Lit>)
         requires row { seat.old.table ≡ self.now }
@@ -157,8 +165,8 @@ impl Row {
         seat.drafted += if second.is_some() { 2 } else { 1 };
     }
 
-    /// Publishes the draft under an identity of the stream's own: one compare-exchange of its word, from vacant to live. The draft is
-    /// empty then, whatever the reply.
+    /// Publishes the draft under an identity that the stream owns: one compare-exchange of its
+    /// word, from vacant to live. Afterwards the draft is empty, also if the reply is `Taken`.
     pub fn claim(&self, seat: &mut Seat, id: u64) -> Published
         requires row { seat.old.table ≡ self.now }
         requires owns { Owns seat.old.view.caller.layout seat.old.view.caller.stream id }
@@ -185,8 +193,9 @@ impl Row {
         }
     }
 
-    /// Retires the clause under an identity of the stream's own: one load, and one compare-exchange if the clause is live. That always
-    /// finds the word that was loaded, since no other stream changes it.
+    /// Retires the clause under an identity that the stream owns: one load, and one
+    /// compare-exchange if the clause is live. The compare-exchange always succeeds, since no other
+    /// stream changes the word.
     pub fn withdraw(&self, seat: &mut Seat, id: u64) -> Retired
         requires row { seat.old.table ≡ self.now }
         requires owns { Owns seat.old.view.caller.layout seat.old.view.caller.stream id }
@@ -203,13 +212,14 @@ impl Row {
         if state(found) != LIVE {
             return Retired::NotLive;
         }
-        // One more makes the state retired, and keeps the length and the place.
+        // Adding 1 makes the state retired, and keeps the length and the place.
         shared.compare_exchange::<Retire>(&mut seat.token, id as usize, found, found + 1);
         Retired::Done
     }
 
-    /// Lets two seats share what they have seen: both histories become one, which begins with what each had seen. If one had seen all
-    /// that the other had, it is that one's. For contracts alone: the one load changes nothing in the row, and is no event.
+    /// Lets two seats share what they have seen: afterwards both have seen the same history, which
+    /// begins with what each had seen. If one had seen all that the other had, it is the history of
+    /// that one. Used for contracts only: the one load changes nothing in the row, and is no event.
     pub fn meet(&self, first: &mut Seat, second: &mut Seat)
         requires first { first.old.table ≡ self.now }
         requires second { second.old.table ≡ self.now }
@@ -224,8 +234,8 @@ impl Row {
         ensures drafts { (first.new.draft ≡ first.old.draft)
             × (second.new.draft ≡ second.old.draft) }
     {
-        // One token has both streams' thread states while word 0 is loaded: that load is the step at which each learns what the
-        // other has seen. Then the second thread state goes back to its own token.
+        // One token has the thread states of both streams while word 0 is loaded: at this load each
+        // learns what the other has seen. Then the second thread state goes back to its own token.
         let shared = &self.table.shared;
         let token = shared.split_seat::<SplitAll>(&mut second.token);
         shared.join_seat::<JoinAll>(&mut first.token, token);

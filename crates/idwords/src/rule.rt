@@ -1,13 +1,14 @@
-//! The rule of the row, which holds between any two steps of any threads, and a type for each kind of step. The prover shows for each
-//! kind that a step keeps the rule, and what its caller learns.
+//! The rule of the row, which holds between any two steps of any threads, and a type for each kind
+//! of step. The prover shows for each kind that a step keeps the rule, and what its caller learns.
 use atomic_table::{Join, Play, Split, Table, TableRule};
 use lrup_model::{Formula, Layout};
 use std::alloc::Global;
 use std::marker::{Model, PhantomData};
 use std::snapshot::Snapshot;
 
-/// What a token knows: the thread state of each stream that it stands for, which is what the stream's checking thread knows of the row:
-/// what it has seen, where its free room begins, and its draft. Contracts alone speak of it; a program makes no value.
+/// What a token knows: a thread state for each of its streams, i.e. what the thread that checks the
+/// stream knows of the row: what it has seen, where its free room begins, and its draft. Ghost
+/// type: used in contracts only, never constructed.
 pub struct Knowledge {
     none: PhantomData<u8>,
 }
@@ -21,15 +22,17 @@ impl Model for Knowledge {
     ghost view = { λ _. [] };
 }
 
-/// The formula and the layout that the rule is about. A `Snapshot` is known to contracts alone, so the formula takes no bytes here.
+/// The formula and the layout that the rule is about. A `Snapshot` exists for contracts only, so
+/// the formula takes no bytes here.
 #[derive(Drop)]
 pub struct Plan {
     pub formula: Snapshot<Formula>,
     pub layout: Layout,
 }
 
-/// The rule: there is a legal history that leads to just these words; legal means that each reply is right after the calls before it. What
-/// a stream has seen is a beginning of it, for each stream, and it has each stream's calls in the order in which the stream made them.
+/// The rule: some legal history leads to exactly these words. The history that each stream has seen
+/// is a prefix of it, and has all calls of the stream, in the order in which the stream made them.
+/// In a legal history each reply is right after the calls before it.
 pub struct RowInvariant;
 
 impl TableRule<u8, Knowledge, Plan> for RowInvariant {
@@ -40,10 +43,11 @@ impl TableRule<u8, Knowledge, Plan> for RowInvariant {
     ghost first = { λ plan. opening_threads plan.formula.value plan.layout 1 plan.layout.streams };
 }
 
-/// The table of words. Of what `atomic_table` offers it has no slots, which would hold values of other types.
+/// The table of words. It uses none of the slots that `atomic_table` has for values of other types.
 pub type WordTable = Table<u8, Knowledge, Plan, RowInvariant, Global>;
 
-/// The right to take steps at the table, which `atomic_table` calls a seat. A `Seat` of this crate has such a token, and numbers.
+/// The right to take steps at the table, which `atomic_table` calls a seat. A `Seat` of this crate
+/// has such a token and a few numbers.
 pub type StepToken = atomic_table::Seat<u8, Knowledge>;
 
 /// The load of a fetch.
@@ -82,7 +86,8 @@ impl Play<u8, Knowledge> for Claim {
     ghost then = { Changes Claims };
 }
 
-/// The load of a retire. If it finds no live clause, it is the event, with the reply `NotLive`.
+/// The load of a retire. If no clause is live there, this load is the event, with the reply
+/// `NotLive`.
 pub struct Find;
 
 impl Play<u8, Knowledge> for Find {
@@ -109,7 +114,7 @@ impl Play<u8, Knowledge> for Meet {
     ghost then = { Joined };
 }
 
-/// A token's first thread state goes to a new token.
+/// Moves a token's first thread state to a new token.
 pub struct SplitFirst;
 
 impl Split<Knowledge> for SplitFirst {
@@ -120,7 +125,7 @@ impl Split<Knowledge> for SplitFirst {
     ghost right = { first_only };
 }
 
-/// All thread states of a token go to a new token.
+/// Moves all thread states of a token to a new token.
 pub struct SplitAll;
 
 impl Split<Knowledge> for SplitAll {
@@ -131,7 +136,7 @@ impl Split<Knowledge> for SplitAll {
     ghost right = { λ vs. vs };
 }
 
-/// All thread states of a token but the first go to a new token.
+/// Moves all thread states of a token except the first to a new token.
 pub struct SplitRest;
 
 impl Split<Knowledge> for SplitRest {

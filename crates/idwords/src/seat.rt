@@ -1,13 +1,15 @@
-//! A stream's right to make steps at the row.
+//! A seat: a stream's right to take steps at the row.
 ghost use Rattle.std.specs.Prelude.{◌≡◌};
 ghost use Rattle.lrup_model.specs.Pass.{pass_caller_view};
 
 use crate::rule::StepToken;
 use std::marker::Model;
 
-/// A stream's right to take steps at the row, and to write into its own room there. It can't be copied, so each stream's steps have one
-/// caller. `top` is the index of the word behind the stream's last clause, `drafted` counts the literals that were stored from there on
-/// and aren't published yet, and `room` is how many literals the stream may still publish. Only a publish that succeeds lowers it.
+/// A stream's right to take steps at the row, and to write into its own room there. It can't be
+/// copied, so the steps of a stream have one caller. `top` is the index of the first word after the
+/// stream's last clause, `drafted` counts the literals that were stored from there on and aren't
+/// published yet, and `room` is how many literals the stream may still publish. Only a successful
+/// publish makes `room` smaller.
 #[derive(Drop)]
 pub struct Seat {
     pub(crate) token: StepToken,

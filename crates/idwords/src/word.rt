@@ -1,6 +1,8 @@
-//! Words of the row. The word of identity `id` is word `id` of the row: bits 0 and 1 are its state, bits 2 to 21 the count of its
-//! literals, bits 22 to 63 its place, the index in the row of the word with its first two literals. A word of literals has one's code in
-//! bits 0 to 31, and in bits 32 to 63 the next one's, or 0. A code is twice the variable, and one more if the literal is negative.
+//! Words of the row. The word of identity `id` is word `id` of the row: bits 0 and 1 are its state,
+//! bits 2 to 21 the number of literals of the clause, bits 22 to 63 the clause's place, i.e. the
+//! index in the row of the word with its first two literals. A word of literals has the code of one
+//! literal in bits 0 to 31, and in bits 32 to 63 that of the next one, or 0. A code is twice the
+//! variable, plus one if the literal is negative.
 ghost use Rattle.std.specs.Prelude.{◌≡◌, ◌^◌, ◌<◌, IfSome};
 ghost use Rattle.lrup_model.specs.Literal.{max_variable, code_of, IsCode};
 ghost use Rattle.idwords.specs.internal.RowWords.{identity_word, literal_word};
@@ -8,7 +10,7 @@ ghost use Rattle.idwords.specs.Words.{word_state, length_of, start_of, half_of};
 
 use lrup_model::Lit;
 
-/// The state of an identity that has no clause yet; its whole word is 0, too.
+/// The state of an identity that has no clause yet. Its whole word is 0.
 pub const VACANT: u64 = 0;
 
 /// The state of the word of a live clause.
@@ -25,7 +27,7 @@ pub fn state(word: u64) -> u64
     word & 3
 }
 
-/// The count of literals of an identity's clause.
+/// The number of literals of an identity's clause.
 #[inline]
 pub fn len(word: u64) -> u64
     ensures { result ≡ length_of word }
@@ -41,7 +43,7 @@ pub fn start(word: u64) -> u64
     word >> 22
 }
 
-/// The literal whose code is in the word's lower half, 0, or in its upper, 1.
+/// The literal whose code is in this half of the word: 0 is the lower half, 1 the upper.
 #[inline]
 pub fn lit(word: u64, half: u32) -> Lit
     requires half { half < 2 }
@@ -51,7 +53,7 @@ pub fn lit(word: u64, half: u32) -> Lit
     Lit::from_code(((word >> (32 * half)) & 0xffff_ffff) as u32)
 }
 
-/// The word of a literal, and of the one after it, if there is one.
+/// The word of a literal and, if there is one, the literal after it.
 #[inline]
 pub(crate) fn pair_word(first: Lit, second: Option<Lit>) -> u64
     ensures word { result ≡ literal_word first second }

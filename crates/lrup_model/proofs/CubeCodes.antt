@@ -1,4 +1,4 @@
--- A cube by the codes of its literals.
+-- A cube, by the codes of its literals.
 use Rattle.std.proofs.Common.{◌≡◌, inl, inr, ℕ, zero, suc, ◌-◌, ◌/◌, ◌<◌, ◌≤◌, ℤ, pos, neg_ℤ, nat_abs, List, [], ◌∷◌, length, get_or, map}
 use Rattle.std.proofs.Common.{refl, sym, subst, ap, ◌∙◌, arith}
 use Rattle.std.specs.Prelude.{◌↔◌, IsTrue, Result, Ok, Err}
@@ -16,7 +16,7 @@ use Rattle.lrup_model.specs.Clause.{Has}
 use Rattle.lrup_model.specs.lemmas.ClauseLemmas.{Has-at, All-Has, All-from_Has}
 use Rattle.lrup_model.specs.Cube.{IsCubeOf, IsCubeOver}
 
--- A clause's literal is an element of its list.
+-- The literals of a clause are the elements of its list
 
 has_contains : (xs : List ℤ) (l : ℤ) → Has xs l → Contains xs l
 has_contains [] l h = absurd h
@@ -28,7 +28,7 @@ has_contains (x ∷ xs) l (inr h) =
 contains_has : (xs : List ℤ) (l : ℤ) → Contains xs l → Has xs l
 contains_has xs l h = Has-at xs h.0 l (slice_get_read xs (length xs) h.0 l refl h.1 (sym h.2))
 
--- an order of the literals changes nothing
+-- the order of the literals doesn't matter
 pub reordered : (xs ys : List ℕ) (literals : List ℤ) → IsPermutation xs ys → map literal_of xs ≡ literals
     → IsCubeOf literals (map literal_of ys)
 reordered xs ys literals same is l =
@@ -58,7 +58,7 @@ place_of (code ∷ codes) l (inr h) =
 literal_of-code_of : (l : ℤ) → IsCode max_variable (code_of l) → literal_of (code_of l) ≡ l
 literal_of-code_of l code = code_of-injective (literal_of (code_of l)) l (code_of-literal_of (code_of l) code.0)
 
--- a binary search for a literal's code tells whether the literal is there
+-- a binary search for a literal's code finds it exactly if the literal is there
 pub found : (codes : List ℕ) (l : ℤ) (r : Result ℕ ℕ) → AreCubeCodes codes → IsCode max_variable (code_of l)
     → IsBinarySearchResult (λ y. nat_cmp y (code_of l)) codes r → IsTrue (is_ok r) ↔ Has (map literal_of codes) l
 found codes l (Ok i) are code searches =
@@ -90,7 +90,7 @@ variable_of code = elim (parity code) [
     abs_neg zero = refl
     abs_neg (suc v) = refl
 
--- the last code has the greatest variable
+-- the last code has the largest variable
 pub greatest : (codes : List ℕ) (n : ℕ) → AreCubeCodes codes → 0 < length codes
     → IsCubeOver n (map literal_of codes) ↔ (get_or codes (length codes - 1) 0 / 2 ≤ n)
 greatest codes n are some =

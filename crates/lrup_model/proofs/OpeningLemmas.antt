@@ -1,4 +1,4 @@
--- The clause map of one thread as it is opened: the formula's clauses, and nothing else.
+-- The clause map of one thread when it is opened: it has the formula's clauses, and nothing else.
 use Rattle.std.proofs.Common.{◌≡◌, ℕ, zero, suc, ℤ, ◌+◌, ◌-◌, ◌*◌, ◌<◌, ◌≤◌, List, [], ◌∷◌, ◌++◌, length, get_or, take, drop, replicate}
 use Rattle.std.proofs.Common.{refl, sym, ap, subst, ◌∙◌, inl, inr, arith, length-append, append_assoc}
 use Rattle.std.specs.Prelude.{map, sum}
@@ -24,7 +24,7 @@ use Rattle.lrup_model.specs.declared.plain_map.Entry.TheVariants.{Vacant, Live}
 use Rattle.lrup_model.proofs.PieceLemmas.{slice_range-append, slice_range-end}
 use Rattle.lrup_model.specs.lemmas.HistoryLemmas.{opening-formula, opening-above}
 
--- The loop that keeps the clauses
+-- The loop that adds the clauses
 
 pub length-flat : (cs : List Clause) → length (flat cs) ≡ sum_by length cs
 length-flat [] = refl
@@ -57,13 +57,13 @@ stored_more cs i c start ls more es grown first within here lits from grows ents
       grows ∙ ap (λ (xs : List ℤ). xs ++ c) lits ∙ sym (flat-push (take i cs) c) ∙ ap flat (sym cut),
     )
 
--- the literals kept so far, with those of the next clause, are no more than all
+-- the literals added so far, and those of the next clause, are no more than all literals
 pub stored_fits : (cs : List Clause) (i : ℕ) → i < length cs → length (flat (take i cs)) + length (get_or cs i []) ≤ sum_by length cs
 stored_fits cs i within = omega (arith, length-flat (take i cs), sum_by_more_le length cs i [] within)
 
--- The map that the entries and the literals make
+-- The map of these entries and literals
 
--- the clause that ends a front of the literals is what stands behind the ones before
+-- the slot of a live entry whose literals come after a front
 entry_is : (front c back : List ℤ)
     → plain_slot_in (front ++ c ++ back) (Live (length front) (length c)) ≡ plain.live (record { start = length front; literals = c })
 entry_is front c back =
@@ -109,7 +109,7 @@ none_there zero i = refl
 none_there (suc n) zero = refl
 none_there (suc n) (suc i) = none_there n i
 
--- the slot at a place behind identity 0
+-- the slot at a place after identity 0
 slot_here : (from : ℕ) (cs : List Clause) (n i : ℕ) → i < length cs
     → slot_of (get_or (plain_slot_from from cs ++ replicate n plain.vacant) i plain.vacant) ≡ slots.live (get_or cs i [])
 unfolding plain_slot_from
@@ -146,7 +146,7 @@ vacant_stored : (ls : List ℤ) (n : ℕ) → map (plain_slot_in ls) (replicate 
 vacant_stored ls zero = refl
 vacant_stored ls (suc n) = ap (λ (xs : List PlainSlot). plain.vacant ∷ xs) (vacant_stored ls n)
 
--- what the entries of an opened map stand for
+-- the slots of the entries of an opened map
 opened_entries : (f : Cnf) (n : ℕ) → map (plain_slot_in (flat f.clauses)) (Vacant ∷ (entries_from 0 f.clauses ++ replicate n Vacant))
     ≡ plain.vacant ∷ (plain_slot_from 0 f.clauses ++ replicate n plain.vacant)
 opened_entries f n =
@@ -244,12 +244,12 @@ opened_sound f p n capacity cnf is fits rest enough =
           ));
     }
 
--- an opened map, by what it is made of
+-- the entries, literals and rooms are those of an opened map
 abbrev pub IsOpened : Cnf → LayoutValue → ℕ → List Entry → List ℤ → List ℕ → Type 0
 IsOpened f p capacity es ls free = IsPlainSound p es ls free capacity × (formula_of (plain_of p es ls free) ≡ f)
     × (plain_state (plain_of p es ls free) ≡ opening f)
 
--- the same, where the lists are known by equations
+-- the same, with the lists given by equations
 pub opened : (f : Cnf) (p : LayoutValue) (n capacity : ℕ) (first kept all : List Entry) (ls : List ℤ) (free : List ℕ) → IsCnf f
     → IsLayout p → Fits p f → n ≡ last_identity p - length f.clauses → formula_literals f + p.streams * p.room ≤ capacity
     → first ≡ Vacant ∷ [] → kept ≡ first ++ entries_from 0 f.clauses → all ≡ kept ++ replicate n Vacant → ls ≡ flat f.clauses

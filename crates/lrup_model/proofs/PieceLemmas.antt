@@ -1,4 +1,4 @@
--- Lemmas on a list of literals cut into clauses.
+-- Lemmas about a list of literals cut into clauses.
 use Rattle.std.proofs.Common.{◌≡◌, ℕ, zero, suc, ◌+◌, ◌-◌, ◌<◌, ◌≤◌, List, [], ◌∷◌, ◌++◌, length, get_or, take, drop, refl, sym, ap, subst}
 use Rattle.std.proofs.Common.{◌∙◌, arith, length-append, length-drop, length-take}
 use Rattle.std.specs.Prelude.{slice_range}
@@ -15,7 +15,7 @@ pub length-pieces : (ls : Clause) (from : ℕ) (ends : List ℕ) → length (pie
 length-pieces ls from [] = refl
 length-pieces ls from (end ∷ ends) = ap suc (length-pieces ls end ends)
 
--- the first place is no higher than the last
+-- the first place is not above the last
 pub AreEnds-le : (from : ℕ) (ends : List ℕ) (all : ℕ) → AreEnds from ends all → from ≤ all
 AreEnds-le from [] all h = omega (arith, h)
 AreEnds-le from (end ∷ ends) all h = omega (arith, h.0, AreEnds-le end ends all h.1)
@@ -24,7 +24,7 @@ pub AreEnds-push : (from : ℕ) (ends : List ℕ) (all more : ℕ) → AreEnds f
 AreEnds-push from [] all more h le = (omega (arith, h, le), refl)
 AreEnds-push from (end ∷ ends) all more h le = (h.0, AreEnds-push end ends all more h.1 le)
 
--- a part of a list is there when the list has grown at its end
+-- a range of a list stays the same when the list grows at its end
 pub slice_range-append : (ls xs : Clause) (i j : ℕ) → i ≤ j → j ≤ length ls → slice_range (ls ++ xs) i j ≡ slice_range ls i j
 slice_range-append ls xs i j ordered inside =
     let first : i ≤ length ls = omega arith in
@@ -82,7 +82,7 @@ grown vars ls xs ends h room clause =
       AreEnds-push 0 ends (length ls) (length ls + length xs) h.1 (omega arith),
     )
 
--- the same, where the lists are known by equations
+-- the same, with the lists given by equations
 pub grown_to : (f : Cnf) (vars : ℕ) (ls xs more : Clause) (ends new : List ℕ)
     → ◌≡◌ {A = Cnf} (record { vars = vars; clauses = pieces ls 0 ends }) f
     → IsCnf (record { vars = vars; clauses = pieces ls 0 ends }) × AreEnds 0 ends (length ls)

@@ -1,4 +1,4 @@
--- How the clause map of one thread is kept, through publish and retire.
+-- The invariant of the clause map of one thread, through publish and retire.
 use Rattle.std.proofs.Common.{◌≡◌, ℕ, zero, suc, ℤ, ◌+◌, ◌-◌, ◌<◌, ◌≤◌, List, [], ◌∷◌, ◌++◌, length, get_or, set, take, drop, Some, refl}
 use Rattle.std.proofs.Common.{sym, ap, subst, ◌∙◌, arith, length-append, length-drop, length-take}
 use Rattle.std.specs.Prelude.{pos, map, sum, slice_range, slice_get}
@@ -34,7 +34,7 @@ AllByRecursion-set P [] i v h p = tt
 AllByRecursion-set P (x ∷ xs) zero v h p = (p, h.1)
 AllByRecursion-set P (x ∷ xs) (suc i) v h p = (h.0, AllByRecursion-set P xs i v h.1 p)
 
--- Entries over a list of literals that has grown at its end
+-- Entries after the list of literals has grown at its end
 
 LiesWithin-weaker : (n m : ℕ) → n ≤ m → (e : Entry) → LiesWithin n e → LiesWithin m e
 LiesWithin-weaker n m le Vacant h = tt
@@ -77,7 +77,7 @@ pub view_more : (p : LayoutValue) (es : List Entry) (ls c : List ℤ) (free : Li
 view_more p es ls c free id h =
     ap (λ (xs : List PlainSlot). record { layout = p; plain_slots = xs; free = free }) (stored_more ls c es id h)
 
--- the room that a stream has left, with what the others have
+-- the sum of the rooms after a stream took n literals
 sum-less : (free : List ℕ) (i n : ℕ) → i < length free → n ≤ get_or free i 0 → sum (set free i (get_or free i 0 - n)) + n ≡ sum free
 sum-less free i n within fits =
     let step : sum (set free i (get_or free i 0 - n)) + get_or free i 0 ≡ sum free + (get_or free i 0 - n) =
@@ -171,9 +171,9 @@ sound_retired p es ls free capacity id start len sound derived within here =
           (AllByRecursion-set (StoresClause f) (map (plain_slot_in ls) es) id v sound.clauses kept));
     }
 
--- What lies under an identity
+-- What is stored under an identity
 
--- the text of what is stored lies in the list of literals from its start on
+-- the stored literals are in the list of literals, from the start on
 abbrev LiesAt : List ℤ → StoredClause → Type 0
 LiesAt ls stored = (len : ℕ) × (stored.start + len ≤ length ls) × (stored.literals ≡ slice_range ls stored.start (stored.start + len))
 
@@ -187,7 +187,7 @@ entry_text ls (Retired start len ∷ es) zero stored h e =
     subst (LiesAt ls) (same_Some (record { start = start; literals = slice_range ls start (start + len) }) stored e) (len, h.0, refl)
 entry_text ls (x ∷ es) (suc id) stored h e = entry_text ls es id stored h.1 e
 
--- one literal of it
+-- one of the stored literals
 pub literal_lies : (ls : List ℤ) (es : List Entry) (id k start : ℕ) (text : Clause) → AllByRecursion (LiesWithin (length ls)) es
     → stored_of (get_or (map (plain_slot_in ls) es) id plain.vacant) ≡ Some (record { start = start; literals = text }) → k < length text
     → (start + k < length ls) × (slice_get text k ≡ Some (get_or ls (start + k) (pos 0)))
@@ -203,7 +203,7 @@ literal_lies ls es id k start text h e lt =
           ∙ get_or-take lies.0 (drop start ls) k (pos 0) short ∙ get_or-drop start ls k (pos 0)),
     )
 
--- The same of the whole map, where the entry was read
+-- The same for the whole map, for the entry that was read
 
 within_count : (p : LayoutValue) (es : List Entry) (id : ℕ) → length es ≡ last_identity p + 1 → id ≤ last_identity p → id < length es
 within_count p es id count le = omega arith
@@ -211,7 +211,7 @@ within_count p es id count le = omega arith
 within_stored : (ls : List ℤ) (es : List Entry) (id : ℕ) → id < length es → id < length (map (plain_slot_in ls) es)
 within_stored ls es id h = omega (arith, h, length-map es (plain_slot_in ls))
 
--- what is stored where this entry was read
+-- what is stored under the identity whose entry was read
 stored_is : (ls : List ℤ) (es : List Entry) (id : ℕ) (e : Entry) → id < length es → e ≡ get_or es id e
     → get_or (map (plain_slot_in ls) es) id plain.vacant ≡ plain_slot_in ls e
 stored_is ls es id e within read = get_or-map (plain_slot_in ls) es id Vacant plain.vacant within
@@ -268,7 +268,7 @@ publish_done v p es ls c more free capacity grown i id n left e view sound =
       ),
     ))
 
--- a literal of a known clause lies in the list
+-- a literal of a known clause is in the list
 pub known_literal : (v : Plain) (p : LayoutValue) (es : List Entry) (ls : List ℤ) (free : List ℕ) (clip : ClipValue) (k : ℕ)
     → plain_of p es ls free ≡ v → AllByRecursion (LiesWithin (length ls)) es → IsKnown (plain_caller_view v 1) clip → k < clip.len
     → (clip.start + k < length ls) × (slice_get (clip_clause (plain_caller_view v 1) clip) k ≡ Some (get_or ls (clip.start + k) (pos 0)))
@@ -291,7 +291,7 @@ stores_all f [] id all = tt
 stores_all f (x ∷ xs) zero all = all.0
 stores_all f (x ∷ xs) (suc id) all = stores_all f xs id all.1
 
--- every stored clause follows, and the formula's are live
+-- every stored clause follows from the formula, and the formula's clauses are live
 pub sound_follows : (v : Plain) (p : LayoutValue) (es : List Entry) (ls : List ℤ) (free : List ℕ) (capacity : ℕ) → plain_of p es ls free ≡ v
     → IsPlainSound p es ls free capacity → AllFollow (plain_caller_view v 1) × IsFormulaLive v
 sound_follows v p es ls free capacity view sound =

@@ -1,4 +1,4 @@
--- How the events of a stream move the clause map of one thread.
+-- How the events of a stream change the clause map of one thread.
 use Rattle.std.proofs.Common.{◌≡◌, ◌≢◌, ℕ, zero, suc, ◌+◌, ◌-◌, ◌<◌, ◌≤◌, Bool, true, false, cond, eqb, List, [], ◌∷◌, length, get_or, set}
 use Rattle.std.proofs.Common.{take, drop, Some, None, refl, sym, ap, subst, ◌∙◌, arith}
 use Rattle.std.specs.Prelude.{map}
@@ -85,7 +85,7 @@ followed_at f xs id j v stored true e h new old there =
 followed_at f xs id j v stored false e h new old there =
     old (sym (ap stored_of (get_or-set_other xs id j v vacant (eqb-false j id e))) ∙ there)
 
--- every clause follows still, where the one that is stored does
+-- every clause still follows from the formula if the new one does
 pub follow-set : (m : Plain) (s id : ℕ) (v : PlainSlot) (free : List ℕ) → m.layout.clauses < id → id < length m.plain_slots
     → ((stored : StoredClause) → stored_of v ≡ Some stored → AllFollow (plain_caller_view m s) → IsDerived (formula_of m) stored.literals)
     → AllFollow (plain_caller_view m s)
@@ -101,7 +101,7 @@ follow-set m s id v free derived within new all = record {
 pub nothing_stored : {stored : StoredClause} → None ≡ Some stored → ⊥
 nothing_stored h = cc
 
--- nothing changes
+-- an event that changes nothing
 stays : (m : Plain) (s : ℕ) (e : Event) → stream_of e ≡ s → size_of e ≡ 0 → after (plain_state m) e ≡ plain_state m
     → Answers (plain_state m) e → IsAllowed (formula_of m) m.layout e → PlainMoves m m s (e ∷ [])
 stays m s e by size same answers allowed = record {
@@ -120,7 +120,7 @@ pub moves_taken : (m : Plain) (s id : ℕ) (c : Clause) → Owns m.layout s id �
     → plain_state m id ≢ slots.absent → PlainMoves m m s (events.publish s id c publishing.Taken ∷ [])
 moves_taken m s id c owns clause taken = stays m s (events.publish s id c publishing.Taken) refl refl refl taken (owns, clause)
 
--- the rooms after a stream took so many literals
+-- the room of a stream after it took n literals
 room_left : (free : List ℕ) (i n : ℕ) → i < length free → n ≤ get_or free i 0
     → get_or (set free i (get_or free i 0 - n)) i 0 + n ≡ get_or free i 0
 room_left free i n within fits = omega (arith, get_or-set_at free i i (get_or free i 0 - n) 0 refl within)
@@ -158,7 +158,7 @@ vacant_from vacant h = refl
 vacant_from (live stored) h = absurd (cc)
 vacant_from (retired stored) h = absurd (cc)
 
--- a publish, by its answer
+-- a publish, by its result
 pub moves_publish : (old new : Plain) (i id : ℕ) (c : Clause) (r : Published) → Owns old.layout (i + 1) id
     → IsPublishable (formula_of old) c
     → length c ≤ free_at old (i + 1) → AfterPublish old new i id c r → PlainMoves old new (i + 1) (events.publish (i + 1) id c r ∷ [])
@@ -181,7 +181,7 @@ retired_state : (m : Plain) (id : ℕ) (stored : StoredClause) → plain_slot_at
     → retire_slot (plain_state m id) ≡ slots.retired stored.literals
 retired_state m id stored here = ap (λ (x : PlainSlot). retire_slot (slot_of x)) here
 
--- a retire, by its answer
+-- a retire, by its result
 pub moves_retire : (old new : Plain) (s id : ℕ) (r : Retired) → Owns old.layout s id → AfterRetire old new id r
     → PlainMoves old new s (events.retire s id r ∷ [])
 moves_retire old new s id retiring.Done owns after =
@@ -205,7 +205,7 @@ moves_retire old new s id retiring.NotLive owns after =
     subst (λ (n : Plain). PlainMoves old n s (events.retire s id retiring.NotLive ∷ [])) (sym after.1)
     (stays old s (events.retire s id retiring.NotLive) refl refl refl after.0 owns)
 
--- What a fetch answers
+-- Fetches
 
 fetched_is : (m : Plain) (s id : ℕ) (x : PlainSlot) → plain_slot_at m id ≡ x → IsFetched (plain_caller_view m s) id (fetched_of id x)
 fetched_is m s id vacant here = ap stored_of here
@@ -223,7 +223,7 @@ pub fetch_fetched : (m : Plain) (s id : ℕ) (r : Fetched) → r ≡ fetched_of 
 fetch_fetched m s id r is =
     subst (λ (x : Fetched). IsFetched (plain_caller_view m s) id x) (sym is) (fetched_is m s id (plain_slot_at m id) refl)
 
--- the formula's clause is what is stored
+-- the formula's clause is the one stored under its identity
 formula_stored : (m : Plain) (id : ℕ) → 0 < id → id ≤ m.layout.clauses → clause_at (formula_of m) id ≡ clause_of (plain_slot_at m id)
 formula_stored m id positive within =
     let i : id - 1 < m.layout.clauses = omega arith in

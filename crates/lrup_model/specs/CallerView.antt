@@ -14,33 +14,36 @@ pub record Caller : Type 0 where
   pub layout : LayoutValue
   pub stream : ℕ
 
--- the layout is one for the formula, and has the stream
+-- The formula and the layout are within the limits and fit each other, and the stream is one of the
+-- layout.
 pub record IsCaller (caller : Caller) : Type 0 where
   pub formula : IsCnf caller.formula
   pub layout : IsLayout caller.layout
   pub fits : Fits caller.layout caller.formula
   pub stream : IsStream caller.layout caller.stream
 
--- where a clause of the formula or a published one lies, and its literals in the order in which they lie there, each once
+-- The place of a clause of the formula or of a published one, and its literals in the order in
+-- which they are stored.
 pub record StoredClause : Type 0 where
   pub start : ℕ
   pub literals : Clause
 
--- What a caller knows: own, what the map has at its stream's identities; room, the literals that its stream may still publish; and spelt,
--- how the clauses are stored that it has seen.
+-- What a caller knows: `own`, what the map has at its stream's identities; `room`, how many
+-- literals its stream may still publish; and `spelt`, how the clauses that it has seen are stored.
 pub record CallerView : Type 0 where
   pub caller : Caller
   pub own : State
   pub room : ℕ
   pub spelt : ℕ → Option StoredClause
 
--- a clip of a clause of the formula or of a published one: its identity, the count of its literals, its place
+-- A clip of a clause of the formula or of a published one: its identity, its number of literals,
+-- and its place.
 pub record ClipValue : Type 0 where
   pub id : ℕ
   pub len : ℕ
   pub start : ℕ
 
--- the literals that are stored, or none if nothing is
+-- the literals of what is stored, or none if nothing is
 abbrev pub literals_in : Option StoredClause → Clause
 literals_in None = []
 literals_in (Some stored) = stored.literals
@@ -49,26 +52,26 @@ literals_in (Some stored) = stored.literals
 abbrev pub clip_clause : CallerView → ClipValue → Clause
 clip_clause view clip = literals_in (view.spelt clip.id)
 
--- the start and the length stored for the identity are the clip's own
+-- The clip has the start and the length of the clause that is stored for its identity.
 pub record IsKnown (view : CallerView) (clip : ClipValue) : Type 0 where
   pub stored : view.spelt clip.id
       ≡ Some (record { start = clip.start; literals = clip_clause view clip })
   pub len : clip.len ≡ length (clip_clause view clip)
 
--- every stored clause follows from the formula
+-- Every stored clause follows from the formula.
 pub record AllFollow (view : CallerView) : Type 0 where
   pub each : (id : ℕ) (stored : StoredClause) → view.spelt id ≡ Some stored
       → IsDerived view.caller.formula stored.literals
 
--- the caller's own identities above the last that it published have nothing
+-- the caller's own identities above the last that it published are vacant
 abbrev pub IsVacantAbove : CallerView → ℕ → Type 0
 IsVacantAbove view last = AreVacantAbove view.caller.layout view.caller.stream view.own last
 
--- what is stored for a clause stays
+-- what is stored for an identity stays
 abbrev pub KeepsSpelt : (ℕ → Option StoredClause) → (ℕ → Option StoredClause) → Type 0
 KeepsSpelt old new = (id : ℕ) (stored : StoredClause) → old id ≡ Some stored → new id ≡ Some stored
 
--- what a caller's events change of its view
+-- What a caller's events change in its view.
 pub record CallerStep (old new : CallerView) (history : History) : Type 0 where
   pub caller : new.caller ≡ old.caller
   pub callers : AllByRecursion (λ event. stream_of event ≡ old.caller.stream) history

@@ -1,9 +1,10 @@
--- Clauses (textbook). A clause is a finite set of literals; it is kept as a list that has each of them once, and what is said of it reads the list as a set.
+-- Clauses (textbook). A clause is a finite set of literals. It is kept as a list that has each
+-- literal once, and definitions read the list as a set.
 use Rattle.std.specs.Prelude.{◌≡◌, ◌⊎◌, ℕ, ℤ, neg_ℤ, List, [], ◌∷◌}
 use Rattle.std.specs.List.{AllByRecursion}
 use Rattle.lrup_model.specs.Literal.{IsLiteral}
 
--- the literals of a clause
+-- a clause, as the list of its literals
 abbrev pub Clause : Type 0
 Clause = List ℤ
 
@@ -12,16 +13,16 @@ abbrev pub Has : Clause → ℤ → Type 0
 Has [] l = ⊥
 Has (literal ∷ clause) l = (literal ≡ l) ⊎ Has clause l
 
--- no literal stands twice
+-- no literal occurs twice
 abbrev pub EachOnce : Clause → Type 0
 EachOnce [] = Unit {0}
 EachOnce (literal ∷ clause) = (¬ Has clause literal) × EachOnce clause
 
--- a clause over the variables 1 to vars: the length of the list is the clause's size
+-- A clause over the variables 1 to vars. The length of the list is the size of the clause.
 pub record IsClause (vars : ℕ) (clause : Clause) : Type 0 where
   pub literals : AllByRecursion (IsLiteral vars) clause
   pub each_once : EachOnce clause
 
--- a literal stands beside its complement (textbook)
+-- the clause contains a literal and its complement (textbook)
 abbrev pub IsTautology : Clause → Type 0
 IsTautology clause = (l : ℤ) × Has clause l × Has clause (neg_ℤ l)

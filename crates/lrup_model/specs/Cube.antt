@@ -1,4 +1,4 @@
--- Cubes: sets of literals that are assumed (textbook). A cube is kept as a list.
+-- Cubes: sets of assumed literals (textbook). A cube is kept as a list.
 use Rattle.std.specs.Prelude.{◌↔◌, ℕ, ℤ, neg_ℤ, List}
 use Rattle.std.specs.List.{AllByRecursion}
 use Rattle.lrup_model.specs.Literal.{IsLiteral}
@@ -10,7 +10,7 @@ use Rattle.lrup_model.specs.Entailment.{Assignment, MakesTrue, SatisfiesAll}
 abbrev pub CubeValue : Type 0
 CubeValue = List ℤ
 
--- the cube is the set of the literals
+-- the cube is the set of these literals
 abbrev pub IsCubeOf : List ℤ → CubeValue → Type 0
 IsCubeOf literals cube = (l : ℤ) → Has cube l ↔ Has literals l
 

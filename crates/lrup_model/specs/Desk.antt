@@ -6,15 +6,15 @@ use Rattle.lrup_model.specs.CallerView.{CallerView}
 use Rattle.lrup_model.specs.Plain.{Plain, plain_caller_view, PlainMoves}
 use Rattle.lrup_model.specs.declared.plain_map.PlainDesk.{PlainDesk}
 
--- the desk's stream, from 1 on
+-- the desk's stream, counted from 1
 abbrev pub stream_at : PlainDesk → ℕ
 stream_at desk = desk.index + 1
 
--- the map that the desk is at
+-- the map that the desk borrows
 abbrev pub map_of : PlainDesk → Plain
 map_of desk = desk.map.now
 
--- the desk is a stream's at this map, and holds it
+-- The desk is this stream's desk at this map, and borrows the map.
 pub record IsDesk (map : MutBor Plain) (s : ℕ) (desk : PlainDesk) : Type 0 where
   pub map_now : map_of desk ≡ map.now
   pub same : desk.map.ghost_name ≡ map.ghost_name
@@ -23,7 +23,7 @@ pub record IsDesk (map : MutBor Plain) (s : ℕ) (desk : PlainDesk) : Type 0 whe
 abbrev pub plain_desk_caller_view : PlainDesk → CallerView
 plain_desk_caller_view desk = plain_caller_view (map_of desk) (stream_at desk)
 
--- the desk stays at the same map, which moved by these events of its stream
+-- The desk borrows the same map as before, which has moved by these events of the desk's stream.
 pub record PlainDeskMoves (old new : PlainDesk) (history : History) : Type 0 where
   pub same : new.map.ghost_name ≡ old.map.ghost_name
   pub index : new.index ≡ old.index

@@ -1,9 +1,9 @@
--- A list of literals with the repeats left out (this project's own).
+-- A list of literals without repetitions (this project's own).
 use Rattle.std.specs.Prelude.{ℤ, List, [], ◌∷◌, not}
 use Rattle.std.specs.List.{filter}
 use Rattle.std.specs.Ordering.{int_eq}
 
--- each literal of the list once, in the order of the first places
+-- each literal of the list once, in the order of their first occurrences
 abbrev pub distinct : List ℤ → List ℤ
 distinct [] = []
 distinct (x ∷ ls) = x ∷ filter (λ y. not (int_eq y x)) (distinct ls)

@@ -4,7 +4,7 @@ use Rattle.std.specs.List.{AllByRecursion}
 use Rattle.lrup_model.specs.Clause.{Clause, Has, IsClause}
 use Rattle.lrup_model.specs.Formula.{Cnf}
 
--- true or false for each variable
+-- a truth value for each variable
 abbrev pub Assignment : Type 0
 Assignment = ℕ → Bool
 
@@ -21,7 +21,7 @@ Satisfies assignment clause = (l : ℤ) × Has clause l × MakesTrue assignment 
 abbrev pub SatisfiesAll : Assignment → Cnf → Type 0
 SatisfiesAll assignment formula = AllByRecursion (Satisfies assignment) formula.clauses
 
--- every assignment that satisfies all clauses of the formula satisfies the clause
+-- Every assignment that satisfies all clauses of the formula satisfies the clause.
 pub record Follows (formula : Cnf) (clause : Clause) : Type 0 where
   pub holds : (assignment : Assignment) → SatisfiesAll assignment formula
       → Satisfies assignment clause
@@ -30,6 +30,6 @@ pub record Follows (formula : Cnf) (clause : Clause) : Type 0 where
 abbrev pub IsDerived : Cnf → Clause → Type 0
 IsDerived formula clause = IsClause formula.vars clause × Follows formula clause
 
--- no assignment makes every clause true
+-- no assignment satisfies all clauses of the formula
 abbrev pub IsUnsatisfiable : Cnf → Type 0
 IsUnsatisfiable formula = (assignment : Assignment) → SatisfiesAll assignment formula → ⊥

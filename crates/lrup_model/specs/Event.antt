@@ -1,5 +1,6 @@
--- Events of the clause map, one for each call of fetch, publish and retire, and histories, which are lists of them (this project's own).
--- A clause stands in an event as the list in the order in which the map keeps it, and is read as a set.
+-- Events of the clause map, one for each call of fetch, publish and retire, and histories, which
+-- are lists of events (this project's own). An event has a clause as the list in the order in which
+-- the map stores it; the list is read as a set.
 use Rattle.std.specs.Prelude.{◌==◌, ℕ, List, [], ◌∷◌, length}
 use Rattle.std.specs.List.{filter, sum_by}
 use Rattle.lrup_model.specs.Clause.{Clause}
@@ -13,17 +14,18 @@ pub data Reply : Type 0 where
   live : Clause → Reply
   retired : Reply
 
--- a call of fetch, publish or retire: the stream that calls, the identity, the clause of a publish, and the reply
+-- a call of fetch, publish or retire: the stream that calls, the identity, the clause of a publish,
+-- and the reply
 pub data Event : Type 0 where
   fetch : ℕ → ℕ → Reply → Event
   publish : ℕ → ℕ → Clause → Published → Event
   retire : ℕ → ℕ → Retired → Event
 
--- events, in the order in which they came
+-- events, in the order in which they occurred
 abbrev pub History : Type 0
 History = List Event
 
--- the stream that calls
+-- the stream that made the call
 abbrev pub stream_of : Event → ℕ
 stream_of (fetch s id reply) = s
 stream_of (publish s id clause reply) = s
@@ -41,11 +43,11 @@ published (publish s id clause publishing.Done ∷ history) = (id, clause) ∷ p
 published (publish s id clause publishing.Taken ∷ history) = published history
 published (retire s id reply ∷ history) = published history
 
--- the sizes of the clauses that a stream published with Done, added up
+-- how many literals the clauses have that a stream published with `Done`
 abbrev pub spent : ℕ → History → ℕ
 spent s history = sum_by (λ entry. length entry.1) (published (own history s))
 
--- the literals that an event takes of its stream's room
+-- how many literals of its stream's room an event takes
 abbrev pub size_of : Event → ℕ
 size_of (fetch s id reply) = 0
 size_of (publish s id clause publishing.Done) = length clause

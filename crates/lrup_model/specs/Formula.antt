@@ -9,11 +9,11 @@ pub record Cnf : Type 0 where
   pub vars : ℕ
   pub clauses : List Clause
 
--- the greatest count of clauses
+-- the largest number of clauses
 abbrev pub max_clauses : ℕ
 max_clauses = 16777215
 
--- the greatest count of literals of one clause
+-- the largest number of literals of one clause
 abbrev pub max_clause_literals : ℕ
 max_clause_literals = 1048575
 
@@ -21,16 +21,16 @@ max_clause_literals = 1048575
 abbrev pub IsFormulaClause : ℕ → Clause → Type 0
 IsFormulaClause vars clause = IsClause vars clause × (length clause ≤ max_clause_literals)
 
--- a formula within the limits
+-- A formula within the limits.
 pub record IsCnf (formula : Cnf) : Type 0 where
   pub vars : formula.vars ≤ max_variable
   pub count : length formula.clauses ≤ max_clauses
   pub clauses : AllByRecursion (IsFormulaClause formula.vars) formula.clauses
 
--- clause i of the formula, for i from 1 on
+-- clause i of the formula, counted from 1
 abbrev pub clause_at : Cnf → ℕ → Clause
 clause_at formula i = slice_index_or formula.clauses (i - 1) []
 
--- the literals of all clauses, repeats inside a clause not counted
+-- how many literals all clauses have, where each clause has a literal once
 abbrev pub formula_literals : Cnf → ℕ
 formula_literals formula = sum_by length formula.clauses

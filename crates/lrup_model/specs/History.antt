@@ -7,33 +7,35 @@ use Rattle.lrup_model.specs.Layout.{LayoutValue, IsIdentity, Owns}
 use Rattle.lrup_model.specs.Event.{Event, fetch, publish, retire, History, spent}
 use Rattle.lrup_model.specs.State.{State, Answers, after, opening}
 
--- the greatest count of literals of a derived clause
+-- the largest number of literals of a derived clause
 abbrev pub max_line_literals : ℕ
 max_line_literals = 65535
 
--- a clause that may be published: over the formula's variables, of at most 65,535 literals, and it follows from the formula
+-- A clause that may be published: it is over the formula's variables, has at most 65,535 literals,
+-- and follows from the formula.
 pub record IsPublishable (formula : Cnf) (candidate : Clause) : Type 0 where
   pub clause : IsClause formula.vars candidate
   pub length : length candidate ≤ max_line_literals
   pub follows : Follows formula candidate
 
--- The event is one that the stream may ask for: a fetch of any identity, a publish or retire of its own.
--- An owned identity is one of 1 to the last.
+-- The stream may make this call: a fetch of any identity, a publish of a publishable clause under
+-- an identity that the stream owns, or a retire of an identity that the stream owns.
 abbrev pub IsAllowed : Cnf → LayoutValue → Event → Type 0
 IsAllowed formula layout (fetch s id reply) = IsIdentity layout id
 IsAllowed formula layout (publish s id clause reply) =
     Owns layout s id × IsPublishable formula clause
 IsAllowed formula layout (retire s id reply) = Owns layout s id
 
--- each event may be asked for, and has the reply that the map gives in the state after the events before it
+-- each event is allowed, and has the reply that the map gives in the state after the events before
+-- it
 abbrev pub LegalFrom : Cnf → LayoutValue → State → History → Type 0
 LegalFrom formula layout slots [] = Unit {0}
 LegalFrom formula layout slots (event ∷ history) =
     Answers slots event × IsAllowed formula layout event
     × LegalFrom formula layout (after slots event) history
 
--- A legal history: from the formula's clauses on each event may be asked for, and answers as the map of one thread does; and each
--- stream's clauses are within its room.
+-- A legal history: starting with the formula's clauses, each event is allowed and has the reply of
+-- the map of one thread; and each stream publishes at most as many literals as it has room for.
 pub record IsLegal (formula : Cnf) (layout : LayoutValue) (history : History) : Type 0 where
   pub events : LegalFrom formula layout (opening formula) history
   pub room : (s : ℕ) → spent s history ≤ layout.room

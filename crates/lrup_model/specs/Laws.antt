@@ -1,4 +1,5 @@
--- Laws of the definitions: what holds of every formula, layout, history and pass. Each is the contract of a function of laws.
+-- Laws of the definitions, for every formula, layout, history and pass. Each is the contract of a
+-- function in `laws.rt`.
 use Rattle.std.specs.Prelude.{◌≡◌, ℕ, Bool, IsTrue, List}
 use Rattle.std.specs.List.{AllByRecursion}
 use Rattle.lrup_model.specs.Clause.{Clause}
@@ -16,32 +17,34 @@ use Rattle.lrup_model.specs.Pass.{View, PassMoves, pass_caller_view}
 
 -- Entailment
 
--- if hints show a clause, and all hinted clauses are over a formula's variables and follow from it, then the clause follows from it
+-- if hints show a clause, and all hinted clauses are over a formula's variables and follow from the
+-- formula, then the clause follows from it
 abbrev pub PropagationSound : Type 0
 PropagationSound = (formula : Cnf) (clause : Clause) (hinted : List Clause)
     → AllByRecursion (IsDerived formula) hinted → Accepts clause hinted → Follows formula clause
 
--- if a clause over a formula's variables follows from it, and assumptions make the clause false, no assignment under them satisfies the
--- formula
+-- if a clause over a formula's variables follows from the formula, and assumptions make the clause
+-- false, no assignment satisfies both the formula and the assumptions
 abbrev pub WithinRefutes : Type 0
 WithinRefutes = (formula : Cnf) (clause : Clause) (cube : CubeValue) → IsDerived formula clause
     → Within clause cube → IsUnsatisfiableUnder formula cube
 
 -- What a history leaves at an identity
 
--- every clause that a legal history of a formula leaves, live or retired, is over the formula's variables and follows from it
+-- every clause that a legal history of a formula leaves, live or retired, is over the formula's
+-- variables and follows from it
 abbrev pub ClausesFollow : Type 0
 ClausesFollow = (formula : Cnf) (layout : LayoutValue) (history : History) (id : ℕ)
     (clause : Clause) → IsCnf formula → LegalFrom formula layout (opening formula) history
     → HasClause (state formula history id) clause → IsDerived formula clause
 
--- what a legal history leaves at a stream's own identity, this stream's calls alone leave there
+-- what a legal history leaves at a stream's own identity depends only on the calls of this stream
 abbrev pub OwnCallsDecide : Type 0
 OwnCallsDecide = (formula : Cnf) (layout : LayoutValue) (history : History) (s id : ℕ)
     → LegalFrom formula layout (opening formula) history → Owns layout s id
     → state formula history id ≡ state formula (own history s) id
 
--- from absent to live to retired, with one clause
+-- the new slot is the old one, or a later one of absent, live and retired, with the same clause
 abbrev pub Advances : Slot → Slot → Type 0
 Advances absent new = Unit {0}
 Advances (live c) absent = ⊥
@@ -51,27 +54,27 @@ Advances (retired c) absent = ⊥
 Advances (retired c) (live d) = ⊥
 Advances (retired c) (retired d) = d ≡ c
 
--- no entry goes back, and none changes its clause
+-- a legal history moves no entry back, and changes the clause of none
 abbrev pub EntriesAdvance : Type 0
 EntriesAdvance = (f : Cnf) (p : LayoutValue) (m : State) (h : History) (id : ℕ) → LegalFrom f p m h
     → Advances (m id) (run m h id)
 
--- Places and passes
+-- Clips and passes
 
--- a clip that is known in a view stays known, with the same literals, whatever calls follow
+-- a clip that is known in a view stays known, with the same literals, through all later calls
 abbrev pub KnownStays : Type 0
 KnownStays = (a b : CallerView) (es : History) (clip : ClipValue) → CallerStep a b es
     → IsKnown a clip
     → IsKnown b clip × (clip_clause b clip ≡ clip_clause a clip)
 
--- what a pass's calls say of the caller's view
+-- what a pass's calls change in the caller's view
 abbrev pub PassSteps : Type 0
 PassSteps = (a b : View) (es : History) → PassMoves a b es
     → CallerStep (pass_caller_view a) (pass_caller_view b) es
 
 -- The events of some streams
 
--- the reply shows a clause
+-- the reply says that the identity isn't vacant
 abbrev pub IsFound : Reply → Type 0
 IsFound events.vacant = ⊥
 IsFound (events.live c) = Unit {0}

@@ -1,4 +1,5 @@
--- The numbers of a run and who owns an identity. Identities by residue, and the limits, are this project's own.
+-- The sizes of a run, and who owns an identity. That streams own identities by residue, and the
+-- limits, are this project's own.
 use Rattle.std.specs.Prelude.{◌≡◌, ◌⊎◌, ◌+◌, ◌-◌, ◌*◌, ◌%◌, ◌≤◌, ◌<◌, ℕ, List, length, if◌then◌else◌, nat_eq, nat_le, codes}
 use Rattle.lrup_model.specs.Literal.{max_variable}
 use Rattle.lrup_model.specs.Formula.{Cnf, max_clauses, formula_literals}
@@ -7,7 +8,8 @@ use Rattle.lrup_model.specs.declared.layout.Owner.TheVariants as owners
 use Rattle.lrup_model.specs.declared.layout.LayoutFault.{LayoutFault}
 use Rattle.lrup_model.specs.declared.layout.LayoutFault.TheVariants as faults
 
--- variables, clauses and literals of the formula, streams, identities a stream, and literals that a stream has room for
+-- How many variables, clauses and literals the formula has, how many streams there are, and how
+-- many identities and how much room, in literals, each stream has.
 pub record LayoutValue : Type 0 where
   pub vars : ℕ
   pub clauses : ℕ
@@ -16,7 +18,7 @@ pub record LayoutValue : Type 0 where
   pub lines : ℕ
   pub room : ℕ
 
--- the record of these numbers
+-- the layout of these sizes
 abbrev pub layout_value : ℕ → ℕ → ℕ → ℕ → ℕ → ℕ → LayoutValue
 layout_value vars clauses literals streams lines room =
     record {
@@ -28,23 +30,24 @@ layout_value vars clauses literals streams lines room =
       room = room;
     }
 
--- the most streams
+-- the largest number of streams
 abbrev pub max_streams : ℕ
 max_streams = 64
 
--- the most words of the shared row
+-- the largest number of words of the shared row
 abbrev pub max_row_words : ℕ
 max_row_words = 268435456
 
--- the last identity: the formula's clauses come first, then the streams' by turns
+-- the last identity: the formula's identities come first, then those that the streams own in turn
 abbrev pub last_identity : LayoutValue → ℕ
 last_identity layout = layout.clauses + layout.streams * layout.lines
 
--- the words of the shared row: one that stays 0, one an identity, one a literal
+-- how many words the shared row has: one that stays 0, one for each identity, and one for each
+-- literal of the formula and of the streams' room
 abbrev pub row_words : LayoutValue → ℕ
 row_words layout = 1 + last_identity layout + layout.literals + layout.streams * layout.room
 
--- the numbers are within the limits
+-- The sizes are within the limits.
 pub record IsLayout (layout : LayoutValue) : Type 0 where
   pub vars : layout.vars ≤ max_variable
   pub clauses : layout.clauses ≤ max_clauses
@@ -52,17 +55,17 @@ pub record IsLayout (layout : LayoutValue) : Type 0 where
   pub streams : layout.streams ≤ max_streams
   pub row : row_words layout ≤ max_row_words
 
--- the layout is one for this formula
+-- The layout has the sizes of this formula.
 pub record Fits (layout : LayoutValue) (formula : Cnf) : Type 0 where
   pub vars : layout.vars ≡ formula.vars
   pub clauses : layout.clauses ≡ length formula.clauses
   pub literals : layout.literals ≡ formula_literals formula
 
--- one of 1 to the last
+-- an identity: 1 to the last one
 abbrev pub IsIdentity : LayoutValue → ℕ → Type 0
 IsIdentity layout id = (0 < id) × (id ≤ last_identity layout)
 
--- the streams, from 1 on, take the identities behind the formula's by turns
+-- the streams, counted from 1, own the identities after the formula's in turn
 abbrev pub owner : LayoutValue → ℕ → Owner
 owner layout id =
     if nat_eq id 0 then owners.Outside
@@ -79,7 +82,7 @@ Owns layout s id = owner layout id ≡ owners.Stream s
 abbrev pub IsStream : LayoutValue → ℕ → Type 0
 IsStream layout s = (0 < s) × (s ≤ layout.streams)
 
--- the fault is that of the first limit that is broken, in the order of the faults
+-- the fault is the first that holds, in the order of the faults
 abbrev pub IsFault : LayoutValue → LayoutFault → Type 0
 IsFault layout faults.TooManyVariables = max_variable < layout.vars
 IsFault layout faults.TooManyClauses = (layout.vars ≤ max_variable) × (max_clauses < layout.clauses)
@@ -89,7 +92,7 @@ IsFault layout faults.RowTooLong =
     (layout.vars ≤ max_variable) × (layout.clauses ≤ max_clauses) × (0 < layout.streams)
     × (layout.streams ≤ max_streams) × (max_row_words < row_words layout)
 
--- the text of a fault
+-- the report text of a fault
 abbrev pub layout_fault_text : LayoutFault → List ℕ
 layout_fault_text faults.TooManyVariables = codes "formula refused: limit"
 layout_fault_text faults.TooManyClauses = codes "formula refused: limit"

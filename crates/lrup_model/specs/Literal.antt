@@ -1,7 +1,8 @@
--- Literals, as DIMACS CNF writes them: a nonzero whole number, whose negative is its complement and whose magnitude is its variable.
+-- Literals, as DIMACS CNF writes them: nonzero integers. The negative of a literal is its
+-- complement, and the magnitude is its variable.
 use Rattle.std.specs.Prelude.{◌+◌, ◌*◌, ◌≤◌, ◌<◌, ℕ, ℤ, pos, negsuc, nat_abs}
 
--- the greatest variable that a formula may have
+-- the largest variable that a formula may have
 abbrev pub max_variable : ℕ
 max_variable = 16777215
 
@@ -9,7 +10,7 @@ max_variable = 16777215
 abbrev pub IsLiteral : ℕ → ℤ → Type 0
 IsLiteral vars l = (0 < nat_abs l) × (nat_abs l ≤ vars)
 
--- twice the variable, and one more for a negative literal
+-- the code of a literal: twice the variable, plus one for a negative literal
 abbrev pub code_of : ℤ → ℕ
 code_of (pos v) = 2 * v
 code_of (negsuc v) = 2 * v + 3

@@ -1,4 +1,5 @@
--- A pass: one stream's handle at the shared store, and what fairness, moving and meeting mean there (this project's own).
+-- A pass, i.e. one stream's handle at the shared store, and what it means that a pass is fair, that
+-- it moves, and that passes meet (this project's own).
 use Rattle.std.specs.Prelude.{◌≡◌, ◌≢◌, ◌+◌, ◌-◌, ◌==◌, ◌++◌, ℕ, List, [], ◌∷◌, if◌then◌else◌, Option, None, Some}
 use Rattle.std.specs.List.{AllByRecursion}
 use Rattle.lrup_model.specs.Formula.{Cnf}
@@ -7,7 +8,7 @@ use Rattle.lrup_model.specs.State.{Slot, absent, live, retired, state}
 use Rattle.lrup_model.specs.History.{IsLegal}
 use Rattle.lrup_model.specs.CallerView.{Caller, IsCaller, StoredClause, CallerView, AllFollow, KeepsSpelt}
 
--- an identity and its stored clause
+-- An identity and its stored clause.
 pub record Spelling : Type 0 where
   pub id : ℕ
   pub stored : StoredClause
@@ -18,13 +19,13 @@ stored_in [] id = None
 stored_in (entry ∷ spellings) id =
     if entry.id == id then Some entry.stored else stored_in spellings id
 
--- no identity stands twice
+-- no identity occurs twice
 abbrev pub IsOncePerIdentity : List Spelling → Type 0
 IsOncePerIdentity [] = Unit {0}
 IsOncePerIdentity (entry ∷ spellings) =
     (stored_in spellings entry.id ≡ None) × IsOncePerIdentity spellings
 
--- what is stored is the slot's clause, and nothing for an absent one
+-- what is stored is the slot's clause, and nothing if the slot is absent
 abbrev pub Spells : Slot → Option StoredClause → Type 0
 Spells absent None = Unit {0}
 Spells absent (Some stored) = ⊥
@@ -33,19 +34,22 @@ Spells (live clause) (Some stored) = stored.literals ≡ clause
 Spells (retired clause) None = ⊥
 Spells (retired clause) (Some stored) = stored.literals ≡ clause
 
--- exactly the identities live or retired after the history are stored, each once, with its clause
+-- Exactly the identities that are live or retired after the history are stored, each once, with its
+-- clause.
 pub record IsSpelt (formula : Cnf) (history : History) (spellings : List Spelling) : Type 0 where
   pub once : IsOncePerIdentity spellings
   pub slots : (id : ℕ) → Spells (state formula history id) (stored_in spellings id)
 
--- What a pass knows: the history that it has seen; mine, the calls made through it, in order; and spelt, the clauses seen and their places, which the store chose.
+-- What a pass knows: `seen`, the history that it has seen; `mine`, the calls made through it, in
+-- order; and `spelt`, the clauses that it has seen and their places, which the store chose.
 pub record View : Type 0 where
   pub caller : Caller
   pub seen : History
   pub mine : History
   pub spelt : List Spelling
 
--- what was seen is legal, has this stream's calls just as they were made, and is spelt
+-- What the pass has seen is legal and has exactly the calls of the pass as calls of its stream, in
+-- order; and the clauses in it are those stored.
 pub record IsFair (view : View) : Type 0 where
   pub caller : IsCaller view.caller
   pub legal : IsLegal view.caller.formula view.caller.layout view.seen
@@ -61,7 +65,8 @@ pass_caller_view view = record {
   spelt = stored_in view.spelt;
 }
 
--- The pass made these calls, and may have seen calls of others. After a call it is fair; after none it is fair if it was before.
+-- The pass made these calls, and may have seen calls of others. After a call it is fair; after none
+-- it is fair if it was before.
 pub record PassMoves (old new : View) (history : History) : Type 0 where
   pub caller : new.caller ≡ old.caller
   pub callers : AllByRecursion (λ event. stream_of event ≡ old.caller.stream) history
@@ -74,8 +79,9 @@ pub record PassMoves (old new : View) (history : History) : Type 0 where
   pub fair_after : history ≢ [] → IsFair new
   pub follow : AllFollow (pass_caller_view old) → AllFollow (pass_caller_view new)
 
--- Two passes of one store have met: both have seen one history, which begins with what each had seen, and nothing more if one had seen all that
--- the other had. Neither made a call.
+-- Two passes of one store have met: both have seen the same history, which begins with what each
+-- had seen. If one had seen all that the other had, it is the history of that one. Neither made a
+-- call, and both are fair.
 pub record SyncViews (old old' new new' : View) : Type 0 where
   pub one : new'.seen ≡ new.seen
   pub first : PassMoves old new []
@@ -93,7 +99,8 @@ SyncInTurn old (other ∷ others) new (other' ∷ others') =
 SyncInTurn old [] new (other' ∷ others') = ⊥
 SyncInTurn old (other ∷ others) new [] = ⊥
 
--- Both lists have the same passes: those of the second made no call since, may have seen more, and are fair.
+-- The passes of both lists are the same: between the first list and the second they made no call,
+-- but may have seen more, and in the second they are fair.
 abbrev pub AreSynced : List View → List View → Type 0
 AreSynced [] [] = Unit {0}
 AreSynced (old ∷ before) (new ∷ after) = PassMoves old new [] × IsFair new × AreSynced before after

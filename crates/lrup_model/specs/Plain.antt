@@ -1,4 +1,5 @@
--- The clause map of one thread, as its contracts see it, and a stream's desk at it (this project's own).
+-- The clause map of one thread, as its contracts see it, and a stream's view of it (this project's
+-- own).
 use Rattle.std.specs.Prelude.{◌≡◌, ◌≢◌, ◌+◌, ◌-◌, ◌<◌, ℕ, List, [], map, take, drop, slice_index, slice_index_or, Option, None, Some}
 use Rattle.std.specs.List.{AllByRecursion}
 use Rattle.lrup_model.specs.Clause.{Clause}
@@ -16,7 +17,8 @@ pub data PlainSlot : Type 0 where
   live : StoredClause → PlainSlot
   retired : StoredClause → PlainSlot
 
--- stored has what each identity has, from 0 on, under which there is nothing; free is the room left to each stream, in literals
+-- `plain_slots` has what each identity has, from identity 0 on, which has nothing; `free` has the
+-- room left of each stream, in literals.
 pub record Plain : Type 0 where
   pub layout : LayoutValue
   pub plain_slots : List PlainSlot
@@ -40,7 +42,7 @@ clause_of (retired stored) = stored.literals
 abbrev pub plain_slot_at : Plain → ℕ → PlainSlot
 plain_slot_at plain id = slice_index_or plain.plain_slots id vacant
 
--- the formula stands under the first identities
+-- the formula, whose clauses are under the first identities
 abbrev pub formula_of : Plain → Cnf
 formula_of plain = record {
   vars = plain.layout.vars;
@@ -50,11 +52,11 @@ formula_of plain = record {
 abbrev pub plain_state : Plain → State
 plain_state plain = λ id. slot_of (plain_slot_at plain id)
 
--- what is left of a stream's room, for streams from 1 on
+-- the room left of a stream, counted from 1
 abbrev pub free_at : Plain → ℕ → ℕ
 free_at plain s = slice_index plain.free (s - 1)
 
--- what a stream's caller knows at the map
+-- what a stream's caller knows of the map
 abbrev pub plain_caller_view : Plain → ℕ → CallerView
 plain_caller_view plain s = record {
   caller = record { formula = formula_of plain; layout = plain.layout; stream = s };
@@ -63,7 +65,8 @@ plain_caller_view plain s = record {
   spelt = λ id. stored_of (plain_slot_at plain id);
 }
 
--- From the first of the two maps these events of the stream lead to the second; each had the reply that the map then gives.
+-- These events of the stream lead from the old map to the new one, and each has the reply of the
+-- map at its moment. The room of other streams is unchanged.
 pub record PlainMoves (old new : Plain) (s : ℕ) (history : History) : Type 0 where
   pub layout : new.layout ≡ old.layout
   pub formula : formula_of new ≡ formula_of old

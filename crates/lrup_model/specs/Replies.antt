@@ -1,4 +1,4 @@
--- What a fetch answers, as the reply of its event (this project's own).
+-- The result of a fetch, as the reply of its event (this project's own).
 use Rattle.std.specs.Prelude.{◌≡◌, ◌≤◌, ◌<◌, ℕ, None, Some}
 use Rattle.lrup_model.specs.Formula.{clause_at}
 use Rattle.lrup_model.specs.Layout.{Owns}
@@ -8,25 +8,26 @@ use Rattle.lrup_model.specs.CallerView.{CallerView, StoredClause, clip_clause, I
 use Rattle.lrup_model.specs.declared.clause_map.Fetched.{Fetched}
 use Rattle.lrup_model.specs.declared.clause_map.Fetched.TheVariants as fetched
 
--- the reply that the answer stands for in the view
+-- the reply that this result means in the view
 abbrev pub reply_of : CallerView → Fetched → Reply
 reply_of view fetched.Vacant = vacant
 reply_of view (fetched.Live clip) = live (clip_clause view clip)
 reply_of view fetched.Retired = retired
 
--- The answer is right in the view: a live clause has a known clip, a retired one is stored, and under a vacant identity nothing is.
+-- The result is right in the view: the clip of a live clause is known, a retired clause is stored,
+-- and for a vacant identity nothing is stored.
 abbrev pub IsFetched : CallerView → ℕ → Fetched → Type 0
 IsFetched view id fetched.Vacant = view.spelt id ≡ None
 IsFetched view id (fetched.Live clip) = (clip.id ≡ id) × IsKnown view clip
 IsFetched view id fetched.Retired = (stored : StoredClause) × (view.spelt id ≡ Some stored)
 
--- an identity of the caller's own has what the caller's calls left there
+-- for an identity of the caller's own the reply is what the caller's calls left there
 abbrev pub AnswersOwn : CallerView → ℕ → Reply → Type 0
 AnswersOwn view id reply =
     Owns view.caller.layout view.caller.stream id
     → Answers view.own (fetch view.caller.stream id reply)
 
--- an identity of the formula has its clause, live
+-- for an identity of the formula the reply is its clause, live
 abbrev pub AnswersFormula : CallerView → ℕ → Reply → Type 0
 AnswersFormula view id reply =
     0 < id → id ≤ view.caller.layout.clauses → reply ≡ live (clause_at view.caller.formula id)

@@ -1,4 +1,5 @@
--- The clause map of one thread: what it has at an identity, and how an event changes it (this project's own).
+-- The clause map of one thread: what it has at an identity, and how an event changes that (this
+-- project's own).
 use Rattle.std.specs.Prelude.{◌≡◌, ◌≢◌, ◌<◌, ◌==◌, ◌&&◌, ℕ, [], ◌∷◌, length, if◌then◌else◌, nat_le, nat_lt}
 use Rattle.lrup_model.specs.Clause.{Clause}
 use Rattle.lrup_model.specs.Formula.{Cnf, clause_at}
@@ -18,13 +19,13 @@ pub data Slot : Type 0 where
 abbrev pub State : Type 0
 State = ℕ → Slot
 
--- a clause stands there, and can be used
+-- the slot has a clause that can be used
 abbrev pub IsLive : Slot → Type 0
 IsLive absent = ⊥
 IsLive (live clause) = Unit {0}
 IsLive (retired clause) = ⊥
 
--- a clause stood there, and can't be used any more
+-- the slot has a clause that can no longer be used
 abbrev pub IsRetired : Slot → Type 0
 IsRetired absent = ⊥
 IsRetired (live clause) = ⊥
@@ -36,13 +37,13 @@ HasClause absent clause = ⊥
 HasClause (live stored) clause = stored ≡ clause
 HasClause (retired stored) clause = stored ≡ clause
 
--- a live clause is retired, and nothing else changes
+-- a live clause is retired; other slots don't change
 abbrev pub retire_slot : Slot → Slot
 retire_slot absent = absent
 retire_slot (live clause) = retired clause
 retire_slot (retired clause) = retired clause
 
--- identities from 1 on are the formula's clauses, live; all others are absent
+-- the formula's clauses are live, at the identities from 1 on, and all other identities are absent
 abbrev pub opening : Cnf → State
 opening formula =
     λ id. if nat_lt 0 id && nat_le id (length formula.clauses) then live (clause_at formula id)
@@ -77,6 +78,6 @@ Answers slots (events.publish s id clause publishing.Taken) = slots id ≢ absen
 Answers slots (events.retire s id retiring.Done) = IsLive (slots id)
 Answers slots (events.retire s id retiring.NotLive) = ¬ IsLive (slots id)
 
--- the stream's own identities above one have nothing
+-- the stream's own identities above this one are absent
 abbrev pub AreVacantAbove : LayoutValue → ℕ → State → ℕ → Type 0
 AreVacantAbove layout s slots last = (id : ℕ) → Owns layout s id → last < id → slots id ≡ absent

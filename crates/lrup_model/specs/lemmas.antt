@@ -1,4 +1,4 @@
--- Lemmas, which other crates' proofs may cite.
+-- Lemmas that proofs of other crates may cite.
 pub mod ListLemmas
 pub mod ClauseLemmas
 pub mod DistinctLemmas

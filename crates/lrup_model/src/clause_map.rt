@@ -11,7 +11,8 @@ use crate::Id;
 use crate::lit::Lit;
 use std::marker::Model;
 
-/// A handle of a clause at one clause map: its identity, the count of its literals, and its place, which is for the map alone.
+/// A handle of a clause at one clause map: the clause's identity, its number of literals, and its
+/// place, which only the map uses.
 #[derive(Clone, Copy, Debug, PartialEq, Eq)]
 pub struct Clip {
     id: Id,
@@ -30,7 +31,8 @@ impl Model for Clip {
 }
 
 impl Clip {
-    /// The clip of these three. A map takes only clips that its caller knows, as those that a fetch at that map gave.
+    /// A clip of this identity, length and start. A map accepts only clips that its caller knows,
+    /// such as those that a fetch at this map returned.
     pub fn new(id: Id, len: u32, start: u32) -> Clip
         ensures { result ≡ record { id = id; len = len; start = start } }
     {
@@ -44,14 +46,15 @@ impl Clip {
         self.id
     }
 
-    /// The count of the clause's literals.
+    /// The number of literals of the clause.
     pub fn len(&self) -> u32
         ensures { result ≡ self.now.len }
     {
         self.len
     }
 
-    /// The count of pairs of literals. If the clause has an odd count, the last pair is a single one.
+    /// The number of pairs of literals. If the clause has an odd number of literals, the last pair
+    /// has only one.
     #[inline]
     pub fn pairs(&self) -> u32
         ensures { result ≡ (self.now.len + 1) / 2 }
@@ -59,14 +62,15 @@ impl Clip {
         self.len / 2 + self.len % 2
     }
 
-    /// Whether it is a clip of the empty clause.
+    /// Whether the clause is empty.
     pub fn is_empty(&self) -> bool
         ensures { IsTrue result ↔ (self.now.len ≡ 0) }
     {
         self.len == 0
     }
 
-    /// Where the literals begin: in the row the index of a word, which has two of them; in a plain map the index of a literal.
+    /// Where the literals begin: in the row the index of a word, which holds two literals; in a
+    /// plain map the index of a literal.
     pub fn start(&self) -> u32
         ensures { result ≡ self.now.start }
     {
@@ -74,63 +78,66 @@ impl Clip {
     }
 }
 
-/// What a fetch answers.
+/// The result of a fetch.
 #[derive(Clone, Copy, Debug, PartialEq, Eq)]
 pub enum Fetched {
     /// Nothing was published under the identity.
     Vacant,
-    /// The clause can be used: it is the formula's, or was published and not retired.
+    /// The clause can be used: it is one of the formula, or was published and hasn't been retired.
     Live(Clip),
     /// The clause was retired.
     Retired,
 }
 
-/// What a publish answers.
+/// The result of a publish.
 #[derive(Clone, Copy, Debug, PartialEq, Eq)]
 pub enum Published {
-    /// The clause is live under the identity from now on, and the caller's room has shrunk by its length.
+    /// The clause is live under the identity from now on, and the caller's room is smaller by its
+    /// length.
     Done,
-    /// A clause had been published under the identity before. Nothing changed.
+    /// A clause was published under the identity before. Nothing changed.
     Taken,
 }
 
-/// What a retire answers.
+/// The result of a retire.
 #[derive(Clone, Copy, Debug, PartialEq, Eq)]
 pub enum Retired {
     /// The clause was live, and is retired from now on.
     Done,
-    /// No live clause is under the identity. Nothing changed.
+    /// No clause is live under the identity. Nothing changed.
     NotLive,
 }
 
-/// A clause map (the clause database) as one stream calls it. Each call of fetch, publish and retire is one event; no call takes memory.
-/// The other calls are no events.
+/// A clause map (the clause database) as one stream calls it. Each call of fetch, publish and
+/// retire is one event; the other calls are no events. No call allocates memory.
 pub trait ClauseMap {
-    /// What the caller knows here.
+    /// What the caller knows of the map.
     ghost caller_view: { Self → CallerView };
 
     /// The caller's events between two moments.
     ghost moves: { Self → Self → History → Type 0 };
 
-    /// The caller's stream, from 1 on.
+    /// The number of the caller's stream, counted from 1.
     fn stream(&self) -> u64
         ensures { result ≡ (caller_view self.now).caller.stream };
 
-    /// Whether this is an identity: 1 to the last.
+    /// Whether this is an identity: 1 to the last one.
     fn covers(&self, id: Id) -> bool
         ensures { IsTrue result ↔ IsIdentity (caller_view self.now).caller.layout id };
 
-    /// Whether this identity is the caller's own.
+    /// Whether the caller's stream owns this identity.
     fn owns(&self, id: Id) -> bool
         ensures { IsTrue result
             ↔ Owns (caller_view self.now).caller.layout (caller_view self.now).caller.stream id };
 
-    /// The room that the caller has left, in literals: a publish with `Done` takes the clause's length, and nothing gives any back.
+    /// The room that the caller has left, in literals. A publish with `Done` takes as much as the
+    /// clause has literals, and no call gives room back.
     fn room(&self) -> u64
         ensures { result ≡ (caller_view self.now).room };
 
-    /// Looks up what the map has under an identity, 1 to the last, now. A formula's clause is always live, the caller's own identities
-    /// have what its calls left there, and other streams may change theirs at any time. Each clause that a fetch finds follows from the
+    /// Looks up what the map has under an identity, 1 to the last one, at this moment. A clause of
+    /// the formula is always live, the caller's own identities have what its calls left there, and
+    /// other streams may change theirs at any time. Each clause that a fetch finds follows from the
     /// formula.
     fn fetch(&mut self, id: Id) -> Fetched
         requires { IsIdentity (caller_view self.old).caller.layout id }
@@ -146,8 +153,8 @@ pub trait ClauseMap {
             ≡ (caller_view self.new).caller.layout.vars }
         ensures follow { AllFollow (caller_view self.new) };
 
-    /// Reads literal `k`, from 0 on, of a clause whose clip is known here, in the order in which the map keeps the clause. It never
-    /// changes.
+    /// Reads literal `k`, counted from 0, of a clause whose clip is known here. The literals are in
+    /// the order in which the map stores them, which never changes.
     fn literal(&mut self, clip: &Clip, k: u32) -> Lit
         requires known { IsKnown (caller_view self.old) clip.now }
         requires within { k < clip.now.len }
@@ -155,8 +162,8 @@ pub trait ClauseMap {
         ensures event { moves self.old self.new [] }
         ensures stays { caller_view self.new ≡ caller_view self.old };
 
-    /// Reads pair `i`, from 0 on, of a clause whose clip is known here: its literals `2 * i` and, if there is one, `2 * i + 1`, as two
-    /// calls of `literal` give them.
+    /// Reads pair `i`, counted from 0, of a clause whose clip is known here: its literal `2 * i`
+    /// and, if there is one, literal `2 * i + 1`, as two calls of `literal` return them.
     #[inline]
     fn pair(&mut self, clip: &Clip, i: u32) -> (Lit, Option<Lit>)
         requires known { IsKnown (caller_view self.old) clip.now }
@@ -178,8 +185,8 @@ pub trait ClauseMap {
         }
     }
 
-    /// Publishes a clause under an identity of the caller's own. The clause follows from the formula, and has at most 65,535 literals,
-    /// each once, and no more than there is room.
+    /// Publishes a clause under an identity that the caller's stream owns. The clause follows from
+    /// the formula, has each literal once and at most 65,535 literals, and fits into the room left.
     fn publish(&mut self, id: Id, clause: &[Lit]) -> Published
         requires owns { Owns (caller_view self.old).caller.layout
             (caller_view self.old).caller.stream id }
@@ -189,7 +196,8 @@ pub trait ClauseMap {
             (publish (caller_view self.old).caller.stream id clause.now result ∷ []) }
         ensures done { (result ≡ Published.Done) ↔ ((caller_view self.old).own id ≡ absent) };
 
-    /// Retires the clause under an identity of the caller's own: no later fetch finds it live.
+    /// Retires the clause under an identity that the caller's stream owns: no later fetch finds it
+    /// live.
     fn retire(&mut self, id: Id) -> Retired
         requires { Owns (caller_view self.old).caller.layout
             (caller_view self.old).caller.stream id }
@@ -197,12 +205,12 @@ pub trait ClauseMap {
             (retire (caller_view self.old).caller.stream id result ∷ []) }
         ensures done { (result ≡ Retired.Done) ↔ IsLive ((caller_view self.old).own id) };
 
-    /// No events lie between a moment and itself.
+    /// There are no events between a moment and itself.
     ghost moves_none: { (a : Self) → moves a a [] };
 
-    /// One call after another.
+    /// The events of two calls, one after the other.
     ghost moves_append: { (a b c : Self) (es fs : History) → moves a b es → moves b c fs → moves a c (es ++ fs) };
 
-    /// What the events change of the caller's view.
+    /// What the events change in the caller's view.
     ghost moves_are_step: { (a b : Self) (es : History) → moves a b es → CallerStep (caller_view a) (caller_view b) es };
 }

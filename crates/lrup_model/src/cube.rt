@@ -1,4 +1,4 @@
-//! Cubes: literals that are assumed.
+//! Cubes: sets of assumed literals.
 ghost use Rattle.std.specs.Prelude.{◌≡◌, ◌↔◌, ◌≤◌, ℕ, [], IsTrue, IfOk, map};
 ghost use Rattle.std.specs.List.{All};
 ghost use Rattle.lrup_model.specs.internal.Codes.{literal_of};
@@ -10,9 +10,9 @@ use crate::lit::Lit;
 use std::alloc::{AllocError, Global};
 use std::marker::Model;
 
-/// A set of literals that are assumed. It may have a literal and its complement.
+/// A set of assumed literals. It may contain a literal and its complement.
 ///
-/// It keeps the codes of the literals that it was made of, in order: 4 bytes each.
+/// It stores the codes of the literals that it was made of, sorted: 4 bytes each.
 #[derive(Drop)]
 pub struct Cube {
     codes: Vec<u32>,
@@ -66,8 +66,9 @@ impl Cube {
         self.codes.as_slice().binary_search(&code).is_ok()
     }
 
-    /// Whether the cube makes the clause false: the complement of each of its literals is in the cube. The search ends at the first
-    /// literal whose complement isn't there. With the empty cube it is one test.
+    /// Whether the cube makes the clause false, i.e. contains the complement of each of its
+    /// literals. The search ends at the first literal whose complement isn't there. For the empty
+    /// cube it is a single test.
     pub fn refutes(&self, clause: &[Lit]) -> bool
         ensures { IsTrue result ↔ Within clause.now self.now }
     {
@@ -77,7 +78,7 @@ impl Cube {
         clause.iter().all(|literal| self.has(literal.complement()))
     }
 
-    /// The greatest variable of the cube's literals, or 0 if there are none.
+    /// The largest variable of the cube's literals, or 0 if there are none.
     pub fn vars(&self) -> u32
         ensures { (n : ℕ) → IsCubeOver n self.now ↔ (result ≤ n) }
     {
@@ -88,7 +89,7 @@ impl Cube {
     }
 }
 
-/// The codes of the literals, one by one.
+/// The codes of the literals, in the same order.
 fn codes_of(alloc: Global, literals: &[Lit]) -> Result<Vec<u32>, AllocError>
     ensures literals { IfOk result (λ codes. map literal_of codes.items ≡ literals.now) }
     ensures codes { IfOk result (λ codes. All (IsCode max_variable) codes.items) }

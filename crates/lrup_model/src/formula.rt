@@ -8,8 +8,8 @@ use crate::lit::Lit;
 use std::alloc::{AllocError, Global};
 use std::marker::Model;
 
-/// A number of variables, and clauses in the order of the file, each with every literal once. All literals stand in one
-/// list: a clause costs 8 bytes beside its literals.
+/// A number of variables, and clauses in the order of the file, each with every literal once. All
+/// literals are in one list: a clause takes 8 bytes in addition to its literals.
 #[derive(Drop)]
 pub struct Formula {
     vars: u32,
@@ -30,13 +30,13 @@ impl Model for Formula {
 }
 
 impl Formula {
-    /// The greatest count of clauses.
+    /// The largest number of clauses.
     pub const MAX_CLAUSES: u32 = 16_777_215;
 
-    /// The greatest count of literals of one clause.
+    /// The largest number of literals of one clause.
     pub const MAX_CLAUSE_LITERALS: u32 = 1_048_575;
 
-    /// The formula of this many variables, at most 16,777,215, and no clause. It takes no memory.
+    /// A formula of this many variables, at most 16,777,215, without clauses. It takes no memory.
     pub fn new(alloc: Global, vars: u32) -> Self
         requires { vars ≤ max_variable }
         ensures { result ≡ record { vars = vars; clauses = [] } }
@@ -48,8 +48,8 @@ impl Formula {
         }
     }
 
-    /// Adds the next clause: at most 1,048,575 literals, each once, over the formula's variables. There are at most 16,777,215
-    /// clauses. If memory is refused, nothing changes.
+    /// Adds the next clause: at most 1,048,575 literals, each once, over the formula's variables. A
+    /// formula has at most 16,777,215 clauses. If the allocation fails, nothing changes.
     pub fn push(&mut self, clause: &[Lit]) -> Result<(), AllocError>
         requires count { length self.old.clauses < max_clauses }
         requires clause { IsFormulaClause self.old.vars clause.now }
@@ -87,7 +87,7 @@ impl Formula {
         self.ends.as_slice().is_empty()
     }
 
-    /// The literals of clause `i`, which counts from 1, each once.
+    /// The literals of clause `i`, counted from 1, each once.
     pub fn clause(&self, i: usize) -> &[Lit]
         requires first { 0 < i }
         requires last { i ≤ length self.now.clauses }
@@ -104,7 +104,7 @@ impl Formula {
     }
 }
 
-/// Where clause `i`, here from 0 on, begins: at the end of the one before it.
+/// Where clause `i`, here counted from 0, begins: at the end of the clause before it.
 fn start(ends: &[usize], i: usize) -> usize
     requires { i < length ends.now }
     ensures { result ≡ slice_index (0 ∷ ends.now) i }
@@ -112,7 +112,7 @@ fn start(ends: &[usize], i: usize) -> usize
     if i == 0 { 0 } else { ends[i - 1] }
 }
 
-/// The literals of clause `i`, here from 0 on.
+/// The literals of clause `i`, here counted from 0.
 fn part<'a>(literals: &'a [Lit], ends: &[usize], i: usize) -> &'a [Lit]
     requires ends { AreEnds 0 ends.now (length literals.now) }
     requires within { i < length ends.now }
@@ -121,7 +121,7 @@ fn part<'a>(literals: &'a [Lit], ends: &[usize], i: usize) -> &'a [Lit]
     between(literals, start(ends, i), ends[i])
 }
 
-/// The literals from the place `from` to the one before `end`.
+/// The literals from the place `from` up to the one before `end`.
 fn between(literals: &[Lit], from: usize, end: usize) -> &[Lit]
     requires ordered { from ≤ end }
     requires within { end ≤ length literals.now }

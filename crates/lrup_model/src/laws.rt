@@ -1,12 +1,14 @@
-//! Laws of the definitions. Each function is empty: its contract is the law, which holds of every formula, layout, history and pass.
+//! Laws of the definitions. Each function does nothing: its contract is the law.
 ghost use Rattle.lrup_model.specs.Laws.{PropagationSound, WithinRefutes, ClausesFollow, OwnCallsDecide, EntriesAdvance, KnownStays, PassSteps};
 
-/// If hints show a clause, and all hinted clauses follow from a formula, then the clause follows.
+/// If hints show a clause, and all hinted clauses follow from a formula, then the clause follows
+/// from it.
 pub fn propagation_sound()
     ensures { PropagationSound }
 {}
 
-/// If a clause follows from a formula, and assumptions make it false, no assignment under them satisfies the formula.
+/// If a clause follows from a formula, and assumptions make the clause false, no assignment
+/// satisfies both the formula and the assumptions.
 pub fn within_refutes()
     ensures { WithinRefutes }
 {}
@@ -16,22 +18,22 @@ pub fn clauses_follow()
     ensures { ClausesFollow }
 {}
 
-/// What a legal history leaves at a stream's own identity, this stream's calls alone leave there.
+/// What a legal history leaves at a stream's own identity depends only on the calls of this stream.
 pub fn own_calls_decide()
     ensures { OwnCallsDecide }
 {}
 
-/// An entry goes from absent to live to retired, with one clause.
+/// An entry goes from absent to live to retired, with the same clause.
 pub fn entries_advance()
     ensures { EntriesAdvance }
 {}
 
-/// A clip that is known in a view stays known, with the same literals, whatever calls follow.
+/// A clip that is known in a view stays known, with the same literals, through all later calls.
 pub fn known_stays()
     ensures { KnownStays }
 {}
 
-/// What a pass's calls say of the caller's view.
+/// What a pass's calls change in the caller's view.
 pub fn pass_steps()
     ensures { PassSteps }
 {}

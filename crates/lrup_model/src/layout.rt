@@ -1,4 +1,4 @@
-//! The numbers of a run, and who owns an identity.
+//! The sizes of a run, and who owns an identity.
 ghost use Rattle.std.specs.Prelude.{◌≡◌, ◌↔◌, ◌+◌, ◌*◌, ◌≤◌, ◌<◌, IsTrue, IfOk, IfErr, Some};
 ghost use Rattle.lrup_model.specs.Formula.{max_clauses};
 ghost use Rattle.lrup_model.specs.Layout.{layout_value, IsLayout, IsFault, layout_fault_text, Fits, IsIdentity, owner, last_identity, row_words, max_streams, max_row_words};
@@ -12,15 +12,15 @@ use std::marker::Model;
 /// Who owns an identity.
 #[derive(Clone, Copy, Debug, PartialEq, Eq)]
 pub enum Owner {
-    /// It is a clause of the formula; nobody owns it.
+    /// A clause of the formula; no stream owns it.
     Formula,
-    /// The stream of this number, from 1 on, owns it.
+    /// The stream of this number, counted from 1, owns it.
     Stream(u64),
-    /// It is no identity: 0, or above the last one.
+    /// Not an identity: 0, or above the last one.
     Outside,
 }
 
-/// Why there is no layout of some numbers. If several faults hold, it is the first of these.
+/// Why there is no layout of some sizes. If several faults hold, it is the first of these.
 #[derive(Clone, Copy, Debug, PartialEq, Eq)]
 pub enum LayoutFault {
     /// More than 16,777,215 variables.
@@ -47,17 +47,17 @@ impl fmt::Display for LayoutFault {
 
 impl Error for LayoutFault {}
 
-/// The numbers of a run: what the formula has, how many streams there are, and for each stream how many identities and
-/// how much room, in literals.
+/// The sizes of a run: those of the formula, the number of streams, and how many identities and how
+/// much room, in literals, each stream has.
 #[derive(Clone, Copy, Debug, PartialEq, Eq)]
 pub struct Layout {
     vars: u32,
     clauses: u32,
     literals: u32,
     streams: u32,
-    /// How many identities each stream has, so how many lines of it can be additions.
+    /// How many identities each stream has, i.e. how many lines of its proof can be additions.
     lines: u32,
-    /// How many literals each stream's clauses may have in all.
+    /// How many literals the clauses of each stream may have in all.
     room: u32,
 }
 
@@ -74,14 +74,15 @@ impl Model for Layout {
 }
 
 impl Layout {
-    /// The greatest count of streams.
+    /// The largest number of streams.
     pub const MAX_STREAMS: u64 = 64;
 
-    /// The greatest count of words of the shared row, 2^28.
+    /// The largest number of words of the shared row, 2^28.
     pub const MAX_ROW_WORDS: u64 = 268_435_456;
 
-    /// The layout of a formula's numbers of variables, clauses and literals, a number of streams, and for each stream a
-    /// number of identities and room for a number of literals. The fault is the first that holds, as they are listed.
+    /// The layout of a formula's numbers of variables, clauses and literals, a number of streams,
+    /// and for each stream a number of identities and room for a number of literals. The fault is
+    /// the first that holds, in the order in which `LayoutFault` lists them.
     pub fn new(
         vars: u64,
         clauses: u64,
@@ -92,7 +93,7 @@ impl Layout {
     ) -> Result<Layout, LayoutFault>
         ensures layout { let layout = layout_value vars clauses literals streams lines room in
             IfOk result (λ given. (given ≡ layout) × IsLayout layout) }
-        // The tests stand in the order of the faults, so that the first fault is the answer.
+        // The tests are in the order of the faults, so the result is the first fault that holds.
         ensures fault { IfErr result
             (IsFault (layout_value vars clauses literals streams lines room)) }
     {
@@ -118,7 +119,7 @@ impl Layout {
         })
     }
 
-    /// Whether the formula's numbers are those of this layout.
+    /// Whether this layout has the formula's sizes.
     pub fn fits(&self, formula: &Formula) -> bool
         ensures { IsTrue result ↔ Fits self.now formula.now }
     {
@@ -127,7 +128,8 @@ impl Layout {
             && self.literals as usize == formula.literals()
     }
 
-    /// Who owns the identity: behind the formula's identities the streams take one each in turn, stream 1 first.
+    /// Who owns the identity: after the formula's identities the streams own one each in turn,
+    /// stream 1 first.
     pub fn owner(&self, id: u64) -> Owner
         ensures { result ≡ owner self.now id }
     {
@@ -137,7 +139,7 @@ impl Layout {
         } else if id <= clauses {
             Owner::Formula
         } else if id <= self.last_identity() {
-            // An identity is below 2^28, so that a division of 32 bits serves.
+            // An identity is below 2^28, so a 32-bit division is enough.
             let place = id as u32 - self.clauses - 1;
             Owner::Stream(u64::from(place % self.streams) + 1)
         } else {
@@ -193,8 +195,8 @@ impl Layout {
         self.clauses as u64 + self.streams as u64 * self.lines as u64
     }
 
-    /// The words of the shared row, 1 to 2^28: one that stays 0, one for each identity, one for each literal of the formula
-    /// and of the streams' room.
+    /// The number of words of the shared row, 1 to 2^28: one that stays 0, one for each identity,
+    /// and one for each literal of the formula and of the streams' room.
     pub fn row_words(&self) -> u64
         ensures words { result ≡ row_words self.now }
         ensures limits { IsLayout self.now }
@@ -202,7 +204,7 @@ impl Layout {
         1 + self.last_identity() + self.literals as u64 + self.all_room()
     }
 
-    /// Whether this is an identity: 1 to the last.
+    /// Whether this is an identity: 1 to the last one.
     pub fn covers(&self, id: u64) -> bool
         ensures { IsTrue result ↔ IsIdentity self.now id }
     {
@@ -210,7 +212,7 @@ impl Layout {
     }
 }
 
-/// Whether the row has at most 2^28 words. No sum here exceeds 64 bits, whatever the numbers are.
+/// Whether the row has at most 2^28 words. No sum here exceeds 64 bits.
 fn row_fits(clauses: u64, literals: u64, streams: u64, lines: u64, room: u64) -> bool
     requires clauses { clauses ≤ max_clauses }
     requires some_stream { 0 < streams }

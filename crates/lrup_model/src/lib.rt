@@ -1,5 +1,7 @@
-//! The words that all crates' contracts use: literals, clauses, formulas, cubes and entailment; identities and their owners; clause maps,
-//! their events and histories; hinted propagation. The code is small: the types, the trait `ClauseMap`, and the clause map of one thread.
+//! The definitions that the contracts of all crates use: literals, clauses, formulas, cubes and
+//! entailment; identities and their owners; clause maps, their events and histories; hinted
+//! propagation. The code is small: the types, the trait `ClauseMap`, and the clause map of one
+//! thread.
 #![tactic(auto)]
 
 mod clause_map;
@@ -17,6 +19,7 @@ pub use layout::{Layout, LayoutFault, Owner};
 pub use lit::Lit;
 pub use plain_map::{PlainDesk, PlainMap};
 
-/// A clause's identity: the formula's clauses have 1 to `m` in the order of the file, and the streams own those above by
-/// turns. 0 and all above the last one are outside.
+/// The identity of a clause: the formula's clauses have 1 to `m` in the order of the file, and the
+/// streams own the identities above `m` in turn. 0 and all numbers above the last identity are
+/// outside.
 pub type Id = u64;

@@ -6,8 +6,9 @@ ghost use Rattle.lrup_model.specs.Literal.{IsLiteral, max_variable, code_of, IsC
 use std::fmt;
 use std::marker::Model;
 
-/// A literal: a nonzero whole number whose magnitude, at most 16,777,215, is its variable, and whose negative is its
-/// complement. It takes 4 bytes: they hold its code, which is twice the variable, and one more for a negative literal.
+/// A literal: a nonzero integer whose magnitude, at most 16,777,215, is its variable, and whose
+/// negative is its complement. It takes 4 bytes, which hold its code: twice the variable, plus one
+/// for a negative literal.
 #[derive(Clone, Copy, Debug, PartialEq, Eq)]
 pub struct Lit {
     code: u32,
@@ -32,10 +33,11 @@ impl Model for Lit {
 }
 
 impl Lit {
-    /// The greatest variable, and so the greatest magnitude.
+    /// The largest variable, and so the largest magnitude.
     pub const MAX_VARIABLE: u32 = 16_777_215;
 
-    /// The literal that DIMACS CNF writes as this number. None exactly at 0 and above magnitude 16,777,215.
+    /// The literal that DIMACS CNF writes as this number. `None` exactly if the number is 0 or its
+    /// magnitude is above 16,777,215.
     pub fn new(value: i64) -> Option<Lit>
         ensures literal { IsSome result ↔ IsLiteral max_variable value }
         ensures value { IfSome result (λ l. l ≡ value) }
@@ -49,7 +51,7 @@ impl Lit {
         Some(Lit { code })
     }
 
-    /// The literal of this code, from 2 up to 33,554,431.
+    /// The literal of this code, 2 to 33,554,431.
     #[inline]
     pub fn from_code(code: u32) -> Lit
         requires { IsCode max_variable code }
@@ -58,7 +60,7 @@ impl Lit {
         Lit { code }
     }
 
-    /// The literal's code: twice its variable, and one more for a negative literal.
+    /// The literal's code: twice its variable, plus one for a negative literal.
     #[inline]
     pub fn code(self) -> u32
         ensures code { result ≡ code_of self }
@@ -67,7 +69,7 @@ impl Lit {
         self.code
     }
 
-    /// The number that DIMACS CNF writes.
+    /// The number that DIMACS CNF writes for the literal.
     #[inline]
     pub fn value(self) -> i64
         ensures value { result ≡ self }
@@ -91,7 +93,7 @@ impl Lit {
         }
     }
 
-    /// The variable, from 1 on.
+    /// The variable, at least 1.
     #[inline]
     pub fn var(self) -> u32
         ensures variable { result ≡ nat_abs self }

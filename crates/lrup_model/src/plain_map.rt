@@ -17,7 +17,8 @@ use crate::lit::Lit;
 use std::alloc::{AllocError, Global};
 use std::marker::Model;
 
-/// What the map has under an identity: of a clause the place of its first literal, and the count of its literals. It takes 12 bytes.
+/// What the map has under an identity: for a clause the place of its first literal and its number
+/// of literals. It takes 12 bytes.
 #[derive(Clone, Copy)]
 enum Entry {
     Vacant,
@@ -50,8 +51,8 @@ impl Model for PlainMap {
 const _: () = prove!(size_of::<Entry>() == 12);
 
 impl PlainMap {
-    /// What a fetch of the identity answers. That each clause follows from the formula is the same for all streams, so the contract speaks
-    /// of the first.
+    /// The result of a fetch of the identity. That each clause follows from the formula is the same
+    /// for all streams, so the contract uses the view of stream 1.
     fn look(&self, id: Id) -> Fetched
         requires { id ≤ last_identity self.now.layout }
         ensures answer { result ≡ fetched_of id (plain_slot_at self.now id) }
@@ -65,8 +66,8 @@ impl PlainMap {
         }
     }
 
-    /// Literal `k`, from 0 on, of the clause that is stored under the clip's identity. What is known of a clip is the same for all
-    /// streams, so the contract speaks of the first.
+    /// Literal `k`, counted from 0, of the clause that is stored under the clip's identity. Which
+    /// clips are known is the same for all streams, so the contract uses the view of stream 1.
     fn literal_of(&self, clip: &Clip, k: u32) -> Lit
         requires known { IsKnown (plain_caller_view self.now 1) clip.now }
         requires within { k < clip.now.len }
@@ -75,7 +76,7 @@ impl PlainMap {
         self.literals[clip.start() as usize + k as usize]
     }
 
-    /// Stores the clause under an identity of stream `index + 1`, if it is vacant.
+    /// Stores the clause under an identity of stream `index + 1` if the identity is vacant.
     fn publish_at(&mut self, index: u32, id: Id, clause: &[Lit]) -> Published
         requires owns { Owns self.old.layout (index + 1) id }
         requires clause { IsPublishable (formula_of self.old) clause.now }
@@ -95,7 +96,7 @@ impl PlainMap {
         Published::Done
     }
 
-    /// Retires what is stored under an identity of stream `index + 1`, if it is live.
+    /// Retires the clause under an identity of stream `index + 1` if it is live.
     fn retire_at(&mut self, index: u32, id: Id) -> Retired
         requires { Owns self.old.layout (index + 1) id }
         ensures { AfterRetire self.old self.new id result }
@@ -109,8 +110,9 @@ impl PlainMap {
 }
 
 impl PlainMap {
-    /// The map of a formula's clauses. It reserves all that it will need: 12 bytes for each identity and for one entry more,
-    /// 4 for each literal of the formula and of the streams' room, and 8 a stream. A refusal leaves nothing behind.
+    /// The map of a formula's clauses. It allocates all the memory that it will need: 12 bytes for
+    /// each identity and for one entry more, 4 for each literal of the formula and of the streams'
+    /// room, and 8 for each stream. If an allocation fails, everything is freed.
     pub fn open(alloc: Global, formula: &Formula, layout: &Layout) -> Result<PlainMap, AllocError>
         requires { Fits layout.now formula.now }
         ensures layout { IfOk result (λ map. map.layout ≡ layout.now) }
@@ -146,19 +148,19 @@ impl PlainMap {
         &self.layout
     }
 
-    /// The room that stream `index + 1` has left, in literals; 0 if there is no such stream.
+    /// The room that stream `index + 1` has left, in literals, or 0 if there is no such stream.
     fn room_at(&self, index: u32) -> u64
         ensures { result ≡ slice_index self.now.free index }
     {
         self.free.get(index as usize).copied().unwrap_or(0)
     }
 
-    /// The clause map of stream `s`, from 1 on, which lends this map.
+    /// The clause map of stream `s`, counted from 1, which borrows this map.
     pub fn desk(&mut self, s: u64) -> PlainDesk<'_>
         requires { IsStream self.old.layout s }
         ensures { IsDesk self.entry s result }
     {
-        // For the proof alone: a layout has at most 64 streams, so that the cast below loses nothing.
+        // For the proof only: a layout has at most 64 streams, so the cast below loses nothing.
         let _ = &self.layout;
         PlainDesk {
             map: self,
@@ -176,7 +178,7 @@ fn rooms(alloc: Global, layout: &Layout) -> Result<Vec<u64>, AllocError>
     vec![in alloc; layout.room(); layout.streams() as usize]
 }
 
-/// Adds the formula's clauses, as live entries.
+/// Adds the formula's clauses as live entries.
 fn keep_clauses(formula: &Formula, entries: &mut Vec<Entry>, literals: &mut Vec<Lit>)
     requires none { literals.old.items ≡ [] }
     requires entries { vec_len entries.old + length formula.now.clauses ≤ vec_capacity entries.old }
@@ -209,7 +211,7 @@ fn keep_vacant(count: usize, entries: &mut Vec<Entry>)
     }
 }
 
-/// The clause map of one thread, lent, and a stream that calls it: the stream's `ClauseMap`. It holds the map until it is dropped.
+/// A stream's `ClauseMap`: it borrows the clause map of one thread until it is dropped.
 pub struct PlainDesk<'a> {
     map: &'a mut PlainMap,
     index: u32,

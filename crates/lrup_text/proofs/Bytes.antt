@@ -1,4 +1,4 @@
--- What a byte does to a line that was read in part, in each state.
+-- What each byte does, in each state, to a line that was read in part.
 use Rattle.std.proofs.Common.{unsigned_abs, ◌≡◌, ◌≢◌, ℕ, ℤ, ◌+◌, ◌-◌, ◌*◌, ◌^◌, ◌<◌, ◌≤◌, inl, inr, Bool, true, false, List, [], ◌∷◌, ◌++◌}
 use Rattle.std.proofs.Common.{length, take, map, refl, sym, ◌∙◌, ap, subst, arith}
 use Rattle.std.specs.Fmt.{decimal, signed_decimal}
@@ -70,7 +70,7 @@ use Rattle.lrup_text.proofs.Steps.{
   end_blocks,
 }
 
--- what a state holds, in the state
+-- the same with the state given by an equation
 tracks_at : (m : PartialLine) (state : ParserState) → m.state ≡ state → IsPartialLine m → Tracks (pending_at state m) (spot_at state m)
 tracks_at m state e h = subst (λ p. Tracks (pending_at p m) (spot_at p m)) e h.tracks
 
@@ -101,7 +101,7 @@ module _ (m : PartialLine) (state : ParserState) (at : m.state ≡ state) (reads
   long_at exceeds =
       decides_long (pending m) (spot_at m.state m) b reads.tracks (bounded m reads) (subst (λ p. Exceeds (spot_at p m) b) (sym at) exceeds)
 
--- the same line elsewhere, after one more byte
+-- a line that was read in part, after one more byte
 module _ (m next : PartialLine) (state : ParserState) (at : m.state ≡ state) (reads : IsPartialLine m) (b : ℕ) where
   pub tracks_next : pending next ≡ pending_at state m ++ b ∷ [] → Moves (spot_at state m) b (spot_at next.state next)
       → Tracks (pending next) (spot_at next.state next)
@@ -123,7 +123,7 @@ more_digits n k b h few digit = record {
   few = omega arith;
 }
 
--- it keeps below the limit, and is a word
+-- the number is below the limit
 pub below_limit : (n k : ℕ) → FitsDigits n k → n < 10 ^ 18
 below_limit n k h = omega (arith, h.high, power_below k h.few)
 
@@ -135,11 +135,11 @@ decimal_next n k b h few digit =
 pub positive : (n k : ℕ) → FitsDigits n k → IsStreamNumber n
 positive n k h = (h.low, below_limit n k h)
 
--- one more element at the end
+-- one more element at the end of a list
 pub text_more : {X : Type 0} (f : X → List ℕ) (xs : List X) (x : X) → flat_map f (xs ++ x ∷ []) ≡ flat_map f xs ++ f x
 text_more f xs x = sym (flat_map_more f [] xs x)
 
--- the end of a list, and of a clause
+-- the end of a list's text
 pub items_end : (ids : List ℕ) → items_text ids ++ space ∷ zero_digit ∷ line_feed ∷ [] ≡ list_text (map decimal ids)
 unfolding items_text
 items_end [] = refl
@@ -193,7 +193,7 @@ line_fits false false lead lits n ids j h n_in j_in = (
   record { count = omega (arith, length-take-le j ids j_in, h.few_identities); each = h.identities },
 )
 
--- a clause that grows at its end
+-- the front of a clause after one more literal
 pub clause_more : (imports : Bool) (lead : ℕ) (lits longer : List ℤ) (x : List ℕ) → literals_text longer ≡ literals_text lits ++ x
     → clause_front imports lead longer ≡ clause_front imports lead lits ++ x
 clause_more true lead lits longer x is = ap (λ t. decimal lead ++ space ∷ letter_i ∷ space ∷ t) is
@@ -201,7 +201,7 @@ clause_more true lead lits longer x is = ap (λ t. decimal lead ++ space ∷ let
 clause_more false lead lits longer x is = ap (λ t. decimal lead ++ space ∷ t) is
     ∙ sym (append_assoc (decimal lead) (space ∷ literals_text lits) x)
 
--- After the byte the line goes on.
+-- The line isn't finished after this byte.
 abbrev pub GoesOn : PartialLine → ℕ → PartialLine → Type 0
 GoesOn m b next = IsPartialLine next × (pending next ≡ pending m ++ b ∷ [])
 
@@ -353,7 +353,7 @@ module _ (m : PartialLine) (b : ℕ) (h : IsPartialLine m) where
         pending_next m next states.Body at h b is,
       )
 
-  -- what was read of a line that has no literals and is no import yet
+  -- the front of a line that has no literals and is no import so far
   lead_front : m.imports ≡ false → m.literal_count ≡ 0 → clause_front m.imports m.lead (literals_read m) ≡ decimal m.lead ++ space ∷ []
   unfolding literals_text
   lead_front adds few = ap (λ i. clause_front i m.lead (literals_read m)) adds
@@ -479,7 +479,7 @@ module _ (m : PartialLine) (b : ℕ) (h : IsPartialLine m) where
 
   -- Literal
 
-  -- a literal that grows by a digit
+  -- a literal after one more digit
   literal_more : (negative : Bool) (n k : ℕ) → FitsDigits n k → k < 18 → IsDigit b
       → literal_front negative (n * 10 + (b - 48)) ≡ literal_front negative n ++ b ∷ []
   literal_more true n k number few digit = ap (λ t. minus ∷ t) (decimal_next n k b number few digit)
@@ -506,7 +506,7 @@ module _ (m : PartialLine) (b : ℕ) (h : IsPartialLine m) where
       ) in
       subst (λ p. GoesOn m b (record next { state = p })) (sym at) goes
 
-  -- there is room for the literal
+  -- the buffer has room for the literal
   pub literal_room : m.state ≡ states.Literal → m.literal_count < vec_len m.literals
   unfolding IsRoomy
   literal_room at =
@@ -747,7 +747,7 @@ module _ (m : PartialLine) (b : ℕ) (h : IsPartialLine m) where
   unfolding spot_at
   end_spelling at ne = spelling_at m states.LineEnd at h b (λ signed. end_blocks signed b ne)
 
-  -- the line is whole, and the next may begin
+  -- the line is complete, and the next may begin
   pub end_ends : m.state ≡ states.LineEnd → b ≡ line_feed
       → let next : PartialLine = record m { state = states.Start } in
       IsPartialLine next × (pending next ≡ []) × LineText (line_so_far next) (pending m ++ b ∷ [])

@@ -1,4 +1,4 @@
--- The faults of a cube's text are those of the import's line that it is the list of.
+-- The faults of a cube's text are those of the import line that has it as its list of literals.
 use Rattle.std.proofs.Common.{◌≡◌, ℕ, ◌+◌, ◌≤◌, inl, inr, Bool, true, false, List, [], ◌∷◌, ◌++◌, length, sym, ◌∙◌, ap, subst, refl, arith}
 use Rattle.std.proofs.lemmas.Bool.{cases_eq}
 use Rattle.std.proofs.lemmas.List.{append_assoc, append-nil}
@@ -26,7 +26,7 @@ nothing_read =
     let letter = tracks_more (49 ∷ space ∷ []) (BeforeLiteral false 0) AfterImport letter_i body body_import in
     tracks_more (49 ∷ space ∷ letter_i ∷ []) AfterImport (BeforeLiteral true 0) space letter import_space
 
--- The text is one exactly where the line is.
+-- A text is that of a cube exactly if the line with it is an import.
 
 module _ (limits : Limits) (lifted : AreLifted false limits) (bytes : List ℕ) where
   line_of_cube : IsCubeLine limits bytes → IsLine limits (import_front ++ bytes)
@@ -51,7 +51,7 @@ begins_cube : (limits : Limits) → AreLifted false limits → (bytes : List ℕ
     → ((rest : List ℕ) × IsLine limits ((import_front ++ bytes) ++ rest)) → BeginsOne IsCubeLine limits bytes
 begins_cube limits lifted bytes h = (h.0, cube_of_line limits lifted (bytes ++ h.0) h.1)
 
--- A byte that decides it of the line decides it of the text.
+-- A byte that decides that the line has a fault decides it for the text, too.
 
 module _ (read : List ℕ) (spot : Spot) (byte : ℕ) (after : List ℕ) (stands : EndsAtSpot read spot) (bounded : IsBounded spot) where
   none : (fault : LineFault) (Shortest : List ℕ → Type 0) → IsRefused ((import_front ++ read) ++ byte ∷ []) fault
@@ -85,7 +85,7 @@ rest_fault spot next byte after fault moves h read n few stands =
     subst (λ t. IsTextFault IsCubeLine t fault) (append_assoc read (byte ∷ []) after)
     (h (read ++ byte ∷ []) n few (tracks_more (import_front ++ read) (spot n) (next n) byte stands (moves n)))
 
--- the text ends inside the line
+-- the text ends before the line does
 pub too_short : (read : List ℕ) (spot : Spot) → EndsAtSpot read spot → IsBounded spot → IsTextFault IsCubeLine (read ++ []) Spelling
 too_short read spot stands bounded =
     let line = import_front ++ read in
@@ -97,7 +97,7 @@ too_short read spot stands bounded =
           (tracks_pending line spot stands bounded).whole whole.0 [] whole.1.0 (whole.1.1 ∙ sym (append-nil _)),
     ))
 
--- more follows its LF
+-- bytes follow the LF
 too_much : (read : List ℕ) (byte : ℕ) (after : List ℕ) → EndsAtSpot read AtEnd
     → IsTextFault IsCubeLine (read ++ line_feed ∷ byte ∷ after) Spelling
 too_much read byte after stands = inr (record {
@@ -125,7 +125,7 @@ too_much read byte after stands = inr (record {
         stands.completes false limits lifted _ (subst (λ t. IsLine limits (import_front ++ t)) longer (line_of_cube limits lifted _ h)) in
         cc
 
--- the end isn't LF alone
+-- the rest after the closing 0 isn't just LF
 pub wrong_end : (read : List ℕ) (n : ℕ) (after : List ℕ) → EndsAtSpot read (BeforeLiteral true n) → n ≤ 65535 → ¬ (after ≡ line_feed ∷ [])
     → IsTextFault IsCubeLine (read ++ zero_digit ∷ after) Spelling
 wrong_end read n after stands few other =

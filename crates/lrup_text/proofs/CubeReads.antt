@@ -1,4 +1,4 @@
--- A cube's text as far as it was read: a number, and literals.
+-- A cube's text, as far as it was read: a number, and literals.
 use Rattle.std.proofs.Common.{◌≡◌, ℕ, ℤ, ◌+◌, ◌-◌, ◌*◌, ◌^◌, ◌<◌, ◌≤◌, true, List, [], ◌∷◌, ◌++◌, length, Ok, Err, refl, sym, ◌∙◌, ap}
 use Rattle.std.proofs.Common.{subst, arith}
 use Rattle.std.specs.Prelude.{Result, IfOk, IfErr, MatchResult}
@@ -23,7 +23,7 @@ use Rattle.lrup_text.proofs.Ahead.{tracks_as, literal_digits, tracks_literals}
 use Rattle.lrup_text.proofs.CubeFaults.{nothing_read}
 use Rattle.lrup_text.proofs.Numerals.{decimal_one}
 
--- A number: digits were read after the first.
+-- A number: the digits read after the first.
 
 pub record DigitsSoFar (first : ℕ) (after : List ℕ) (number digits : ℕ) (rest : List ℕ) : Type 0 where
   pub more : List ℕ
@@ -54,7 +54,7 @@ digits_next first after number digits rest next b so is digit few = record {
   fits = more_digits number digits b so.fits few digit;
 }
 
--- it keeps below the limit
+-- the number is below the limit after one more digit
 pub next_fits : (first : ℕ) (after : List ℕ) (number digits : ℕ) (rest : List ℕ) (b : ℕ) → DigitsSoFar first after number digits rest
     → IsDigit b → digits < 18 → number * 10 + (b - 48) < 10 ^ 18
 next_fits first after number digits rest b so digit few =
@@ -120,7 +120,7 @@ text_read text literals count rest so is = record {
   is = so.is ∙ ap (λ t. literals_text literals ++ t) is ∙ literals_end literals (line_feed ∷ []);
 }
 
--- What is kept of the literals of a whole text.
+-- The literals of a whole text that are kept.
 
 module _ {T : Type 0} (items : T → List ℤ) (vars : ℕ) (literals : List ℤ) (text : List ℕ) (is : IsLiteralsText literals text) where
   pub kept_text : (r : Result T CubeFault) → MatchResult r (λ kept. AreKept vars literals (items kept)) (AreNotKept vars literals)
@@ -141,7 +141,7 @@ module _ {T : Type 0} (items : T → List ℤ) (vars : ℕ) (literals : List ℤ
   kept_fault (Err Range) h = (literals, is, h)
   kept_fault (Err Memory) h = (literals, is, h)
 
--- A fault of its spelling is one of the cube.
+-- A fault of the spelling is a fault of the cube.
 pub spelling_fault : (vars : ℕ) (text : List ℕ) (fault : CubeFault) → IsTextFault IsCubeLine text fault → IsCubeFault vars text fault
 spelling_fault vars text Spelling h = h
 spelling_fault vars text TooLong h = h

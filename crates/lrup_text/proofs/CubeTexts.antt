@@ -1,4 +1,4 @@
--- A cube's text, as it is printed, is the text of its literals that is read.
+-- The text that is printed for a cube is one that is read as its literals.
 use Rattle.std.proofs.Common.{ℕ, ℤ, pos, negsuc, ◌<◌, ◌^◌, List, [], ◌∷◌, sym, ◌∙◌, arith}
 use Rattle.lrup_model.specs.Cube.{CubeValue, IsCubeOf, IsCubeOver}
 use Rattle.lrup_model.specs.lemmas.ListLemmas.{All-map}

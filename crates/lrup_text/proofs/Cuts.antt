@@ -1,4 +1,4 @@
--- Every list of bytes is cut into lines: bytes are taken one by one, up to the end of a line or the byte that decides.
+-- Every list of bytes can be cut into lines: take bytes one by one, up to the end of a line or the byte that decides that there is none.
 use Rattle.std.proofs.Common.{◌≡◌, ◌≢◌, ℕ, suc, zero, ◌+◌, ◌<◌, ◌≤◌, ◌⊎◌, inl, inr, Bool, true, false, List, [], ◌∷◌, ◌++◌, length, refl}
 use Rattle.std.proofs.Common.{sym, ◌∙◌, ap, subst, arith}
 use Rattle.std.specs.List.{flat_map}
@@ -26,7 +26,7 @@ use Rattle.lrup_text.proofs.Steps.{body_exceeds_minus, item_exceeds, hint_allows
 use Rattle.lrup_text.proofs.Streams.{one_cut, texts_are_lines, refused_stays}
 use Rattle.lrup_text.proofs.TextLaws.{empty_pending, tracks_pending}
 
--- What a byte is at a spot.
+-- What a byte does at a spot.
 data ByteAt (spot : Spot) (b : ℕ) : Type 0 where
   moves : (next : Spot) → Moves spot b next → IsBounded next → ByteAt spot b
   blocked : ((signed : Bool) → Blocks signed spot b) → ByteAt spot b
@@ -46,7 +46,7 @@ digit_or_not b = elim (cases_lt b 48) [
   | inr low ↦ elim (cases_lt 57 b) [ inl high ↦ inr (λ l h. omega arith) | inr high ↦ inl (low, high) ]
 ]
 
--- at most so many are fewer, or just as many
+-- a number that is at most another is less, or the same
 less_or_same : (n most : ℕ) → n ≤ most → (n < most) ⊎ (n ≡ most)
 less_or_same n most few = elim (cases_lt n most) [ inl less ↦ inl less | inr many ↦ inr (omega arith) ]
 
@@ -59,7 +59,7 @@ number_byte spot k b few digit digit_more closes none = elim (digit_or_not b) [
   | inr never ↦ elim (cases_eq b space) [ inl is ↦ subst (ByteAt spot) (sym is) closes | inr ne ↦ none never ne ]
 ]
 
--- among literals: a 0, a sign, a digit, a letter where nothing says yet what the line is, or another byte
+-- among literals: a 0, a sign, a digit, a letter if the kind of the line isn't known yet, or another byte
 body_byte : (imports : Bool) (n b : ℕ) → n ≤ 65535 → ByteAt (BeforeLiteral imports n) b
 body_byte imports n b few = elim (cases_eq b zero_digit) [
   | inl is ↦ subst (ByteAt (BeforeLiteral imports n)) (sym is) (closes imports)
@@ -162,13 +162,13 @@ byte_at (InItem deletes k j) b bounded =
     (λ never ne. blocked (λ signed. number_blocks signed deletes k j b never ne))
 byte_at AtEnd b bounded = elim (cases_eq b line_feed) [ inl is ↦ ends_line refl is | inr ne ↦ blocked (λ signed. end_blocks signed b ne) ]
 
--- How bytes begin: with a line, with bytes that may become one, or with a text that begins none.
+-- How bytes begin: with a line, with a text that may become a line, or with a text that can't.
 data Front (bytes : List ℕ) : Type 0 where
   whole_line : (line : StreamLine) (rest : List ℕ) → IsWithinLimits line → bytes ≡ line_text line ++ rest → Front bytes
   part : IsPending bytes → Front bytes
   faulty : (fault : LineFault) → HasTextFault bytes fault → Front bytes
 
--- from the spot where what was read ends
+-- from the spot after the bytes that were read
 front_from : (read : List ℕ) (spot : Spot) → Tracks read spot → IsBounded spot → (bytes : List ℕ) → Front (read ++ bytes)
 front_from read spot tracks bounded [] = subst Front (sym (append-nil read)) (part (tracks_pending read spot tracks bounded))
 front_from read spot tracks bounded (b ∷ bytes) = elim (byte_at spot b bounded) [
@@ -192,14 +192,14 @@ front_from read spot tracks bounded (b ∷ bytes) = elim (byte_at spot b bounded
 front_of : (bytes : List ℕ) → Front bytes
 front_of bytes = front_from [] AtStart at_start tt bytes
 
--- no line's text is empty
+-- the text of a line isn't empty
 text_some : (line : StreamLine) → IsWithinLimits line → 0 < length (line_text line)
 text_some line fits = elim (cases_eq (length (line_text line)) 0) [
   | inl none ↦ absurd (empty_pending.whole line [] fits (sym (append-nil (line_text line) ∙ nil_from_length (line_text line) none)))
   | inr some ↦ omega (arith, some)
 ]
 
--- a line, and the cut of what follows it
+-- a line, and then the lines that the rest is cut into
 cut_more : (line : StreamLine) (stream more : List ℕ) → IsWithinLimits line → stream ≡ line_text line ++ more
     → (lines : List StreamLine) × (rest : List ℕ) × Cut more lines rest
     → (lines : List StreamLine) × (rest : List ℕ) × Cut stream lines rest
@@ -229,7 +229,7 @@ cut_up_to (suc most) stream few = elim (front_of stream) [
 pub every_cut : EveryCut
 every_cut stream = cut_up_to (length stream) stream (omega arith)
 
--- Bytes and what follows them.
+-- Bytes, and the bytes that follow them.
 
 pub cut_goes_on : (bytes more : List ℕ) (lines others : List StreamLine) (rest left : List ℕ)
     → Cut bytes lines rest → Cut (rest ++ more) others left

@@ -35,7 +35,7 @@ four_digits-rest n =
     ∙ ap (λ d. (48 + n / 1000 % 10) ∷ (48 + n / 100 % 10) ∷ (48 + d) ∷ (48 + n % 10000 % 10) ∷ []) third
     ∙ ap (λ d. (48 + n / 1000 % 10) ∷ (48 + n / 100 % 10) ∷ (48 + n / 10 % 10) ∷ (48 + d) ∷ []) fourth
 
--- the front's digits, and four more
+-- the digits of n / 10000, and four more
 pub decimal_fours : (n : ℕ) → 10000 ≤ n → n < 2 ^ 64 → decimal n ≡ decimal (n / 10000) ++ four_digits (n % 10000)
 decimal_fours n low high =
     let hundreds : n / 10 / 10 ≡ n / 100 = omega arith in
@@ -56,7 +56,7 @@ decimal_fours n low high =
     more : (whole most front digits last : List ℕ) → whole ≡ most ++ last → most ≡ front ++ digits → whole ≡ front ++ (digits ++ last)
     more whole most front digits last is most_is = is ∙ ap (λ t. t ++ last) most_is ∙ append_assoc front digits last
 
--- what is written after what was written before
+-- what was written before, and then what is written now
 pub written_more : (begun : List ℕ) (front more all : List ℕ) {before after : List ℕ} → before ≡ begun ++ front → after ≡ before ++ more
     → all ≡ front ++ more → after ≡ begun ++ all
 written_more begun front more all before_is after_is is = after_is ∙ ap (λ t. t ++ more) before_is ∙ append_assoc begun front more

@@ -1,4 +1,4 @@
--- What a piece gives, from what its bytes did to the line.
+-- The status that a piece gives, from what its bytes did to the line.
 use Rattle.std.proofs.Common.{◌≡◌, ℕ, ◌≤◌, List, ◌++◌, length, take, Option, None, Ok, Err, refl, sym, ◌∙◌, ap, subst, arith}
 use Rattle.lrup_text.specs.declared.LineFault.{LineFault}
 use Rattle.lrup_text.specs.declared.Line.{Line}
@@ -12,7 +12,7 @@ use Rattle.lrup_text.specs.Feeding.{ReaderState, Feeds, ReaderReaches}
 use Rattle.lrup_text.proofs.TextLaws.{empty_pending}
 use Rattle.lrup_text.proofs.Readers.{reads_pending}
 
--- what a piece gives, and what it leaves
+-- the status after a piece, and the state that it leaves
 pub record Fed (old : ReaderState) (piece : List ℕ) (used : ℕ) (status : ReaderStatus) (new : ReaderState) : Type 0 where
   pub reaches : ReaderReaches old piece status new
   pub gives : Feeds old piece used status
@@ -32,7 +32,7 @@ module _ (m next : PartialLine) (piece : List ℕ) (used : ℕ) where
       → Fed (Ok (pending m)) piece used (statuses.Fault fault) (Err fault)
   fed_fault fault h = record { reaches = refl; gives = h }
 
--- the same at equal values
+-- the same with the values given by equations
 pub fed_at : {old old' new new' : ReaderState} {status status' : ReaderStatus} (piece : List ℕ) (used : ℕ)
     → Fed old' piece used status' new'
     → old' ≡ old → status ≡ status' → new ≡ new' → Fed old piece used status new
@@ -40,12 +40,12 @@ fed_at {old} {old'} {new} {new'} {status} {status'} piece used h o t n =
     subst (λ x. Fed x piece used status new) o
     (subst (λ x. Fed old' piece used x new) (sym t) (subst (λ x. Fed old' piece used status' x) (sym n) h))
 
--- a reader with no fault is the text that it has read
+-- the state of a reader without a fault is the text that it has read
 pub no_fault : {state : ReaderState} {fault : Option LineFault} (m : PartialLine) → reader_state fault (pending m) ≡ state → fault ≡ None
     → Ok (pending m) ≡ state
 no_fault m view none = sym (ap (λ f. reader_state f (pending m)) none) ∙ view
 
--- no more is used than is there
+-- a piece has as many bytes as are used
 pub fed_bound : (old : ReaderState) (piece : List ℕ) (used : ℕ) (status : ReaderStatus) → Feeds old piece used status → used ≤ length piece
 fed_bound (Err fault) piece used status h = omega (arith, h.0)
 fed_bound (Ok read) piece used (statuses.Line line) h = h.1

@@ -34,7 +34,7 @@ decimal_byte n b some few digit fits =
     let is : 48 + (b - 48) ≡ b = omega arith in
     decimal_more n (b - 48) some (omega arith) fits ∙ ap (λ x. decimal n ++ x ∷ []) is
 
--- ten times a power
+-- a number with one more digit is below the next power of 10
 pub power_more : (k n d : ℕ) → n < 10 ^ k → d < 10 → n * 10 + d < 10 ^ (k + 1)
 power_more k n d small digit =
     let more : 10 ^ (k + 1) ≡ 10 ^ k * 10 = pow_more 10 k in
@@ -53,7 +53,7 @@ digits_word (d ∷ ds) h some few =
     let first : 0 < d = some in
     (omega arith, omega (arith, h.0), all_digits ds h.1, omega (arith, length-map ds (λ x. 48 + x)))
 
--- a number is spelled by its decimal text
+-- the decimal text of a number spells it
 pub number_word : (n : ℕ) → 0 < n → n < 10 ^ 18 → SpellsNumber 18 (decimal n)
 number_word n some few =
     subst (SpellsNumber 18) (sym (decimal-digits_of n some (omega arith)))

@@ -1,4 +1,4 @@
--- A line that is read in part, as a whole: at its beginning, between pieces, and over a piece.
+-- A line that is read in parts, as a whole: at its beginning, between pieces, and through a piece.
 use Rattle.std.proofs.Common.{◌≡◌, ◌≢◌, ℕ, ℤ, ◌+◌, ◌<◌, ◌≤◌, Bool, true, false, List, [], ◌∷◌, ◌++◌, length, take, drop, get_or, refl, sym}
 use Rattle.std.proofs.Common.{◌∙◌, ap, subst, arith}
 use Rattle.std.specs.Fmt.{decimal}
@@ -23,7 +23,7 @@ use Rattle.lrup_text.proofs.TextLaws.{tracks_pending}
 use Rattle.lrup_text.proofs.Numerals.{number_word}
 use Rattle.lrup_text.proofs.Steps.{at_start}
 
--- what is read in part begins a line, and has no whole one
+-- what was read may become a line, and has no whole line in it
 pub reads_pending : (m : PartialLine) → IsPartialLine m → IsPending (pending m)
 reads_pending m h = tracks_pending (pending m) (spot_at m.state m) h.tracks (bounded m h)
 
@@ -43,7 +43,7 @@ start_reads m at room kept number = (
   ap (λ p. pending_at p m) at,
 )
 
--- nothing of a line is read exactly at its start
+-- nothing of a line was read exactly if the state is that of the start
 some_byte : (xs : List ℕ) (y : ℕ) (ys : List ℕ) → xs ++ y ∷ ys ≡ [] → ⊥
 some_byte [] y ys e = cc
 some_byte (x ∷ xs) y ys e = cc
@@ -88,18 +88,18 @@ pub is_empty : (m : PartialLine) → m.state ≡ states.Start → pending m ≡ 
 unfolding pending_at
 is_empty m at = ap (λ p. pending_at p m) at
 
--- over a piece
+-- one more byte of a piece
 pub read_more : (read before : List ℕ) (piece : List ℕ) (i : ℕ) (byte : ℕ) (now : List ℕ) → i < length piece → byte ≡ get_or piece i 0
     → before ≡ read ++ take i piece → now ≡ before ++ byte ∷ [] → now ≡ read ++ take (i + 1) piece
 read_more read before piece i byte now h is so step =
     step ∙ ap (λ t. t ++ byte ∷ []) so ∙ append_assoc read (take i piece) (byte ∷ []) ∙ ap (λ x. read ++ (take i piece ++ x ∷ [])) is
     ∙ ap (λ t. read ++ t) (sym (take_more piece i 0 h))
 
--- no list is kept
+-- no literals and no identities are kept
 pub kept_none : (first : ℕ) (lits : List ℤ) (ids : List ℕ) → IsStreamNumber first → CanStandInLine first lits 0 ids 0
 kept_none first lits ids h = record { lead = h; few_literals = omega arith; few_identities = omega arith; literals = tt; identities = tt }
 
--- with other lists
+-- the same with the lists given by equations
 pub restarts : (next : PartialLine) (lits : List ℤ) (ids : List ℕ) → next.state ≡ states.Start → next.literals.items ≡ lits
     → next.identities.items ≡ ids → length lits ≡ 65535 → length ids ≡ 65536
     → CanStandInLine next.lead lits next.literal_count ids next.identity_count → FitsDigits next.number next.digits
@@ -109,7 +109,7 @@ restarts next lits ids at lits_are ids_are room_lits room_ids kept number =
     (subst (λ x. CanStandInLine next.lead x next.literal_count next.identities.items next.identity_count) (sym lits_are)
     (subst (λ x. CanStandInLine next.lead lits next.literal_count x next.identity_count) (sym ids_are) kept)) number
 
--- nothing but the pending text says what a piece does
+-- the result for a piece depends only on the text read before
 pub steps_from : (old other : PartialLine) (piece : List ℕ) (used : ℕ) (step : ByteStep) (new : PartialLine) → pending other ≡ pending old
     → StepsThrough other piece used step new → StepsThrough old piece used step new
 steps_from old other piece used More new same h = (h.0, h.1, h.2 ∙ ap (λ t. t ++ piece) same)
@@ -117,7 +117,7 @@ steps_from old other piece used Done new same h =
     (h.0, h.1, h.2, h.3, subst (λ t. LineText (line_so_far new) (t ++ take used piece)) same h.4)
 steps_from old other piece used (Refused fault) new same h = (h.0, h.1, subst (λ t. IsRefused (t ++ take used piece) fault) same h.2)
 
--- a part of a piece, and then the next
+-- a part of a piece, and then a part of the rest
 pub ahead_then : (old mid new : PartialLine) (piece rest : List ℕ) (used more : ℕ) → ReadsAhead old piece used mid → rest ≡ drop used piece
     → ReadsAhead mid rest more new → ReadsAhead old piece (used + more) new
 ahead_then old mid new piece rest used more h is k = record {

@@ -1,4 +1,4 @@
--- What may follow a byte, of the parts of a line: numbers, lists, clauses, lines.
+-- What may follow a byte, for each part of a line: numbers, lists, clauses, lines.
 use Rattle.std.proofs.Common.{◌≡◌, ℕ, ◌+◌, ◌<◌, ◌≤◌, ◌⊎◌, inl, inr, Bool, true, false, List, [], ◌∷◌, ◌++◌, length, refl, sym, ◌∙◌, ap}
 use Rattle.std.proofs.Common.{subst, arith}
 use Rattle.std.specs.Prelude.{MatchBool}
@@ -18,7 +18,7 @@ same_tail e = cc
 
 -- Digits.
 
--- a byte among digits is one more, or the space after them
+-- a byte after digits is one more digit, or the space after them
 pub digits_to : (limits : Limits) (k : ℕ) (Next : List ℕ → Type 0) (b : ℕ) (rest : List ℕ) → DigitsFollow limits k Next (b ∷ rest)
     → (IsDigit b × (k < limits.digits) × DigitsFollow limits (k + 1) Next rest) ⊎ ((b ≡ space) × Next rest)
 digits_to limits k Next b rest f = digits_cases f.more f.each f.count f.after f.is f.next
@@ -41,7 +41,7 @@ pub digits_from_space : (limits : Limits) (k : ℕ) (Next : List ℕ → Type 0)
     → DigitsFollow limits k Next (space ∷ rest)
 digits_from_space limits k Next rest few next = record { more = []; each = tt; count = omega arith; after = rest; is = refl; next = next }
 
--- a number has room for its first digit
+-- the first digit of a number
 pub number_to : (limits : Limits) (Next : List ℕ → Type 0) (b : ℕ) (rest : List ℕ) → NumberFollows limits Next (b ∷ rest)
     → (49 ≤ b) × (b ≤ 57) × DigitsFollow limits 1 Next rest
 number_to limits Next b rest f =
@@ -82,7 +82,7 @@ list_text-space (w ∷ ws) = refl
 pub list_to_space : (limits : Limits) (deletes : Bool) (j b : ℕ) (rest : List ℕ) → ListFollows limits deletes j (b ∷ rest) → b ≡ space
 list_to_space limits deletes j b rest f = same_head (f.is ∙ list_text-space f.words)
 
--- an item is a number, or, where hints are signed, a sign and a number
+-- an item is a number or, if hints may be signed, a sign and a number
 pub data ItemKind (digits : ℕ) (signed deletes : Bool) : List ℕ → Type 0 where
   unsigned : {word : List ℕ} → SpellsNumber digits word → ItemKind digits signed deletes word
   negative : {c : ℕ} {cs : List ℕ} → c ≡ minus → deletes ≡ false → signed ≡ true → ItemKind digits signed deletes (c ∷ cs)
@@ -109,7 +109,7 @@ item_of_number digits signed true word h = h
 item_of_number digits true false word h = literal_of_number digits word h
 item_of_number digits false false word h = h
 
--- after so many items: the closing 0, a number, or a sign
+-- what follows j items: the closing 0, a number, or a sign
 pub data ItemTo (limits : Limits) (deletes : Bool) (j b : ℕ) (rest : List ℕ) : Type 0 where
   closes : b ≡ zero_digit → rest ≡ line_feed ∷ [] → ItemTo limits deletes j b rest
   numbers : 49 ≤ b → b ≤ 57 → j < limits.identities
@@ -161,7 +161,7 @@ item_from_digit limits deletes j b rest low high f =
 
 -- Clauses.
 
--- after so many literals: the closing 0, a sign, or a number
+-- what follows n literals: the closing 0, a number, or a sign
 pub data ClauseTo (limits : Limits) (imports : Bool) (n b : ℕ) (rest : List ℕ) : Type 0 where
   closes : b ≡ zero_digit → ClauseEnds limits imports rest → ClauseTo limits imports n b rest
   numbers : 49 ≤ b → b ≤ 57 → n < limits.literals → DigitsFollow limits 1 (ClauseFollows limits imports (n + 1)) rest
@@ -243,7 +243,7 @@ words_of_list limits deletes rest f =
     let few : 0 + length f.words ≤ limits.identities = f.count in
     record { count = omega arith; each = f.each }
 
--- the literals of an import, each after a space, are a space and then the literals, each before one
+-- the text of an import's literals, with a space before each, is a space and then the text of a clause
 pub list_is_clause : (ws : List (List ℕ)) → list_text ws ≡ space ∷ clause_text ws (line_feed ∷ [])
 list_is_clause [] = refl
 list_is_clause (w ∷ ws) = ap (λ t. space ∷ (w ++ t)) (list_is_clause ws)

@@ -1,4 +1,4 @@
--- One byte at each spot: where it leads, that nothing may follow it, and why.
+-- One byte at each spot: the spot that it leads to, or that nothing may follow it, and why.
 use Rattle.std.proofs.Common.{◌≡◌, ℕ, ◌+◌, ◌<◌, ◌≤◌, ◌≢◌, ◌⊎◌, ◌↔◌, inl, inr, Bool, true, false, List, [], ◌∷◌, ◌++◌, refl, sym, ◌∙◌, subst}
 use Rattle.std.proofs.Common.{arith}
 use Rattle.std.proofs.lemmas.List.{append_assoc}
@@ -28,7 +28,7 @@ start_digit b low high = record {
   from = λ signed limits lifted rest h. number_from limits _ b rest low high h;
 }
 
--- one more digit, before anything
+-- one more digit
 more_digit : (limits : Limits) (k : ℕ) (Next : List ℕ → Type 0) (b : ℕ) (rest : List ℕ) → IsDigit b → DigitsFollow limits k Next (b ∷ rest)
     → DigitsFollow limits (k + 1) Next rest
 more_digit limits k Next b rest digit h = elim (digits_to limits k Next b rest h) [
@@ -55,7 +55,7 @@ lead_space k few = record {
   from = λ signed limits lifted rest h. digits_from_space limits k _ rest (omega (arith, lifted.digits)) h;
 }
 
--- what a body may go on with
+-- a deletion begins with d, an import with i
 deletion_to : (limits : Limits) (b : ℕ) (rest : List ℕ) → DeletionFollows limits (b ∷ rest)
     → (b ≡ letter_d) × ListFollows limits true 0 rest
 deletion_to limits b rest h = (rests.same_head h.is, subst (ListFollows limits true 0) (sym (rests.same_tail h.is)) h.ids)
@@ -63,14 +63,14 @@ deletion_to limits b rest h = (rests.same_head h.is, subst (ListFollows limits t
 import_to : (limits : Limits) (b : ℕ) (rest : List ℕ) → ImportFollows limits (b ∷ rest) → (b ≡ letter_i) × LiteralsFollow limits rest
 import_to limits b rest h = (rests.same_head h.is, subst (LiteralsFollow limits) (sym (rests.same_tail h.is)) h.lits)
 
--- a byte that is no letter goes on with the clause
+-- if a byte is no letter, the clause continues
 no_letter : (limits : Limits) (imports : Bool) (n b : ℕ) (rest : List ℕ) → b ≢ letter_d → b ≢ letter_i
     → BodyFollows limits imports n (b ∷ rest) → rests.ClauseTo limits imports n b rest
 no_letter limits imports n b rest not_d not_i (inl h) = clause_to limits imports n b rest h
 no_letter limits imports n b rest not_d not_i (inr (_, _, inl h)) = absurd (not_d (deletion_to limits b rest h).0)
 no_letter limits imports n b rest not_d not_i (inr (_, _, inr h)) = absurd (not_i (import_to limits b rest h).0)
 
--- a letter doesn't
+-- if it is a letter, the line is a deletion or an import
 letter_to : (limits : Limits) (imports : Bool) (n b : ℕ) (rest : List ℕ) → 57 < b → BodyFollows limits imports n (b ∷ rest)
     → DeletionFollows limits (b ∷ rest) ⊎ ImportFollows limits (b ∷ rest)
 letter_to limits imports n b rest high (inr h) = h.2
@@ -219,9 +219,9 @@ number_space deletes k j few = record {
   from = λ signed limits lifted rest h. digits_from_space limits k _ rest (omega (arith, lifted.digits)) h;
 }
 
--- Blocks: a byte that nothing may follow, whatever the limits.
+-- Blocks: a byte after which no rest makes a line, for any limits.
 
--- the byte is no digit 1 to 9
+-- the byte isn't a digit 1 to 9
 abbrev pub NoFirst : ℕ → Type 0
 NoFirst b = 49 ≤ b → b ≤ 57 → ⊥
 
@@ -262,7 +262,7 @@ literal_blocks signed imports k n b never ne limits lifted rest h = no_digits li
 pub list_blocks : (signed deletes : Bool) (b : ℕ) → b ≢ space → Blocks signed (BeforeList deletes) b
 list_blocks signed deletes b ne limits lifted rest h = ne (list_to_space limits deletes 0 b rest h)
 
--- a sign, before a hint where hints are signed, is the one more byte
+-- before an item: a byte other than 0, a digit 1 to 9, or a sign where hints may be signed
 pub item_blocks : (signed deletes : Bool) (j b : ℕ) → b ≢ zero_digit → NoFirst b → (b ≡ minus → deletes ≡ false → signed ≡ true → ⊥)
     → Blocks signed (BeforeItem deletes j) b
 item_blocks signed deletes j b not_zero never not_minus limits lifted rest h = elim (item_to limits deletes j b rest h) [
@@ -277,7 +277,7 @@ number_blocks signed deletes k j b never ne limits lifted rest h = no_digits lim
 pub end_blocks : (signed : Bool) (b : ℕ) → b ≢ line_feed → Blocks signed AtEnd b
 end_blocks signed b ne limits lifted rest h = ne (rests.same_head h)
 
--- Bytes that only the limits of a stream keep out.
+-- Bytes that only the limits of a stream refuse.
 
 wider : Bool → Limits
 wider signed = record { digits = 19; literals = 65536; identities = 65537; signed = signed }
@@ -286,7 +286,7 @@ wider_lifted : (signed : Bool) → AreLifted signed (wider signed)
 unfolding wider
 wider_lifted signed = record { digits = omega arith; literals = omega arith; identities = omega arith; sign = refl }
 
--- the byte keeps within wider limits, and not within those of a stream
+-- The byte is allowed with wider limits, but not with those of a stream.
 pub record Exceeds (spot : Spot) (byte : ℕ) : Type 0 where
   pub stops : (rest : List ℕ) → ¬ MayComplete standard spot (byte ∷ rest)
   pub allows : Allows false spot byte
@@ -422,7 +422,7 @@ hint_allows j few = record {
   };
 }
 
--- Some rest always follows, and so what was read begins a line.
+-- Some rest can always follow, so the bytes read so far may become a line.
 
 abbrev pub IsOpen : Spot → Type 0
 IsOpen spot = (first : ℕ) × (rest : List ℕ) × MayComplete standard spot (first ∷ rest)
@@ -443,7 +443,7 @@ open_digits k Next rest few next = digits_from_space standard k Next rest few ne
 open_number : (Next : List ℕ → Type 0) (rest : List ℕ) → Next rest → NumberFollows standard Next (49 ∷ space ∷ rest)
 open_number Next rest next = number_from standard Next 49 _ (omega arith) (omega arith) (open_digits 1 Next rest (omega arith) next)
 
--- the counts of a spot keep within the limits of a stream
+-- the counts of a spot are within the limits of a stream
 abbrev pub IsBounded : Spot → Type 0
 IsBounded AtStart = Unit {0}
 IsBounded (InLead digits) = digits ≤ 18

@@ -88,7 +88,7 @@ lines_same (Deletion i ds) (Deletion j es) h k e =
     let ids : ds ≡ es = numbers_same ds es h.1.each k.1.each second in
     cc
 
--- the texts of two lines, and what follows them
+-- a text begins with at most one line
 pub texts_apart : OneFirstLine
 texts_apart line other x y h k e =
     let words = words_apart (words_of line) (words_of other) x y (fits_within line h) (fits_within other k) e in
@@ -101,9 +101,9 @@ pub no_text_begins : NoTextBegins
 no_text_begins line other bytes others more a b e =
     (texts_apart line other more [] a.0 b.0 (ap (λ t. t ++ more) (sym a.1) ∙ sym e ∙ b.1 ∙ sym (append-nil (line_text other)))).1
 
--- What the grammar takes is the text of a line.
+-- A text that the grammar accepts is the text of a line.
 
--- a number with these digits after it
+-- a number has this decimal text
 abbrev Spelled : List ℕ → Type 0
 Spelled word = (n : ℕ) × IsStreamNumber n × (decimal n ≡ word)
 
@@ -182,7 +182,7 @@ texts_are_lines bytes = (
   λ h. (words_of h.0, fits_within h.0 h.1.0, h.1.1),
 )
 
--- A stream is cut in one way.
+-- A stream can be cut in only one way.
 
 pub one_cut : OneCut
 one_cut stream [] [] rest left a b = (refl, sym a.bytes ∙ b.bytes)
@@ -201,12 +201,12 @@ one_cut stream (l ∷ ls) (m ∷ ms) rest left a b =
     }) in
     (ap (λ x. x ∷ ls) here.0 ∙ ap (λ t. m ∷ t) others.0, others.1)
 
--- A rest has one fault.
+-- A rest has only one fault.
 
 begins_before : (bytes more : List ℕ) → Begins (bytes ++ more) → Begins bytes
 begins_before bytes more h = (more ++ h.0, subst (IsLine standard) (append_assoc bytes more h.0) h.1)
 
--- of two beginnings of a text, the one that ends in a byte more than the other's is no shorter
+-- of two prefixes p and q of a text, p begins with q and the byte after it, or q begins with p
 pub shorter : (p q : List ℕ) (x y : List ℕ) (b : ℕ) → p ++ x ≡ q ++ b ∷ y
     → ((more : List ℕ) × (p ≡ (q ++ b ∷ []) ++ more)) ⊎ ((more : List ℕ) × (q ≡ p ++ more))
 shorter [] q x y b e = inr (q, refl)
@@ -269,9 +269,9 @@ one_fault rest fault other h = (
   λ begins. h.3.after (begins_before h.0 h.1 (subst Begins h.2 begins)),
 )
 
--- However a stream comes, it is cut into the lines that were given.
+-- A stream that comes in pieces is cut into the lines that were given.
 
--- a text that was refused has no line in it, whatever follows
+-- a text that was refused begins with no line, also if more bytes follow
 pub refused_stays : RefusedStays
 refused_stays bytes more fault h line rest fits e =
     elim (shorter (line_text line) h.read rest more h.byte (sym e ∙ last_apart bytes h.read h.byte more h.is)) [
@@ -282,7 +282,7 @@ refused_stays bytes more fault h line rest fits e =
 refused_no_line : (bytes : List ℕ) (fault : LineFault) → IsRefused bytes fault → HasNoLine bytes
 refused_no_line bytes fault h = subst HasNoLine (append-nil bytes) (refused_stays bytes [] fault h)
 
--- a longer rest of the same lines
+-- the same lines, and a longer rest
 cut_longer : (stream : List ℕ) (lines : List StreamLine) (read more : List ℕ) → Cut stream lines read → HasNoLine (read ++ more)
     → Cut (stream ++ more) (lines ++ []) (read ++ more)
 cut_longer stream lines read more cut last =

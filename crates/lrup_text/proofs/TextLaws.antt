@@ -1,4 +1,4 @@
--- Texts of lines: a text spells one line, and no line's text begins another's.
+-- Texts of lines: a text spells only one line, and the text of a line is no proper prefix of another's.
 use Rattle.std.proofs.Common.{◌≡◌, ◌≢◌, ℕ, suc, ℤ, pos, negsuc, ◌<◌, ◌≤◌, inl, inr, false, List, [], ◌∷◌, ◌++◌, length, map, refl, sym, ◌∙◌}
 use Rattle.std.proofs.Common.{ap, arith}
 use Rattle.std.specs.Fmt.{decimal, signed_decimal}
@@ -16,7 +16,7 @@ use Rattle.lrup_text.proofs.Numerals.{number_word}
 use Rattle.lrup_text.proofs.Rests.{same_head, same_tail, literal_of_number, list_rest, list_text-space, list_is_clause}
 use Rattle.lrup_text.proofs.Steps.{IsBounded, IsOpen, open_spot, standard_lifted, tracks_begins, at_start}
 
--- A word holds no space, so the space after it ends it.
+-- A word has no space, so the space after it ends it.
 
 abbrev NoSpace : List ℕ → Type 0
 NoSpace word = AllByRecursion (λ c. c ≢ space) word
@@ -48,7 +48,7 @@ word_apart (c ∷ v) (d ∷ w) x y hv hw e =
 abbrev AreNumbers : List (List ℕ) → Type 0
 AreNumbers ws = AllByRecursion (SpellsNumber 18) ws
 
--- a word is no 0
+-- a number or a literal doesn't begin with 0
 number_no_zero : (w : List ℕ) (x y : List ℕ) → SpellsNumber 18 w → w ++ x ≡ zero_digit ∷ y → ⊥
 number_no_zero [] x y h e = h
 number_no_zero (c ∷ cs) x y h e = let low : 49 ≤ c = h.0 in let e' : c ≡ zero_digit = same_head e in omega arith
@@ -63,7 +63,7 @@ literal_no_letter [] b x y letter h e = h
 literal_no_letter (c ∷ cs) b x y letter (inl h) e = let high : c ≤ 57 = h.1 in let e' : c ≡ b = same_head e in absurd (omega arith)
 literal_no_letter (c ∷ cs) b x y letter (inr h) e = let m : c ≡ minus = h.0 in let e' : c ≡ b = same_head e in absurd (omega arith)
 
--- the text of a list after a word
+-- a word, and then the text of a list
 after_word : (w : List ℕ) (ws : List (List ℕ)) (x : List ℕ) → (w ++ list_text ws) ++ x ≡ w ++ space ∷ (list_rest ws ++ x)
 after_word w ws x = append_assoc w (list_text ws) x ∙ ap (λ t. w ++ (t ++ x)) (list_text-space ws)
 
@@ -153,7 +153,7 @@ rests_apart (Imports i ls) (Imports j ms) x y hv hw lead e =
     let list = lits_apart ls ms x y hv.1.each hw.1.each (same_tail e) in
     (ap (λ z. Imports z ls) lead ∙ ap (λ z. Imports j z) list.0, list.1)
 
--- the text of words begins no other
+-- the text of a line's words is no proper prefix of another's
 pub words_apart : (v w : Words) (x y : List ℕ) → AreWordsWithin standard v → AreWordsWithin standard w → text v ++ x ≡ text w ++ y
     → (v ≡ w) × (x ≡ y)
 words_apart v w x y hv hw e =
@@ -162,7 +162,7 @@ words_apart v w x y hv hw e =
     (sym (text_parts v x) ∙ e ∙ text_parts w y) in
     rests_apart v w x y hv hw one.0 one.1
 
--- The words of a line that fits are within the limits.
+-- The words of a line within the limits are within the limits.
 
 pub signed_word : (z : ℤ) → IsStreamLiteral z → SpellsLiteral 18 (signed_decimal z)
 signed_word (pos n) h = literal_of_number 18 (decimal n) (number_word n h.0 h.1)
@@ -189,9 +189,9 @@ fits_within (Addition id lits hints) h = (
 fits_within (Import id lits) h = (decimal_word id h.0, few_map 65535 signed_decimal IsStreamLiteral (SpellsLiteral 18) signed_word lits h.1)
 fits_within (Deletion lead ids) h = (decimal_word lead h.0, few_map 65536 decimal IsStreamNumber (SpellsNumber 18) decimal_word ids h.1)
 
--- What begins a line, and goes on, has no whole line in it.
+-- A text that may become a line, and isn't one yet, has no whole line in it.
 
--- where something longer is a line
+-- since a longer text is a line
 within_line : (read : List ℕ) (first : ℕ) (rest : List ℕ) → IsLine standard (read ++ first ∷ rest) → HasNoLine read
 within_line read first rest longer line more fits e =
     let same = words_apart (words_of line) longer.0 (more ++ first ∷ rest) [] (fits_within line fits) longer.1

@@ -1,4 +1,4 @@
--- A whole line, read without a stop.
+-- A whole line, read in one go.
 use Rattle.std.proofs.Common.{◌≡◌, ◌≢◌, ℕ, ℤ, unsigned_abs, ◌+◌, ◌-◌, ◌*◌, ◌%◌, ◌^◌, ◌<◌, ◌≤◌, inl, inr, Bool, true, false, List, [], ◌∷◌}
 use Rattle.std.proofs.Common.{◌++◌, length, take, get_or, set, refl, sym, ◌∙◌, ap, subst, arith}
 use Rattle.std.specs.Fmt.{decimal, signed_decimal}
@@ -17,7 +17,7 @@ use Rattle.lrup_text.specs.internal.Reading.{list_front}
 use Rattle.lrup_text.proofs.Numerals.{decimal_one}
 use Rattle.lrup_text.proofs.Bytes.{first_digit, more_digits, decimal_next, below_limit, positive, text_more, line_end, line_fits}
 
--- a byte of a word isn't the last
+-- a byte of a word isn't the last byte
 pub inside_word : (text : List ℕ) (at : ℕ) → EndsWord text → at < length text → space < get_or text at 0 → at + 1 < length text
 inside_word text at ends inside above = elim (cases_lt (at + 1) (length text)) [
   | inl less ↦ less
@@ -28,14 +28,14 @@ inside_word text at ends inside above = elim (cases_lt (at + 1) (length text)) [
 pub line_ends_word : (line : List ℕ) → EndsLine line → EndsWord line
 line_ends_word line ends = (ends.0, omega (arith, ends.1))
 
--- a byte that isn't LF isn't the last
+-- a byte other than LF isn't the last byte
 pub inside_more : (line : List ℕ) (at : ℕ) → EndsLine line → at < length line → get_or line at 0 ≢ line_feed → at + 1 < length line
 inside_more line at ends inside ne = elim (cases_lt (at + 1) (length line)) [
   | inl less ↦ less
   | inr least ↦ let last : at ≡ length line - 1 = omega arith in absurd (ne (ap (λ k. get_or line k 0) last ∙ ends.1))
 ]
 
--- the digits from one place up to another, of a number
+-- The digits of a number from `start` up to `end`.
 pub record SoFar (line : List ℕ) (start number end : ℕ) : Type 0 where
   pub after : start < end
   pub inside : end < length line
@@ -75,7 +75,7 @@ more_so_far line start number end next ends so low high is =
           );
     }
 
--- the number doesn't wrap while it has few digits
+-- the number doesn't overflow as long as it has few digits
 pub wrapped : (line : List ℕ) (start number end digit : ℕ) → SoFar line start number end → 48 ≤ get_or line end 0 → get_or line end 0 ≤ 57
     → digit ≡ get_or line end 0 - 48 → end - start < 18 → (number * 10 % 2 ^ 64 + digit) % 2 ^ 64 ≡ number * 10 + (get_or line end 0 - 48)
 wrapped line start number end digit so low high is few =
@@ -115,7 +115,7 @@ pub sign_absent : (line : List ℕ) (at digits : ℕ) (negative : Bool) → nega
 sign_absent line at digits negative none e = ap (λ k. take k line) e ∙ sym (append-nil (take at line))
     ∙ ap (λ b. take at line ++ sign_text b) (sym none)
 
--- literals from one place up to another, with the space after each
+-- literals, with a space after each, from one place up to another
 pub literals_start : (text : List ℕ) (start : ℕ) (lits : List ℤ) (first : ℕ) → start ≤ length text → first ≤ length lits
     → ReadsLiterals text start lits first lits first start
 unfolding literals_text
@@ -154,7 +154,7 @@ literals_next text start old lits first count at negative digits magnitude end z
           ∙ ap (λ t. take start text ++ t) (sym (text_more (λ x. signed_decimal x ++ space ∷ []) so.more z));
     }
 
--- numbers from one place up to another, with the space after each
+-- numbers, with a space after each, from one place up to another
 pub items_start : (text : List ℕ) (start : ℕ) (ids : List ℕ) (first : ℕ) → start ≤ length text → first ≤ length ids
     → ReadsItems text start ids first ids first start
 unfolding numbers_text
@@ -189,7 +189,7 @@ items_next text start old ids first count at identity end so number is room =
           ∙ ap (λ t. take start text ++ t) (sym (text_more (λ n. decimal n ++ space ∷ []) so.more identity));
     }
 
--- a space after each number, or before each
+-- a space after each number, or a space before each
 pub spaces_move : (ns : List ℕ) (after : List ℕ) → space ∷ (numbers_text ns ++ after) ≡ items_text ns ++ space ∷ after
 unfolding numbers_text items_text
 spaces_move [] after = refl

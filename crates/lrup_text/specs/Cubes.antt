@@ -9,7 +9,7 @@ use Rattle.lrup_text.specs.declared.cube.CubeFault.TheVariants.{Spelling, TooLon
 use Rattle.lrup_text.specs.Grammar.{Limits, AreLifted, standard, AreFew, SpellsLiteral, clause_text}
 use Rattle.lrup_text.specs.Lines.{IsStreamLiteral}
 
--- the bytes are the text of these literals, as they are written
+-- the bytes are the text of these literals, as written
 pub record IsLiteralsText (literals : List ℤ) (bytes : List ℕ) : Type 0 where
   pub few : AreFew 65535 IsStreamLiteral literals
   pub is : bytes ≡ clause_text (map signed_decimal literals) (codes "\n")
@@ -31,7 +31,7 @@ IsCubeLine limits bytes = (words : List (List ℕ))
     × AreFew limits.literals (SpellsLiteral limits.digits) words
     × (bytes ≡ clause_text words (codes "\n"))
 
--- Of texts of some kind, within limits: some rest makes one of the bytes
+-- For texts of some kind, within limits: some rest completes the bytes to such a text
 abbrev pub BeginsOne : (Limits → List ℕ → Type 0) → Limits → List ℕ → Type 0
 BeginsOne IsOne limits bytes = (rest : List ℕ) × IsOne limits (bytes ++ rest)
 
@@ -40,11 +40,11 @@ abbrev pub BeginsOneLifted : (Limits → List ℕ → Type 0) → List ℕ → T
 BeginsOneLifted IsOne bytes =
     (limits : Limits) × AreLifted false limits × BeginsOne IsOne limits bytes
 
--- the bytes begin a text, and are none
+-- the bytes begin a text, and aren't one
 abbrev pub BreaksOff : (Limits → List ℕ → Type 0) → List ℕ → Type 0
 BreaksOff IsOne bytes = BeginsOne IsOne standard bytes × ¬ IsOne standard bytes
 
--- the bytes begin no text, and this holds of their shortest beginning that begins none
+-- the bytes begin no text, and this holds for their shortest prefix that begins none
 pub record BeginsNone (IsOne : Limits → List ℕ → Type 0) (bytes : List ℕ)
     (Shortest : List ℕ → Type 0) : Type 0 where
   pub read : List ℕ
@@ -55,7 +55,7 @@ pub record BeginsNone (IsOne : Limits → List ℕ → Type 0) (bytes : List ℕ
   pub none : ¬ BeginsOne IsOne standard (read ++ byte ∷ [])
   pub shortest : Shortest (read ++ byte ∷ [])
 
--- why the bytes are no text
+-- why the bytes aren't a text
 abbrev pub IsTextFault : (Limits → List ℕ → Type 0) → List ℕ → CubeFault → Type 0
 IsTextFault IsOne bytes Spelling =
     BreaksOff IsOne bytes ⊎ BeginsNone IsOne bytes (λ shortest. ¬ BeginsOneLifted IsOne shortest)
@@ -63,7 +63,8 @@ IsTextFault IsOne bytes TooLong = BeginsNone IsOne bytes (BeginsOneLifted IsOne)
 IsTextFault IsOne bytes Range = ⊥
 IsTextFault IsOne bytes Memory = ⊥
 
--- the first fault of the bytes, of a cube over the variables 1 to vars; memory runs out only if they have none
+-- the first fault of the bytes, for a cube over the variables 1 to vars; memory runs out only if
+-- they have none
 abbrev pub IsCubeFault : ℕ → List ℕ → CubeFault → Type 0
 IsCubeFault vars bytes Spelling = IsTextFault IsCubeLine bytes Spelling
 IsCubeFault vars bytes TooLong = IsTextFault IsCubeLine bytes TooLong
@@ -74,7 +75,7 @@ IsCubeFault vars bytes Memory =
 
 -- Laws
 
--- the text of literals is no misspelled one, and none that is too long
+-- the text of literals isn't misspelled, and isn't too long
 abbrev pub TextHasNoFault : Type 0
 TextHasNoFault = (literals : List ℤ) (bytes : List ℕ) (fault : CubeFault)
     → IsLiteralsText literals bytes → ¬ IsTextFault IsCubeLine bytes fault

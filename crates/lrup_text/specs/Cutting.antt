@@ -1,4 +1,4 @@
--- Whole streams: the calls of a reader over pieces, and the lines that the stream is cut into.
+-- Whole streams: a reader's calls over pieces, and the lines that the stream is cut into.
 use Rattle.std.specs.Prelude.{◌≡◌, ℕ, List, [], ◌∷◌, ◌++◌, take, Ok, Err}
 use Rattle.lrup_text.specs.declared.reader.ReaderStatus.{ReaderStatus}
 use Rattle.lrup_text.specs.declared.reader.ReaderStatus.TheVariants.{Line, NeedMore, Fault}
@@ -6,7 +6,7 @@ use Rattle.lrup_text.specs.Faults.{IsRefused}
 use Rattle.lrup_text.specs.Lines.{StreamLine, line_of, Cut}
 use Rattle.lrup_text.specs.Feeding.{ReaderState, Feeds, ReaderReaches}
 
--- a call of `feed`: the piece, how many of its bytes were used, and what they gave
+-- a call of `feed`: the piece, how many of its bytes were used, and the result
 pub record Call : Type 0 where
   pub piece : List ℕ
   pub used : ℕ
@@ -35,7 +35,8 @@ abbrev pub lines_given : List Call → List StreamLine
 lines_given [] = []
 lines_given (call ∷ calls) = line_given call.status ++ lines_given calls
 
--- the stream so far: its lines, and the text read of the next; or, after a fault, a text that begins no line
+-- the stream so far: its lines, and the text read of the next line; or, after a fault, a text that
+-- begins no line
 abbrev pub IsCut : List ℕ → List StreamLine → ReaderState → Type 0
 IsCut stream lines (Ok read) = Cut stream lines read
 IsCut stream lines (Err fault) = (rest : List ℕ) × Cut stream lines rest × IsRefused rest fault

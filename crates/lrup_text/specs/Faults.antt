@@ -5,15 +5,15 @@ use Rattle.lrup_text.specs.declared.LineFault.TheVariants.{Spelling, TooLong, Tr
 use Rattle.lrup_text.specs.Grammar.{Begins, BeginsLifted}
 use Rattle.lrup_text.specs.Lines.{IsPending}
 
--- of a text that begins no line, why it begins none
+-- why a text begins no line, if it begins none
 abbrev pub IsLineFaultOf : List ℕ → LineFault → Type 0
 IsLineFaultOf bytes Spelling = ¬ BeginsLifted false bytes × ¬ BeginsLifted true bytes
 IsLineFaultOf bytes TooLong = BeginsLifted false bytes
 IsLineFaultOf bytes Truncated = ⊥
 IsLineFaultOf bytes RatHint = ¬ BeginsLifted false bytes × BeginsLifted true bytes
 
--- The text is the shortest one that begins no line, with this fault, and no line is whole in it: what stands
--- before its last byte may still become one.
+-- The text is the shortest one that begins no line, with this fault, and contains no whole line:
+-- the text before its last byte may still become one.
 pub record IsRefused (bytes : List ℕ) (fault : LineFault) : Type 0 where
   pub read : List ℕ
   pub byte : ℕ

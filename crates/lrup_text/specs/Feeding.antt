@@ -1,5 +1,5 @@
--- What a reader of lines gives for a piece of a stream, and what it is afterwards.
--- A reader is the text that it has read of a line, `Ok`, or the fault that it gave, `Err`.
+-- What a reader of lines gives for a piece of a stream, and its state afterwards. The state of a
+-- reader is the text that it has read of a line, `Ok`, or the fault that it gave, `Err`.
 use Rattle.std.specs.Prelude.{◌≡◌, ℕ, ◌<◌, ◌≤◌, List, [], ◌++◌, length, take, Result, Ok, Err, IfOk}
 use Rattle.lrup_text.specs.declared.LineFault.{LineFault}
 use Rattle.lrup_text.specs.declared.LineFault.TheVariants.{Truncated}
@@ -13,7 +13,7 @@ use Rattle.lrup_text.specs.Lines.{line_of, LineText, IsPending}
 abbrev pub ReaderState : Type 0
 ReaderState = Result (List ℕ) LineFault
 
--- what a reader gives for a piece, of which it uses so many bytes
+-- what a reader gives for a piece of which it uses this many bytes
 abbrev pub Feeds : ReaderState → List ℕ → ℕ → ReaderStatus → Type 0
 Feeds (Err fault) piece used status = (used ≡ 0) × (status ≡ Fault fault)
 Feeds (Ok read) piece used (Line line) =
@@ -22,14 +22,14 @@ Feeds (Ok read) piece used NeedMore = used ≡ length piece
 Feeds (Ok read) piece used (Fault fault) =
     (0 < used) × (used ≤ length piece) × IsRefused (read ++ take used piece) fault
 
--- what the reader is afterwards
+-- the reader's state afterwards
 abbrev pub ReaderReaches : ReaderState → List ℕ → ReaderStatus → ReaderState → Type 0
 ReaderReaches old piece (Line line) new = (new ≡ Ok []) × IsPending []
 ReaderReaches old piece NeedMore new =
     IfOk old (λ read. (new ≡ Ok (read ++ piece)) × IsPending (read ++ piece))
 ReaderReaches old piece (Fault fault) new = new ≡ Err fault
 
--- what the end of the stream is, and the reader after it
+-- what the end of the stream means, and the reader's state after it
 abbrev pub ReaderEnds : ReaderState → End → ReaderState → Type 0
 ReaderEnds old ends.Clean new = (old ≡ Ok []) × (new ≡ old)
 ReaderEnds (Ok read) (ends.Fault fault) new =

@@ -1,16 +1,18 @@
--- The texts of the lines of a stream: the RUP part of LRAT text (Cruz-Filipe et al., CADE 2017), in this project's spelling.
+-- The texts of the lines of a stream: the RUP part of LRAT text (Cruz-Filipe et al., CADE 2017), in
+-- this project's spelling.
 --     line = ( add / del / imp ) LF
 --     add  = num SP *( lit SP ) "0" *( SP num ) SP "0"
 --     del  = num SP "d" *( SP num ) SP "0"
 --     imp  = num SP "i" *( SP lit ) SP "0"
 --     lit  = [ "-" ] num
 --     num  = one digit 1 to 9, then digits 0 to 9
--- SP is one space. A line is spelled by words, which are lists of bytes. How many there may be, and how long, limits say.
+-- SP is one space. A line is spelled by words, which are lists of bytes. Limits say how many words
+-- there may be, and how long they may be.
 use Rattle.std.specs.Prelude.{◌≡◌, ℕ, ◌<◌, ◌≤◌, ◌⊎◌, Bool, false, List, [], ◌∷◌, ◌++◌, codes, length, MatchBool}
 use Rattle.std.specs.List.{AllByRecursion}
 
--- the most digits of a number, literals of an addition or an import, and hints of an addition or identities of a deletion;
--- and whether a hint may carry a sign
+-- the maximum numbers of digits of a number, of literals of an addition or an import, and of hints
+-- of an addition or identities of a deletion; and whether a hint may have a sign
 pub record Limits : Type 0 where
   pub digits : ℕ
   pub literals : ℕ
@@ -32,7 +34,7 @@ pub record AreLifted (signed : Bool) (limits : Limits) : Type 0 where
 abbrev pub IsDigit : ℕ → Type 0
 IsDigit byte = (48 ≤ byte) × (byte ≤ 57)
 
--- num, of at most so many digits
+-- num, of at most this many digits
 abbrev pub SpellsNumber : ℕ → List ℕ → Type 0
 SpellsNumber most [] = ⊥
 SpellsNumber most (byte ∷ bytes) =
@@ -55,7 +57,7 @@ pub data Words : Type 0 where
   Deletes : (lead : List ℕ) (ids : List (List ℕ)) → Words
   Imports : (id : List ℕ) (lits : List (List ℕ)) → Words
 
--- at most so many elements, each of a kind
+-- at most this many elements, each of this kind
 pub record AreFew {X : Type 0} (most : ℕ) (Is : X → Type 0) (xs : List X) : Type 0 where
   pub count : length xs ≤ most
   pub each : AllByRecursion Is xs
@@ -75,7 +77,7 @@ abbrev pub list_text : List (List ℕ) → List ℕ
 list_text [] = codes " 0\n"
 list_text (word ∷ words) = codes " " ++ (word ++ list_text words)
 
--- *( lit SP ) "0", and what follows
+-- *( lit SP ) "0", and the rest
 abbrev pub clause_text : List (List ℕ) → List ℕ → List ℕ
 clause_text [] rest = codes "0" ++ rest
 clause_text (word ∷ words) rest = word ++ (codes " " ++ clause_text words rest)
@@ -90,11 +92,11 @@ text (Imports id lits) = id ++ (codes " i" ++ list_text lits)
 abbrev pub IsLine : Limits → List ℕ → Type 0
 IsLine limits bytes = (words : Words) × AreWordsWithin limits words × (bytes ≡ text words)
 
--- the bytes begin a line
+-- the bytes are a prefix of a line
 abbrev pub Begins : List ℕ → Type 0
 Begins bytes = (rest : List ℕ) × IsLine standard (bytes ++ rest)
 
--- the bytes begin a line if the limits are lifted, with signed hints or without
+-- the bytes are a prefix of a line if the limits are lifted, with signed hints or without
 abbrev pub BeginsLifted : Bool → List ℕ → Type 0
 BeginsLifted signed bytes =
     (limits : Limits) × (rest : List ℕ) × AreLifted signed limits × IsLine limits (bytes ++ rest)

@@ -17,18 +17,18 @@ abbrev pub OneLine : Type 0
 OneLine = (line other : StreamLine) (bytes : List ℕ) → LineText line bytes → LineText other bytes
     → line ≡ other
 
--- no line's text begins another line's
+-- no line's text is a proper prefix of another line's text
 abbrev pub NoTextBegins : Type 0
 NoTextBegins = (line other : StreamLine) (bytes others more : List ℕ) → LineText line bytes
     → LineText other others → others ≡ bytes ++ more → more ≡ []
 
--- bytes begin with the text of one line at most, and what follows it is the same
+-- bytes begin with the text of at most one line, and the rest after it is the same
 abbrev pub OneFirstLine : Type 0
 OneFirstLine = (line other : StreamLine) (more after : List ℕ) → IsWithinLimits line
     → IsWithinLimits other
     → line_text line ++ more ≡ line_text other ++ after → (line ≡ other) × (more ≡ after)
 
--- what the grammar takes within the limits of a stream is the text of a line
+-- what the grammar accepts within the limits of a stream is the text of a line
 abbrev pub TextsAreLines : Type 0
 TextsAreLines = (bytes : List ℕ) → IsLine standard bytes
     ↔ ((line : StreamLine) × LineText line bytes)
@@ -42,23 +42,24 @@ OneCut = (stream : List ℕ) (lines others : List StreamLine) (rest left : List 
 abbrev pub EveryCut : Type 0
 EveryCut = (stream : List ℕ) → (lines : List StreamLine) × (rest : List ℕ) × Cut stream lines rest
 
--- the lines of a beginning begin those of the whole, and the others are cut from its rest and what follows
+-- the lines of a prefix begin those of the whole, and the others are cut from the prefix's rest and
+-- the bytes after it
 abbrev pub BeginningCut : Type 0
 BeginningCut = (bytes more : List ℕ) (lines all : List StreamLine) (rest left : List ℕ)
     → Cut bytes lines rest → Cut (bytes ++ more) all left
     → (others : List StreamLine) × (all ≡ lines ++ others) × Cut (rest ++ more) others left
 
--- a text that begins no line holds none, whatever follows it
+-- a text that begins no line contains none, with anything after it
 abbrev pub RefusedStays : Type 0
 RefusedStays = (bytes more : List ℕ) (fault : LineFault) → IsRefused bytes fault
     → HasNoLine (bytes ++ more)
 
--- a rest has one fault, and what begins a line has none
+-- a rest has at most one fault, and if it begins a line it has none
 abbrev pub OneFault : Type 0
 OneFault = (rest : List ℕ) (fault other : LineFault) → HasTextFault rest fault
     → (HasTextFault rest other → fault ≡ other) × ¬ Begins rest
 
--- no bytes may become a line
+-- no bytes may still become a line
 abbrev pub EmptyPending : Type 0
 EmptyPending = IsPending []
 
@@ -66,7 +67,8 @@ EmptyPending = IsPending []
 abbrev pub EmptyCut : Type 0
 EmptyCut = IsCut [] [] (Ok [])
 
--- However a stream comes in pieces, the lines given are those that the bytes used are cut into.
+-- However a stream is divided into pieces, the lines given are those that the bytes used are cut
+-- into.
 abbrev pub CallsCut : Type 0
 CallsCut = (stream : List ℕ) (lines : List StreamLine) (old new : ReaderState) (calls : List Call)
     → IsCut stream lines old → AreCalls old calls new

@@ -1,4 +1,4 @@
--- A reader whose line is lent: what it is when the line goes back.
+-- A reader whose line is lent: its state when the line is given back.
 use Rattle.std.specs.Prelude.{List, ℕ, ⊤}
 use Rattle.std.specs.Borrow.{MutBor, Fml, follows_so}
 use mathlib.Core.Option as maybe

@@ -6,13 +6,13 @@ use Rattle.lrup_text.specs.Grammar.{Words, Adds, Deletes, Imports, text, AreFew,
 use Rattle.lrup_text.specs.declared.Line.{Line}
 use Rattle.lrup_text.specs.declared.Line.TheVariants as kinds
 
--- a line, apart from where its lists lie in memory
+-- a line, independent of where its lists are in memory
 pub data StreamLine : Type 0 where
   Addition : (id : ℕ) (lits : List ℤ) (hints : List ℕ) → StreamLine
   Deletion : (lead : ℕ) (ids : List ℕ) → StreamLine
   Import : (id : ℕ) (lits : List ℤ) → StreamLine
 
--- the line that a `Line` is
+-- the line that a `Line` represents
 abbrev pub line_of : Line → StreamLine
 line_of (kinds.Add id lits hints) = Addition id lits.now hints.now
 line_of (kinds.Delete lead ids) = Deletion lead ids.now
@@ -28,7 +28,7 @@ words_of (Import id lits) = Imports (decimal id) (map signed_decimal lits)
 abbrev pub IsStreamNumber : ℕ → Type 0
 IsStreamNumber number = (0 < number) × (number < 10 ^ 18)
 
--- a literal whose variable is such a number
+-- a literal whose magnitude is such a number
 abbrev pub IsStreamLiteral : ℤ → Type 0
 IsStreamLiteral literal = IsStreamNumber (unsigned_abs literal)
 
@@ -47,18 +47,18 @@ line_text line = text (words_of line)
 abbrev pub LineText : StreamLine → List ℕ → Type 0
 LineText line bytes = IsWithinLimits line × (bytes ≡ line_text line)
 
--- no line's text is a beginning of it
+-- no line's text is a prefix of it
 abbrev pub HasNoLine : List ℕ → Type 0
 HasNoLine bytes =
     (line : StreamLine) (more : List ℕ) → IsWithinLimits line → ¬ (bytes ≡ line_text line ++ more)
 
--- the bytes are the texts of the lines, and then a rest in which no line is whole
+-- the bytes are the texts of the lines, followed by a rest that contains no whole line
 pub record Cut (stream : List ℕ) (lines : List StreamLine) (rest : List ℕ) : Type 0 where
   pub bytes : stream ≡ flat_map line_text lines ++ rest
   pub each : AllByRecursion IsWithinLimits lines
   pub last : HasNoLine rest
 
--- what a reader may wait for more of: it begins a line, and has no whole one
+-- the part of a line that a reader may hold: it begins a line, and contains no whole one
 pub record IsPending (bytes : List ℕ) : Type 0 where
   pub begins : Begins bytes
   pub whole : HasNoLine bytes

@@ -3,19 +3,21 @@ use Rattle.std.specs.Prelude.{◌≡◌, ◌<◌, ◌≤◌, ℕ, List, [], leng
 use Rattle.std.specs.Io.KnownBytes.{Consumes, IsAtEnd, Keeps}
 use Rattle.std.specs.List.{FoldsTo, concat}
 
--- what reads do: the source before, how long the buffer is, what is given, and the source after
+-- the effect of reads: the source before, the buffer's length, the bytes given, and the source
+-- after
 abbrev pub ReadsOf : Type 0 → Type 1
 ReadsOf S = S → ℕ → Option (List ℕ) → S → Type 0
 
--- What a read does to the bytes left, if they are known: it gives the next ones, at most as many as it asks for, and these
--- aren't left any more. It gives none only at the end, or if it asks for none. A read that fails leaves all.
+-- The effect of a read on the bytes left, if they are known: it gives the next ones, at most as
+-- many as it asks for, and they are no longer left. It gives none only at the end, or if it asks
+-- for none. A failed read leaves all bytes.
 abbrev pub GivesLeft : Option (List ℕ) → ℕ → Option (List ℕ) → Option (List ℕ) → Type 0
 GivesLeft before room None after = Keeps before after
 GivesLeft before room (Some piece) after = Consumes before after piece × (length piece ≤ room)
     × (piece ≡ [] → 0 < room → IsAtEnd after)
 
--- Reads, one after another, each of which gave some bytes into a buffer of some length, took a
--- source from first to last, and gave these bytes together.
+-- Reads, one after another, each of which gave some bytes, with a buffer of any length, led from
+-- the source `first` to `last`, and gave these bytes together.
 pub record Gave (S : Type 0) (reads : ReadsOf S) (first : S) (bytes : List ℕ)
     (last : S) : Type 0 where
   pub pieces : List (List ℕ)
@@ -23,8 +25,8 @@ pub record Gave (S : Type 0) (reads : ReadsOf S) (first : S) (bytes : List ℕ)
       (room : ℕ) × reads source room (Some piece) after × (0 < length piece)) first pieces last
   pub whole : bytes ≡ concat pieces
 
--- Reads gave these bytes of a source, up to its first end: after them one gave none, though its
--- buffer had room.
+-- Reads gave these bytes of a source, up to its first end: after them a read gave none, although
+-- its buffer had room.
 pub record GaveAll (S : Type 0) (reads : ReadsOf S) (first : S) (bytes : List ℕ) : Type 0 where
   pub last : S
   pub given : Gave S reads first bytes last

@@ -1,28 +1,28 @@
--- What goes out to a sink, if the device tells its bytes, while some bytes are still held back.
+-- What is written to a sink, if its bytes are known, while some bytes are still held back.
 use Rattle.std.specs.Prelude.{◌≡◌, List, ℕ, ◌++◌, Option, Result, MatchResult}
 use Rattle.std.specs.Io.KnownBytes.{Appends}
 
--- The bytes went out after those held before, and the last of them are held now.
+-- The bytes were written after those held before, and the last of them are held now.
 pub record Puts (before after : Option (List ℕ)) (held holds bytes : List ℕ) : Type 0 where
   pub went : List ℕ
   pub appends : Appends before after went
   pub is : held ++ bytes ≡ went ++ holds
 
--- A beginning of them went out.
+-- A prefix of them was written.
 pub record Breaks (before after : Option (List ℕ)) (held bytes : List ℕ) : Type 0 where
   pub went : List ℕ
   pub rest : List ℕ
   pub appends : Appends before after went
   pub is : held ++ bytes ≡ went ++ rest
 
--- what a call put out, that may have failed
+-- the effect of a call that puts bytes and may fail
 abbrev pub PutsAll : {E : Type 0} → Result (Unit {0}) E → Option (List ℕ) → Option (List ℕ) → List ℕ
     → List ℕ → List ℕ → Type 0
 PutsAll result before after held holds bytes =
     MatchResult result (λ _. Puts before after held holds bytes)
     (λ _. Breaks before after held bytes)
 
--- a whole text went out, or, after a fault, a beginning of it
+-- a whole text was written, or, after a fault, a prefix of it
 abbrev pub WritesText : {E : Type 0} → Result (Unit {0}) E → Option (List ℕ) → Option (List ℕ)
     → List ℕ → Type 0
 WritesText result before after bytes =

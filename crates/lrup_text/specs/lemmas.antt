@@ -1,3 +1,3 @@
--- Lemmas, which other crates' proofs may cite.
+-- Lemmas that proofs of other crates may cite.
 pub mod ReadLemmas
 pub mod WritingLemmas

@@ -14,13 +14,14 @@ use lrup_model::{Cube, Lit};
 use std::alloc::{AllocError, Global};
 use thiserror::Error;
 
-/// Why a cube's text was refused: its first fault in this order.
+/// Why a cube's text was refused: the first of these faults that it has.
 #[derive(Clone, Copy, Debug, PartialEq, Eq, Error)]
 pub enum CubeFault {
-    /// It isn't one line `*( lit SP ) "0" LF`, or it ends inside one, and it isn't too long.
+    /// The text isn't one line `*( lit SP ) "0" LF`, or it ends inside one, and it isn't too long.
     #[error("spelling")]
     Spelling,
-    /// The shortest beginning that begins no such line would begin one without the limits on digits and literals.
+    /// Only a limit is exceeded: with longer numbers or more literals allowed, the text could still
+    /// become such a line.
     #[error("too long")]
     TooLong,
     /// The magnitude of a literal is above the number of variables.
@@ -39,8 +40,9 @@ impl From<AllocError> for CubeFault {
     }
 }
 
-/// Reads the cube of a whole text, over the variables 1 to `vars`, at most 16,777,215. The text is one line: literals, each
-/// with a space after it, then `0` and LF; at most 65,535 literals as they are written, and 18 digits a number.
+/// Reads the cube of a whole text, over the variables 1 to `vars`, at most 16,777,215. The text is
+/// one line: literals, each with a space after it, then `0` and LF; with repeats at most 65,535
+/// literals, and at most 18 digits in a number.
 pub fn read_cube(alloc: Global, bytes: &[u8], vars: u32) -> Result<Cube, CubeFault>
     requires { vars ≤ max_variable }
     ensures cube { IfOk result (IsCubeText vars bytes.now) }
@@ -79,14 +81,14 @@ fn read_cube_literals(alloc: Global, text: &[u8], vars: u32) -> Result<Vec<Lit>,
     Err(CubeFault::Spelling)
 }
 
-/// Whether nothing but the LF is left.
+/// Whether only the LF is left.
 fn is_end(rest: &[u8]) -> bool
     ensures { IsTrue result ↔ (rest.now ≡ line_feed ∷ []) }
 {
     rest == b"\n".as_slice()
 }
 
-/// The fault of a byte that stands after the most literals in place of the `0`.
+/// The fault of a byte other than `0` after the largest number of literals.
 fn after_most(byte: u8) -> CubeFault
     requires { byte ≢ zero_digit }
     ensures { (read after : List ℕ) → EndsAtSpot read (BeforeLiteral true 65535)
@@ -113,7 +115,7 @@ fn is_digit(byte: u8) -> bool
     matches!(byte, b'0'..=b'9')
 }
 
-/// Reads a literal, whose first byte is given, and the space after it, and gives what is left.
+/// Reads a literal with the given first byte, and the space after it, and returns it and the rest.
 fn read_literal(first: u8, after: &[u8]) -> Result<(i64, &[u8]), CubeFault>
     requires { first ≢ zero_digit }
     ensures literal { IfOk result (λ read. ReadsLiteral (first ∷ after.now) read.0 read.1.now) }
@@ -130,7 +132,7 @@ fn read_literal(first: u8, after: &[u8]) -> Result<(i64, &[u8]), CubeFault>
     Ok((literal_of(false, number), rest))
 }
 
-/// Reads a number and the space after it, and gives what is left.
+/// Reads a number and the space after it, and returns it and the rest.
 fn read_number(text: &[u8]) -> Result<(u64, &[u8]), CubeFault>
     ensures number { IfOk result (λ read. BeginsWithNumber text.now read.0 read.1.now) }
     ensures fault { IfErr result (IsRestFault (AfterMinus true) text.now) }
@@ -144,7 +146,7 @@ fn read_number(text: &[u8]) -> Result<(u64, &[u8]), CubeFault>
     read_digits(first, after)
 }
 
-/// Reads a number, whose first digit is given, and the space after it, and gives what is left.
+/// Reads a number with the given first digit, and the space after it, and returns it and the rest.
 fn read_digits(first: u8, after: &[u8]) -> Result<(u64, &[u8]), CubeFault>
     requires low { 49 ≤ first }
     requires high { first ≤ 57 }
@@ -171,7 +173,7 @@ fn read_digits(first: u8, after: &[u8]) -> Result<(u64, &[u8]), CubeFault>
     Err(CubeFault::Spelling)
 }
 
-/// The literals kept so far and one more, unless it is out of range, or memory ran out.
+/// The literals kept so far and one more, unless it is out of range or memory ran out.
 fn with_literal(
     kept: Result<Vec<Lit>, CubeFault>,
     literal: i64,
@@ -193,7 +195,7 @@ fn with_literal(
     }
 }
 
-/// The literal that is written as this number, if it is over the variables 1 to `vars`.
+/// The literal with this value, if it is over the variables 1 to `vars`.
 fn literal_within(value: i64, vars: u32) -> Option<Lit>
     requires { vars ≤ max_variable }
     ensures within { IsSome result ↔ IsLiteral vars value }

@@ -1,4 +1,4 @@
-//! Devices: sources of bytes, and sinks. What a trait has as `ghost` is known to contracts alone.
+//! Devices: sources of bytes, and sinks. Only contracts know the `ghost` items of a trait.
 ghost use Rattle.std.specs.Prelude.{◌≡◌, ◌<◌, ◌≤◌, ℕ, List, Bool, false, Option, IfOk, is_err, length, option_map, take};
 ghost use Rattle.std.specs.Io.KnownBytes.{ReadConsumes, WriteAppends};
 ghost use Rattle.std.specs.Result.{result_ok};
@@ -6,7 +6,7 @@ ghost use Rattle.std.specs.Result.{result_ok};
 use std::io;
 use thiserror::Error;
 
-/// The most bytes that one read of a stream or of a formula's file asks for.
+/// The maximum number of bytes that one read of a stream or of a formula's file asks for.
 pub const PIECE: usize = 65_536;
 
 /// A read failed.
@@ -30,19 +30,20 @@ pub struct WriteFault;
 
 /// A device that gives bytes.
 pub trait Source {
-    /// The bytes left, if the device tells them.
+    /// The bytes left, if they are known.
     ghost left: { Self → Option (List ℕ) };
 
     /// Whether a read has failed.
     ghost has_failed: { Self → Bool };
 
-    /// What a read does: it relates the source before, the buffer's length, the bytes given, or none after a fault, and the source
-    /// after.
+    /// The effect of a read: it relates the source before, the buffer's length, the bytes given, or
+    /// none after a fault, and the source after.
     ghost reads: { Self → ℕ → Option (List ℕ) → Self → Type 0 };
 
-    /// Reads bytes into the front of a buffer, and returns how many. 0 bytes, if the buffer isn't empty, are the end.
+    /// Reads bytes into the front of a buffer, and returns how many. If the buffer isn't empty, 0
+    /// bytes mean the end.
     ///
-    /// A read that fails gives no bytes, and no read follows.
+    /// A failed read gives no bytes, and no read may follow.
     fn read(&mut self, buffer: &mut [u8]) -> Result<usize, ReadFault>
         requires { has_failed self.old ≡ false }
         ensures bound { IfOk result (λ count. count ≤ length buffer.new) }
@@ -58,15 +59,16 @@ pub trait Source {
 
 /// A device that takes bytes.
 pub trait Sink {
-    /// The bytes written, if the device tells them.
+    /// The bytes written, if they are known.
     ghost written: { Self → Option (List ℕ) };
 
     /// Whether a write has failed.
     ghost has_failed: { Self → Bool };
 
-    /// Writes bytes from the front of a slice, and returns how many: at least one, if the slice isn't empty.
+    /// Writes bytes from the front of a slice, and returns how many: at least one, if the slice
+    /// isn't empty.
     ///
-    /// A write that fails writes nothing, and no write follows.
+    /// A failed write writes nothing, and no write may follow.
     fn write(&mut self, bytes: &[u8]) -> Result<usize, WriteFault>
         requires { has_failed self.old ≡ false }
         ensures bound { IfOk result (λ count. count ≤ length bytes.now) }
@@ -79,7 +81,7 @@ pub trait Sink {
         ensures { result ≡ has_failed self.now };
 }
 
-/// A source of what an `io::Read` reads.
+/// A source that reads from an `io::Read`.
 #[derive(Drop)]
 pub struct Reading<R> {
     inner: R,
@@ -132,7 +134,8 @@ impl<R: io::Read> Source for Reading<R> {
     }
 }
 
-/// A sink over an `io::Write`. A write that takes nothing of a slice that isn't empty is a fault.
+/// A sink that writes to an `io::Write`. A write that takes nothing from a slice that isn't empty
+/// is a fault.
 #[derive(Drop)]
 pub struct Writing<W> {
     inner: W,

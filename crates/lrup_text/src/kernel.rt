@@ -18,7 +18,7 @@ const LETTER_D: u8 = b'd';
 
 const LETTER_I: u8 = b'i';
 
-/// What a line that was read at once holds beside its lists.
+/// What a line that was read at once has besides its lists.
 #[derive(Clone, Copy)]
 pub struct Whole {
     /// The line's first number.
@@ -29,12 +29,12 @@ pub struct Whole {
     pub deletes: bool,
     /// How many literals it has.
     pub literal_count: usize,
-    /// How many hints, or identities to delete.
+    /// How many hints or identities to delete it has.
     pub identity_count: usize,
 }
 
-/// Reads a slice that is a line's text, and puts its lists into the front of the buffers. If it returns `None`, the slice may still be a
-/// line, and the caller reads it byte by byte.
+/// Reads a slice that is a line's text, and puts its lists into the front of the buffers. If the
+/// result is `None`, the slice may still be a line, and the caller reads it byte by byte.
 #[inline(never)]
 pub fn read_line(line: &[u8], literals: &mut [i64], identities: &mut [u64]) -> Option<Whole>
     requires ends { EndsLine line.now }
@@ -47,7 +47,8 @@ pub fn read_line(line: &[u8], literals: &mut [i64], identities: &mut [u64]) -> O
         return None;
     }
     let body = end + 1;
-    // Of the bytes that may stand here only the letters of a deletion and of an import are above `9`.
+    // Of the bytes that are possible here, only the letters of a deletion and of an import are
+    // above `9`.
     if line[body] > NINE {
         return read_marked(line, lead, end, literals, identities);
     }
@@ -65,7 +66,7 @@ pub fn read_line(line: &[u8], literals: &mut [i64], identities: &mut [u64]) -> O
     })
 }
 
-/// Reads the rest of a line that a letter marks, after its first number.
+/// Reads the rest of a line with a letter, after its first number.
 fn read_marked(
     line: &[u8],
     lead: u64,
@@ -140,8 +141,9 @@ fn read_list(line: &[u8], start: usize, out: &mut [u64]) -> Option<usize>
     }
 }
 
-/// Reads a number of at most 18 digits, and returns it and the index behind it. Any byte may stand there. There is one, since the text
-/// ends with a space or LF. A number with more digits wraps, and its count of digits refuses it then.
+/// Reads a number of at most 18 digits, and returns it and the index after it, where any byte may
+/// be. There is such a byte, since the text ends with a space or LF. A number with more digits
+/// wraps around, and is then refused for its count of digits.
 #[inline(always)]
 fn read_number(text: &[u8], start: usize) -> Option<(u64, usize)>
     requires ends { EndsWord text.now }
@@ -166,9 +168,9 @@ fn read_number(text: &[u8], start: usize) -> Option<(u64, usize)>
     Some((number, end))
 }
 
-/// Reads literals, with the space after each, to the places from `first` on, as many as there are.
+/// Reads as many literals as there are, with the space after each, into the places from `first` on.
 ///
-/// Returns how many places are taken then, and how far the text was read.
+/// Returns how many places are then in use, and how far the text was read.
 #[inline(always)]
 pub fn read_literals(text: &[u8], start: usize, out: &mut [i64], first: usize) -> (usize, usize)
     requires ends { EndsWord text.now }
@@ -194,9 +196,9 @@ pub fn read_literals(text: &[u8], start: usize, out: &mut [i64], first: usize) -
     (count, at)
 }
 
-/// Reads numbers, with the space after each, to the places from `first` on, as many as there are.
+/// Reads as many numbers as there are, with the space after each, into the places from `first` on.
 ///
-/// Returns how many places are taken then, and how far the text was read.
+/// Returns how many places are then in use, and how far the text was read.
 #[inline(always)]
 pub fn read_items(text: &[u8], start: usize, out: &mut [u64], first: usize) -> (usize, usize)
     requires ends { EndsWord text.now }

@@ -1,4 +1,4 @@
-//! Laws of lines and streams. Each function is empty: its contract is the law.
+//! Laws of lines and streams. Each function does nothing: its contract is the law.
 ghost use Rattle.lrup_text.specs.Laws.{
   OneText,
   OneLine,
@@ -26,17 +26,18 @@ pub fn a_text_spells_one_line()
     ensures { OneLine }
 {}
 
-/// No line's text begins another line's, so that a written line is read again whatever follows.
+/// No line's text begins another line's text, so a written line is read back with anything after
+/// it.
 pub fn no_text_begins_another()
     ensures { NoTextBegins }
 {}
 
-/// Bytes begin with the text of at most one line, and what follows it is the same.
+/// Bytes begin with the text of at most one line, and the rest after it is the same.
 pub fn bytes_begin_with_one_line()
     ensures { OneFirstLine }
 {}
 
-/// What the grammar takes within the limits of a stream is the text of a line.
+/// What the grammar accepts within the limits of a stream is the text of a line.
 pub fn texts_are_lines()
     ensures { TextsAreLines }
 {}
@@ -51,17 +52,18 @@ pub fn every_stream_is_cut()
     ensures { EveryCut }
 {}
 
-/// The lines of a beginning of a stream begin those of the stream, and the others are cut from its rest and what follows.
+/// The lines of a prefix of a stream begin those of the stream, and the others are cut from the
+/// prefix's rest and the bytes after it.
 pub fn a_beginning_is_cut_alike()
     ensures { BeginningCut }
 {}
 
-/// A text that begins no line holds none, whatever follows it.
+/// A text that begins no line contains none, with anything after it.
 pub fn a_refused_text_holds_no_line()
     ensures { RefusedStays }
 {}
 
-/// A text has one fault at most, and none if it begins a line.
+/// A text has at most one fault, and none if it begins a line.
 pub fn a_text_has_one_fault()
     ensures { OneFault }
 {}
@@ -76,7 +78,8 @@ pub fn no_bytes_have_no_lines()
     ensures { EmptyCut }
 {}
 
-/// The lines that a reader gives are those that the stream is cut into, however it comes in pieces.
+/// The lines that a reader gives are those that the stream is cut into, however the stream is
+/// divided into pieces.
 pub fn calls_cut_the_stream()
     ensures { CallsCut }
 {}
@@ -86,7 +89,7 @@ pub fn a_cube_has_no_text_fault()
     ensures { TextHasNoFault }
 {}
 
-/// The text of a cube is read as its literals, and printed from them.
+/// The text of a cube is read as its literals, and is their printed text.
 pub fn a_cube_text_is_read()
     ensures { CubeTextIsRead }
 {}

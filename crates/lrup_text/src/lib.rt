@@ -1,5 +1,5 @@
-//! Reads and writes the lines of a proof stream: the RUP part of LRAT text (Cruz-Filipe et al., CADE 2017), in one exact spelling, and
-//! imports, which are this project's own.
+//! Reads and writes the lines of a proof stream: the RUP part of LRAT text (Cruz-Filipe et al.,
+//! CADE 2017), in one exact spelling, and imports, which are this project's own.
 #![tactic(auto)]
 
 ghost use Rattle.std.specs.Prelude.{◌↔◌, IsTrue};
@@ -22,7 +22,7 @@ pub use reader::{End, Fed, LineReader, ReaderStatus};
 use thiserror::Error;
 pub use writer::{WriteBuffer, write_all, write_line};
 
-/// A line of a stream, lent by whoever keeps its lists.
+/// A line of a stream, whose lists are borrowed.
 #[derive(Clone, Copy, Debug, PartialEq, Eq)]
 pub enum Line<'a> {
     /// A derived clause: its identity, its literals, and the identities of its hints.
@@ -31,12 +31,13 @@ pub enum Line<'a> {
         lits: &'a [i64],
         hints: &'a [u64],
     },
-    /// A deletion: a leading number that says nothing, and the identities to delete.
+    /// A deletion: a leading number without meaning, and the identities to delete.
     Delete {
         lead: u64,
         ids: &'a [u64],
     },
-    /// A clause of another stream or of the formula, which the solver took over: its identity and its literals.
+    /// A clause of another stream or of the formula that the solver imported: its identity and its
+    /// literals.
     Import {
         id: u64,
         lits: &'a [i64],
@@ -44,8 +45,8 @@ pub enum Line<'a> {
 }
 
 impl Line<'_> {
-    /// Whether the line has a text: its numbers aren't 0 and have at most 18 digits, and its lists keep to
-    /// 65,535 literals, and to 65,536 hints or identities to delete.
+    /// Whether the line has a text: its numbers aren't 0 and have at most 18 digits, and its lists
+    /// have at most 65,535 literals, and 65,536 hints or identities to delete.
     pub fn fits(&self) -> bool
         ensures { IsTrue result ↔ IsWithinLimits (line_of self.now) }
     {
@@ -80,19 +81,20 @@ fn are_few_identities(ids: &[u64]) -> bool
     ids.len() <= MAX_IDENTITIES && ids.iter().all(|id| is_stream_number(*id))
 }
 
-/// Why a text is no line within the limits of a stream.
+/// Why a text isn't a line within the limits of a stream.
 #[derive(Clone, Copy, Debug, PartialEq, Eq, Error)]
 pub enum LineFault {
-    /// No line begins as the text does, whatever the limits, and no hint with a sign is the reason.
+    /// With any limits, no line begins like the text, and a signed hint isn't the reason.
     #[error("spelling")]
     Spelling,
-    /// The text would begin a line if there were no limits on digits, literals, hints and identities.
+    /// Without limits on digits, literals, hints and identities, the text would begin a line.
     #[error("too long")]
     TooLong,
     /// The stream ended inside a line.
     #[error("truncated")]
     Truncated,
-    /// A hint has a sign, as in RAT lines of LRAT. If hints might have signs, and there were no limits, the text would begin a line.
+    /// A hint has a sign, as in RAT lines of LRAT. With signed hints allowed and without limits,
+    /// the text would begin a line.
     #[error("rat hint")]
     RatHint,
 }

@@ -1,4 +1,4 @@
-//! The reading of one line, in as many pieces as it comes.
+//! Reads one line, in any number of pieces.
 ghost use Rattle.std.specs.Prelude.{◌≡◌, ◌<◌, ◌+◌, ◌-◌, ◌*◌, ◌^◌, ◌↔◌, [], length, IfOk, IfSome, IfNone, IsTrue, unsigned_abs};
 ghost use Rattle.std.specs.Fmt.{signed_decimal};
 ghost use Rattle.lrup_text.specs.Grammar.{IsDigit};
@@ -11,13 +11,13 @@ use crate::{Line, LineFault};
 use memchr::{memchr, memrchr};
 use std::alloc::{AllocError, Global};
 
-/// The most digits of a number.
+/// The maximum number of digits of a number.
 pub const MAX_DIGITS: usize = 18;
-/// The greatest number of that many digits.
+/// The largest number with that many digits.
 pub const MAX_NUMBER: u64 = 999_999_999_999_999_999;
-/// The most literals of an addition or of an import.
+/// The maximum number of literals of an addition or of an import.
 pub const MAX_LITERALS: usize = 65_535;
-/// The most hints of an addition, and the most identities of a deletion.
+/// The maximum number of hints of an addition, and of identities of a deletion.
 pub const MAX_IDENTITIES: usize = 65_536;
 
 /// What may come next in a line.
@@ -45,18 +45,18 @@ pub enum ParserState {
     LineEnd,
 }
 
-/// What a byte did.
+/// The effect of a byte.
 #[derive(Clone, Copy)]
 pub enum ByteStep {
-    /// The line goes on.
+    /// The line continues.
     More,
-    /// The line is whole.
+    /// The line is complete.
     Done,
-    /// No line begins so.
+    /// No line begins like this.
     Refused(LineFault),
 }
 
-/// A line, as far as it was read.
+/// A line as far as it was read.
 #[derive(Drop)]
 pub struct PartialLine {
     /// What may come next.
@@ -67,9 +67,9 @@ pub struct PartialLine {
     pub deletes: bool,
     /// Whether the literal that is being read has a sign.
     pub negative: bool,
-    /// The digits read of the number that is being read.
+    /// How many digits of the current number were read.
     pub digits: usize,
-    /// The number that is being read.
+    /// The current number.
     pub number: u64,
     /// The line's first number.
     pub lead: u64,
@@ -77,23 +77,23 @@ pub struct PartialLine {
     pub literal_count: usize,
     /// How many hints were read, or identities of a deletion, at most 65,536.
     pub identity_count: usize,
-    /// Room for all literals that a line can have. Those read stand in front.
+    /// Room for all literals that a line can have, with those read at the front.
     pub literals: Vec<i64>,
-    /// Room for all hints or identities that a line can have. Those read stand in front.
+    /// Room for all hints or identities that a line can have, with those read at the front.
     pub identities: Vec<u64>,
 }
 
-/// What bytes of a piece did.
+/// The effect of some bytes of a piece.
 #[derive(Clone, Copy)]
 pub struct BytesRead {
     /// How many were used.
     pub used: usize,
-    /// What the last of them did.
+    /// The effect of the last one.
     pub step: ByteStep,
 }
 
 impl PartialLine {
-    /// A line of which nothing was read, with all memory that it can need.
+    /// A line of which nothing was read, with all memory that it may need.
     pub fn new(alloc: Global) -> Result<PartialLine, AllocError>
         ensures { IfOk result (λ line. IsPartialLine line × (pending line ≡ [])) }
     {
@@ -104,7 +104,7 @@ impl PartialLine {
             imports: false,
             deletes: false,
             negative: false,
-            // The invariant wants a number of 1 to 18 digits at all times, also before a line's first one.
+            // The invariant requires a number of 1 to 18 digits even before the first one is read.
             digits: 1,
             number: 1,
             lead: 1,
@@ -149,7 +149,8 @@ impl PartialLine {
         }
     }
 
-    /// Takes bytes of a piece: through the end of the line, through the byte that decides that it is none, or all of them.
+    /// Takes bytes of a piece: through the end of the line, through the byte that decides that it
+    /// isn't a line, or all of them.
     pub fn read(&mut self, piece: &[u8]) -> BytesRead
         requires { IsPartialLine self.old }
         ensures { StepsThrough self.old piece.now result.used result.step self.new }
@@ -163,9 +164,10 @@ impl PartialLine {
         }
     }
 
-    /// Reads a line at once that lies whole in the piece, and returns how many bytes it has. It tries only if no line was begun.
+    /// Reads a whole line at the front of the piece at once, and returns how many bytes it has. It
+    /// tries this only if no line was begun.
     ///
-    /// If it returns `None`, nothing was read, and the piece may still begin with a line.
+    /// If the result is `None`, nothing was read, and the piece may still begin with a line.
     fn read_at_once(&mut self, piece: &[u8]) -> Option<usize>
         requires { IsPartialLine self.old }
         ensures whole { IfSome result
@@ -184,7 +186,7 @@ impl PartialLine {
         }
     }
 
-    /// Reads a line that is the whole slice, and returns whether it did. If it didn't, nothing was read.
+    /// Reads a line that is the whole slice, and returns whether it did. If not, nothing was read.
     fn read_whole(&mut self, line: &[u8]) -> bool
         requires reads { IsPartialLine self.old }
         requires start { self.old.state ≡ ParserState.Start }
@@ -208,7 +210,7 @@ impl PartialLine {
         true
     }
 
-    /// Takes bytes of a piece as `read` does: inside a list many at once, else one by one.
+    /// Takes bytes of a piece as `read` does: many at once inside a list, otherwise one by one.
     #[inline(never)]
     fn read_bytes(&mut self, piece: &[u8]) -> BytesRead
         requires { IsPartialLine self.old }
@@ -231,7 +233,7 @@ impl PartialLine {
         }
     }
 
-    /// Reads literals or items that are whole in the front of a piece, and returns how many bytes they have.
+    /// Reads whole literals or items at the front of a piece, and returns how many bytes they have.
     fn read_ahead(&mut self, piece: &[u8]) -> usize
         requires { IsPartialLine self.old }
         ensures { ReadsAhead self.old piece.now result self.new }
@@ -243,7 +245,8 @@ impl PartialLine {
         }
     }
 
-    /// Reads literals up to the last space: the kernel's text has to end with a byte that is no digit.
+    /// Reads literals up to the last space: the kernel's text has to end with a byte that isn't a
+    /// digit.
     fn read_literals_ahead(&mut self, piece: &[u8]) -> usize
         requires reads { IsPartialLine self.old }
         requires state { self.old.state ≡ ParserState.Body }
@@ -344,7 +347,8 @@ impl PartialLine {
             b'0'..=b'9' => ByteStep::Refused(LineFault::TooLong),
             b' ' => {
                 self.lead = self.number;
-                // `deletes` may still be that of the line before: only a `0` or `d` sets it, and nobody looks at it before.
+                // `deletes` may still be that of the line before: only a `0` or `d` sets it, and it
+                // isn't read before that.
                 self.imports = false;
                 self.literal_count = 0;
                 self.identity_count = 0;

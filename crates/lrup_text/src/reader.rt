@@ -8,27 +8,27 @@ use crate::{Line, LineFault};
 use std::alloc::{AllocError, Global};
 use std::marker::Model;
 
-/// How many bytes of a piece a call of `feed` used, and what they came to.
+/// How many bytes of a piece a call of `feed` used, and with what result.
 #[derive(Clone, Copy, Debug, PartialEq, Eq)]
 pub struct Fed<'a> {
     /// How many bytes of the piece were used.
     pub used: usize,
-    /// What they came to.
+    /// The result for these bytes.
     pub status: ReaderStatus<'a>,
 }
 
-/// What the bytes used by a call of `feed` came to.
+/// The result for the bytes that a call of `feed` used.
 #[derive(Clone, Copy, Debug, PartialEq, Eq)]
 pub enum ReaderStatus<'a> {
-    /// They end a line, which is this one. It is lent until the next call.
+    /// They end this line. It is lent until the next call.
     Line(Line<'a>),
     /// All bytes were used, and no line ended.
     NeedMore,
-    /// No line within the limits begins as the bytes do. The last byte used decided it.
+    /// No line within the limits begins like the bytes. The last byte used decided this.
     Fault(LineFault),
 }
 
-/// What the end of a stream is to a reader of lines.
+/// What the end of a stream means for a reader of lines.
 #[derive(Clone, Copy, Debug, PartialEq, Eq)]
 pub enum End {
     /// The stream ended after its last line.
@@ -39,8 +39,8 @@ pub enum End {
 
 /// Cuts a stream, which comes in pieces of any length, into lines.
 ///
-/// Contracts see the text that it has read of the next line, or the fault that it gave. After a fault each call gives that fault again,
-/// and uses nothing.
+/// For contracts, a reader is the text that it has read of the next line, or the fault that it
+/// gave. After a fault each call gives that fault again, and uses nothing.
 #[derive(Drop)]
 pub struct LineReader {
     line: PartialLine,
@@ -63,7 +63,7 @@ impl LineReader {
     ghost use Rattle.std.specs.Borrow.{sem};
     ghost use Rattle.lrup_text.specs.Lending.{FeedEnds};
 
-    /// A reader before the first byte. It makes all its buffers, so that reading takes no memory.
+    /// A reader before the first byte. It makes all its buffers, so that reading allocates nothing.
     pub fn new(alloc: Global) -> Result<LineReader, AllocError>
         ensures { IfOk result (λ reader. (reader ≡ Ok []) × IsPending []) }
     {
@@ -71,8 +71,8 @@ impl LineReader {
         Ok(LineReader { line, fault: None })
     }
 
-    /// Takes bytes of a piece: through the LF of a line, through the first byte with which no line can go on, or all of them. It takes no
-    /// memory.
+    /// Takes bytes of a piece: through the LF of a line, through the first byte after which the
+    /// text can't become a line, or all of them. It allocates nothing.
     pub fn feed(&mut self, piece: &[u8]) -> Fed<'_>
         ensures gives { Feeds self.old piece.now result.used result.status }
         ensures bound { result.used ≤ length piece.now }
@@ -99,7 +99,7 @@ impl LineReader {
         }
     }
 
-    /// Says what the end of the stream is, if it ends here. After `Clean` the stream may still go on.
+    /// What it means if the stream ends here. After `Clean` the stream may still continue.
     pub fn end(&mut self) -> End
         ensures { ReaderEnds self.old result self.new }
     {

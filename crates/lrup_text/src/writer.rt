@@ -10,16 +10,16 @@ ghost use Rattle.lrup_text.specs.internal.FourDigits.{four_digits};
 use crate::{Line, Sink, WriteFault};
 use std::marker::Model;
 
-/// The bytes of a number's text, and of what stands around it.
+/// The size of a number's text with the bytes around it.
 const WORD: usize = 24;
 
-/// The bytes that a buffer holds at most.
+/// The maximum number of bytes that a buffer holds.
 const CAPACITY: usize = 4_096;
 
-/// The bytes of a number's text at most, with a sign before it and a space after it.
+/// The largest size of a number's text, with a sign before it and a space after it.
 const LONGEST: usize = 22;
 
-/// A short text that is made from its end.
+/// A short text that is built from its end.
 #[derive(Drop)]
 struct Word {
     bytes: [u8; WORD],
@@ -46,7 +46,7 @@ impl Word {
         }
     }
 
-    /// A line's first number, and the space after it.
+    /// A line's first number and the space after it.
     fn lead(number: u64) -> Word
         ensures text { result ≡ decimal number ++ space ∷ [] }
         ensures room { length result < 24 }
@@ -57,7 +57,7 @@ impl Word {
         word
     }
 
-    /// A literal, and the space after it.
+    /// A literal and the space after it.
     fn literal(literal: i64) -> Word
         ensures { result ≡ signed_decimal literal ++ space ∷ [] }
     {
@@ -68,7 +68,7 @@ impl Word {
         word
     }
 
-    /// An item of a list, and the space before it.
+    /// An item of a list and the space before it.
     fn item(number: u64) -> Word
         ensures { result ≡ space ∷ decimal number }
     {
@@ -118,7 +118,7 @@ fn write_byte(bytes: &mut [u8], at: usize, byte: u8) -> usize
     at + 1
 }
 
-/// Writes a number of at most four digits with zeros in front, so that they are four.
+/// Writes a number of at most four digits with leading zeros, as four digits.
 #[inline]
 fn write_four(bytes: &mut [u8], at: usize, number: u32) -> usize
     requires small { number < 10000 }
@@ -172,7 +172,7 @@ fn write_number(bytes: &mut [u8], at: usize, number: u64) -> usize
     }
 }
 
-/// Writes a number in decimal that is long in most cases.
+/// Writes a number in decimal that is usually long.
 fn write_long(bytes: &mut [u8], at: usize, number: u64) -> usize
     requires { at + 20 ≤ length bytes.old }
     ensures end { result ≡ at + length (decimal number) }
@@ -185,8 +185,8 @@ fn write_long(bytes: &mut [u8], at: usize, number: u64) -> usize
     write_four(bytes, last, (number % 10_000) as u32)
 }
 
-/// Writes a literal, and a space after it. Signs come by chance, so none is a branch: a number is written over the minus that it
-/// doesn't want.
+/// Writes a literal and a space after it. Signs are unpredictable, so there is no branch on the
+/// sign: an unwanted minus is overwritten by the number.
 #[inline]
 fn write_literal(bytes: &mut [u8], at: usize, literal: i64) -> usize
     requires { at + 22 ≤ length bytes.old }
@@ -200,7 +200,7 @@ fn write_literal(bytes: &mut [u8], at: usize, literal: i64) -> usize
     write_byte(bytes, last, b' ')
 }
 
-/// Bytes on their way to a sink. Up to 4,096 of them are held, so that many short texts make few writes.
+/// Bytes on their way to a sink. Up to 4,096 are held, so that many short texts make few writes.
 #[derive(Drop)]
 pub struct WriteBuffer {
     bytes: [u8; CAPACITY],
@@ -218,7 +218,7 @@ impl Model for WriteBuffer {
 }
 
 impl WriteBuffer {
-    /// A buffer that holds nothing.
+    /// An empty buffer.
     pub fn new() -> WriteBuffer
         ensures { result ≡ [] }
     {
@@ -228,7 +228,8 @@ impl WriteBuffer {
         }
     }
 
-    /// Writes all that is held. After a fault, a beginning of it went out, and nothing is held.
+    /// Writes all that is held. If the sink fails, a prefix of it was written. Nothing is held
+    /// then.
     pub fn flush<W: Sink>(&mut self, sink: &mut W) -> Result<(), WriteFault>
         requires { W.has_failed sink.old ≡ false }
         ensures text { WritesText result (W.written sink.old) (W.written sink.new) self.old }
@@ -248,7 +249,7 @@ impl WriteBuffer {
         self.len <= CAPACITY - LONGEST
     }
 
-    /// Puts bytes after what is held.
+    /// Appends bytes to what is held.
     fn append(&mut self, bytes: &[u8])
         requires { length self.old + length bytes.now ≤ 4096 }
         ensures { self.new ≡ self.old ++ bytes.now }
@@ -273,7 +274,7 @@ impl WriteBuffer {
         self.len += 1;
     }
 
-    /// Puts a byte after those that are held, which may go out.
+    /// Appends a byte to what is held, which may be written.
     fn put_byte<W: Sink>(&mut self, byte: u8, sink: &mut W) -> Result<(), WriteFault>
         requires { W.has_failed sink.old ≡ false }
         ensures puts { PutsAll result (W.written sink.old) (W.written sink.new)
@@ -288,8 +289,8 @@ impl WriteBuffer {
         Ok(())
     }
 
-    /// Puts bytes after those that are held, which may go out. After a fault, what went out is a beginning of all these,
-    /// and nothing is held.
+    /// Appends bytes to what is held, which may be written. If the sink fails, a prefix of all
+    /// these bytes was written, and nothing is held.
     pub fn put<W: Sink>(&mut self, bytes: &[u8], sink: &mut W) -> Result<(), WriteFault>
         requires { W.has_failed sink.old ≡ false }
         ensures puts { PutsAll result (W.written sink.old) (W.written sink.new)
@@ -307,7 +308,7 @@ impl WriteBuffer {
         Ok(())
     }
 
-    /// Puts a number in decimal, as `put` does.
+    /// Puts a number in decimal, as `put` does for bytes.
     pub fn put_number<W: Sink>(&mut self, number: u64, sink: &mut W) -> Result<(), WriteFault>
         requires { W.has_failed sink.old ≡ false }
         ensures puts { PutsAll result (W.written sink.old) (W.written sink.new)
@@ -324,7 +325,7 @@ impl WriteBuffer {
         self.put(word.bytes(), sink)
     }
 
-    /// Puts a literal and a space, as `put` does.
+    /// Puts a literal and a space, as `put` does for bytes.
     #[inline]
     pub fn put_literal<W: Sink>(&mut self, literal: i64, sink: &mut W) -> Result<(), WriteFault>
         requires { W.has_failed sink.old ≡ false }
@@ -340,7 +341,7 @@ impl WriteBuffer {
         self.put_literal_beyond(literal, sink)
     }
 
-    /// Puts a literal and a space, also if there is no room for them before a write.
+    /// Puts a literal and a space, even if there is no room for them before a write.
     #[inline(never)]
     fn put_literal_beyond<W: Sink>(&mut self, literal: i64, sink: &mut W) -> Result<(), WriteFault>
         requires { W.has_failed sink.old ≡ false }
@@ -417,7 +418,7 @@ impl WriteBuffer {
     }
 }
 
-/// Writes all bytes of a slice. After a fault, what went out is a beginning of them.
+/// Writes all bytes of a slice. If the sink fails, a prefix of them was written.
 pub fn write_all<W: Sink>(bytes: &[u8], sink: &mut W) -> Result<(), WriteFault>
     requires { W.has_failed sink.old ≡ false }
     ensures text { WritesText result (W.written sink.old) (W.written sink.new) bytes.now }
@@ -430,7 +431,7 @@ pub fn write_all<W: Sink>(bytes: &[u8], sink: &mut W) -> Result<(), WriteFault>
     Ok(())
 }
 
-/// Writes a line. After a fault, what went out is a beginning of its text.
+/// Writes a line. If the sink fails, a prefix of its text was written.
 pub fn write_line<W: Sink>(line: &Line, sink: &mut W) -> Result<(), WriteFault>
     requires fits { IsWithinLimits (line_of line.now) }
     requires running { W.has_failed sink.old ≡ false }

@@ -1,5 +1,6 @@
-//! `lrupd [--tries N] [--lines N] [--room N] [--assume FILE] [--checkpoint FILE | --rounds DIR] [--serial] [--watch] FORMULA STREAM...`:
-//! checks the proofs of SAT solvers that share their clauses, while the solvers write them.
+//! `lrupd [--tries N] [--lines N] [--room N] [--assume FILE] [--checkpoint FILE | --rounds DIR]
+//! [--serial] [--watch] FORMULA STREAM...` checks the proofs of SAT solvers that share their
+//! clauses, while the solvers write them.
 #![tactic(auto)]
 
 use command::{Files, Machine, OpenFault, command_with_arguments};
@@ -9,8 +10,8 @@ use std::fs::{File, OpenOptions};
 use std::io::{self, Stderr};
 use std::process::ExitCode;
 
-/// The machine's files, and its standard error for those who watch. No file tells its bytes, and no contract says what the system does to
-/// files: each relation below allows everything.
+/// The machine's files, and its standard error for progress reports. Contracts know neither the
+/// contents of these files nor what the system does to them: each relation below allows everything.
 #[derive(Drop)]
 struct MachineFiles<'a> {
     rt: &'a HostRuntime,
@@ -35,7 +36,7 @@ impl Files for MachineFiles<'_> {
 impl Machine for MachineFiles<'_> {
     type Output = Writing<File>;
 
-    /// Each line is one write, so that those of several streams don't mix.
+    /// Each line is one write, so that the lines of several streams don't mix.
     type Watcher = Writing<Stderr>;
 
     ghost lacks = { λ _ _ _. Unit {0} };
@@ -75,7 +76,7 @@ impl Machine for MachineFiles<'_> {
         }
     }
 
-    /// What was written stays: a file of this name may be another one by now.
+    /// Leaves the file in place: by now its name may belong to another file.
     fn discard(&mut self, _output: Writing<File>) {}
 
     fn watcher(&self) -> Writing<Stderr> {
@@ -83,13 +84,14 @@ impl Machine for MachineFiles<'_> {
     }
 }
 
-/// `None` if there is no such file, or the system opens no more.
+/// Opens `/dev/null`; `None` if that fails.
 fn hold(rt: &HostRuntime) -> Option<File> {
     File::open(rt, "/dev/null").ok()
 }
 
 fn main(rt: HostRuntime) -> ExitCode {
-    // No file takes the place of a standard stream that is closed.
+    // Occupy descriptors 0 to 2, so that no file opened later is mistaken for a closed standard
+    // stream.
     let _held = [hold(&rt), hold(&rt), hold(&rt)];
     let mut files = MachineFiles { rt: &rt };
     let mut out = Writing::new(rt.stdout());

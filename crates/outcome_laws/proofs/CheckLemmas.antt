@@ -1,4 +1,4 @@
--- A check of streams, as an outcome has one, and each round.
+-- A check of streams, as each round of an outcome has one.
 use Rattle.std.proofs.Common.{◌≡◌, ◌⊎◌, ◌<◌, ◌≤◌, ◌-◌, ◌++◌, ℕ, eqb, ne_eqb, Bool, true, false, List, [], ◌∷◌, length, map, zero, suc, ◌+◌}
 use Rattle.std.proofs.Common.{Option, Some, refl, inl, inr, sym, ap, ap₂, subst, ◌∙◌, arith}
 use Rattle.std.specs.Prelude.{IsTrue, option_map, slice_get, ◌||◌, if◌then◌else◌}
@@ -33,7 +33,7 @@ use Rattle.command_line.specs.declared.words.CommandLine.{CommandLine}
 use Rattle.command.specs.Commands.{AreChecked, Deeds, Text, run_params_by}
 use Rattle.command.specs.Rounds.{Round}
 
--- The streams at these paths were opened as these readers, and what the files tell these have left; and they were checked.
+-- The streams at these paths were opened as these readers, which have what the files are known to hold; and the streams were checked.
 pub record Check {R : Type 0} (reading : SourceView R) : Type 0 where
   pub serial : Bool
   pub formula : Cnf
@@ -48,7 +48,7 @@ pub record Check {R : Type 0} (reading : SourceView R) : Type 0 where
   pub verdict : Verdict
   pub checked : AreChecked reading serial formula run_params readers reports verdict
 
--- what was checked in a round whose streams were opened so
+-- the check of a round whose streams were opened in this way
 abbrev pub check_of : {its : Deeds} {given : CommandLine} {cube : CubeValue} (round : Round its given cube)
     (tells : Text → Option (List ℕ)) (paths : List Text) → map its.reading.left round.readers ≡ map tells paths → Check its.reading
 check_of {its} {given} {cube} round tells paths left = record {
@@ -66,7 +66,7 @@ check_of {its} {given} {cube} round tells paths left = record {
   checked = round.checked;
 }
 
--- a report of the empty clause comes to 'unsatisfiable'
+-- with a report of the empty clause some report says 'empty'
 one_says : (reports : List Report) (k : ℕ) (report : Report) → slice_get reports k ≡ Some report → report.empty ≡ true
     → list_any (λ r. r.empty) reports ≡ true
 one_says [] k report at is = absurd (cc)
@@ -80,7 +80,7 @@ comes_to reports verdict s report is at says =
     is ∙ cond-true (list_any (λ r. r.empty) reports) Unsatisfiable
     (if list_any (λ r. r.within) reports then UnsatisfiableUnder else Unknown) (one_says reports (s - 1) report at.1 says)
 
--- what holds of the stream of each step holds of one that has a line
+-- what holds for the stream of each step holds for a stream that has a line
 pub of_some : (s : ℕ) (P : ℕ → Type 0) (steps : List Step) → AllByRecursion (λ step. P step.stream) steps
     → 0 < length (lines_by s steps) → P s
 of_some s P [] all some = absurd (omega (arith, some))
@@ -101,7 +101,7 @@ has_report f run_params observed reports r s is =
           absurd (omega (arith, past.0, is.0, is.1, r.count, judged_count run_params (λ t. true) r.history 1 r.streams reports r.judged))
     ]
 
--- without a cube just the empty clause is within it
+-- without a cube only the empty clause is within it
 within_empty : EmptyCubeReported → (run_params : RunParamsValue) → run_params.cube ≡ [] → (h : History) (s : ℕ) (streams : List Stream)
     (reports : List Report) → AreJudgedIn run_params (λ t. true) h s streams reports
     → list_any (λ r. r.within) reports ≡ list_any (λ r. r.empty) reports
@@ -125,7 +125,7 @@ module _ {R : Type 0} (reading : SourceView R) (c : Check reading) where
   abbrev pub observed_of : List InputObservation
   observed_of = observations reading c.readers c.checked.lasts
 
-  -- each stream's reader told something
+  -- something is observed of each stream's reader
   pub observed_length : length observed_of ≡ length c.paths
   observed_length =
       observed_as_many reading c.readers c.checked.lasts c.checked.ran.run.streams c.checked.ran.read
@@ -135,20 +135,20 @@ module _ {R : Type 0} (reading : SourceView R) (c : Check reading) where
   abbrev pub run_of : IsRun c.formula c.run_params observed_of c.reports
   run_of = c.checked.ran.run
 
-  -- those on one thread have an order by turns
+  -- a check on one thread has an order that takes the streams in turn
   pub turns_of : c.serial ≡ true → IsOrderedByTurns c.formula c.run_params run_of.streams c.reports
   turns_of on_one =
       let way : RanSo true c.formula c.run_params run_of.history run_of.streams c.reports =
       subst (λ (b : Bool). RanSo b c.formula c.run_params run_of.history run_of.streams c.reports) on_one c.checked.ran.way in
       way.0
 
-  -- without a cube there is nothing under it
+  -- without a cube no verdict is 'unsatisfiable under assumptions'
   pub never_under : EmptyCubeReported → c.run_params.cube ≡ [] → ¬ (c.verdict ≡ UnsatisfiableUnder)
   never_under bare none under =
       let same = within_empty bare c.run_params none run_of.history 1 run_of.streams c.reports run_of.judged in
       not_under (list_any (λ r. r.empty) c.reports) (list_any (λ r. r.within) c.reports) same (sym c.checked.is_verdict ∙ under)
 
-  -- what a file tells its reader had left at first
+  -- what a file is known to hold, its reader had left at first
   pub observation_of_file : (s : ℕ) (path : Text) (whole : List ℕ) → IsOfStream c.paths s path → c.tells path ≡ Some whole
       → (observation : InputObservation) × IsOfStream observed_of s observation × (observation.entry ≡ Some whole)
   observation_of_file s path whole at told =
@@ -158,7 +158,7 @@ module _ {R : Type 0} (reading : SourceView R) (c : Check reading) where
       let is = observation_at reading c.readers c.checked.lasts run_of.streams c.checked.ran.read (s - 1) (Some whole) entry in
       (is.0, (at.0, is.1), is.2)
 
-  -- a stream that told something has a path
+  -- a stream whose reader is observed has a path
   pub path_at : (s : ℕ) (observation : InputObservation) → IsOfStream observed_of s observation → (path : Text) × IsOfStream c.paths s path
   path_at s observation at =
       let within = slice_get_within observed_of (s - 1) observation at.1 in
@@ -167,14 +167,14 @@ module _ {R : Type 0} (reading : SourceView R) (c : Check reading) where
         | inr past ↦ absurd (omega (arith, past.0, within, observed_length))
       ]
 
-  -- what it told is what its file tells
+  -- its reader had left what its file is known to hold
   pub entry_at : (s : ℕ) (observation : InputObservation) (path : Text) (whole : List ℕ) → IsOfStream observed_of s observation
       → IsOfStream c.paths s path → c.tells path ≡ Some whole → observation.entry ≡ Some whole
   entry_at s observation path whole at names tells =
       let here = observation_of_file s path whole names tells in
       ap (λ (x : InputObservation). x.entry) (same_at observed_of s observation here.0 at here.1) ∙ here.2
 
-  -- A stream with a valid refutation comes to 'unsatisfiable', or was cut off in it.
+  -- With a valid refutation the verdict is 'unsatisfiable', or the stream was cut off in the refutation.
   pub refutation_says : ValidBegins → ValidEmpty → IsCnf c.formula → (s : ℕ) (path : Text) (bytes more : List ℕ)
       (lines : List StreamLine) → IsOfStream c.paths s path → c.tells path ≡ Some (bytes ++ more)
       → IsValidProof c.formula c.run_params.layout s bytes lines → Any AddsEmpty lines
@@ -205,7 +205,8 @@ module _ {R : Type 0} (reading : SourceView R) (c : Check reading) where
       let tells = begin t path.0 member path.1 in
       (tells.0, entry_at t observation path.0 (flat_map line_text (lines_by t steps) ++ tells.0) at path.1 tells.1)
 
-  -- A stream that adds the empty clause in a valid order comes to 'unsatisfiable', or was cut off in its lines, or lacks another's clause.
+  -- If a stream adds the empty clause in a valid order, the verdict is 'unsatisfiable', or the stream was cut off in its lines, or lacks
+  -- another's clause.
   pub order_says : TogetherBegins → ValidEmpty → IsCnf c.formula → (s : ℕ) (set : ℕ → Bool) (steps : List Step)
       → IsValidOrder c.formula c.run_params.layout steps → AllByRecursion (λ step. IsTrue (set step.stream)) steps
       → BeginSo set steps → Any AddsEmpty (lines_by s steps)

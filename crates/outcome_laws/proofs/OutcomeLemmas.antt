@@ -18,7 +18,7 @@ use Rattle.outcome_laws.specs.Outcomes.{SayTheSame, layout_in}
 use Rattle.outcome_laws.specs.Laws.{SameBytesSayTheSame, OutcomesAgree}
 use Rattle.outcome_laws.proofs.CheckLemmas.{Check, check_of, run_of, observation_of_file, observed_of}
 
--- a text is that of one formula: the law of `dimacs`
+-- a text has one formula: the law of `dimacs`
 abbrev pub OneFormula : Type 0
 OneFormula = (bytes : List ℕ) (one other : Cnf) → IsFormulaText bytes one → IsFormulaText bytes other → one ≡ other
 
@@ -43,12 +43,12 @@ is_text files path f after text told at =
 -- Round 1 of a run.
 module _ (files : FilesView) (given : CommandLine) (cube : CubeValue) (round : Round files.its given cube)
     (were : WereRounds files given cube round []) where
-  -- what was checked in it
+  -- the check in it
   abbrev pub first_check : Check files.its.reading
   first_check = check_of round files.tells given.streams
       (were.rounds.opened.left ∙ ap (λ (t : Text → Option (List ℕ)). map t given.streams) were.told)
 
-  -- its formula is that of the text that FORMULA has
+  -- its formula is the one that FORMULA has a text of
   pub first_text : (text : List ℕ) → files.tells given.formula.now ≡ Some text → IsFormulaText text round.formula
   first_text text told = subst (IsFormulaText text) (sym were.rounds.formula_is)
       (is_text files given.formula.now were.formula were.next text told were.is_formula)

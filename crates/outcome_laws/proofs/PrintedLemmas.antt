@@ -1,4 +1,4 @@
--- What is printed of a valid refutation.
+-- What is printed for a valid refutation.
 use Rattle.std.proofs.Common.{◌≡◌, ◌≢◌, ◌⊎◌, ◌++◌, ◌+◌, ◌-◌, ◌<◌, ◌≤◌, ◌/◌, ◌%◌, ◌==◌, ℕ, Bool, true, false, List, [], ◌∷◌, length, Option}
 use Rattle.std.proofs.Common.{suc, zero, None, Some, inl, inr, refl, sym, ap, subst, ◌∙◌, arith, append_assoc, length-append}
 use Rattle.std.proofs.lemmas.Bool.{cases_eq, cond_both, cond-false, cond-true, eq-eqb, lt-ltb, ne_eqb}
@@ -36,7 +36,7 @@ use Rattle.outcome_laws.proofs.StreamLemmas.{Cut}
 abbrev IsFlat : ℕ → List ℕ → Type 0
 IsFlat mark bytes = AllByRecursion (λ b. b ≢ mark) bytes
 
--- what stands behind the first mark is the same
+-- what comes after the first mark is the same
 cut_alike : (mark : ℕ) (front other rest more : List ℕ) → IsFlat mark front → IsFlat mark other
     → front ++ mark ∷ rest ≡ other ++ mark ∷ more → rest ≡ more
 cut_alike mark [] [] rest more flat plain same = cc
@@ -135,14 +135,14 @@ flat_front s report =
     both (codes "c stream " ++ decimal s ++ codes ": " ++ decimal report.added ++ codes " added, " ++ decimal report.deleted
     ++ codes " deleted, ") (ending_text report.ending) last (flat_ending report.ending)
 
--- what stands behind a stream's line is the same
+-- what comes after a stream's line is the same
 next_line : (s : ℕ) (report other : Report) (rest more : List ℕ)
     → stream_line s report ++ rest ≡ stream_line s other ++ more → rest ≡ more
 next_line s report other rest more same =
     cut_alike 10 (front_of s report) (front_of s other) rest more (flat_front s report) (flat_front s other)
     (sym (append_assoc (front_of s report) (10 ∷ []) rest) ∙ same ∙ append_assoc (front_of s other) (10 ∷ []) more)
 
--- a line, with what stands behind each of its numbers
+-- a line, with what comes after each of its numbers
 abbrev after_deleted : Report → List ℕ → List ℕ
 after_deleted report rest = codes " deleted, " ++ (ending_text report.ending ++ (codes "\n" ++ rest))
 
@@ -187,7 +187,7 @@ never_bad report ending line fault rest more cut bad same =
           let no : 114 ≡ 98 = ap first_of (ap (λ (e : Ending). ending_text e ++ (10 ∷ rest)) (sym failed) ∙ blames) in omega (arith, no)
     ]
 
--- Behind lines of as many streams as stand before it a report has the line of its stream.
+-- After lines of as many streams as come before it, a report has the line of its stream.
 same_place : (k s : ℕ) (others reports : List Report) (report : Report) (tail shown : List ℕ) → s ≡ k + length others
     → slice_get reports (length others) ≡ Some report
     → stream_lines k reports ++ tail ≡ stream_lines k others ++ shown
@@ -207,7 +207,7 @@ same_place k s (o ∷ others) (r ∷ reports) report tail shown place at same =
     (sym (append_assoc (stream_line k r) (stream_lines (k + 1) reports) tail) ∙ same
     ∙ append_assoc (stream_line k o) (stream_lines (k + 1) others) shown))
 
--- What went out
+-- The output
 
 appended : (before after : Option (List ℕ)) (text old shown : List ℕ) → Appends before after text → before ≡ Some old
     → after ≡ Some (old ++ shown) → text ≡ shown
@@ -226,7 +226,7 @@ kept (Some xs) (Some ys) old shown keeps was is =
     let same : old ≡ old ++ shown = cc in
     append_cancel_left old [] shown (append-nil old ∙ same)
 
--- what is seen of it is a beginning of the text
+-- what is seen of it is a prefix of the text
 went_out : (failed : Bool) (before after : Option (List ℕ)) (text old shown : List ℕ)
     → TakesUnlessFailed failed before after text → before ≡ Some old → after ≡ Some (old ++ shown)
     → (rest : List ℕ) × (text ≡ shown ++ rest)
@@ -239,7 +239,7 @@ module _ (s count : ℕ) (out : SinkChange) (shows : ShowsBadLine s out) where
   abbrev Shown : List ℕ
   Shown = stream_lines 1 shows.others ++ (stream_line s shows.blamed ++ shows.more)
 
-  -- no report of a stream that was cut off is one of which this is seen
+  -- this isn't seen of a report of a stream that was cut off
   none_of_lost : (reports : List Report) (verdict : Verdict) → SinkTook out (report_text reports verdict)
       → (report : Report) → IsOfStream reports s report → ¬ IsExcused CutOff report
   none_of_lost reports verdict took report says cut =
@@ -254,7 +254,7 @@ module _ (s count : ℕ) (out : SinkChange) (shows : ShowsBadLine s out) where
       (same_ending s report shows.blamed here.0 (shows.more ++ seen.0)
       (here.1 ∙ append_assoc (stream_line s shows.blamed) shows.more seen.0))
 
-  -- where nothing went out nothing is seen
+  -- if nothing was written, nothing is seen
   some_shown : 0 < length Shown
   some_shown = omega (
     arith,
@@ -273,7 +273,7 @@ module _ (s count : ℕ) (out : SinkChange) (shows : ShowsBadLine s out) where
       → SinkTook out (report_text reports verdict)
   printed_so number reports verdict is took = subst (λ (n : ℕ). SinkTook out (last_text n reports verdict)) is took
 
-  -- the report of such a stream isn't one of which this is seen
+  -- this isn't seen of the report of a round in which a stream stopped
   none_of_stopped : {its : Deeds} {given : CommandLine} {cube : CubeValue} (round : Round its given cube) → 0 < round.number
       → SinkTook out (last_text round.number round.reports round.verdict) → ¬ HasStopped Cut s count 1 round
   none_of_stopped round some took stops = elim stops.place [

@@ -1,4 +1,4 @@
--- Runs of the program one after the other.
+-- Runs of the program in sequence.
 use Rattle.std.proofs.Common.{◌≡◌, ℕ, Bool, true, false, List, [], ◌∷◌, Option, None, Some, refl, subst}
 use Rattle.lrup_model.specs.Cube.{CubeValue, IsUnsatisfiableUnder}
 use Rattle.lrup_model.specs.Entailment.{IsUnsatisfiable}
@@ -14,19 +14,19 @@ use Rattle.outcome_laws.specs.Refuting.{AreRuns, IsRunOn, OutcomesRefute, Outcom
 use Rattle.outcome_laws.proofs.SavedLemmas.{follows, saves_checkpoint}
 use Rattle.outcome_laws.proofs.StatusLemmas.{refuted}
 
--- what a run read is a text of its formula
+-- a run read a text of its formula
 is_read : (files : FilesView) (bytes : List ℕ) (status : ℕ) (run : IsRunOn files bytes status)
     → IsFormulaText bytes run.ends.were.formula
 is_read files bytes status run = subst (λ (b : List ℕ). IsFormulaText b run.ends.were.formula) run.read run.ends.were.is_formula.2
 
--- the formula of its last round follows from that
+-- the formula of its last round follows from that formula
 last_follows : EntailsItself → EntailsOnward → (files : FilesView) (bytes : List ℕ) (status : ℕ) (run : IsRunOn files bytes status)
     → Entails run.ends.were.formula run.ends.last.formula
 last_follows itself onward files bytes status run =
     let ends = run.ends in follows itself onward ends.were.formula ends.were.later ends.last ends.before ends.were.rounds
 
 module _ {F : Type 0} (view : F → FilesView) (IsLast : F → List ℕ → Type 0) where
-  -- the runs' files are a chain of checkpoints, with such a last one
+  -- the files of the runs are a chain of checkpoints, which ends with the last run
   are_checkpoints : EntailsItself → EntailsOnward → (bytes : List ℕ) (more : List (List ℕ)) → AreRuns view IsLast bytes more
       → AreCheckpoints bytes more
   are_checkpoints itself onward bytes [] runs = tt

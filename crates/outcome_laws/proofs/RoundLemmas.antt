@@ -1,4 +1,4 @@
--- What the program says of valid proofs in rounds.
+-- What the program says about valid proofs in rounds.
 use Rattle.std.proofs.Common.{◌≡◌, ◌⊎◌, ◌<◌, ◌≤◌, ◌-◌, ◌+◌, ℕ, Bool, true, false, List, [], ◌∷◌, Result, map, Option, None, Some, inl, inr}
 use Rattle.std.proofs.Common.{refl, sym, ap, subst, drop, ◌∙◌, arith}
 use Rattle.std.proofs.lemmas.Bool.{cases_lt}
@@ -44,7 +44,7 @@ use Rattle.outcome_laws.proofs.StreamLemmas.{stopped_is_open}
 
 -- Faults
 
--- what a fault of a later round isn't of
+-- what no fault of a later round is about
 module _ (its : Deeds) (given : CommandLine) (cube : CubeValue) (folder : Text) (number : ℕ) (old : Sizes) (formula : Cnf)
     (before after : its.State) where
   abbrev Read : Sizes → its.State → Type 0
@@ -96,7 +96,7 @@ module _ (its : Deeds) (given : CommandLine) (cube : CubeValue) (folder : Text) 
 
 -- Rounds
 
--- What is known of a round whose streams were checked: its formula is one, and this was asked of its streams.
+-- What is known of a round whose streams were checked: its formula is a formula, and this was required of its streams.
 pub record IsAsked (Before Last : RoundAsk) (last : ℕ) {its : Deeds} {given : CommandLine} {cube : CubeValue}
     (round : Round its given cube) : Type 0 where
   pub cnf : IsCnf round.formula
@@ -109,7 +109,7 @@ abbrev check_in : (Before Last : RoundAsk) (last : ℕ) {its : Deeds} {given : C
     → IsAsked Before Last last round → Check its.reading
 check_in Before Last last round is = check_of round is.tells is.paths is.left
 
--- what a round carries on is a formula
+-- the formula that a round passes on is a formula
 carried_cnf : {its : Deeds} {given : CommandLine} {cube : CubeValue} (round : Round its given cube) (next : Cnf) → CarriesOn round next
     → IsCnf next
 carried_cnf round next on =
@@ -130,7 +130,7 @@ module _ (files : FilesView) (given : CommandLine) (cube : CubeValue) where
     rounds = were.rounds.1;
   }
 
-  -- rounds are counted from 1 on
+  -- rounds are counted from 1
   pub some_number : (round : Round files.its given cube) (before : List (Round files.its given cube))
       → WereRounds files given cube round before → 0 < round.number
   some_number round [] were = omega (arith, were.rounds.number)
@@ -138,7 +138,7 @@ module _ (files : FilesView) (given : CommandLine) (cube : CubeValue) where
 
 -- What a round left.
 module _ (its : Deeds) (Saves : Result (Option Cnf) SaveFault → its.Output → its.Output → Type 0) where
-  -- with 'unsatisfiable' there is nothing to be saved
+  -- with 'unsatisfiable' there is nothing to save
   all_saved : (verdict : Verdict) (before : its.State) (path : Option Text) (fault : SaveFault) (next : Option Cnf)
       (after : its.State) → verdict ≡ Unsatisfiable → ¬ LeavesBehind its Saves verdict before path (Some fault) next after
   all_saved UnsatisfiableUnder before path fault next after is leaves = let no : UnsatisfiableUnder ≡ Unsatisfiable = is in cc
@@ -146,7 +146,7 @@ module _ (its : Deeds) (Saves : Result (Option Cnf) SaveFault → its.Output →
   all_saved Unsatisfiable before None fault next after is leaves = let no : Some fault ≡ None = leaves.0 in cc
   all_saved Unsatisfiable before (Some path) fault next after is leaves = let no : Some fault ≡ None = leaves.0 in cc
 
-  -- what wasn't saved was asked for
+  -- if there is something that wasn't saved, the words ask for it
   asked_for : (verdict : Verdict) (before : its.State) (path : Option Text) (fault : SaveFault) (next : Option Cnf) (after : its.State)
       → LeavesBehind its Saves verdict before path (Some fault) next after → (asked : Text) × (path ≡ Some asked)
   asked_for verdict before None fault next after leaves = absurd (let no : Some fault ≡ None = leaves.0 in cc)
@@ -177,11 +177,11 @@ module _ (Mode : Bool → Type 0) (Before Last : RoundAsk) (Why : Reason) (at : 
     (one_formula : OneFormula) (no_fault : NoFormulaFault) (alike : SameWordsAskAlike) (files : FilesView) (words : List Text)
     (last : ℕ) (ask : AskForValidRounds Before Last files words last)
     (mode : (given : CommandLine) → IsCommandLineOf words given → Mode given.serial) where
-  -- in the round some stream was stopped
+  -- some stream of the round was stopped
   abbrev Stops : {given : CommandLine} {cube : CubeValue} → Round files.its given cube → Type 0
   Stops round = HasStopped Why (at round.reports).0 (at round.reports).1 last round
 
-  -- who was stopped hasn't ended
+  -- a stream that was stopped hasn't ended
   unended : {given : CommandLine} {cube : CubeValue} (round : Round files.its given cube) → Stops round → ¬ HaveEnded round.reports
   unended {given} {cube} round stops ended =
       stopped_is_open (Why (stream_params (run_params_by given cube round.formula round.sizes) stops.stream)) stops.report
@@ -211,7 +211,7 @@ module _ (Mode : Bool → Type 0) (Before Last : RoundAsk) (Why : Reason) (at : 
   }
 
   module _ (given : CommandLine) (line : IsCommandLineOf words given) (cube : CubeValue) where
-    -- a round that was reached was asked for
+    -- a round that was reached is as required
     is_asked : (round : Round files.its given cube) (before : List (Round files.its given cube))
         → (were : WereRounds files given cube round before) → round.number ≤ last → IsAsked Before Last last round
     is_asked round [] were few =
@@ -248,7 +248,7 @@ module _ (Mode : Bool → Type 0) (Before Last : RoundAsk) (Why : Reason) (at : 
           asked = (provided.ready round.sizes comes.sized comes.sizes).2;
         }
 
-    -- what became of it
+    -- what became of the round
     fate : (round : Round files.its given cube) (before : List (Round files.its given cube))
         → WereRounds files given cube round before → round.number ≤ last
         → ((round.number < last) × HaveEnded round.reports) ⊎ ((round.verdict ≡ Unsatisfiable) ⊎ Stops round)
@@ -268,7 +268,7 @@ module _ (Mode : Bool → Type 0) (Before Last : RoundAsk) (Why : Reason) (at : 
               ]
         ]
 
-    -- one that goes on isn't the last
+    -- if the run continues after a round, it isn't the last one
     goes_below : (round : Round files.its given cube) (before : List (Round files.its given cube))
         → WereRounds files given cube round before → round.number ≤ last → (next : Cnf) → CarriesOn round next → round.number < last
     goes_below round before were few next goes = elim (fate round before were few) [
@@ -277,7 +277,7 @@ module _ (Mode : Bool → Type 0) (Before Last : RoundAsk) (Why : Reason) (at : 
       | inr (inr lost) ↦ absurd (unended round lost goes.ended)
     ]
 
-    -- there are no more
+    -- so there are no more rounds
     few_rounds : (round : Round files.its given cube) (before : List (Round files.its given cube))
         → WereRounds files given cube round before → round.number ≤ last
     few_rounds round [] were = omega (arith, ask.some, were.rounds.number)
@@ -286,7 +286,7 @@ module _ (Mode : Bool → Type 0) (Before Last : RoundAsk) (Why : Reason) (at : 
         let below = goes_below b more earlier (few_rounds b more earlier) round.formula were.rounds.0.goes_on in
         omega (arith, below, were.rounds.0.number)
 
-    -- a round that is asked for is provided for
+    -- the round after one of these is provided for
     provided_for : (round : Round files.its given cube) (before : List (Round files.its given cube))
         → WereRounds files given cube round before → (next : Cnf) → (on : CarriesOn round next)
         → IsProvided Before Last last files.its on.folder (round.number + 1) round.sizes next round.after
@@ -294,7 +294,7 @@ module _ (Mode : Bool → Type 0) (Before Last : RoundAsk) (Why : Reason) (at : 
         let few = few_rounds round before were in
         ask.later given cube round before next line were (goes_below round before were few next on) on
 
-    -- without assumed literals nothing is said of them
+    -- without assumed literals no verdict is about them
     under_some : (round : Round files.its given cube) (before : List (Round files.its given cube))
         → (were : WereRounds files given cube round before) → (path : Option Text) → assumed_at given ≡ path
         → AreAssumed (WasReadIn files) were.formula.vars were.next path cube were.later
@@ -309,14 +309,14 @@ module _ (Mode : Bool → Type 0) (Before Last : RoundAsk) (Why : Reason) (at : 
         → (asked : Text) × (assumed_at given ≡ Some asked)
     asked_under round before were under = under_some round before were (assumed_at given) refl were.assumed under
 
-    -- where there are later rounds the words ask for them
+    -- if there are later rounds, the words ask for them
     rounds_asked : (round : Round files.its given cube) (before : List (Round files.its given cube))
         → WereRounds files given cube round before → round.number < last → ¬ (rounds_of given.next ≡ None)
     rounds_asked round before were below once =
         let asked = ask.rounds (omega (arith, below, some_number files given cube round before were)) in
         let no : Some asked.0 ≡ None = sym asked.1 ∙ ask.asks.command_line.said.rounds ∙ sym line.said.rounds ∙ once in cc
 
-    -- The rounds are over without an answer: a stream was stopped.
+    -- The rounds ended without an answer: a stream was stopped.
     lost_in : (round : Round files.its given cube) (before : List (Round files.its given cube)) → WereRounds files given cube round before
         → (after : files.its.State) → RoundsEnd round after → round.verdict ≡ Unknown → round.unsaved ≡ None → Stops round
     lost_in round before were after over unknown saved =
@@ -346,7 +346,7 @@ module _ (Mode : Bool → Type 0) (Before Last : RoundAsk) (Why : Reason) (at : 
     few_of : (ends : EndsWithReport files words after out err status) → ends.last.number ≤ last
     few_of ends = few_rounds ends.given ends.command_line ends.cube ends.last ends.before ends.were
 
-    -- what the report says of the streams
+    -- what the report says about the streams
     streams_of : (ends : EndsWithReport files words after out err status) → ¬ (ends.last.verdict ≡ Unsatisfiable)
         → ((ends.last.number < last) × HaveEnded ends.last.reports)
         ⊎ HasStopped Why (at ends.last.reports).0 (at ends.last.reports).1 last ends.last
@@ -357,7 +357,7 @@ module _ (Mode : Bool → Type 0) (Before Last : RoundAsk) (Why : Reason) (at : 
           | inr (inr lost) ↦ inr lost
         ]
 
-    -- it says 'unsatisfiable', or falls short of it
+    -- the report says 'unsatisfiable', or falls short of it
     short_so : (ends : EndsWithReport files words after out err status)
         → (unsaved : Option SaveFault) → ends.last.unsaved ≡ unsaved → (verdict : Verdict) → ends.last.verdict ≡ verdict
         → ((ends.last.verdict ≡ Unsatisfiable) × (0 ≡ report_status false unsaved verdict))
@@ -404,7 +404,7 @@ module _ (Mode : Bool → Type 0) (Before Last : RoundAsk) (Why : Reason) (at : 
         cause.0 later.last.after after Before Last last provided ends.fault cause.2 in
         inr (no_report ends (omega (arith, later.number_is, below)) (subst (λ (n : ℕ). (n ≡ 5) ⊎ (n ≡ 6)) (sym ends.status_is) machine))
 
-    -- the reports of the last round that has some
+    -- the reports of the last round that has reports
     abbrev pub reports_of : ProgramEnds files words after out err status → List Report
     reports_of (inl ends) = ends.last.reports
     reports_of (inr ends) = []

@@ -19,7 +19,7 @@ judges_bare : NoCubeJudgesAlike → (c : StreamParams) (stream : Stream) (blocks
     → JudgesStream c stream blocks report → JudgesStream (bare_params c) stream blocks (bare_report report)
 judges_bare law c stream blocks report judged = λ end its. law c stream.bytes end blocks report (judged end its)
 
--- the parameters of a run, with the empty cube
+-- the parameters of a run with the empty cube
 abbrev pub bare_run_params : RunParamsValue → RunParamsValue
 bare_run_params run_params = record { layout = run_params.layout; cube = []; tries = run_params.tries }
 

@@ -52,7 +52,7 @@ module _ (itself : EntailsItself) (onward : EntailsOnward) {its : Deeds} {given 
   follows round (b ∷ more) rounds =
       onward f b.formula round.formula (follows b more rounds.1) (carried_entails b round.formula rounds.0.goes_on)
 
-  -- so does what it saved
+  -- so does what the round saved
   pub saves_checkpoint : (round : Round its given cube) (before : List (Round its given cube)) → AreRounds f first (round ∷ before)
       → (saved : List ℕ) → saved_in round ≡ Some saved → IsCheckpoint f saved
   saves_checkpoint round before rounds saved is =

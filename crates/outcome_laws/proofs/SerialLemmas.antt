@@ -30,7 +30,7 @@ use Rattle.outcome_laws.specs.Serial.{SerialOutcomesAgree}
 use Rattle.outcome_laws.proofs.CheckLemmas.{Check, turns_of, comes_to, entry_at, has_report, of_some, path_at, run_of, observed_of}
 use Rattle.outcome_laws.proofs.OutcomeLemmas.{OneFormula, first_check, first_text}
 
--- a run whose lines have an order by turns
+-- a run whose lines have an order that takes the streams in turn
 abbrev IsRunInTurns : Cnf → RunParamsValue → List InputObservation → List Report → Type 0
 IsRunInTurns f run_params told reports = (run : IsRun f run_params told reports) × IsOrderedByTurns f run_params run.streams reports
 
@@ -70,7 +70,7 @@ serial_outcomes_agree one_formula decide files others given other_given cube oth
     in_turns.0 (turns_of files.its.reading mine ask.serial) in_turns.1 fine good in
     (same, round.checked.is_verdict ∙ ap verdict_of same ∙ sym other.checked.is_verdict)
 
--- Valid proofs, by turns
+-- Valid proofs on one thread
 
 by_ending : (ending : Ending) (report : Report) → report.ending ≡ ending
     → IsExcused CutOff report ⊎ ¬ IsExcused CutOff report
@@ -96,7 +96,7 @@ all_fine r reports fine none zero report at =
     let same : r ≡ report = cc in subst (λ (x : Report). ¬ IsExcused CutOff x) same fine
 all_fine r reports fine none (suc k) report at = none k report at
 
--- some report tells that its stream was cut off, or none does
+-- some report says that its stream was cut off, or none does
 cut_at : (reports : List Report)
     → ((k : ℕ) × (report : Report) × (slice_get reports k ≡ Some report) × IsExcused CutOff report)
     ⊎ ((k : ℕ) (report : Report) → slice_get reports k ≡ Some report → ¬ IsExcused CutOff report)
@@ -109,7 +109,7 @@ cut_at (r ∷ reports) = elim (said_of r) [
   ]
 ]
 
--- a stream that was cut off, by its number
+-- a stream that was cut off
 abbrev pub SomeCut : List Report → Type 0
 SomeCut reports = (s : ℕ) × (report : Report) × IsOfStream reports s report × IsExcused CutOff report
 
@@ -121,7 +121,7 @@ some_cut reports = elim (cut_at reports) [
   | inr none ↦ inr (λ t report member at. none (t - 1) report at.1)
 ]
 
--- Lines that have a valid order by turns, where no stream was cut off.
+-- Lines in a valid order that takes the streams in turn, when no stream was cut off.
 module _ {R : Type 0} (reading : SourceView R) (c : Check reading) (cnf : IsCnf c.formula) (valid : ValidByTurns) (on_one : c.serial ≡ true)
     (steps : List Step) (order : IsValidOrder c.formula c.run_params.layout steps) (turns : IsByTurns (map (λ step. step.stream) steps))
     (tells : (t : ℕ) (path : Text) → IsOfStream c.paths t path → c.tells path ≡ Some (flat_map line_text (lines_by t steps)))

@@ -1,4 +1,4 @@
--- What the clause `ends` says of status 0.
+-- What the clause `ends` says about status 0.
 use Rattle.std.proofs.Common.{◌≡◌, Bool, true, false, Option, None, Some, inl, inr, refl}
 use Rattle.lrup_model.specs.Entailment.{IsUnsatisfiable}
 use Rattle.lrup_model.specs.declared.layout.LayoutFault.{LayoutFault}

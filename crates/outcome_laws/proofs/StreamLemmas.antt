@@ -30,7 +30,7 @@ use Rattle.outcome_laws.specs.Valid.{IsRefutedInOrder, RoundAsk}
 use Rattle.outcome_laws.proofs.CheckLemmas.{Check, have_texts, order_says, refutation_says, run_of, observation_of_file, observed_of}
 use Rattle.outcome_laws.proofs.SerialLemmas.{SomeCut, by_turns_refutes, valid_by_turns, said_of, some_cut}
 
--- with threads or on one
+-- with threads or on one thread
 abbrev pub Either : Bool → Type 0
 Either serial = Unit {0}
 
@@ -38,35 +38,35 @@ Either serial = Unit {0}
 abbrev pub OnOne : Bool → Type 0
 OnOne serial = serial ≡ true
 
--- by a stream's parameters, what it may be stopped by
+-- what may stop a stream, given its parameters
 abbrev pub Reason : Type 0
 Reason = StreamParams → Excuse
 
--- memory, or a failed read
+-- memory ran out, or a read failed
 abbrev pub Cut : Reason
 Cut params = CutOff
 
--- a stream was stopped in one of its first lines, this many
+-- a stream was stopped in one of its first n lines
 abbrev pub Lost : Reason → RunParamsValue → List Report → ℕ → ℕ → Type 0
 Lost Why run_params reports s n = (report : Report) × IsOfStream reports s report
     × ((line : ℕ) × (line ≤ n) × IsExcusedAt (Why (stream_params run_params s)) report line)
 
--- some stream was
+-- some stream was stopped
 abbrev pub IsLost : Reason → RunParamsValue → List Report → Type 0
 IsLost Why run_params reports = (s : ℕ) × (report : Report) × IsOfStream reports s report
     × IsExcused (Why (stream_params run_params s)) report
 
--- streams of which this is asked have ended, or some was stopped
+-- streams for which this holds have ended, or some stream was stopped
 abbrev pub EndsSo : (Bool → Type 0) → RoundAsk → Reason → Type 1
 EndsSo Mode Before Why = (R : Type 0) (reading : SourceView R) (c : Check reading) → Mode c.serial → IsCnf c.formula
     → Before c.formula c.run_params.layout c.tells c.paths
     → HaveEnded c.reports ⊎ IsLost Why c.run_params c.reports
 
--- a stream, and how many first lines of it
+-- a stream and a number of its first lines
 abbrev pub Lines : Type 0
 Lines = ℕ × ℕ
 
--- they come to 'unsatisfiable', or the one was stopped that the reports point at
+-- the verdict is 'unsatisfiable', or the stream was stopped that `at` finds in the reports
 abbrev pub RefutesSo : (Bool → Type 0) → RoundAsk → Reason → (List Report → Lines) → Type 1
 RefutesSo Mode Last Why at = (R : Type 0) (reading : SourceView R) (c : Check reading) → Mode c.serial → IsCnf c.formula
     → Last c.formula c.run_params.layout c.tells c.paths
@@ -99,7 +99,7 @@ all_streams P reports each =
       | inr some ↦ inr (some.0 + 1, some.1, place reports some.0 some.1 some.2, some.3)
     ]
 
--- one that is asked for
+-- each of them
 pub ended_at : (reports : List Report) (k : ℕ) (report : Report) → slice_get reports k ≡ Some report → HaveEnded reports
     → report.ending ≡ endings.Ended
 ended_at [] k report at all = absurd (cc)
@@ -157,7 +157,7 @@ module _ {R : Type 0} (reading : SourceView R) (c : Check reading) (cnf : IsCnf 
             ]
       ]
 
--- some stream was stopped, of those that didn't end
+-- some stream was stopped, if not all ended
 some_lost : (Why : Reason) (run_params : RunParamsValue) (reports : List Report)
     → ((s : ℕ) (report : Report) → IsOfStream reports s report
     → (report.ending ≡ endings.Ended) ⊎ IsExcused (Why (stream_params run_params s)) report)
@@ -220,12 +220,12 @@ pub refutes_by_turns : ValidByTurns → ValidEmpty → (s : ℕ) → RefutesSo O
 refutes_by_turns by_turns empty s R reading c on_one cnf valid =
     turns_refute by_turns empty s R reading c on_one cnf valid (some_cut c.reports)
 
--- who was cut off hasn't ended
+-- a stream that was cut off hasn't ended
 cut_is_open : (report : Report) → IsExcused CutOff report → ¬ (report.ending ≡ endings.Ended)
 cut_is_open report (line, inl memory) ended = let no : endings.Memory line ≡ endings.Ended = sym memory ∙ ended in cc
 cut_is_open report (line, inr failed) ended = let no : endings.ReadFailed line ≡ endings.Ended = sym failed ∙ ended in cc
 
--- who was stopped hasn't ended
+-- a stream that was stopped hasn't ended
 pub stopped_is_open : (excuse : Excuse) (report : Report) → IsExcused excuse report → ¬ (report.ending ≡ endings.Ended)
 stopped_is_open OutOfMemory report (line, memory) ended = let no : endings.Memory line ≡ endings.Ended = sym memory ∙ ended in cc
 stopped_is_open ReadFailed report (line, failed) ended = let no : endings.ReadFailed line ≡ endings.Ended = sym failed ∙ ended in cc

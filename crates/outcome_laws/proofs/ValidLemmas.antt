@@ -1,4 +1,4 @@
--- What a fault of round 1 is, where the words ask well.
+-- What a fault of round 1 can be if the words ask well.
 use Rattle.std.proofs.Common.{◌≡◌, ◌≢◌, ◌⊎◌, ◌≤◌, ℕ, ℤ, List, [], ◌∷◌, length, map, Option, None, Some}
 use Rattle.std.proofs.Common.{inl, inr, refl, sym, ap, subst, ◌∙◌, arith}
 use Rattle.std.specs.Prelude.{IfSome}
@@ -55,7 +55,7 @@ NoFormulaFault = (bytes : List ℕ) (f : Cnf) (fault : DimacsFault) → IsFormul
 -- A fault of round 1
 
 module _ (one_formula : OneFormula) (no_fault : NoFormulaFault) (alike : SameWordsAskAlike) (files : FilesView) where
-  -- no file that was read is at fault
+  -- no file that was read has a fault
   not_refused : (given : CommandLine) (text : List ℕ) (f : Cnf) (fault : DimacsFault) (after : files.its.State)
       → files.tells given.formula.now ≡ Some text → IsFormulaText text f → ¬ IsReadCause files given (faults.Refused fault) after
   not_refused given text f fault after told is cause =
@@ -71,13 +71,13 @@ module _ (one_formula : OneFormula) (no_fault : NoFormulaFault) (alike : SameWor
       let same = text_of (files.tells path) valid.0 cause.1.0 valid.1 cause.1.1.told in
       valid.2 fault cause.0 (subst (λ (b : List ℕ). IsCubeFault vars b fault) (sym same) cause.1.2)
 
-  -- without assumed literals they are no cause
+  -- without assumed literals they have no fault
   some_assumed : (fault : CommandFault) (vars : ℕ) (before : files.its.State) (path : Option Text) (after : files.its.State)
       → ((at : Text) → IsAssumeCause files vars before (Some at) fault after → ⊥) → ¬ IsAssumeCause files vars before path fault after
   some_assumed fault vars before None after none cause = cause
   some_assumed fault vars before (Some path) after none cause = none path cause
 
-  -- the formula that was read is the one that is told
+  -- the formula that was read is the one that the file is known to hold
   pub formula_at : (words : List Text) (ask : AskWell files words) (given : CommandLine) (f : Cnf) (next : files.its.State)
       → IsCommandLineOf words given → IsFormulaAt files given.formula.now f next → f ≡ ask.formula
   formula_at words ask given f next line at =

@@ -1,4 +1,4 @@
--- What words ask for.
+-- What the words ask for.
 use Rattle.std.proofs.Common.{◌≡◌, ◌∙◌, ℕ, Some, length, sym, ap}
 use Rattle.command_line.specs.declared.sizes.Sizes.{Sizes}
 use Rattle.command.specs.Commands.{sizes_of}

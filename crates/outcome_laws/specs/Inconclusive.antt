@@ -1,4 +1,5 @@
--- Why the program doesn't say 'unsatisfiable', although the streams of its rounds are valid (this project's own).
+-- Why the program doesn't say 'unsatisfiable' although the streams of its rounds are valid (this
+-- project's own).
 use Rattle.std.specs.Prelude.{◌≡◌, ◌≢◌, ◌⊎◌, ◌<◌, ◌≤◌, ℕ, true, false, List, None, Some}
 use Rattle.lrup_model.specs.Cube.{CubeValue}
 use Rattle.stream_check.specs.declared.report.Report.{Report}
@@ -12,8 +13,8 @@ use Rattle.command_line.specs.declared.words.CommandLine.{CommandLine}
 use Rattle.command.specs.Commands.{Deeds, FilesView, SinkChange, Text, assumed_at, created_path, run_params_by}
 use Rattle.command.specs.Rounds.{EndsWithFault, EndsWithReport, HaveEnded, Round}
 
--- Some stream of the round was stopped, as is excused by its parameters: in any line of a round before the last one; or in the last one,
--- and then it is stream s, in one of its first `count` lines.
+-- Some stream of the round was stopped, for a reason that its parameters excuse: in a round before
+-- the last one in any line, and in the last one it is stream s, in one of its first `count` lines.
 pub record HasStopped {its : Deeds} {given : CommandLine} {cube : CubeValue}
     (Why : StreamParams → Excuse) (s count last : ℕ) (round : Round its given cube) : Type 0 where
   pub stream : ℕ
@@ -25,12 +26,13 @@ pub record HasStopped {its : Deeds} {given : CommandLine} {cube : CubeValue}
   pub place : (round.number < last)
       ⊎ ((round.number ≡ last) × (stream ≡ s) × (line ≤ count))
 
--- Why the report of the last round that there was doesn't say 'unsatisfiable', and the status that it has once it is written; `last` is the
--- number of the round that refutes, before which a run may end. None of these says that a line is wrong.
+-- Why the report of the round with which the run ended doesn't say 'unsatisfiable', and the status
+-- once the report is written. `last` is the number of the round that refutes; a run may end before
+-- it. None of these cases says that a line is wrong.
 pub data FallsShort {its : Deeds} {given : CommandLine} {cube : CubeValue}
     (Why : StreamParams → Excuse) (s count last : ℕ) (round : Round its given cube)
     (status : ℕ) : Type 0 where
-  -- the words ask for a checkpoint or for rounds, and the file wasn't saved
+  -- the words ask for a checkpoint or for rounds, and the file couldn't be saved
   not_kept :
       (path : Text) (asked : created_path given.next round.number ≡ Some path)
       (fault : SaveFault) (unsaved : round.unsaved ≡ Some fault)
@@ -51,21 +53,22 @@ pub data FallsShort {its : Deeds} {given : CommandLine} {cube : CubeValue}
       (streams : HasStopped Why s count last round) (is : status ≡ 3)
       → FallsShort Why s count last round status
 
--- Why the program doesn't say 'unsatisfiable'. How it ended says what it wrote to `out` and to `err`: the text of the report of the last
--- round that there was, or a beginning of it where `out` failed; without a report nothing, and the fault's text.
+-- Why the program doesn't say 'unsatisfiable'. `ends` says what it wrote to `out` and `err`: to
+-- `out` the report of the round with which the run ended, or a prefix of it if `out` failed;
+-- without a report nothing to `out`, and the fault's message to `err`.
 pub data InconclusiveBecause (files : FilesView) (words : List Text)
     (Why : StreamParams → Excuse) (s count last : ℕ) (after : files.its.State)
     (out err : SinkChange) (status : ℕ) : Type 0 where
-  -- the report wasn't written, and says 'unsatisfiable', or falls short of it
+  -- the report couldn't be written, and says 'unsatisfiable' or falls short of it
   unwritten :
       (ends : EndsWithReport files words after out err status) (failed : out.failed ≡ true)
       (few : ends.last.number ≤ last)
       (says : (ends.last.verdict ≡ Unsatisfiable)
       ⊎ ((written : ℕ) × FallsShort Why s count last ends.last written)) (is : status ≡ 7)
       → InconclusiveBecause files words Why s count last after out err status
-  -- there is no report, for a fault of the machine: a file wasn't opened or created, or a read of
-  -- the formula, of the assumed literals or of sizes failed (5); memory ran out, a thread wasn't
-  -- started, or a ring met no end (6)
+  -- there is no report, because of a fault of the machine: a file wasn't opened or created, or a
+  -- read of the formula, of the assumed literals or of sizes failed (5); memory ran out, a thread
+  -- wasn't started, or a ring lost the end of a stream (6)
   no_report :
       (ends : EndsWithFault files words after out err status) (few : ends.number ≤ last)
       (is : (status ≡ 5) ⊎ (status ≡ 6))

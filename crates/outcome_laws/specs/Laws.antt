@@ -1,4 +1,4 @@
--- Laws of outcomes. Each is the contract of a function of laws.
+-- Laws of outcomes. Each is the contract of a function in the module `laws`.
 use Rattle.std.specs.Prelude.{◌≡◌, ◌⊎◌, ℕ, List, [], Some}
 use Rattle.lrup_model.specs.Cube.{CubeValue}
 use Rattle.lrup_model.specs.Event.{History}
@@ -21,16 +21,18 @@ use Rattle.dimacs.specs.FormulaText.{IsFormulaText}
 use Rattle.lrup_model.specs.Entailment.{IsUnsatisfiable}
 use Rattle.outcome_laws.specs.Outcomes.{bare_params, bare_report, layout_in, SayTheSame, ReportsOn}
 
--- what a stream is judged by under a cube, it is judged by without one, and its report says the same, but of clauses within the cube
+-- a judgement of a stream under a cube is one without a cube, too, with a report that says the same
+-- except about clauses within the cube
 abbrev pub NoCubeJudgesAlike : Type 0
 NoCubeJudgesAlike = (c : StreamParams) (bytes : List ℕ) (end : StreamEnd) (blocks : List History)
     (report : Report)
     → JudgesBlocks c bytes end blocks report
     → JudgesBlocks (bare_params c) bytes end blocks (bare_report report)
 
--- In two runs of one formula, by one layout and the same tries, a stream that cites within itself has reports that say the same, but of
--- clauses within a cube, where both readers have the same bytes left at first, unless memory ran out or a read failed: whatever the
--- cubes and the other streams are, and whichever runs have threads.
+-- In two runs of one formula, with the same layout and tries, a stream that cites within itself has
+-- reports that say the same except about clauses within a cube, if its readers have the same bytes
+-- left at first, and neither report says that memory ran out or a read failed. The cubes, the other
+-- streams and the use of threads make no difference.
 abbrev pub SameBytesSayTheSame : Type 0
 SameBytesSayTheSame =
     (f : Cnf) (run_params other_run_params : RunParamsValue) (s : ℕ) (whole : List ℕ)
@@ -47,16 +49,18 @@ SameBytesSayTheSame =
     → ¬ IsExcused CutOff report → ¬ IsExcused CutOff other_report
     → SayTheSame report other_report
 
--- Two command lines of the same words ask for the same.
+-- Two command lines of the same words have the same tries, sizes, streams and formula.
 abbrev pub SameWordsAskAlike : Type 0
 SameWordsAskAlike = (words : List Text) (given other : CommandLine) → IsCommandLineOf words given
     → IsCommandLineOf words other
     → (other.tries ≡ given.tries) × (sizes_of other ≡ sizes_of given)
     × (other.streams ≡ given.streams) × (other.formula.now ≡ given.formula.now)
 
--- In round 1 of two runs of the program, with the same tries and sizes, a stream that cites within itself has the same line, where the
--- files of the formula and of the stream are known to have the same bytes, unless a report of the stream is of memory or of a failed read: whatever the
--- other streams' files are, whatever is assumed, and whichever of the two ran with threads. A run without rounds is its round 1.
+-- In round 1 of two runs of the program, with the same tries and sizes, a stream that cites within
+-- itself has the same line if the files of the formula and of the stream are known to have the same
+-- bytes, unless a report of the stream says that memory ran out or a read failed. The other
+-- streams' files, the assumed literals and the use of threads make no difference. A run without
+-- rounds consists of round 1.
 abbrev pub OutcomesAgree : FilesView → FilesView → Type 0
 OutcomesAgree files others =
     (given other_given : CommandLine) (cube other_cube : CubeValue)
@@ -70,8 +74,9 @@ OutcomesAgree files others =
     → ReportsOn others other_given other.reports s whole other_report
     → stream_line s report ≡ stream_line s other_report
 
--- What the ending of the program says of status 0: the words have a command line, and what was read at its FORMULA is a text of a formula
--- that no assignment satisfies. So all that isn't in the clause `sound` of what the words say is in the clause `ends`.
+-- With status 0 the ending of the program says that the words give a command line, and that the
+-- bytes read of its FORMULA are a text of a formula that no assignment satisfies. So the clause
+-- `ends` says what the clause `sound` leaves out about the words.
 abbrev pub Status0HasACommandLine : FilesView → Type 0
 Status0HasACommandLine files = (words : List Text) (after : files.its.State) (out err : SinkChange)
     → ProgramEnds files words after out err 0
@@ -80,7 +85,8 @@ Status0HasACommandLine files = (words : List Text) (after : files.its.State) (ou
     × WasReadIn files files.first given.formula.now bytes next
     × IsFormulaText bytes f × IsUnsatisfiable f
 
--- If the words ask for no rounds, there is one, after which nothing is done to the files; or, without a report, the cause is one of round 1.
+-- If the words ask for no rounds, there is just one, and nothing is done to the files after it; or
+-- there is no report, and the cause is one of round 1.
 abbrev pub OneRoundAlone : FilesView → Type 0
 OneRoundAlone files = (words : List Text) (after : files.its.State) (out err : SinkChange)
     (status : ℕ) → ((folder : Text) → ¬ AskForRounds words folder)

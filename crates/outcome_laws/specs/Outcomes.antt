@@ -17,12 +17,12 @@ layout_in formula sizes = layout_of (options_by 0 sizes) formula sizes.streams
 
 -- Without a cube
 
--- a stream's parameters, with the empty cube
+-- a stream's parameters with the empty cube
 abbrev pub bare_params : StreamParams → StreamParams
 bare_params params =
     record { layout = params.layout; cube = []; stream = params.stream; tries = params.tries }
 
--- the report, as it is under the empty cube: within that is the empty clause alone
+-- the report under the empty cube, within which there is only the empty clause
 abbrev pub bare_report : Report → Report
 bare_report report = record {
   added = report.added;
@@ -32,15 +32,15 @@ bare_report report = record {
   ending = report.ending;
 }
 
--- the reports say the same, but of clauses within a cube
+-- the reports say the same except about clauses within a cube
 pub record SayTheSame (report other : Report) : Type 0 where
   pub added : report.added ≡ other.added
   pub deleted : report.deleted ≡ other.deleted
   pub empty : report.empty ≡ other.empty
   pub ending : report.ending ≡ other.ending
 
--- Of the command line's streams the file of stream s tells these bytes. Its report is this one, and tells neither that memory ran out
--- nor of a failed read.
+-- The file of stream s of the command line is known to have these bytes. The stream has this
+-- report, which says neither that memory ran out nor that a read failed.
 pub record ReportsOn (files : FilesView) (given : CommandLine)
     (reports : List Report) (s : ℕ) (whole : List ℕ) (report : Report) : Type 0 where
   pub path : Text

@@ -1,4 +1,4 @@
--- What is printed of a valid refutation, and the law that says so (this project's own).
+-- What is printed for a valid refutation, and the law about it (this project's own).
 use Rattle.std.specs.Prelude.{◌≡◌, ◌⊎◌, ◌++◌, ◌+◌, ℕ, List, length, Some}
 use Rattle.stream_check.specs.declared.fault.Fault.{Fault}
 use Rattle.stream_check.specs.declared.report.Ending.TheVariants as endings
@@ -9,8 +9,8 @@ use Rattle.command.specs.Commands.{FilesView, SinkChange, Text}
 use Rattle.command.specs.Rounds.{EndsWithReport, ProgramEnds}
 use Rattle.outcome_laws.specs.Valid.{AreValidAlone, AskForValidRounds, IsRefutedAlone}
 
--- What went out to the sink begins with lines of the streams before stream s, and one of stream s, by which a line of it is bad. What
--- comes behind may be anything.
+-- What was written to the sink begins with lines of the streams before stream s and one of stream
+-- s, which says that a line of the stream is bad. Anything may come after it.
 pub record ShowsBadLine (s : ℕ) (sink : SinkChange) : Type 0 where
   pub before : List ℕ
   pub was : sink.before ≡ Some before
@@ -23,8 +23,9 @@ pub record ShowsBadLine (s : ℕ) (sink : SinkChange) : Type 0 where
   pub more : List ℕ
   pub is : sink.after ≡ Some (before ++ (stream_lines 1 others ++ (stream_line s blamed ++ more)))
 
--- Where the words ask for a valid refutation as stream s in round 1, a bad line of it is shown only with status 0, or with 7 where the
--- report says 'unsatisfiable': a line after the refutation may be bad. With each other status none is.
+-- If the words ask for a valid refutation as stream s in round 1, a bad line of it is shown only
+-- with status 0, or with 7 if the report says 'unsatisfiable': a line after the refutation may be
+-- bad. With each other status no bad line is shown.
 abbrev pub NoBadLineShown : FilesView → Type 0
 NoBadLineShown files = (words : List Text) (s count : ℕ) (after : files.its.State)
     (out err : SinkChange) (status : ℕ)

@@ -1,4 +1,4 @@
--- Runs of the program one after the other, each on what the one before it saved (this project's own).
+-- Runs of the program in sequence, each on what the one before it saved (this project's own).
 use Rattle.std.specs.Prelude.{◌≡◌, ℕ, List, [], ◌∷◌, Option, None, Some, Result, Ok, Err}
 use Rattle.lrup_model.specs.Cube.{CubeValue}
 use Rattle.lrup_model.specs.Event.{History}
@@ -14,7 +14,8 @@ use Rattle.command.specs.Commands.{Deeds, FilesView, SinkChange, Text, created_p
 use Rattle.command.specs.Rounds.{EndsWithReport, LeavesBehind, Round, SavesCheckpoint}
 use Rattle.outcome_laws.specs.Outcomes.{layout_in}
 
--- A run, of one round or more, ended with a report and this status, and these bytes were read of its FORMULA.
+-- A run of one round or more ended with a report and this status, and these bytes were read of its
+-- FORMULA.
 pub record IsRunOn (files : FilesView) (bytes : List ℕ) (status : ℕ) : Type 0 where
   pub words : List Text
   pub after : files.its.State
@@ -23,7 +24,7 @@ pub record IsRunOn (files : FilesView) (bytes : List ℕ) (status : ℕ) : Type 
   pub ends : EndsWithReport files words after out err status
   pub read : ends.were.is_formula.0 ≡ bytes
 
--- the bytes that were written to a sink, where that succeeded
+-- the bytes that were written to a sink, if the save succeeded
 abbrev pub written_bytes : {its : Deeds} {formula : Cnf} {layout : LayoutValue} {history : History}
     {dropped : List DroppedIdsValue} (result : Result (Option Cnf) SaveFault)
     (first last : its.Output)
@@ -45,7 +46,7 @@ saved_bytes its formula layout history dropped verdict before (Some path) (Some 
 saved_bytes its formula layout history dropped verdict before (Some path) None next after leaves =
     written_bytes leaves.result leaves.first leaves.last leaves.saving
 
--- the same, of a round
+-- the same for a round
 abbrev pub saved_in : {its : Deeds} {given : CommandLine} {cube : CubeValue} → Round its given cube
     → Option (List ℕ)
 saved_in {its} {given} round =
@@ -53,8 +54,8 @@ saved_in {its} {given} round =
     round.checked.ran.run.history round.checked.dropped round.verdict round.opened
     (created_path given.next round.number) round.unsaved round.next round.after round.leaves
 
--- Runs over files as they were before each: the first read these bytes, each further one what the last round of the one before it saved,
--- and the last run is as wanted.
+-- Runs over files as they were before each run: the first run read these bytes, each other one read
+-- what the last round of the run before it saved, and `IsLast` holds for the last run.
 abbrev pub AreRuns : {F : Type 0} → (F → FilesView) → (F → List ℕ → Type 0) → List ℕ
     → List (List ℕ) → Type 0
 AreRuns {F = F} view IsLast bytes [] = (first : F) × IsLast first bytes
@@ -62,13 +63,15 @@ AreRuns {F = F} view IsLast bytes (next ∷ more) =
     ((first : F) × (status : ℕ) × (run : IsRunOn (view first) bytes status)
     × (saved_in run.ends.last ≡ Some next)) × AreRuns view IsLast next more
 
--- Where the last of such runs ended with status 0, what the first one read is a text of a formula that no assignment satisfies.
+-- If the last of such runs ended with status 0, the first one read a text of a formula that no
+-- assignment satisfies.
 abbrev pub OutcomesRefute : {F : Type 0} → (F → FilesView) → Type 0
 OutcomesRefute view = (bytes : List ℕ) (more : List (List ℕ))
     → AreRuns view (λ first last. IsRunOn (view first) last 0) bytes more
     → IsUnsatisfiableText bytes
 
--- Where it ended with status 8, under these assumed literals, no assignment makes them true besides.
+-- If it ended with status 8 under these assumed literals, no assignment satisfies that formula
+-- together with them.
 abbrev pub OutcomesRefuteUnder : {F : Type 0} → (F → FilesView) → Type 0
 OutcomesRefuteUnder view = (cube : CubeValue) (bytes : List ℕ) (more : List (List ℕ))
     → AreRuns view

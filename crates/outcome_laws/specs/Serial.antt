@@ -1,4 +1,4 @@
--- Round 1 of runs on one thread, and the law of it (this project's own).
+-- Round 1 of runs on one thread, and the law about it (this project's own).
 use Rattle.std.specs.Prelude.{◌≡◌, ℕ, true, List, [], Some}
 use Rattle.lrup_model.specs.Cube.{CubeValue}
 use Rattle.stream_check.specs.Excuses.{CutOff}
@@ -8,8 +8,8 @@ use Rattle.command_line.specs.declared.words.CommandLine.{CommandLine}
 use Rattle.command.specs.Commands.{FilesView, Text, sizes_of}
 use Rattle.command.specs.Rounds.{Round, WereRounds}
 
--- Two command lines ask for the same round 1 on one thread: with the same tries and sizes, and formulas and streams whose files have the
--- same bytes.
+-- Two command lines ask for the same round 1 on one thread: with the same tries and sizes, and with
+-- formulas and streams whose files are known to have the same bytes.
 pub record AskForSameTurns (files : FilesView) (others : FilesView)
     (given other : CommandLine) : Type 0 where
   pub serial : given.serial ≡ true
@@ -24,8 +24,9 @@ pub record AskForSameTurns (files : FilesView) (others : FilesView)
       → (bytes : List ℕ) × (files.tells path ≡ Some bytes)
       × (others.tells other_path ≡ Some bytes)
 
--- In round 1 of two runs of such command lines, under the same assumed literals, the reports are the same, and so is the verdict, unless a
--- report says that memory ran out or a read failed. A run without rounds is its round 1.
+-- In round 1 of two runs of such command lines, under the same assumed literals, the reports are
+-- the same, and so are the verdicts, unless a report says that memory ran out or a read failed. A
+-- run without rounds consists of round 1.
 abbrev pub SerialOutcomesAgree : FilesView → FilesView → Type 0
 SerialOutcomesAgree files others =
     (given other_given : CommandLine) (cube other_cube : CubeValue)

@@ -1,4 +1,4 @@
--- What words may ask for whose streams are valid proofs (this project's own).
+-- Words that ask for streams which are valid proofs (this project's own).
 use Rattle.std.specs.Prelude.{◌≡◌, ◌≢◌, ◌++◌, ◌+◌, ◌<◌, ◌≤◌, ◌^◌, ℕ, Bool, IsTrue, IfSome, List, length, map, Option, Some}
 use Rattle.std.specs.List.{AllByRecursion, Any, flat_map}
 use Rattle.lrup_model.specs.Cube.{CubeValue}
@@ -23,8 +23,9 @@ use Rattle.command.specs.Paths.{sizes_path, stream_path, stream_paths}
 use Rattle.command.specs.Rounds.{AreSized, CarriesOn, HoldsNoSizes, Round, WereRounds}
 use Rattle.outcome_laws.specs.Outcomes.{layout_in}
 
--- The words ask for a formula whose file has a text of it; for assumed literals, if any, whose file has bytes that have no fault; and for
--- streams that there is a layout for. Nothing is asked of the streams.
+-- The words ask for a formula whose file holds a text of it; for assumed literals, if any, whose
+-- file holds bytes without a fault; and for streams that have a layout. Nothing is required of the
+-- streams.
 pub record AskWell (files : FilesView) (words : List Text) : Type 0 where
   pub given : CommandLine
   pub command_line : IsCommandLineOf words given
@@ -37,44 +38,48 @@ pub record AskWell (files : FilesView) (words : List Text) : Type 0 where
       × (files.tells path ≡ Some bytes)
       × ((fault : CubeFault) → fault ≢ cubes.Memory → ¬ IsCubeFault formula.vars bytes fault))
 
--- What may be asked of the streams of a round: by its formula and its layout; by the bytes that files are known to have before the streams
--- are opened; and by the paths of the streams.
+-- What may be required of the streams of a round: it depends on the round's formula and layout, on
+-- what the files are known to hold before the streams are opened, and on the streams' paths.
 abbrev pub RoundAsk : Type 1
 RoundAsk = Cnf → LayoutValue → (Text → Option (List ℕ)) → List Text → Type 0
 
--- each stream is valid, and cites only its own clauses and the formula's: its file has the texts of valid lines, and nothing else
+-- each stream is valid, and cites only its own clauses and the formula's: its file holds the texts
+-- of valid lines, and nothing else
 abbrev pub AreValidAlone : RoundAsk
 AreValidAlone formula layout tells paths =
     (s : ℕ) (path : Text) → IsOfStream paths s path
     → (bytes : List ℕ) × (lines : List StreamLine) × (tells path ≡ Some bytes)
     × IsValidProof formula layout s bytes lines
 
--- the file of stream s begins with a valid refutation, of at most this many lines; nothing is asked of the other streams
+-- the file of stream s begins with a valid refutation of at most this many lines; nothing is
+-- required of the other streams
 abbrev pub IsRefutedAlone : (s count : ℕ) → RoundAsk
 IsRefutedAlone s count formula layout tells paths =
     (path : Text) × (bytes : List ℕ) × IsOfStream paths s path × (tells path ≡ Some bytes)
     × ((valid : IsValidRefutation formula layout s bytes) × (length valid.lines ≤ count))
 
--- lines of the streams have a valid order, and the file of each stream has the texts of its lines, and nothing else
+-- lines of the streams have a valid order, and the file of each stream holds the texts of its
+-- lines, and nothing else
 abbrev pub AreValidInOrder : RoundAsk
 AreValidInOrder formula layout tells paths =
     (steps : List Step) × IsValidOrder formula layout steps
     × ((s : ℕ) (path : Text) → IsOfStream paths s path
     → tells path ≡ Some (flat_map line_text (lines_by s steps)))
 
--- so, and the order takes a line of each stream in turn
+-- the same, with an order that takes the streams in turn
 abbrev pub AreValidByTurns : RoundAsk
 AreValidByTurns formula layout tells paths =
     (valid : AreValidInOrder formula layout tells paths)
     × IsByTurns (map (λ step. step.stream) valid.0)
 
--- so, and some line of stream s adds the empty clause
+-- the same, with a line of stream s that adds the empty clause
 abbrev pub IsRefutedByTurns : ℕ → RoundAsk
 IsRefutedByTurns s formula layout tells paths =
     (valid : AreValidByTurns formula layout tells paths) × Any AddsEmpty (lines_by s valid.0.0)
 
--- lines of a set of streams have a valid order, their files begin with the texts of their lines, and some line of stream s, which has
--- at most this many, adds the empty clause; nothing is asked of the other streams
+-- lines of a set of streams have a valid order, their files begin with the texts of their lines,
+-- and some line of stream s, which has at most this many lines, adds the empty clause; nothing is
+-- required of the other streams
 abbrev pub IsRefutedInOrder : (s count : ℕ) → RoundAsk
 IsRefutedInOrder s count formula layout tells paths =
     (set : ℕ → Bool) × (steps : List Step) × IsValidOrder formula layout steps
@@ -83,14 +88,16 @@ IsRefutedInOrder s count formula layout tells paths =
     → (more : List ℕ) × (tells path ≡ Some (flat_map line_text (lines_by t steps) ++ more)))
     × Any AddsEmpty (lines_by s steps) × (length (lines_by s steps) ≤ count)
 
--- of the round with this number the one thing is asked before the last round, and the other in the last one
+-- the round with this number meets the one requirement if it comes before the last round, and the
+-- other one if it is the last
 pub record IsAskedOf (Before Last : RoundAsk) (last number : ℕ) (formula : Cnf) (sizes : Sizes)
     (tells : Text → Option (List ℕ)) (paths : List Text) : Type 0 where
   pub earlier : number < last → Before formula (layout_in formula sizes) tells paths
   pub at_last : number ≡ last → Last formula (layout_in formula sizes) tells paths
 
--- All is provided for a later round, whose sizes aren't known yet: its file of sizes, if there is one, holds some; and with these, or with
--- those before if there is no such file, there is a file of its stream 1, there is a layout, and its streams are as is asked.
+-- A later round, whose sizes aren't known yet, is provided for: its file of sizes, if there is one,
+-- holds sizes; and with these, or with the old ones if there is no such file, there is a file for
+-- its stream 1, the streams have a layout, and they are as required.
 pub record IsProvided (Before Last : RoundAsk) (last : ℕ) (its : Deeds) (folder : Text) (number : ℕ)
     (old : Sizes) (formula : Cnf) (before : its.State) : Type 0 where
   pub sizes : (after : its.State) → ¬ HoldsNoSizes its before (sizes_path folder number) after
@@ -101,9 +108,10 @@ pub record IsProvided (Before Last : RoundAsk) (last : ℕ) (its : Deeds) (folde
       × IsAskedOf Before Last last number formula sizes (its.tells sized)
       (stream_paths folder number sizes.streams)
 
--- The words ask well, and for rounds of a folder unless round 1 is the last one. The last one has one of the numbers 1 to 2 ^ 64 - 2. The
--- streams of round 1 are as is asked. And for each round after it, up to the last, that some run of these words comes to, all is
--- provided: with threads its formula depends on how they ran.
+-- The words ask well, and for rounds in a folder unless round 1 is the last one. The last round has
+-- a number from 1 to 2 ^ 64 - 2. The streams of round 1 are as required. And each later round up to
+-- the last is provided for, for every course that a run of these words may take: with threads, the
+-- formula of a round depends on how they ran.
 pub record AskForValidRounds (Before Last : RoundAsk) (files : FilesView) (words : List Text)
     (last : ℕ) : Type 0 where
   pub asks : AskWell files words

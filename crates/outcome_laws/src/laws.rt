@@ -17,15 +17,16 @@ use run_laws::turns::{bytes_decide, valid_by_turns};
 use run_laws::valid::{together_begins, valid_begins, valid_empty, valid_reported, valid_together};
 use stream_check::laws::empty_cube_reported;
 
-/// What a stream is judged by under a cube, it is judged by without one too, and its report says the same, but of clauses within
-/// the cube.
+/// A judgement of a stream under a cube is one without a cube, too, with a report that says the
+/// same except about clauses within the cube.
 pub fn no_cube_judges_alike()
     ensures { NoCubeJudgesAlike }
 {}
 
-/// In two runs of one formula, with one layout and the same tries, a stream that cites within itself has reports that say the same,
-/// but of clauses within a cube, if the readers have the same bytes left at first, unless memory ran out or a read failed:
-/// whatever the cubes and the other streams are, and whichever runs have threads.
+/// In two runs of one formula, with the same layout and tries, a stream that cites within itself
+/// has reports that say the same except about clauses within a cube, if its readers have the same
+/// bytes left at first, and neither report says that memory ran out or a read failed. The cubes,
+/// the other streams and the use of threads make no difference.
 pub fn same_bytes_say_the_same()
     ensures { SameBytesSayTheSame }
 {
@@ -33,20 +34,22 @@ pub fn same_bytes_say_the_same()
     same_bytes_agree();
 }
 
-/// Two command lines of the same words ask for the same.
+/// Two command lines of the same words have the same tries, sizes, streams and formula.
 pub fn same_words_ask_alike()
     ensures { SameWordsAskAlike }
 {}
 
-/// If the words ask for no rounds, there is one, after which nothing is done to the files; or, without a report, the cause is one of round
-/// 1: the clause `ends` of `command` says so.
+/// If the words ask for no rounds, there is just one, and nothing is done to the files after it; or
+/// there is no report, and the cause is one of round 1. This follows from the clause `ends` of
+/// `command`.
 pub fn one_round_alone<F: Machine>(files: &F)
     ensures { OneRoundAlone (⟦<F as Viewed>⟧.view files.now) }
 {}
 
-/// In round 1 of two runs of the program, a stream that cites within itself has the same line if the tries and the sizes are the same, and
-/// the files of the formula and of the stream have the same bytes before the runs, unless a report of the stream is of memory or of a
-/// failed read. A run without rounds is its round 1.
+/// In round 1 of two runs of the program, a stream that cites within itself has the same line if
+/// the tries and the sizes are the same, and the files of the formula and of the stream are known
+/// to have the same bytes before the runs, unless a report of the stream says that memory ran out
+/// or a read failed. A run without rounds consists of round 1.
 pub fn outcomes_agree<F: Machine, G: Machine>(files: &F, others: &G)
     ensures { OutcomesAgree (⟦<F as Viewed>⟧.view files.now) (⟦<G as Viewed>⟧.view others.now) }
 {
@@ -54,8 +57,8 @@ pub fn outcomes_agree<F: Machine, G: Machine>(files: &F, others: &G)
     same_bytes_say_the_same();
 }
 
-/// With status 0 the words have a whole command line, and what was read at its FORMULA is a text of a formula that no assignment satisfies:
-/// the clause `ends` of `command` says so.
+/// With status 0 the words give a whole command line, and the bytes read of its FORMULA are a text
+/// of a formula that no assignment satisfies. This follows from the clause `ends` of `command`.
 pub fn status_0_has_a_command_line<F: Machine>(files: &F)
     ensures { Status0HasACommandLine (⟦<F as Viewed>⟧.view files.now) }
 {
@@ -64,9 +67,10 @@ pub fn status_0_has_a_command_line<F: Machine>(files: &F)
     refutes_back();
 }
 
-/// In round 1 of two runs of the program on one thread, the reports are the same if the tries, the sizes and the assumed literals are the
-/// same, and the files of the formula and of each stream have the same bytes before the runs, unless some report is of memory or of a
-/// failed read. A run without rounds is its round 1.
+/// In round 1 of two runs of the program on one thread, the reports and the verdicts are the same
+/// if the tries, the sizes and the assumed literals are the same, and the files of the formula and
+/// of each stream are known to have the same bytes before the runs, unless some report says that
+/// memory ran out or a read failed. A run without rounds consists of round 1.
 pub fn serial_outcomes_agree<F: Machine, G: Machine>(files: &F, others: &G)
     ensures { SerialOutcomesAgree (⟦<F as Viewed>⟧.view files.now)
         (⟦<G as Viewed>⟧.view others.now) }
@@ -75,12 +79,15 @@ pub fn serial_outcomes_agree<F: Machine, G: Machine>(files: &F, others: &G)
     bytes_decide();
 }
 
-/// With `--rounds`, or without it, where round 1 is the last one: if in each round before the last each stream is valid and cites only its
-/// own clauses and the formula's, and in the last one some stream is a valid refutation, the program ends with status 0; or with 7, for a report that
-/// wasn't written; or with 5 or 6, for a fault of the machine; or with 9, for a checkpoint, or a formula of the next round, that wasn't
-/// saved; or with 8, and then there are assumed literals, and the report says 'unsatisfiable under assumptions'; or with 3. With 3, and
-/// in the last round with 8 and 9 too, the report says that memory ran out, or a read failed: in the refutation's lines, or in some stream
-/// of a round before the last. The clause `ends` of `command` says so.
+/// With `--rounds`, or without it, when round 1 is the last one: suppose that in each round before
+/// the last each stream is valid and cites only its own clauses and the formula's, and that in the
+/// last round some stream is a valid refutation. Then the program ends with status 0; or with 7,
+/// because the report couldn't be written; or with 5 or 6, for a fault of the machine; or with 9,
+/// because a checkpoint or the next round's formula couldn't be saved; or with 8, and then there
+/// are assumed literals, and the report says 'unsatisfiable under assumptions'; or with 3. With 3,
+/// and in the last round with 8 and 9 too, the report says that memory ran out or a read failed: in
+/// the refutation's lines, or in some stream of a round before the last. This follows from the
+/// clause `ends` of `command`.
 pub fn valid_rounds_say<F: Machine>(files: &F)
     ensures { (last : ℕ) → ValidRoundsSay (⟦<F as Viewed>⟧.view files.now) last }
 {
@@ -93,8 +100,9 @@ pub fn valid_rounds_say<F: Machine>(files: &F)
     valid_empty();
 }
 
-/// If in each round before the last lines of all streams have a valid order, and in the last one some stream of such an order adds
-/// the empty clause, the program ends so too; or such a line cites a clause of another stream, which wasn't there, or wasn't any more.
+/// If in each round before the last, lines of all streams have a valid order, and in the last round
+/// a stream of such an order adds the empty clause, the program ends in the same way; but such a
+/// line may also cite a clause of another stream that wasn't there yet, or was no longer there.
 pub fn valid_orders_say<F: Machine>(files: &F)
     ensures { (last : ℕ) → ValidOrdersSay (⟦<F as Viewed>⟧.view files.now) last }
 {
@@ -107,9 +115,10 @@ pub fn valid_orders_say<F: Machine>(files: &F)
     valid_empty();
 }
 
-/// If the words ask for rounds on one thread, in each of which lines of all streams have a valid order that takes one of each in turn,
-/// and in the last one some stream adds the empty clause, the program ends so too; where a stream is stopped, memory ran out in some
-/// stream, or a read of it failed.
+/// If the words ask for one thread, in each round lines of all streams have a valid order that
+/// takes the streams in turn, and in the last round some stream adds the empty clause, the program
+/// ends in the same way; if a stream was stopped, memory ran out in some stream, or a read of it
+/// failed.
 pub fn valid_turn_rounds_say<F: Machine>(files: &F)
     ensures { (last : ℕ) → ValidTurnsSay (⟦<F as Viewed>⟧.view files.now) last }
 {
@@ -121,44 +130,50 @@ pub fn valid_turn_rounds_say<F: Machine>(files: &F)
     valid_empty();
 }
 
-/// If a stream of round 1 (without `--rounds`, of the whole run) is a valid refutation, the program ends with status 0; or with
-/// 7, for a report that wasn't written; or with 5 or 6, for a fault of the machine; or with 3 or 8, and then memory ran out, or a read
-/// failed, in the refutation's lines; or with 9 in their place, for a checkpoint, or a formula of round 2, that wasn't saved.
+/// If a stream of round 1 (without `--rounds`, of the whole run) is a valid refutation, the program
+/// ends with status 0; or with 7, because the report couldn't be written; or with 5 or 6, for a
+/// fault of the machine; or with 3 or 8, and then memory ran out or a read failed in the
+/// refutation's lines; or with 9 in place of 3 or 8, because a checkpoint or the formula of round 2
+/// couldn't be saved.
 pub fn valid_refutation_says<F: Machine>(files: &F)
     ensures { ValidRoundsSay (⟦<F as Viewed>⟧.view files.now) 1 }
 {
     valid_rounds_say(files);
 }
 
-/// If a stream of round 1 is a valid refutation, no bad line of it is printed, but with status 0, or with 7 if the report
-/// says 'unsatisfiable'. The law `valid_refutation_says` alone says so: a status 5 or 6 leaves standard output as it was, and each other
-/// report says that the machine stopped the stream.
+/// If a stream of round 1 is a valid refutation, no bad line of it is printed, except with status
+/// 0, or with 7 if the report says 'unsatisfiable'. This follows from the law
+/// `valid_refutation_says` alone: with status 5 or 6 nothing is printed, and each other report says
+/// that the machine stopped the stream.
 pub fn no_bad_line_shown<F: Machine>(files: &F)
     ensures { NoBadLineShown (⟦<F as Viewed>⟧.view files.now) }
 {
     valid_refutation_says(files);
 }
 
-/// If in round 1 lines of streams have a valid order, one of which adds the empty clause, the program ends so too; or with 3 or 8, or 9 in
-/// their place, and then a line of that stream cites a clause of another stream, which wasn't there, or wasn't any more.
+/// If in round 1 lines of streams have a valid order, and one of the lines adds the empty clause,
+/// the program ends in the same way; or with 3 or 8, or 9 in their place, and then a line of that
+/// stream cites a clause of another stream that wasn't there yet, or was no longer there.
 pub fn valid_order_says<F: Machine>(files: &F)
     ensures { ValidOrdersSay (⟦<F as Viewed>⟧.view files.now) 1 }
 {
     valid_orders_say(files);
 }
 
-/// If in round 1, on one thread, lines of all streams have a valid order that takes one of each in turn, and one of them adds the empty
-/// clause, the program ends with status 0; or with 7, for a report that wasn't written; or with 5 or 6, for a fault of the machine; or with
-/// 3 or 8, or 9 in their place, and then memory ran out in some stream, or a read of it failed.
+/// If in round 1, on one thread, lines of all streams have a valid order that takes the streams in
+/// turn, and one of the lines adds the empty clause, the program ends with status 0; or with 7,
+/// because the report couldn't be written; or with 5 or 6, for a fault of the machine; or with 3 or
+/// 8, or 9 in their place, and then memory ran out in some stream, or a read of it failed.
 pub fn valid_turns_say<F: Machine>(files: &F)
     ensures { ValidTurnsSay (⟦<F as Viewed>⟧.view files.now) 1 }
 {
     valid_turn_rounds_say(files);
 }
 
-/// If runs of the program, of one round or more, follow one another, each on the checkpoint that the last round of the one before it saved,
-/// and the last run ends with status 0, what the first one read is a text of a formula that no assignment satisfies: the clause `ends` of
-/// `command` says so.
+/// If several runs of the program, each of one round or more, follow one another, each starting
+/// from the checkpoint that the last round of the run before it saved, and the last run ends with
+/// status 0, then the first run read a text of a formula that no assignment satisfies. This follows
+/// from the clause `ends` of `command`.
 pub fn outcomes_refute<F: Machine>(_files: &F)
     ensures { OutcomesRefute ⟦<F as Viewed>⟧.view }
 {
@@ -168,7 +183,8 @@ pub fn outcomes_refute<F: Machine>(_files: &F)
     files_refute();
 }
 
-/// If the last one ends with status 8, no assignment makes the literals that it assumed true besides.
+/// If the last run ends with status 8, no assignment satisfies that formula together with the
+/// literals that the last run assumed.
 pub fn outcomes_refute_under<F: Machine>(_files: &F)
     ensures { OutcomesRefuteUnder ⟦<F as Viewed>⟧.view }
 {

@@ -1,5 +1,6 @@
-//! Two outcomes of the program: definitions and laws alone. A stream that cites within itself has the same line in both, whatever
-//! the other streams' files are, whatever is assumed, and whichever of the two ran with threads.
+//! Outcomes of the program: definitions and laws, no other code. A stream that cites within itself
+//! has the same line in two outcomes; the other streams' files, the assumed literals and the use of
+//! threads make no difference.
 #![tactic(auto)]
 
 pub mod laws;

@@ -1,4 +1,4 @@
--- The one history of a run with threads, and what the reports say of it.
+-- The one history of a run with threads, and what it says of the reports.
 use Rattle.std.proofs.Common.{◌≡◌, ℕ, zero, suc, ◌+◌, ◌-◌, ◌<◌, ◌≤◌, true, false, List, [], ◌∷◌, ◌++◌, length, map}
 use Rattle.std.proofs.Common.{take}
 use Rattle.std.proofs.Common.{Some, refl, sym, ap, ap₂, subst, ◌∙◌, arith, append-nil}
@@ -39,7 +39,7 @@ use Rattle.portfolio.proofs.DroppingLemmas.{job_drops}
 
 -- ---- the opening
 
--- the passes of the streams counted on from s, as the store opened them
+-- the passes of the streams, counted from s, as the store opened them
 abbrev pub AreOpened : StoreValue → Cnf → ℕ → List PassValue → Type 0
 AreOpened store f s [] = Unit {0}
 AreOpened store f s (p ∷ ps) = IsOpened store f s p × AreOpened store f (s + 1) ps
@@ -54,7 +54,7 @@ opened_from store f s (p ∷ ps) each =
           (λ k q at. let next : s + suc k ≡ s + 1 + k = omega arith in subst (λ (n : ℕ). IsOpened store f n q) next (each (suc k) q at)),
     )
 
--- each stream's pass stands at its place
+-- each stream's pass is at its place
 are_opened : (store : StoreValue) (f : Cnf) (p : LayoutValue) (ps : List PassValue) → length ps ≡ p.streams
     → ((s : ℕ) (pass : PassValue) → IsStream p s → slice_get ps (s - 1) ≡ Some pass → IsOpened store f s pass) → AreOpened store f 1 ps
 are_opened store f p ps count each = opened_from store f 1 ps (λ k pass at.
@@ -65,7 +65,7 @@ are_opened store f p ps count each = opened_from store f 1 ps (λ k pass at.
 
 -- ---- the jobs
 
--- what the calls of a pass come to
+-- the effect of a pass's calls
 
 -- one stream's pass, from its opening to the meeting: it is the stream's, and its calls are those that were made
 pub record Ends (f : Cnf) (p : LayoutValue) (s : ℕ) (es : History) (v : View) : Type 0 where
@@ -73,7 +73,7 @@ pub record Ends (f : Cnf) (p : LayoutValue) (s : ℕ) (es : History) (v : View) 
   pub mine : v.mine ≡ es
   pub fair : IsFair v
 
--- what the pass has seen is legal, and has its calls just as they were made
+-- the pass has seen a legal history, in which the calls of its stream are those made through it
 ends_own : (f : Cnf) (p : LayoutValue) (s : ℕ) (es h : History) (v : View) → Ends f p s es v → v.seen ≡ h → v.mine ≡ own h s
 ends_own f p s es h v e saw = sym e.fair.mine ∙ ap₂ (λ (g : History) (n : ℕ). own g n) saw (ap (λ (c : Caller). c.stream) e.caller)
 
@@ -85,7 +85,7 @@ first_saw : (h : History) (vs : List View) → AllSaw h vs → 0 < length vs →
 first_saw h [] saw some = absurd (omega arith)
 first_saw h (v ∷ vs) saw some = sym saw.0
 
--- a pass that has made no call has the whole room
+-- a pass without calls has the whole room
 opened_room : (f : Cnf) (p : LayoutValue) (store : StoreValue) (s : ℕ) (q : PassValue) → store.layout ≡ p → IsOpened store f s q
     → p.room ≡ (pass_caller_view q.view).room
 opened_room f p store s q same opened =
@@ -93,13 +93,12 @@ opened_room f p store s q same opened =
     whole ∙ sym (ap₂ (λ (c : Caller) (m : History). c.layout.room - spent c.stream m) opened.caller opened.mine
     ∙ ap (λ (l : LayoutValue). l.room - 0) same)
 
--- Each report is the judgement of what is observed of the stream's reader and of the calls of the stream's pass, for the streams counted
--- on from s.
+-- For the streams, counted from s: each report judges the observed stream and the calls of the stream's pass.
 abbrev pub AreJudgedBy : RunParamsValue → ℕ → List Stream → List View → List Report → Type 0
 AreJudgedBy run_params s streams vs reports =
     EachOfThree (λ t stream v report. IsJudgedBy (stream_params run_params t) stream v.mine report) s streams vs reports
 
--- these calls are the events of the one history
+-- these calls are the stream's events in the one history
 judged_in : (run_params : RunParamsValue) (h : History) (s : ℕ) (streams : List Stream) (vs : List View) (reports : List Report)
     → AreJudgedBy run_params s streams vs reports → ((k : ℕ) (v : View) → slice_get vs k ≡ Some v → v.mine ≡ own h (s + k))
     → AreJudgedIn run_params (λ t. true) h s streams reports
@@ -116,24 +115,24 @@ judged_in run_params h s (t ∷ ts) (v ∷ vs) (r ∷ rs) judged calls =
           (λ k w at. let next : s + suc k ≡ s + 1 + k = omega arith in subst (λ (n : ℕ). w.mine ≡ own h n) next (calls (suc k) w at)),
     )
 
--- the pass is stream s's, has seen the history, and its calls are the stream's events of it
+-- the pass is stream s's, it has seen the history, and its calls are the stream's events in it
 abbrev HasCalls : Cnf → LayoutValue → History → ℕ → View → Type 0
 HasCalls f p h s v = (v.caller ≡ record { formula = f; layout = p; stream = s }) × (v.seen ≡ h) × (v.mine ≡ own h s)
 
--- ---- of readers of one kind
+-- ---- readers of one kind
 
--- the jobs of stream s before its first byte, at the pass that the store has opened
+-- the jobs of stream s before its first byte, with the pass that the store opened
 pub record HasReadyJobs {S : Type 0} (store : StoreValue) (f : Cnf) (run_params : RunParamsValue) (s : ℕ) (first : S)
     (jobs : StreamJobsValue S) : Type 0 where
   pub reader_is : jobs.reader ≡ first
   pub checker : IsNew run_params.layout run_params.cube s run_params.tries jobs.checker
   pub opened : IsOpened store f s jobs.pass
 
--- those of the streams counted on from s
+-- those of the streams, counted from s
 abbrev pub HaveReadyJobs : {S : Type 0} → StoreValue → Cnf → RunParamsValue → ℕ → List S → List (StreamJobsValue S) → Type 0
 HaveReadyJobs store f run_params s firsts all = Each (HasReadyJobs store f run_params) s firsts all
 
--- a run before its threads start, by its parameters: the store, and the jobs of all readers
+-- a run with these parameters before its threads start: the store, and the jobs of all readers
 pub record IsBegun {S : Type 0} (f : Cnf) (run_params : RunParamsValue) (store : StoreValue) (firsts : List S)
     (all : List (StreamJobsValue S)) : Type 0 where
   pub is : IsLayout run_params.layout
@@ -156,7 +155,7 @@ module _ {S : Type 0} (view : SourceView S) where
     are_ready store f run_params (s + 1) es ps js all.1 opened.1,
   )
 
-  -- the same of a run's jobs, at the passes that its store has opened
+  -- the jobs of a run are ready with the passes that its store opened
   pub run_ready : {store : StoreValue} {f : Cnf} {n : ℕ} (run_params : RunParamsValue) (p : LayoutValue) (firsts : List S)
       (passes : List PassValue) (js : List (StreamJobsValue S)) → n ≡ length passes → n ≡ p.streams
       → ((s : ℕ) (pass : PassValue) → IsStream p s → slice_get passes (s - 1) ≡ Some pass → IsOpened store f s pass)
@@ -164,7 +163,7 @@ module _ {S : Type 0} (view : SourceView S) where
   run_ready {store = store} {f = f} run_params p firsts passes js are count opened jobs =
       are_ready store f run_params 1 firsts passes js jobs (are_opened store f p passes (sym are ∙ count) opened)
 
-  -- the first byte may be taken where nothing was called yet
+  -- before any call, the first byte may be taken
   ready_can : (f : Cnf) (run_params : RunParamsValue) (store : StoreValue) (s : ℕ) (first : S) (j : StreamJobsValue S)
       → Fits run_params.layout f → store.layout ≡ run_params.layout → HasReadyJobs store f run_params s first j → CanBegin store j
   ready_can f run_params store s first j fits same ready =
@@ -201,7 +200,7 @@ module _ {S : Type 0} (view : SourceView S) where
       → HaveReadyJobs store f run_params s firsts js → length js ≡ length firsts
   ready_count store f run_params s firsts js ready = each_count _ s firsts js ready
 
-  -- ---- what was found, and the passes when all have met
+  -- ---- what was found, and the passes once all have met
 
   finish_of : (store : StoreValue) (js : List (StreamJobsValue S)) (fs : List (StreamResultValue S))
       → AllByRecursion (CanBegin store) js → AllFinish view js fs → AreOf store (map (λ x. x.pass) fs)
@@ -307,8 +306,8 @@ module _ {S : Type 0} (view : SourceView S) where
 
   -- ---- the reports
 
-  -- The streams that match what is observed of the readers, and that their reads gave, by which the reports and the dropped identities
-  -- hold.
+  -- The streams that match what is observed of the readers and what their reads gave; the reports and the dropped identities are right for
+  -- them.
   pub record Judged (run_params : RunParamsValue) (s : ℕ) (firsts : List S) (fs : List (StreamResultValue S))
       (vs : List View) : Type 0 where
     pub streams : List Stream
@@ -364,7 +363,7 @@ module _ {S : Type 0} (view : SourceView S) where
             );
       }
 
-  -- By a legal history that has their calls, it is a run as far as these streams go.
+  -- With a legal history that has their calls, it is a run of the first streams.
   first_run : (f : Cnf) (run_params : RunParamsValue) (h : History) (firsts : List S) (js : List (StreamJobsValue S))
       (results : StreamResultsValue S) (vs : List View)
       → (so : AreResults view js results) → Judged run_params 1 firsts so.found vs → IsLegal f run_params.layout h
@@ -399,7 +398,7 @@ module _ {S : Type 0} (view : SourceView S) where
       → IsBegun f run_params store firsts js → AllByRecursion (CanBegin store) js
   can_begin begun = all_can_begin _ _ _ begun.fits begun.store_is _ _ _ begun.ready
 
-  -- one of so many jobs is one of the streams
+  -- each job belongs to a stream of the layout
   pub stream_within : {f : Cnf} {run_params : RunParamsValue} {store : StoreValue} {firsts : List S} {js : List (StreamJobsValue S)}
       → IsBegun f run_params store firsts js → (s : ℕ) → (0 < s) × (s ≤ length js) → IsStream run_params.layout s
   stream_within begun s within = (omega (arith, within.0), omega (arith, within.1, begun_count begun))
@@ -429,7 +428,7 @@ module _ {S : Type 0} (view : SourceView S) where
       × (ran.run.history ≡ seen_by vs)) begun.count
       (first_run f run_params (seen_by vs) firsts js results vs so j one.legal (mine_at f run_params.layout vs one))
 
-  -- Of the first streams alone, whose passes have met: so by the history that they have.
+  -- For the first streams alone, whose passes have met: by the history that these have.
   run_before : (f : Cnf) (run_params : RunParamsValue) (store : StoreValue) → store.layout ≡ run_params.layout
       → (firsts : List S) (js : List (StreamJobsValue S)) → HaveReadyJobs store f run_params 1 firsts js
       → (results : StreamResultsValue S) (vs : List View) → AreResults view js results → AreSynced (views results.passes) vs
@@ -469,8 +468,7 @@ module _ {S : Type 0} (view : SourceView S) where
         (first_run f run_params one.0 (e ∷ es) (j ∷ js) results vs so judged legal (λ k v at. (calls k v at).2)).0,
       )
 
-  -- whose mark was missed was read out
-  -- the reader was read to its end, or to the read that failed, and a stream matches it
+  -- the reader was read to its end, or to the read that failed, and a stream matches it; so is each reader whose mark was missed
   abbrev WasReadOut : S → Type 0
   WasReadOut reader = (last : S) × (its : Stream) × IsSome its.end × IsStreamOf view reader last its
 
@@ -495,7 +493,7 @@ module _ {S : Type 0} (view : SourceView S) where
   some_within P (x ∷ xs) zero at = omega arith
   some_within P (x ∷ xs) (suc n) at = omega (arith, some_within P xs n at)
 
-  -- the ring of the stream behind these stopped it
+  -- the ring of the stream after these stopped the run
   pub stops_at_ring : {f : Cnf} {run_params : RunParamsValue} {store : StoreValue} {firsts : List S} {js : List (StreamJobsValue S)}
       → IsBegun f run_params store firsts js → (results : StreamResultsValue S) (vs : List View)
       → AreSynced (views results.passes) vs → ShareHistory vs

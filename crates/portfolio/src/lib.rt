@@ -1,4 +1,5 @@
-//! A run over all streams of one formula, with threads or on one; its verdict, its report as users read it, and what it saves.
+//! A run over all streams of one formula, with threads or on one thread; its verdict, its report
+//! for users, and what it saves.
 #![tactic(auto)]
 
 mod threads;

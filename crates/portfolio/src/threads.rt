@@ -1,4 +1,5 @@
-//! A run with two threads for each stream. Threads share the store of clauses and the start signal, and those of one stream a ring.
+//! A run with two threads for each stream. All threads share the store of clauses and the start
+//! signal, and the two threads of a stream share a ring.
 ghost use Rattle.std.specs.Prelude.{◌≡◌, ◌↔◌, false, ℕ, Err, IfOk, length, vec_len};
 ghost use Rattle.std.specs.List.{AllByRecursion};
 ghost use Rattle.lrup_model.specs.Cube.{IsUnsatisfiableUnder};
@@ -27,15 +28,18 @@ use std::thread::Threads;
 use stream_check::{Gate, RunParams};
 use stream_threads::{StartSignal, StreamResults, ThreadFault, ThreadLists, check_all, jobs_of};
 
-/// Checks all streams of a formula, with two threads for each: one reads the stream's bytes to the end, and the other checks them, against
-/// one store of clauses. The outcome has a report for each stream, and the verdict of these: whether a stream added the empty clause, or
-/// one that the cube, of assumed literals, makes false. Element k of `readers`, of `gates` and of the outcome's lists is stream k + 1's.
+/// Checks all streams of a formula, with two threads for each: one reads the stream's bytes to the
+/// end, and the other checks them against the store of clauses, which all streams share. The
+/// outcome has a report for each stream, and the verdict: whether a stream added the empty clause,
+/// or one that the cube of assumed literals falsifies. Element k of `readers`, of `gates` and of
+/// the outcome's lists belongs to stream k + 1.
 ///
-/// All lists and buffers are made before the first thread starts. After that only starts take memory, which without it fail
-/// (`RunFault::Spawn`), and checkers for the identities that their streams drop, whose reports say so (`Ending::Memory`). No reader is
-/// read before all threads have started. These three sentences are true by the code, and no clause says them. `run` returns when all
-/// threads have ended, so it blocks while a reader does. The faults, and when they come, are those of `RunFault`; after a fault there are
-/// no reports.
+/// All lists and buffers are made before the first thread starts. After that, only two things
+/// allocate: starting a thread, which fails without memory (`RunFault::Spawn`), and a checker that
+/// keeps dropped identities, whose report then says so (`Ending::Memory`). No reader is read before
+/// all threads have started. The code does so; no clause says it. `run` returns when all threads
+/// have ended, so it blocks while a reader does. `RunFault` lists the faults; after a fault there
+/// are no reports.
 pub fn run<T: Threads + Wait + Sync, R: Source + Send + Drop, G: Gate + Send + Drop>(
     threads: &T,
     alloc: Global,
@@ -47,17 +51,18 @@ pub fn run<T: Threads + Wait + Sync, R: Source + Send + Drop, G: Gate + Send + D
 ) -> Result<Outcome<R>, RunFault>
     requires gates { vec_len gates ≡ vec_len readers }
     requires running { AllByRecursion (λ r. R.has_failed r ≡ false) readers.items }
-    // `Layout` is answered exactly if these numbers have no layout.
+    // The result is `Layout` exactly if these numbers have no layout.
     ensures layout { (fault : LayoutFault) → (result ≡ Err (RunFault.Layout fault))
         ↔ IsFault (layout_of options formula.now (length readers.items)) fault }
     ensures spawn { (stream : ℕ) → result ≡ Err (RunFault.Spawn stream)
         → IsStream (layout_of options formula.now (length readers.items)) stream }
-    // At a ring's fault there are reports that are right for the streams before its own, and its own reader was read out.
+    // With `Ring`, there are correct reports for the streams before this one, and its own reader
+    // was read to its end.
     ensures ring { let run_params = run_params_of options cube.now formula.now
         (length readers.items) in
         (stream : ℕ) → result ≡ Err (RunFault.Ring stream)
         → StopsAtRing (readers_view R.Source) formula.now run_params readers.items stream }
-    // One legal history has each stream's calls once, in its order, with the replies that it got.
+    // One legal history has each stream's calls, once and in its order, with their replies.
     ensures history { IfOk result (λ outcome. let passes = views outcome.passes.items in
         HaveOneHistory formula.now (layout_of options formula.now (length readers.items))
         (seen_by passes) passes) }
@@ -71,7 +76,7 @@ pub fn run<T: Threads + Wait + Sync, R: Source + Send + Drop, G: Gate + Send + D
         × IsSerializable ran.run)) }
     ensures verdict { IfOk result (λ outcome.
         outcome.verdict ≡ verdict_of outcome.reports.items) }
-    // The clauses stay, for whoever saves them.
+    // The clauses stay, to be saved.
     ensures store { IfOk result (λ outcome. AreOf outcome.store outcome.passes.items
         × (outcome.store.layout ≡ layout_of options formula.now (length readers.items))) }
     // What a user relies on.
@@ -86,7 +91,7 @@ pub fn run<T: Threads + Wait + Sync, R: Source + Send + Drop, G: Gate + Send + D
     let jobs = jobs_of(alloc, &run_params, readers, gates, passes)?;
     let signal = StartSignal::new();
     let lists = ThreadLists::new(alloc, &signal, jobs.len())?;
-    // Laws: empty calls, whose contracts the proof of `reports` uses.
+    // Laws, with no effect at run time: the proof of `reports` uses their contracts.
     run_isolated();
     run_serializable();
     match check_all(threads, &store, jobs, lists) {
@@ -94,14 +99,16 @@ pub fn run<T: Threads + Wait + Sync, R: Source + Send + Drop, G: Gate + Send + D
         Err(ThreadFault::Spawn(stream)) => Err(RunFault::Spawn(stream)),
         Err(ThreadFault::Ring(found)) => {
             let stream = found.passes.len() as u64 + 1;
-            // For the proof alone: the contract of `outcome_of` shows what the fault promises of the streams before.
+            // For the proof only: the contract of `outcome_of` gives what `ring` promises of the
+            // streams before this one.
             let _before = outcome_of(store, found);
             Err(RunFault::Ring(stream))
         }
     }
 }
 
-/// The outcome of the streams, whose threads have ended. All passes meet, which takes a few loads: contracts then know one history of all.
+/// The outcome of the streams once their threads have ended. All passes meet, which takes a few
+/// loads: by its contract, all have one history then.
 fn outcome_of<R: Source + Drop>(store: Store, found: StreamResults<R>) -> Outcome<R>
     requires store { AreOf store found.passes }
     ensures reports { result.reports.items ≡ found.reports }

@@ -1,4 +1,4 @@
--- Lemmas on marks.
+-- Lemmas about marks.
 use Rattle.std.proofs.Common.{◌≡◌, ◌≢◌, ◌⊎◌, ◌↔◌, inl, inr, ℕ, zero, suc, ◌+◌, ◌*◌, ◌<◌, ◌≤◌, ℤ, pos, negsuc, neg_ℤ, nat_abs, Bool, true}
 use Rattle.std.proofs.Common.{false, List, [], ◌∷◌, ◌++◌, length, get_or, set, take, map, eqb, refl, sym, ap, subst, ◌∙◌, arith}
 use Rattle.std.proofs.Common.{length-append}
@@ -27,7 +27,7 @@ ne_neg_ℤ vars (pos zero) h e = absurd (omega (arith, h.0))
 ne_neg_ℤ vars (pos (suc n)) h e = cc
 ne_neg_ℤ vars (negsuc n) h e = cc
 
--- literals of one variable are equal, or each other's complement
+-- literals of the same variable are equal, or complements of each other
 same_variable : (a b : ℤ) → nat_abs a ≡ nat_abs b → (a ≡ b) ⊎ (neg_ℤ a ≡ b)
 same_variable (pos m) (pos n) e = inl (ap pos e)
 same_variable (pos zero) (negsuc n) e = absurd (omega (arith, e))
@@ -46,7 +46,7 @@ AreApart-push (y ∷ ls) x apart new new_neg = (
   AreApart-push ls x apart.2 (λ h. new (inr h)) (λ h. new_neg (inr h)),
 )
 
--- the variables of such a list differ from each other
+-- the variable of a new literal is none of those of the list
 differs : (x : ℤ) (ls : List ℤ) → (¬ Has ls x) → (¬ Has ls (neg_ℤ x)) → AllByRecursion (λ v. eqb (nat_abs x) v ≡ false) (map nat_abs ls)
 differs x [] new new_neg = tt
 differs x (y ∷ ls) new new_neg = (
@@ -68,13 +68,13 @@ variable-lt vars (x ∷ ls) q all h =
       | inr t ↦ variable-lt vars ls q all.1 t
     ]
 
--- so there are at most as many, and one for the 0 that is none
+-- so there are at most as many literals as variables, and one more
 length-le_variables : (vars : ℕ) (ls : List ℤ) → AreApart ls → AllByRecursion (IsLiteral vars) ls → length ls ≤ vars + 1
 length-le_variables vars ls apart all =
     subst (λ n. n ≤ vars + 1) (length-map ls nat_abs)
     (length-le_from_distinct_below (map nat_abs ls) (vars + 1) (IsDistinct-variables ls apart) (λ q h. variable-lt vars ls q all h))
 
--- one more literal, which is neither false nor true, has room
+-- there is room for one more literal, which is neither false nor true
 pub AreMarks-room : (vars : ℕ) (marks : List Bool) (ls : List ℤ) (capacity : ℕ) (x : ℤ) → AreMarks vars marks ls capacity → IsLiteral vars x
     → (¬ Has ls x) → (¬ Has ls (neg_ℤ x)) → length ls < capacity
 AreMarks-room vars marks ls capacity x are literal new new_neg =
@@ -116,7 +116,7 @@ cleared-at [] i = refl
 cleared-at (x ∷ marks) zero = refl
 cleared-at (x ∷ marks) (suc i) = cleared-at marks i
 
--- to take a mark away sets none
+-- clearing a mark sets none
 pub marked_before : (marks : List Bool) (i k : ℕ) → get_or (set marks i false) k false ≡ true → get_or marks k false ≡ true
 marked_before [] i k h = h
 marked_before (x ∷ marks) zero zero h = absurd (false≢true h)
@@ -124,7 +124,7 @@ marked_before (x ∷ marks) zero (suc k) h = h
 marked_before (x ∷ marks) (suc i) zero h = h
 marked_before (x ∷ marks) (suc i) (suc k) h = marked_before marks i k h
 
--- the marks of one more literal are taken away
+-- the mark of one more literal is cleared
 pub cleared-next : (marks : List Bool) (ls : List ℤ) (k view : ℕ) (x : ℤ) → k < length ls → x ≡ get_or ls k x → view ≡ code_of x
     → ((l : ℤ) → Has (take k ls) l → get_or marks (code_of l) false ≡ false) → (l : ℤ) → Has (take (k + 1) ls) l
     → get_or (set marks view false) (code_of l) false ≡ false
@@ -135,12 +135,12 @@ cleared-next marks ls k view x lt at e cleared l h =
       | inr same ↦ ap (λ j. get_or (set marks view false) j false) (ap code_of (sym same) ∙ sym e) ∙ cleared-at marks view
     ]
 
--- a literal of a clause is one over more variables too
+-- a literal of a clause is a literal over more variables, too
 pub IsLiteral-read : (vars more : ℕ) (d : List ℤ) (l : ℤ) → IsClause vars d → vars ≤ more → Has d l → IsLiteral more l
 IsLiteral-read vars more d l clause le h =
     let is : IsLiteral vars l = All-Has (IsLiteral vars) d l clause.literals h in (is.0, omega (arith, is.1))
 
--- a literal of a clause that is known is one of the formula's, and so of more variables
+-- a literal of a known clause is one over the formula's variables, and so over more variables
 pub IsLiteral-known : (vars : ℕ) (view : CallerView) (clip : ClipValue) (k : ℕ) (l : ℤ) → AllFollow view → IsKnown view clip
     → view.caller.formula.vars ≤ vars → slice_get (clip_clause view clip) k ≡ Some l → IsLiteral vars l
 IsLiteral-known vars view clip k l follow known le at =

@@ -1,4 +1,4 @@
--- Lemmas on what is left of a clause as its literals are read.
+-- Lemmas about the literals of a clause that aren't false, as they are read.
 use Rattle.std.proofs.Common.{arith, ◌≡◌, ◌≤◌, ◌⊎◌, inl, inr, ℕ, ◌+◌, ◌*◌, length, Option, None, refl, ℤ, neg_ℤ, List, [], ◌∷◌, ◌++◌, take}
 use Rattle.std.proofs.Common.{drop, Some, sym, ap, subst, ◌∙◌, add-one}
 use Rattle.std.specs.Prelude.{slice_get}
@@ -11,11 +11,11 @@ use Rattle.propagate.specs.declared.marks.ClauseStatus.{ClauseStatus}
 use Rattle.propagate.specs.declared.marks.ClauseStatus.TheVariants.{Nothing, One, More}
 use Rattle.lrup_model.specs.lemmas.ClauseLemmas.{Has-append_left, Has-push, Has-push_cases, Has-take, Has-at, Has-before, take-next}
 
--- no literal of a list is left
+-- a clause without literals is a conflict
 pub IsConflict-nil : (n : List ℤ) → IsConflict n []
 IsConflict-nil n = λ l h. absurd h
 
--- where more than one literal is left, more than one stays
+-- if a clause is neither unit nor a conflict, it is neither with more literals
 pub HasStatus-more : (n : List ℤ) (d e : Clause) → HasStatus n d More → HasStatus n (d ++ e) More
 HasStatus-more n d e more = (
   (λ conflict. more.0 (λ l h. conflict l (Has-append_left d e l h))),
@@ -32,7 +32,7 @@ HasStatus-more n d e more = (
       ])),
 )
 
--- a false literal changes nothing
+-- a false literal doesn't change the status
 pub HasStatus-false : (n : List ℤ) (d : Clause) (status : ClauseStatus) (x : ℤ) → HasStatus n d status → Has n x
     → HasStatus n (d ++ x ∷ []) status
 HasStatus-false n d Nothing x conflict is_false = λ l h. elim (Has-push_cases d x l h) [
@@ -47,7 +47,7 @@ HasStatus-false n d (One l) x unit is_false = record {
 }
 HasStatus-false n d More x more is_false = HasStatus-more n d (x ∷ []) more
 
--- a true literal rules both out
+-- with a true literal the clause is neither unit nor a conflict
 pub HasStatus-true : (n : List ℤ) (d : Clause) (x : ℤ) → (¬ Has n x) → Has n (neg_ℤ x) → HasStatus n (d ++ x ∷ []) More
 HasStatus-true n d x not_false is_true = (
   (λ conflict. not_false (conflict x (Has-push d x))),
@@ -57,7 +57,7 @@ HasStatus-true n d x not_false is_true = (
   ]),
 )
 
--- the first literal that is left
+-- with a first literal that is neither false nor true the clause is unit
 pub HasStatus-one : (n : List ℤ) (d : Clause) (x : ℤ) → IsConflict n d → (¬ Has n x) → (¬ Has n (neg_ℤ x)) → IsUnit n (d ++ x ∷ []) x
 HasStatus-one n d x conflict not_false not_true = record {
   here = Has-push d x;
@@ -66,7 +66,7 @@ HasStatus-one n d x conflict not_false not_true = record {
   others = λ k h. elim (Has-push_cases d x k h) [ inl t ↦ inr (conflict k t) | inr same ↦ inl (sym same) ];
 }
 
--- a second one
+-- with a second literal that isn't false the clause is neither
 pub HasStatus-two : (n : List ℤ) (d : Clause) (l x : ℤ) → IsUnit n d l → (¬ Has d x) → (¬ Has n x) → HasStatus n (d ++ x ∷ []) More
 HasStatus-two n d l x unit other not_false = (
   (λ conflict. not_false (conflict x (Has-push d x))),
@@ -78,7 +78,7 @@ HasStatus-two n d l x unit other not_false = (
       ]),
 )
 
--- one more literal is read, of a clause that has each once
+-- the next literal is read, of a clause that has each literal once
 pub HasStatus-next : (n : List ℤ) (d : Clause) (k : ℕ) (x : ℤ) (status after : ClauseStatus) → EachOnce d → slice_get d k ≡ Some x
     → HasStatus n (take k d) status → ((e : Clause) → HasStatus n e status → (¬ Has e x) → HasStatus n (e ++ x ∷ []) after)
     → HasStatus n (take (k + 1) d) after
@@ -86,7 +86,7 @@ HasStatus-next n d k x status after once at before step =
     subst (λ e. HasStatus n e after) (sym (ap (λ i. take i d) (add-one k) ∙ take-next d k x at))
     (step (take k d) before (Has-before d k x once at))
 
--- what the first literals rule out, all do
+-- if the first literals of a clause make it neither unit nor a conflict, the whole clause is neither
 pub HasStatus-whole : (n : List ℤ) (d : Clause) (k : ℕ) → HasStatus n (take k d) More → HasStatus n d More
 HasStatus-whole n d k more = subst (λ e. HasStatus n e More) (take-append-drop k d) (HasStatus-more n (take k d) (drop k d) more)
 
@@ -99,11 +99,11 @@ HasStatus-second n d i x status after once at before step =
     let next : 2 * i + 1 + 1 ≡ 2 * (i + 1) = omega arith in
     subst (λ k. HasStatus n (take k d) after) next (HasStatus-next n d (2 * i + 1) x status after once at before step)
 
--- a list ends where it has no more
+-- a list that has nothing at a place is no longer than that
 ends-at : (d : List ℤ) (k : ℕ) → slice_get d k ≡ None → length d ≤ k
 ends-at d k past = elim (slice_get_cases d k).1 [ inl at ↦ absurd (none-some at.0 (sym past ∙ at.2)) | inr short ↦ short.0 ]
 
--- the last pair was a single literal
+-- the last pair has only one literal
 pub HasStatus-single : (n : List ℤ) (d : Clause) (i : ℕ) (status : ClauseStatus) → slice_get d (2 * i + 1) ≡ None
     → HasStatus n (take (2 * i + 1) d) status
     → HasStatus n (take (2 * (i + 1)) d) status
@@ -124,7 +124,7 @@ HasStatus-passed n d k x status at is_false before =
     subst (λ e. HasStatus n e status) (sym (ap (λ i. take i d) (add-one k) ∙ take-next d k x at))
     (HasStatus-false n (take k d) status x before is_false)
 
--- a pair of false literals, or a single one, changes nothing
+-- a pair of false literals, or one false literal, doesn't change the status
 pub HasStatus-pair : (n : List ℤ) (d : Clause) (i : ℕ) (x : ℤ) (second : Option ℤ) (status : ClauseStatus) → slice_get d (2 * i) ≡ Some x
     → slice_get d (2 * i + 1) ≡ second → Has n x × ((l : ℤ) → second ≡ Some l → Has n l) → HasStatus n (take (2 * i) d) status
     → HasStatus n (take (2 * (i + 1)) d) status
@@ -135,7 +135,7 @@ HasStatus-pair n d i x (Some y) status at at' false_too before =
     let one = HasStatus-passed n d (2 * i) x status at false_too.0 before in
     subst (λ k. HasStatus n (take k d) status) next (HasStatus-passed n d (2 * i + 1) y status at' (false_too.1 y refl) one)
 
--- where one of the first literals is left, and one behind them isn't false, more than one is
+-- if one of the first literals isn't false, and neither is one after them, the clause is neither unit nor a conflict
 HasStatus-behind : (n : List ℤ) (d : Clause) (i k : ℕ) (x lit : ℤ) → EachOnce d → slice_get d k ≡ Some x → i ≤ k → IsUnit n (take i d) lit
     → (¬ Has n x) → HasStatus n d More
 HasStatus-behind n d i k x lit once at behind unit not_false =
@@ -150,7 +150,7 @@ HasStatus-behind n d i k x lit once at behind unit not_false =
           ]),
     )
 
--- where one literal is left, and one of a later pair isn't false, more than one is
+-- if one literal isn't false, and neither is one of a later pair, the clause is neither unit nor a conflict
 pub HasStatus-open_pair : (n : List ℤ) (d : Clause) (i : ℕ) (x : ℤ) (second : Option ℤ) (lit : ℤ) → EachOnce d
     → slice_get d (2 * i) ≡ Some x
     → slice_get d (2 * i + 1) ≡ second → IsUnit n (take (2 * i) d) lit → (¬ Has n x) ⊎ ((l : ℤ) × (second ≡ Some l) × (¬ Has n l))

@@ -1,4 +1,4 @@
--- Lemmas on marks that are set for a list, and taken away as a clause is read.
+-- Lemmas about marks that are set for a list and cleared while a clause is read.
 use Rattle.std.proofs.Common.{◌≡◌, ◌⊎◌, ◌↔◌, inl, inr, ℕ, ◌+◌, ◌*◌, ◌<◌, ◌≤◌, ℤ, Bool, true, false, List, [], ◌∷◌, ◌++◌, not, length}
 use Rattle.std.proofs.Common.{get_or, set, take, refl, sym, ap, subst, ◌∙◌, arith, None, Some, add-one}
 use Rattle.std.specs.Prelude.{slice_get, IsTrue}
@@ -14,7 +14,7 @@ use Rattle.lrup_model.specs.lemmas.ClauseLemmas.{Has-push_cases, Has_cases, int_
 use Rattle.propagate.specs.internal.Trail.{HaveMarks, IsMarked, AreTaken}
 use Rattle.propagate.proofs.MarkLemmas.{code_of-lt}
 
--- one mark more
+-- a mark is set
 pub marked-set : (marks : List Bool) (x : ℤ) → code_of x < length marks → (l : ℤ)
     → IsMarked (set marks (code_of x) true) l ↔ (IsMarked marks l ⊎ (x ≡ l))
 marked-set marks x lt l =
@@ -30,7 +30,7 @@ marked-set marks x lt l =
           )
     ]
 
--- one mark less
+-- a mark is cleared
 pub marked-reset : (marks : List Bool) (x : ℤ) → code_of x < length marks → (l : ℤ)
     → IsMarked (set marks (code_of x) false) l ↔ (IsMarked marks l × (¬ (l ≡ x)))
 marked-reset marks x lt l =
@@ -45,7 +45,7 @@ marked-reset marks x lt l =
           ((λ h. (sym same ∙ h, ne)), (λ h. same ∙ h.0))
     ]
 
--- the mark of one more literal of a list
+-- the mark of one more literal of a list is set
 pub marked-next : (before marks : List Bool) (ls : List ℤ) (x : ℤ) → code_of x < length marks
     → ((l : ℤ) → IsMarked marks l ↔ (IsMarked before l ⊎ Has ls l)) → (l : ℤ)
     → IsMarked (set marks (code_of x) true) l ↔ (IsMarked before l ⊎ Has (ls ++ x ∷ []) l)
@@ -60,11 +60,11 @@ marked-next before marks ls x lt are l = (
   ])),
 )
 
--- of no literal
+-- no marks are cleared
 pub AreTaken-nil : (marks : List Bool) → AreTaken marks marks []
 AreTaken-nil marks = record { marked = λ l h. absurd h; left = λ l. ((λ h. (h, λ g. g)), (λ h. h.0)) }
 
--- of one more
+-- one more mark is cleared
 AreTaken-push : (before marks after : List Bool) (ls : List ℤ) (x : ℤ) → AreTaken before marks ls → IsMarked marks x
     → ((l : ℤ) → IsMarked after l ↔ (IsMarked marks l × (¬ (l ≡ x)))) → AreTaken before after (ls ++ x ∷ [])
 AreTaken-push before marks after ls x are here one = record {
@@ -79,7 +79,7 @@ AreTaken-push before marks after ls x are here one = record {
   );
 }
 
--- of the next literal that is read
+-- the mark of the next literal is cleared
 pub AreTaken-next : (before marks after : List Bool) (d : List ℤ) (k : ℕ) (x : ℤ) → slice_get d k ≡ Some x
     → AreTaken before marks (take k d) → IsMarked marks x → ((l : ℤ) → IsMarked after l ↔ (IsMarked marks l × (¬ (l ≡ x))))
     → AreTaken before after (take (k + 1) d)
@@ -87,7 +87,7 @@ AreTaken-next before marks after d k x at are here one =
     subst (AreTaken before after) (sym (ap (λ i. take i d) (add-one k) ∙ take-next d k x at))
     (AreTaken-push before marks after (take k d) x are here one)
 
--- the second of a pair
+-- the mark of the second literal of a pair is cleared
 pub AreTaken-second : (before marks after : List Bool) (d : List ℤ) (i : ℕ) (x : ℤ) → slice_get d (2 * i + 1) ≡ Some x
     → AreTaken before marks (take (2 * i + 1) d) → IsMarked marks x → ((l : ℤ) → IsMarked after l ↔ (IsMarked marks l × (¬ (l ≡ x))))
     → AreTaken before after (take (2 * (i + 1)) d)
@@ -95,7 +95,7 @@ AreTaken-second before marks after d i x at are here one =
     let next : 2 * i + 1 + 1 ≡ 2 * (i + 1) = omega arith in
     subst (λ k. AreTaken before after (take k d)) next (AreTaken-next before marks after d (2 * i + 1) x at are here one)
 
--- the last pair was a single literal
+-- the last pair has only one literal
 pub AreTaken-single : (before after : List Bool) (d : List ℤ) (i : ℕ) → slice_get d (2 * i + 1) ≡ None
     → AreTaken before after (take (2 * i + 1) d) → AreTaken before after (take (2 * (i + 1)) d)
 AreTaken-single before after d i past are =
@@ -105,13 +105,13 @@ AreTaken-single before after d i past are =
     ] in
     subst (AreTaken before after) (take_all (2 * i + 1) d short ∙ sym (take_all (2 * (i + 1)) d (omega (arith, short)))) are
 
--- where the next literal has no mark, it had none before
+-- if the next literal isn't marked, it wasn't before
 pub unmarked-next : (before marks : List Bool) (d : List ℤ) (k : ℕ) (x : ℤ) → EachOnce d → slice_get d k ≡ Some x
     → AreTaken before marks (take k d) → (¬ IsMarked marks x) → (l : ℤ) × Has d l × (¬ IsMarked before l)
 unmarked-next before marks d k x once at are none =
     (x, Has-at d k x at, λ b. none ((are.left x).1 (b, Has-before d k x once at)))
 
--- what was set for the list and is left by the clause tells the one from the other
+-- if the clause's literals were all marked, and clearing their marks leaves none of the list's, both have the same literals
 pub same-literals : (before marks : List Bool) (d ls : List ℤ) → AreTaken before marks d → ((l : ℤ) → Has d l → IsMarked before l
     → Has ls l) → ((l : ℤ) → Has ls l → IsMarked before l) → (¬ ((l : ℤ) × Has ls l × IsMarked marks l)) → (l : ℤ) → Has d l ↔ Has ls l
 same-literals before marks d ls are from to none l = (
@@ -119,13 +119,13 @@ same-literals before marks d ls are from to none l = (
   (λ h. elim (Has_cases d l) [ inl t ↦ t | inr missing ↦ absurd (none (l, h, (are.left l).1 (to l h, missing))) ]),
 )
 
--- a marked literal is read
+-- the next literal is marked
 pub marked-read : (marks : List Bool) (ls : List ℤ) (k place : ℕ) (x : ℤ) → k < length ls → x ≡ get_or ls k x → place ≡ code_of x
     → get_or marks place false ≡ true → (l : ℤ) × Has ls l × IsMarked marks l
 marked-read marks ls k place x lt at e found =
     (x, Has-at ls k x (slice_get_read ls (length ls) k x refl lt at), ap (λ j. get_or marks j false) (sym e) ∙ found)
 
--- one that isn't marked
+-- the next literal isn't marked
 pub unmarked-read : (marks : List Bool) (ls : List ℤ) (k place : ℕ) (x : ℤ) → k < length ls → x ≡ get_or ls k x → place ≡ code_of x
     → get_or marks place false ≡ false → ((l : ℤ) → Has (take k ls) l → ¬ IsMarked marks l) → (l : ℤ) → Has (take (k + 1) ls) l
     → ¬ IsMarked marks l
@@ -135,7 +135,7 @@ unmarked-read marks ls k place x lt at e missing none l h marked =
       | inr same ↦ false≢true (sym missing ∙ ap (λ j. get_or marks j false) e ∙ subst (IsMarked marks) (sym same) marked)
     ]
 
--- one more literal of the list is marked
+-- the mark of the next literal of the list is set
 pub marked-read_next : (before marks : List Bool) (ls : List ℤ) (k place : ℕ) (x : ℤ) → k < length ls
     → x ≡ get_or ls k x → place ≡ code_of x → HaveMarks before ls → length marks ≡ length before
     → ((l : ℤ) → IsMarked marks l ↔ (IsMarked before l ⊎ Has (take k ls) l)) → (l : ℤ)
@@ -154,7 +154,7 @@ HaveMarks-literals vars marks ls count all =
     All-from_Has (λ l. code_of l < length marks) ls
     (λ l h. subst (λ n. code_of l < n) (sym count) (code_of-lt vars l (All-Has (IsLiteral vars) ls l all h)))
 
--- what the list set, and the clause left
+-- the clause and the list have the same literals exactly if no literal of the list is still marked
 pub same-told : (before first marks : List Bool) (d ls : List ℤ) (any : Bool)
     → ((l : ℤ) → IsMarked first l ↔ (IsMarked before l ⊎ Has ls l)) → ((l : ℤ) → Has d l → ¬ IsMarked before l) → AreTaken first marks d
     → (IsTrue any ↔ ((l : ℤ) × Has ls l × IsMarked marks l)) → IsTrue (not any) ↔ ((l : ℤ) → Has d l ↔ Has ls l)
@@ -170,7 +170,7 @@ same-told before first marks d ls false set clean are asked = (
   (λ same. refl),
 )
 
--- a literal of the clause wasn't set
+-- a literal of the clause isn't marked, so the list doesn't have it
 pub other-told : (before first : List Bool) (d ls : List ℤ) → ((l : ℤ) → IsMarked first l ↔ (IsMarked before l ⊎ Has ls l))
     → ((l : ℤ) × Has d l × (¬ IsMarked first l)) → IsTrue false ↔ ((l : ℤ) → Has d l ↔ Has ls l)
 other-told before first d ls set missing = (

@@ -1,9 +1,9 @@
--- Hinted clauses one after the other (the idea of Cruz-Filipe et al., CADE 2017).
+-- Hinted clauses, one after the other (the idea of Cruz-Filipe et al., CADE 2017).
 use Rattle.std.specs.Prelude.{◌≡◌, ◌++◌, ℤ, neg_ℤ, List, [], ◌∷◌}
 use Rattle.lrup_model.specs.Clause.{Clause}
 use Rattle.lrup_model.specs.Propagation.{IsUnit}
 
--- each clause is unit, one after the other, from these false literals before to those after
+-- each clause is unit, one after the other, and they lead from these false literals to those
 abbrev pub Leads : List ℤ → List Clause → List ℤ → Type 0
 Leads before [] after = before ≡ after
 Leads before (clause ∷ hinted) after =

@@ -1,12 +1,14 @@
--- One clause at a time, and what each of its hints does: the idea of Cruz-Filipe et al., Efficient Certified RAT Verification,
--- CADE 2017, without RAT. That no hint may come behind one that isn't unit is this project's own.
+-- One clause at a time, and what each of its hints does: the idea of Cruz-Filipe et al., Efficient
+-- Certified RAT Verification, CADE 2017, without RAT. That no hint may follow one that isn't unit
+-- is this project's own.
 use Rattle.std.specs.Prelude.{◌≡◌, ◌++◌, ℕ, ℤ, neg_ℤ, Bool, false, List, [], ◌∷◌}
 use Rattle.lrup_model.specs.Clause.{Clause}
 use Rattle.lrup_model.specs.Propagation.{IsConflict, IsUnit}
 use Rattle.propagate.specs.declared.marks.Step.{Step}
 use Rattle.propagate.specs.declared.marks.Step.TheVariants as steps
 
--- the variables 1 to vars, the clause that was taken up, the literals that are false, newest last, and whether a hint may come
+-- The variables are 1 to `vars`; `clause` is the clause that was begun; `falses` are the false
+-- literals, newest last; `ready` says whether a hint may follow.
 pub record Propagation : Type 0 where
   pub vars : ℕ
   pub clause : Clause

@@ -1,6 +1,7 @@
-//! Hinted unit propagation (reverse unit propagation): the literals of a clause are taken as false, and each hinted clause is unit, which
-//! makes one more literal false, or is a conflict, or is neither. A mark for each literal says whether it is false, and a trail lists the
-//! false ones, so that the next clause clears these marks alone.
+//! Hinted unit propagation (reverse unit propagation): the literals of a clause are assumed to be
+//! false, and each hinted clause is unit, which makes one more literal false, or is a conflict, or
+//! is neither. A mark for each literal says whether it is false, and a trail lists the false
+//! literals, so that the next clause clears only their marks.
 #![tactic(auto)]
 
 pub mod laws;

@@ -1,4 +1,4 @@
-//! The checking of hints, one after the other.
+//! Checks hints, one after the other.
 ghost use Rattle.std.specs.Prelude.{◌≡◌, ◌↔◌, ◌≤◌, ◌+◌, ◌*◌, ◌++◌, ℕ, List, [], ◌∷◌, ℤ, Some, slice_get, take, false, true, IsTrue, IsFalse, ◌⊎◌, IfOk, IsErr, OnOk, OnErr};
 ghost use Rattle.std.specs.List.{AllByRecursion};
 ghost use Rattle.lrup_model.specs.Literal.{IsLiteral, max_variable};
@@ -15,30 +15,31 @@ use lrup_model::{ClauseMap, Clip, Lit};
 use std::alloc::{AllocError, Global};
 use std::marker::Model;
 
-/// What a hinted clause is, if the trail's literals are false.
+/// What a hinted clause is while the literals of the trail are false.
 #[derive(Clone, Copy, Debug, PartialEq, Eq)]
 pub enum Step {
-    /// All its literals but one were false, and that one was neither false nor true. Its complement is false from now on.
+    /// All literals but one are false, and that one is neither false nor true. Its complement is
+    /// false from now on.
     Unit,
     /// All its literals are false.
     Conflict,
-    /// Neither of the two: a literal is true, or two or more aren't false.
+    /// Neither of the two: a literal is true, or at least two aren't false.
     NotUnit,
 }
 
-/// Which literals of a clause aren't false, as far as it was read.
+/// Which literals of a clause aren't false, among those read so far.
 #[derive(Clone, Copy, Debug, PartialEq, Eq)]
 enum ClauseStatus {
-    /// All literals are false: none is left.
+    /// All literals are false.
     Nothing,
-    /// All but this one are false, and this one is neither false nor true.
+    /// All literals but this one are false, and this one is neither false nor true.
     One(Lit),
-    /// A literal is true, or two aren't false: the clause is neither unit nor a conflict.
+    /// A literal is true, or at least two aren't false: the clause is neither unit nor a conflict.
     More,
 }
 
-/// A clause whose hints are being checked, and the literals that are false: its own, and those that its hints made false. Only `new` takes
-/// memory.
+/// A clause whose hints are being checked, and the literals that are false: those of the clause,
+/// and those that its hints made false. In the code only `new` allocates memory.
 #[derive(Drop)]
 pub struct Marks {
     trail: Trail,
@@ -58,7 +59,8 @@ impl Model for Marks {
 }
 
 impl Marks {
-    /// Makes all buffers, for clauses over the variables 1 to `vars`, at most 16,777,215: some 6 bytes a variable.
+    /// Allocates all buffers, for clauses over the variables 1 to `vars`, at most 16,777,215: about
+    /// 6 bytes per variable.
     pub fn new(alloc: Global, vars: u32) -> Result<Marks, AllocError>
         requires { vars ≤ max_variable }
         ensures { IfOk result
@@ -71,8 +73,9 @@ impl Marks {
         })
     }
 
-    /// Takes up a clause over the variables: its literals, which may repeat, are false, and no others. It fails exactly if a literal stands
-    /// beside its complement, and then takes no clause up.
+    /// Begins a clause over the variables: its literals, which may occur several times, are false,
+    /// and no other literals are. It fails exactly if the clause contains a literal and its
+    /// complement; then no clause is begun.
     pub fn begin(&mut self, clause: &[Lit]) -> Result<(), Tautology>
         requires { AllByRecursion (IsLiteral self.old.vars) clause.now }
         ensures tautology { IsErr result ↔ IsTautology clause.now }
@@ -86,7 +89,7 @@ impl Marks {
         ensures err { OnErr result
             (self.new ≡ record { vars = self.old.vars; clause = []; falses = []; ready = false }) }
 
-        // The clause that is taken up has the argument's literals, each once.
+        // The clause has the literals of the argument, each once.
         ensures clause { OnOk result (IsClause self.old.vars self.new.clause) }
         ensures members { OnOk result ((l : ℤ) → Has self.new.clause l ↔ Has clause.now l) }
         ensures consistent { OnOk result (¬ IsTautology self.new.clause) }
@@ -103,7 +106,8 @@ impl Marks {
         Ok(())
     }
 
-    /// The literals of the clause that was taken up, each once, in the order of their first places.
+    /// The literals of the clause that was begun, each once, in the order of their first
+    /// occurrences.
     #[inline]
     pub fn clause(&self) -> &[Lit]
         ensures { result.now ≡ self.now.clause }
@@ -111,7 +115,7 @@ impl Marks {
         self.trail.first(self.clause_len)
     }
 
-    /// Whether a hint may come: a clause is taken up, and each hint since was unit.
+    /// Whether a hint may follow: a clause was begun, and each hint since then was unit.
     #[inline]
     pub fn ready(&self) -> bool
         ensures { result ≡ self.now.ready }
@@ -119,8 +123,8 @@ impl Marks {
         self.ready
     }
 
-    /// Says what the clause of a hint is, and if it is unit makes the complement of its last literal false. It reads each literal at most
-    /// once.
+    /// Returns what the clause of a hint is. If it is unit, the complement of its last literal
+    /// becomes false. In the code each literal is read at most once.
     pub fn hint<M: ClauseMap>(&mut self, map: &mut M, clip: &Clip) -> Step
         requires ready { IsTrue self.old.ready }
         requires known { IsKnown (M.caller_view map.old) clip.now }
@@ -153,8 +157,9 @@ impl Marks {
         }
     }
 
-    /// Whether the clip's clause has just the literals of the list. In the list a literal may repeat, and stand beside its complement. The
-    /// clause is read once, and no clause is taken up afterwards.
+    /// Whether the clip's clause has exactly the literals of the list. In the list a literal may
+    /// occur several times, also together with its complement. The clause is read at most once, and
+    /// no clause is begun afterwards.
     pub fn same<M: ClauseMap>(&mut self, map: &mut M, clip: &Clip, lits: &[Lit]) -> bool
         requires known { IsKnown (M.caller_view map.old) clip.now }
         requires follow { AllFollow (M.caller_view map.old) }
@@ -176,8 +181,10 @@ impl Marks {
     }
 }
 
-/// Reads the clause, pair by pair, until it turns out to be neither unit nor a conflict. While all literals are false it reads one mark for
-/// each. Behind the first that isn't false, whose complement's mark it reads, too, a second one that isn't false decides (`status_after`).
+/// Reads the clause, pair by pair, until it turns out to be neither unit nor a conflict. While all
+/// literals are false, it reads one mark for each. For the first literal that isn't false it reads
+/// the mark of the complement, too; after that a second literal that isn't false decides
+/// (`status_after`).
 fn clause_status<M: ClauseMap>(falses: &Trail, map: &mut M, clip: &Clip) -> ClauseStatus
     requires known { IsKnown (M.caller_view map.old) clip.now }
     requires follow { AllFollow (M.caller_view map.old) }
@@ -193,7 +200,7 @@ fn clause_status<M: ClauseMap>(falses: &Trail, map: &mut M, clip: &Clip) -> Clau
             continue;
         }
         match status_with_pair(falses, first, second) {
-            // It isn't met, since one of the two isn't false.
+            // Can't happen, since one of the two isn't false.
             ClauseStatus::Nothing => {}
             ClauseStatus::One(lit) => return status_after(falses, map, clip, i + 1, lit),
             ClauseStatus::More => return ClauseStatus::More,
@@ -202,7 +209,8 @@ fn clause_status<M: ClauseMap>(falses: &Trail, map: &mut M, clip: &Clip) -> Clau
     ClauseStatus::Nothing
 }
 
-/// Reads on behind the first `pairs` pairs, of which all literals but `lit` are false, and `lit` is neither false nor true.
+/// Continues after the first `pairs` pairs, whose literals are false except `lit`, which is neither
+/// false nor true.
 fn status_after<M: ClauseMap>(
     falses: &Trail,
     map: &mut M,
@@ -229,7 +237,7 @@ fn status_after<M: ClauseMap>(
     ClauseStatus::One(lit)
 }
 
-/// Whether the literal is false, and the second one, if there is one.
+/// Whether the literal is false, and the second one, too, if there is one.
 #[inline]
 fn are_false(falses: &Trail, first: Lit, second: &Option<Lit>) -> bool
     requires first { IsLiteral falses.now.vars first }
@@ -246,7 +254,8 @@ fn are_false(falses: &Trail, first: Lit, second: &Option<Lit>) -> bool
         }
 }
 
-/// The status of a clause whose literals so far are false, after the next literal, or the next two. The clause has each literal once.
+/// The status after the next one or two literals of a clause whose literals so far are false. The
+/// clause has each literal once.
 #[inline]
 fn status_with_pair(falses: &Trail, first: Lit, second: Option<Lit>) -> ClauseStatus
     requires first { IsLiteral falses.now.vars first }
@@ -263,7 +272,7 @@ fn status_with_pair(falses: &Trail, first: Lit, second: Option<Lit>) -> ClauseSt
     }
 }
 
-/// The status after one more literal, which isn't one of those before.
+/// The status after one more literal, which isn't one of those before it.
 #[inline]
 fn status_with(falses: &Trail, status: ClauseStatus, lit: Lit) -> ClauseStatus
     requires { IsLiteral falses.now.vars lit }

@@ -1,10 +1,10 @@
-//! The one fault of a clause that is taken up.
+//! The only fault of a clause that is begun.
 ghost use Rattle.std.specs.Prelude.{Some, codes};
 
 use std::error::Error;
 use std::fmt;
 
-/// A literal of the clause stands beside its complement.
+/// The clause contains a literal and its complement.
 #[derive(Clone, Copy, Debug, PartialEq, Eq)]
 pub struct Tautology;
 

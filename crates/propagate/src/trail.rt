@@ -12,7 +12,8 @@ use lrup_model::{ClauseMap, Clip, Lit};
 use std::alloc::{AllocError, Global};
 use std::marker::Model;
 
-/// The false literals in the order in which they became false, no variable twice, and a mark for each of them.
+/// The false literals in the order in which they became false, with no variable twice, and a mark
+/// for each of them.
 #[derive(Drop)]
 pub struct Trail {
     vars: u32,
@@ -32,7 +33,7 @@ impl Model for Trail {
 }
 
 impl Trail {
-    /// A trail on which no literal is false. By the code all memory is taken here.
+    /// A trail on which no literal is false. In the code all memory is allocated here.
     pub fn new(alloc: Global, vars: u32) -> Result<Trail, AllocError>
         ensures { IfOk result (λ t. t ≡ record { vars = vars; literals = [] }) }
     {
@@ -41,7 +42,7 @@ impl Trail {
             vars,
             // A code is at most 2 * vars + 1.
             marks: vec![in alloc; false; 2 * vars_in_places + 2]?,
-            // One place more than it can take: so `add` needs no proof that a variable is left.
+            // One place more than it can need: so `add` needs no proof that a variable is left.
             literals: Vec::with_capacity(alloc, vars_in_places + 1)?,
         })
     }
@@ -67,7 +68,8 @@ impl Trail {
         self.literals.push_reserved(lit);
     }
 
-    /// Makes the literals of a clause false, each once. It stops at a literal that is true already, and fails then.
+    /// Makes the literals of a clause false, each once. It stops at a literal that is true already,
+    /// and fails then.
     pub fn add_all(&mut self, clause: &[Lit]) -> Result<(), Tautology>
         requires empty { self.old.literals ≡ [] }
         requires literals { AllByRecursion (IsLiteral self.old.vars) clause.now }
@@ -86,7 +88,7 @@ impl Trail {
         Ok(())
     }
 
-    /// Makes no literal false any more: it clears the marks that the trail lists.
+    /// Makes all literals not false: it clears the marks of the literals that the trail lists.
     pub fn clear(&mut self)
         ensures { self.new ≡ record self.old { literals = [] } }
     {
@@ -94,8 +96,8 @@ impl Trail {
         self.literals.clear();
     }
 
-    /// Whether the clip's clause has just the literals of the list. The trail is empty before and afterwards: the call sets marks, and takes
-    /// them all away again.
+    /// Whether the clip's clause has exactly the literals of the list. The trail is empty before
+    /// and afterwards: the call sets marks, and clears all of them.
     pub fn same<M: ClauseMap>(&mut self, map: &mut M, clip: &Clip, literals: &[Lit]) -> bool
         requires empty { self.old.literals ≡ [] }
         requires known { IsKnown (M.caller_view map.old) clip.now }
@@ -112,7 +114,7 @@ impl Trail {
         is_same(&mut self.marks, map, clip, literals)
     }
 
-    /// The count of the false literals.
+    /// The number of false literals.
     #[inline]
     pub fn len(&self) -> usize
         ensures { result ≡ length self.now.literals }
@@ -130,7 +132,7 @@ impl Trail {
     }
 }
 
-/// Takes the marks of these literals away, and changes no other.
+/// Clears the marks of these literals, and changes no other.
 fn unmark(marks: &mut [bool], literals: &[Lit])
     requires { HaveMarks marks.old literals.now }
     ensures cleared { (l : ℤ) → Has literals.now l
@@ -143,8 +145,9 @@ fn unmark(marks: &mut [bool], literals: &[Lit])
     }
 }
 
-/// Whether the clip's clause, none of whose literals has a mark, has just the literals of the list. It marks the list's literals, takes
-/// away the marks of the clause's, and looks whether one is left. In the end no mark is left that wasn't there.
+/// Whether the clip's clause, none of whose literals is marked, has exactly the literals of the
+/// list. It sets the marks of the list's literals, clears those of the clause's, and looks whether
+/// a mark is left. Afterwards no mark is set that wasn't set before.
 fn is_same<M: ClauseMap>(marks: &mut [bool], map: &mut M, clip: &Clip, literals: &[Lit]) -> bool
     requires known { IsKnown (M.caller_view map.old) clip.now }
     requires follow { AllFollow (M.caller_view map.old) }
@@ -174,7 +177,7 @@ fn mark_all(marks: &mut [bool], literals: &[Lit])
     }
 }
 
-/// Whether one of these literals has a mark.
+/// Whether one of these literals is marked.
 fn any_marked(marks: &[bool], literals: &[Lit]) -> bool
     requires { HaveMarks marks.now literals.now }
     ensures { IsTrue result ↔ ((l : ℤ) × Has literals.now l × IsMarked marks.now l) }
@@ -187,7 +190,8 @@ fn any_marked(marks: &[bool], literals: &[Lit]) -> bool
     false
 }
 
-/// Takes away the marks of the clause's literals, up to one that has none, and returns whether all had one.
+/// Clears the marks of the clause's literals, up to the first that isn't marked, and returns
+/// whether all were marked.
 fn take_clause<M: ClauseMap>(marks: &mut [bool], map: &mut M, clip: &Clip) -> bool
     requires known { IsKnown (M.caller_view map.old) clip.now }
     requires follow { AllFollow (M.caller_view map.old) }
@@ -210,8 +214,8 @@ fn take_clause<M: ClauseMap>(marks: &mut [bool], map: &mut M, clip: &Clip) -> bo
     true
 }
 
-/// Takes away the mark of a literal, and that of the second, if there is one, and returns whether all had one. The clause has each literal
-/// once.
+/// Clears the mark of a literal and, if there is one, that of the second, and returns whether all
+/// were marked. The clause has each literal once.
 #[inline]
 fn take_pair(marks: &mut [bool], first: Lit, second: Option<Lit>) -> bool
     requires first { code_of first < length marks.old }
@@ -233,7 +237,7 @@ fn take_pair(marks: &mut [bool], first: Lit, second: Option<Lit>) -> bool
         }
 }
 
-/// Takes the mark of a literal away, changes no other, and returns whether it had one.
+/// Clears the mark of a literal, changes no other, and returns whether it was marked.
 #[inline]
 fn take_mark(marks: &mut [bool], lit: Lit) -> bool
     requires { code_of lit < length marks.old }

@@ -19,11 +19,11 @@ use Rattle.run_laws.specs.Groups.{one, IsGroup, IsReadingOf}
 use Rattle.run_laws.specs.GroupLaws.{AloneHasOneReport, BeginningsWithin}
 use Rattle.run_laws.proofs.Places.{judged_at}
 
--- these bytes are a reading of a stream that has these and this end, where the reading has this end, if any
+-- these bytes are a reading of a stream with these bytes and this end, and the reading has this end, if any
 abbrev pub ReadsTo : Option StreamEnd → List ℕ → List ℕ → StreamEnd → Type 0
 ReadsTo its bytes whole end = MatchOption its ((more : List ℕ) × (whole ≡ bytes ++ more)) (λ e. (whole ≡ bytes) × (e ≡ end))
 
--- however much of a stream was read, all of it is judged so
+-- however much of a stream was read, all of it has this judgement
 pub judged_whole : OverStays
     → (c : StreamParams) (its : Option StreamEnd) (bytes whole : List ℕ) (end : StreamEnd) (blocks : List History) (report : Report)
     → ReadsTo its bytes whole end → ((other : StreamEnd) → IfSome its (λ e. e ≡ other) → JudgesBlocks c bytes other blocks report)
@@ -65,7 +65,7 @@ alone_has_one_report stays decides f run_params s whole end streams others repor
     (alone_judged stays f run_params s others other_reports whole end other other_report h there also too)
     (g.memory s report (me s) says) (h.memory s other_report (me s) too)).1
 
--- Beginnings of bytes
+-- Prefixes of bytes
 
 pub beginnings_within : EveryCut → BeginningCut → BeginningsWithin
 beginnings_within every alike p set bytes more cites =

@@ -58,7 +58,7 @@ foreign_by c id owners.Outside is foreign = absurd (let no : ownerships.Outside 
 
 -- What a stream publishes
 
--- what a stream left at an identity of its own, it published
+-- what a history has at an identity of the stream's own, the stream published
 own_has : (f : Cnf) (p : LayoutValue) (h : History) (t id : ℕ) (d : Clause) → Fits p f → IsLegal f p h → Owns p t id
     → HasClause (state f h id) d → IsIn (id, d) (published (own h t))
 own_has f p h t id d fits legal owns has =
@@ -76,7 +76,7 @@ own_stays f p h t id d legal is =
     in_all (λ x. HasClause (state f h x.0) x.1) (id, d) (published h) (published_stay f p (opening f) h legal.events)
     (own_published h t (id, d) is)
 
--- of two lists of lines that the same bytes begin with one begins with the other
+-- if the same bytes begin with two lists of lines, one of the lists begins with the other
 one_begins : OneFirstLine → (a b : List StreamLine) (x y : List ℕ) → AllByRecursion IsWithinLimits a → AllByRecursion IsWithinLimits b
     → flat_map line_text a ++ x ≡ flat_map line_text b ++ y → GoesOn a b ⊎ GoesOn b a
 one_begins first [] b x y fit fits is = inl (b, refl)
@@ -95,7 +95,7 @@ in_more x a b on is =
 
 -- A stream in a run
 
--- an end that a stream had, and what its reader had left behind the bytes by which it is judged: nothing, at the end
+-- an end that a stream had, and what its reader had left after the bytes by which it is judged: nothing, if it ended
 pub record ReadSo (c : StreamParams) (bytes whole : List ℕ) (blocks : List History) (report : Report) : Type 0 where
   pub end : StreamEnd
   pub judges : JudgesBlocks c bytes end blocks report
@@ -130,7 +130,7 @@ read_so c None bytes unneeded whole (Some left) has_failed blocks report took en
   ended = λ is. absurd (let no : stream_ends.Failed ≡ stream_ends.Ended = is in cc);
 }
 
--- what a run says of the stream whose reader has these bytes left at first
+-- what a run says about the stream whose reader has these bytes left at first
 pub record IsReadIn (f : Cnf) (run_params : RunParamsValue) (observed : List InputObservation) (reports : List Report)
     (r : IsRun f run_params observed reports)
     (s : ℕ) (whole : List ℕ) (report : Report) : Type 0 where
@@ -161,14 +161,14 @@ read_in f run_params observed reports r s whole observation report here entry sa
           is.ends is.needed j.2;
     }
 
--- the readers of the set have the bytes of these streams left at first, and maybe more behind them
+-- the readers of the set have the bytes of these streams left at first, and maybe more after them
 abbrev pub HaveBytesOf : (ℕ → Bool) → List Stream → List InputObservation → Type 0
 HaveBytesOf set streams observed =
     (t : ℕ) (stream : Stream) (observation : InputObservation) → IsTrue (set t) → IsOfStream streams t stream
     → IsOfStream observed t observation → (more : List ℕ) × (observation.entry ≡ Some (stream.bytes ++ more))
 
 module _ (first : OneFirstLine) (refused : RefusedStays) (cited : CitedFetched) where
-  -- the one history judges a closed set of streams; the readers of the other run begin with their bytes
+  -- one history judges a closed set of streams; the readers of the other run begin with their bytes
   module _ (f : Cnf) (run_params : RunParamsValue) (set : ℕ → Bool) (g : History) (streams : List Stream) (reports : List Report)
       (observed : List InputObservation)
       (others : List Report) (fits : Fits run_params.layout f) (count : length streams ≡ run_params.layout.streams)
@@ -204,7 +204,7 @@ module _ (first : OneFirstLine) (refused : RefusedStays) (cited : CitedFetched) 
           judges = way.1;
         }
 
-    -- the same stream in the run, whose reader has this behind it
+    -- the same stream in the run, whose reader has this after it
     record Other (s : ℕ) (w : Part s) (more : List ℕ) : Type 0 where
       report : Report
       says : IsOfStream others s report
@@ -238,7 +238,7 @@ module _ (first : OneFirstLine) (refused : RefusedStays) (cited : CitedFetched) 
         let entry = bytes s w.stream observation.0 is.0 w.at observation.1 in
         (entry.0, other_of s member w observation.0 entry.0 observation.1 entry.1)
 
-    -- at an identity of the set both have one clause
+    -- at an identity of the set both have the same clause
     one_clause : (t id : ℕ) (x d : Clause) → IsTrue (inside run_params.layout set t) → Owns run_params.layout t id
         → HasClause (state f g id) x → HasClause (state f r.history id) d → x ≡ d
     one_clause t id x d member owns mine theirs =
@@ -265,7 +265,7 @@ module _ (first : OneFirstLine) (refused : RefusedStays) (cited : CitedFetched) 
               (own_stays f p g t id d legal (subst (IsIn (id, d)) (sym published_here) (in_more (id, d) also lines on there)))
         ]
 
-    -- what the one history finds of other streams, and what the run does
+    -- what the history finds of other streams, and what the run finds
     abbrev Mine : ℕ → Clause → Type 0
     Mine id d = HasClause (state f g id) d × ((t : ℕ) → Owns run_params.layout t id → IsTrue (inside run_params.layout set t))
 
@@ -301,7 +301,7 @@ module _ (first : OneFirstLine) (refused : RefusedStays) (cited : CitedFetched) 
     found_theirs s (events.publish u id d result ∷ es) there = (tt, found_theirs s es there.1)
     found_theirs s (events.retire u id result ∷ es) there = (tt, found_theirs s es there.1)
 
-    -- the run's good lines go on from those of the stream, or it ended in them for which none of them is to blame
+    -- the run's good lines begin with those of the stream, or the stream ended in these lines, and none of them is to blame
     goes_on : (s : ℕ) (member : IsTrue (inside run_params.layout set s)) (w : Part s) (more : List ℕ) (o : Other s w more)
         → w.judges.rest ≡ []
         → GoesOn w.judges.lines o.read.reads.judges.lines ⊎ IsBlameless (stream_params run_params s) Mine (length w.judges.lines) o.report
@@ -329,7 +329,7 @@ module _ (first : OneFirstLine) (refused : RefusedStays) (cited : CitedFetched) 
         (omega arith) w.judges.good j.good j.ends w.judges.fits j.fits
         o.texts o.read.reads.ended ours also
 
-    -- it tells at least as much, or it ended in the stream's lines for which none of them is to blame
+    -- it says at least as much, or it ended in the stream's lines, and none of them is to blame
     pub record TellsOn (s : ℕ) (report other : Report) : Type 0 where
       pub stream : Stream
       pub at : IsOfStream streams s stream
@@ -375,7 +375,7 @@ module _ (first : OneFirstLine) (refused : RefusedStays) (cited : CitedFetched) 
         }
 
     module _ (one_fault : OneFault) (empty : EmptyPending) where
-      -- where it has the stream's bytes and no more, it has its report
+      -- if it has the stream's bytes and no more, it has its report
       pub same_report : (s : ℕ) (stream : Stream) (observation : InputObservation) (report other : Report)
           → IsTrue (set s) → IsOfStream streams s stream → IsOfStream reports s report → report.ending ≡ endings.Ended
           → IsOfStream observed s observation → observation.entry ≡ Some stream.bytes → IsOfStream others s other

@@ -1,4 +1,4 @@
--- One line in two histories: where it is good in the one, it is good in the other, or lacks a clause of another stream.
+-- One line in two histories: if it is good in one, it is good in the other, or lacks a clause of another stream.
 use Rattle.std.proofs.Common.{◌≡◌, ◌⊎◌, ◌++◌, ℕ, zero, suc, ℤ, neg_ℤ, Bool, List, [], ◌∷◌, length, replicate, Result, Ok, Err, inl, inr}
 use Rattle.std.proofs.Common.{refl, sym, ap, subst, ◌∙◌, append_assoc, append-nil}
 use Rattle.std.specs.Prelude.{◌↔◌}
@@ -41,7 +41,7 @@ IsNear ownerships.Own = Unit {0}
 IsNear ownerships.Foreign = ⊥
 IsNear ownerships.Outside = ⊥
 
--- this holds of a clause that was found of another stream, and of its identity
+-- if the event found a clause of another stream, this holds for the clause and its identity
 abbrev pub IsFoundIn : StreamParams → (ℕ → Clause → Type 0) → Event → Type 0
 IsFoundIn c Found (events.fetch s id events.vacant) = Unit {0}
 IsFoundIn c Found (events.fetch s id (events.live d)) = ownership_of c id ≡ ownerships.Foreign → Found id d
@@ -49,13 +49,13 @@ IsFoundIn c Found (events.fetch s id events.retired) = Unit {0}
 IsFoundIn c Found (events.publish s id d r) = Unit {0}
 IsFoundIn c Found (events.retire s id r) = Unit {0}
 
--- from this state on each event of an identity of the formula or of the stream's own answers as the state after those before it,
--- and this holds of what is found of other streams
+-- from this state on, each event at an identity of the formula or of the stream's own answers as the state after the events before it, and
+-- this holds for what is found of other streams
 abbrev pub AreFair : StreamParams → (ℕ → Clause → Type 0) → State → History → Type 0
 AreFair c Found m [] = Unit {0}
 AreFair c Found m (e ∷ es) = (IsNear (ownership_of c (identity_of e)) → Answers m e) × IsFoundIn c Found e × AreFair c Found (after m e) es
 
--- what the one history finds of other streams, and what the other does, is one clause at one identity
+-- at one identity, the one history and the other find the same clause of another stream
 abbrev pub FindAlike : StreamParams → (ℕ → Clause → Type 0) → (ℕ → Clause → Type 0) → Type 0
 FindAlike c Mine Theirs = (id : ℕ) (d e : Clause) → ownership_of c id ≡ ownerships.Foreign → Mine id d → Theirs id e → d ≡ e
 
@@ -86,7 +86,7 @@ asked_fair ownerships.Outside c Found m h asked rest r is asks fair = record {
   later = subst (λ (a : History). AreFair c Found m (a ++ rest)) asks.0 fair;
 }
 
--- a live clause is what every fetch finds
+-- every fetch finds a live clause
 fetch_live : (m : State) (s id : ℕ) (d : Clause) (r : Reply) → Answers m (events.fetch s id (events.live d))
     → Answers m (events.fetch s id r) → r ≡ events.live d
 fetch_live m s id d events.vacant is answers = absurd (let no : live d ≡ absent = sym is ∙ answers in cc)
@@ -98,11 +98,11 @@ same_clause absent d e a b = absurd a
 same_clause (live x) d e a b = sym a ∙ b
 same_clause (retired x) d e a b = sym a ∙ b
 
--- this is the fault of an identity of another stream, where the clause was found, and nothing is there, or nothing any more
+-- the fault is that a clause of another stream, found in the one history, isn't there yet, or is no longer there
 abbrev IsLackOf : StreamParams → (ℕ → Clause → Type 0) → ℕ → Clause → Fault → Type 0
 IsLackOf c Mine h d fault = (ownership_of c h ≡ ownerships.Foreign) × Mine h d × ((fault ≡ faults.Missing h) ⊎ (fault ≡ faults.Retired h))
 
--- the look-up comes to this clause, or lacks it
+-- the look-up finds this clause, or lacks it
 abbrev IsThatOrLacks : StreamParams → (ℕ → Clause → Type 0) → ℕ → Clause → Result Clause Fault → Type 0
 IsThatOrLacks c Mine h d answer = (answer ≡ Ok d) ⊎ ((fault : Fault) × (answer ≡ Err fault) × IsLackOf c Mine h d fault)
 
@@ -134,7 +134,7 @@ replies_agree ownerships.Foreign c Mine Theirs m h rest left d r asked alike is 
 replies_agree ownerships.Outside c Mine Theirs m h rest left d r asked alike is asks mine theirs =
     absurd (let no : events.live d ≡ events.vacant = asks.1 in cc)
 
--- a clause that a look-up found in the one history, and what the same look-up comes to in the other
+-- a clause that a look-up found in the one history, and the same look-up in the other
 record LooksAlike (c : StreamParams) (Mine Theirs : ℕ → Clause → Type 0) (m : State) (h : ℕ) (d : Clause) (answer : Result Clause Fault)
     (rest left : History) : Type 0 where
   that : IsThatOrLacks c Mine h d answer
@@ -233,7 +233,7 @@ import_agrees c Mine Theirs m st id lits fs es deleted fault alike good mine the
 
 -- Deletions
 
--- a deletion that is good in the one is good in the other, by the same events
+-- a deletion that is good in the one is good in the other, with the same events
 at_agrees : (ownership : Ownership) (c : StreamParams) (Mine Theirs : ℕ → Clause → Type 0) (m : State) (is_dropped : ℕ → Bool)
     (earlier : List ℕ) (id : ℕ)
     (fs es : History) (v : LineVerdict) (A B : History → Type 0)
@@ -351,7 +351,7 @@ bad_publishes c st (Deletion lead ids) es deleted fault judged =
 bad_publishes c st (Import id lits) es deleted fault judged =
     published-fetches es (import_all c IsFetch (λ h r. tt) st id lits es (Bad deleted fault) judged)
 
--- some identities of a deletion publish nothing
+-- a deletion of these identities publishes nothing
 pub deletes_publish : (c : StreamParams) (is_dropped : ℕ → Bool) (ids : List ℕ) (es : History) → JudgesDeletion c is_dropped [] ids es Good
     → published es ≡ []
 deletes_publish c is_dropped ids es judged = published-retires es

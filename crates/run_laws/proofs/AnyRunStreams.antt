@@ -55,7 +55,7 @@ near_owner c id t near owns = elim (cases_eq t c.stream) [
       (ap (ownership_by c) owns ∙ cond-false (eqb t c.stream) ownerships.Own ownerships.Foreign (ne_eqb t c.stream other)) near)
 ]
 
--- what a stream calls in a legal history is fair, where its finds are
+-- a stream's calls in a legal history are fair if what it finds is
 pub near_fair : (f : Cnf) (c : StreamParams) (Found : ℕ → Clause → Type 0) (m n : State) (h : History) → LegalFrom f c.layout m h
     → ((id : ℕ) → IsNear (ownership_of c id) → n id ≡ m id) → AllByRecursion (IsFoundIn c Found) (own h c.stream)
     → AreFair c Found n (own h c.stream)
@@ -78,7 +78,7 @@ near_fair f c Found m n (e ∷ h) legal agree found = elim (cases_eq (stream_of 
       (subst (AllByRecursion (IsFoundIn c Found)) is found))
 ]
 
--- a clause that was found is at its identity in this state, live or retired
+-- a clause that was found is still at its identity in this state, live or retired
 abbrev pub IsStillThere : State → Event → Type 0
 IsStillThere k (events.fetch s id events.vacant) = Unit {0}
 IsStillThere k (events.fetch s id (events.live d)) = HasClause (k id) d
@@ -98,7 +98,7 @@ pub all_still_there : (f : Cnf) (p : LayoutValue) (m : State) (h : History) → 
 all_still_there f p m [] legal = tt
 all_still_there f p m (e ∷ h) legal = (still_there f p m e h legal, all_still_there f p (after m e) h legal.2)
 
--- nothing is asked of what is found
+-- no condition on what is found
 abbrev pub Anything : ℕ → Clause → Type 0
 Anything id d = Unit {0}
 
@@ -135,7 +135,7 @@ in_all P x [] all is = absurd is
 in_all P x (y ∷ xs) all (inl here) = subst P here all.0
 in_all P x (y ∷ xs) all (inr later) = in_all P x xs all.1 later
 
--- what one stream published the history did
+-- what one stream published, the history did
 pub own_published : (h : History) (s : ℕ) (x : ℕ × Clause) → IsIn x (published (own h s)) → IsIn x (published h)
 own_published [] s x is = is
 own_published (e ∷ h) s x is =
@@ -157,7 +157,7 @@ had absent d has = has
 had (live c) d has = has
 had (retired c) d has = has
 
--- a clause that events leave at an identity was there, or is published by them
+-- a clause that events leave at an identity was there, or the events publish it
 pub left_published : (m : State) (es : History) (id : ℕ) (d : Clause) → HasClause (run m es id) d
     → HasClause (m id) d ⊎ IsIn (id, d) (published es)
 left_published m [] id d has = inl has
@@ -249,20 +249,20 @@ pub fair_back : (c : StreamParams) (Found : ℕ → Clause → Type 0) (m : Stat
 fair_back c Found m [] b fair = fair
 fair_back c Found m (e ∷ a) b fair = fair_back c Found (after m e) a b fair.2
 
--- one of the first lines, this many, lacks a clause of another stream, which was found
+-- one of the first `count` lines lacks a clause of another stream, which was found
 abbrev pub LacksFound : StreamParams → (ℕ → Clause → Type 0) → ℕ → Report → Type 0
 LacksFound c Mine count report = (d : Clause) × (line h : ℕ) × Mine h d × (line ≤ count) × (ownership_of c h ≡ ownerships.Foreign)
     × ((report.ending ≡ endings.Bad line (faults.Missing h)) ⊎ (report.ending ≡ endings.Bad line (faults.Retired h)))
 
--- memory ran out, or a read failed, in one of the first lines, this many
+-- memory ran out, or a read failed, in one of the first `count` lines
 abbrev pub IsCutIn : ℕ → Report → Type 0
 IsCutIn count report = (line : ℕ) × (line ≤ count) × IsExcusedAt CutOff report line
 
--- the report is of an ending in the first lines, so many, for which none of them is to blame
+-- the report has an ending in the first `count` lines, and none of them is to blame
 abbrev pub IsBlameless : StreamParams → (ℕ → Clause → Type 0) → ℕ → Report → Type 0
 IsBlameless c Mine count report = IsCutIn count report ⊎ LacksFound c Mine count report
 
--- the good lines go on from these
+-- the list begins with these lines
 abbrev pub GoesOn : List StreamLine → List StreamLine → Type 0
 GoesOn lines all = (later : List StreamLine) × (all ≡ lines ++ later)
 
@@ -275,7 +275,7 @@ module _ (first : OneFirstLine) (refused : RefusedStays) (c : StreamParams) (Min
   lacks n count fault report below says (h, d, foreign, was, inr is_dropped) =
       (d, n, h, was, below, foreign, inr (says ∙ ap (λ (x : Fault). endings.Bad n x) is_dropped))
 
-  -- where a whole line is left, the stream didn't come to its end
+  -- if a whole line is left, the stream didn't come to its end
   at_its_end : (line : StreamLine) (later rest left : List ℕ) (end : StreamEnd) (before : List StreamLine) (n count : ℕ) (report : Report)
       → n ≤ count → IsWithinLimits line → rest ++ left ≡ line_text line ++ later → (end ≡ stream_ends.Ended → left ≡ []) → IsPending rest
       → report ≡ report_of c before 0 (ending_at end rest n) → IsCutIn count report
@@ -310,7 +310,8 @@ module _ (first : OneFirstLine) (refused : RefusedStays) (c : StreamParams) (Min
       inl (at_its_end line later rest left end before (capped (length before + 1)) count report
       (omega (arith, below)) limits is none pending says)
 
-  -- a stream whose bytes begin with lines that are good in the one history goes on from them in the other, or ends in them blameless
+  -- if a stream's bytes begin with lines that are good in the one history, its good lines in the other begin with these, or it ends in
+  -- them, and none of them is to blame
   pub lines_go_on : (before lines others : List StreamLine) (fs front back : List History) (m : State) (rest left more : List ℕ)
       (end : StreamEnd)
       (count : ℕ) (report : Report) → length before + length lines ≤ count
@@ -357,7 +358,7 @@ module _ (first : OneFirstLine) (refused : RefusedStays) (c : StreamParams) (Min
         | inr worse ↦ inr worse
       ]
 
--- What a stream tells that goes on from some lines
+-- What a stream says that continues after some lines
 
 more_observed : (c : StreamParams) (lines later : List StreamLine) (deleted : ℕ) (ending : Ending) (report : Report)
     → report ≡ report_of c (lines ++ later) deleted ending → TellsAtLeast report (report_of c lines 0 endings.Ended)
@@ -374,7 +375,7 @@ more_observed c lines later deleted ending report says =
           ∙ or_left (list_any is_cubes (additions_of lines)) (list_any is_cubes (additions_of later)) test;
     })
 
--- it tells at least what these lines do
+-- it says at least what the report of these lines does
 pub goes_on_tells : (c : StreamParams) (lines later : List StreamLine) (rest : List ℕ) (end : StreamEnd) (back : List History)
     (report : Report)
     → EndsAfter c (lines ++ later) rest end back report → TellsAtLeast report (report_of c lines 0 endings.Ended)
@@ -393,7 +394,7 @@ module _ (one_fault : OneFault) (empty : EmptyPending) (c : StreamParams) where
   by_end lines stream_ends.Ended n report failure says = says
   by_end lines stream_ends.Failed n report failure says = absurd (failure (n, ap (λ (r : Report). r.ending) says))
 
-  -- where nothing is left, the stream ended
+  -- if nothing is left, the stream ended
   at_nothing : (lines : List StreamLine) (rest : List ℕ) (end : StreamEnd) (back : List History) (report : Report) → rest ≡ []
       → ¬ IsExcused OutOfMemory report → ¬ IsExcused ReadFailed report → EndsAfter c lines rest end back report
       → report ≡ report_of c lines 0 endings.Ended
@@ -414,7 +415,7 @@ module _ (one_fault : OneFault) (empty : EmptyPending) (c : StreamParams) where
   none_behind (line ∷ later) rest left limits is =
       absurd (empty.whole line (flat_map line_text later ++ (rest ++ left)) limits.0 (sym is ∙ split_first line later (rest ++ left)))
 
-  -- so it does where these lines are all that its bytes have
+  -- it also ended if these lines are all that its bytes have
   pub whole_observed : (lines all : List StreamLine) (rest left : List ℕ) (end : StreamEnd) (back : List History) (report : Report)
       → GoesOn lines all → AllByRecursion IsWithinLimits all → flat_map line_text all ++ (rest ++ left) ≡ flat_map line_text lines
       → ¬ IsExcused OutOfMemory report → ¬ IsExcused ReadFailed report

@@ -34,7 +34,7 @@ use Rattle.run_laws.proofs.ValidLines.{own_ownership}
 abbrev Nothing : ℕ → Clause → Type 0
 Nothing id d = ⊥
 
--- an identity of another stream has no clause in a history of this one alone
+-- in a history of this stream alone, an identity of another stream has no clause
 none_there : (f : Cnf) (c : StreamParams) (h : History) (id : ℕ) (d : Clause) → Fits c.layout f → IsLegal f c.layout h
     → AllByRecursion (λ e. stream_of e ≡ c.stream) h → ownership_of c id ≡ ownerships.Foreign → HasClause (state f h id) d → ⊥
 none_there f c h id d fits legal calls foreign has =

@@ -19,13 +19,13 @@ use Rattle.run_laws.proofs.SwapLemmas.{Settles, goes-behind, comes-before}
 
 -- Blocks
 
--- what is known of a block in an order: whose its events are, and what they tell of retired identities
+-- what is known of a block in an order: whose its events are, and what they say about retired identities
 pub record IsSettled (p : LayoutValue) (final : State) (block : Block) : Type 0 where
   pub stream : IsStream p block.stream
   pub calls : AllByRecursion (λ e. stream_of e ≡ block.stream) block.events
   pub settles : AllByRecursion (Settles p final) block.events
 
--- the event as the first of its stream's first block
+-- puts the event in front of its stream's first block
 abbrev pub join : Event → List Block → List Block
 join e [] = []
 join e (block ∷ blocks) =
@@ -44,7 +44,7 @@ join-other : (e : Event) (block : Block) (blocks : List Block) → (block.stream
 join-other e block blocks other = cond-false (eqb block.stream (stream_of e)) (joined_block e block ∷ blocks) (block ∷ join e blocks)
     (ne_eqb block.stream (stream_of e) other)
 
--- its stream's blocks are then the same, but the first begins with it
+-- its stream's blocks are then the same, except that the first begins with the event
 pub join-own : (e : Event) (blocks : List Block) (b : History) (more : List History) → blocks_of (stream_of e) blocks ≡ b ∷ more
     → blocks_of (stream_of e) (join e blocks) ≡ (e ∷ b) ∷ more
 join-own e [] b more is = absurd (cc)

@@ -27,7 +27,7 @@ use Rattle.stream_check.specs.Closed.{IsOwnedWithin, CiteWithin, IsClosed}
 use Rattle.run_laws.specs.GroupLaws.{ClosedIsGroup}
 use Rattle.run_laws.proofs.Places.{has_place, judged_at}
 
--- The set's streams that are streams of the layout
+-- Streams that are in the set and in the layout
 
 pub inside : LayoutValue → (ℕ → Bool) → ℕ → Bool
 inside p set s = set s && (nat_lt 0 s && nat_le s p.streams)
@@ -47,7 +47,7 @@ inside_is p set s member =
 
 -- What is fetched
 
--- no stream outside the set owns what has this owner
+-- no stream outside the set has this owner's identities
 owned_by : (ℕ → Bool) → Owner → Bool
 owned_by set owners.Formula = true
 owned_by set (owners.Stream t) = set t
@@ -94,7 +94,7 @@ cites_pass p set lines some within =
     (cited_by line) all)
     lines within
 
--- what a stream that cites within the set fetches is within it
+-- if a stream cites within the set, what it fetches is within the set
 fetches_within : CitedFetched
     → (p : LayoutValue) (set : ℕ → Bool) (c : StreamParams) (stream : Stream) (blocks : List History) (report : Report)
     → 0 < p.streams → CiteWithin p set stream.bytes → JudgesStream c stream blocks report
@@ -107,7 +107,7 @@ fetches_within law p set c stream blocks report some cites judged =
 
 -- The history
 
--- what holds of each event of the set's streams, and of every event of others, holds of all
+-- what holds for each event of the set's streams, and for every event of others, holds for all
 each_stream : (P : Event → Type 0) (set : ℕ → Bool) (h : History)
     → ((s : ℕ) → IsTrue (set s) → AllByRecursion P (own h s)) → ((e : Event) → set (stream_of e) ≡ false → P e) → AllByRecursion P h
 each_stream P set [] mine theirs = tt
@@ -127,7 +127,7 @@ finds_outside p set (events.fetch s id r) out = λ member. absurd (true≢false 
 finds_outside p set (events.publish s id c r) out = tt
 finds_outside p set (events.retire s id r) out = tt
 
--- a history by which the streams of a closed set are judged finds within the set
+-- a history that judges the streams of a closed set finds within the set
 pub closed_finds : CitedFetched
     → (run_params : RunParamsValue) (set : ℕ → Bool) (h : History) (streams : List Stream) (reports : List Report)
     → length streams ≡ run_params.layout.streams → AreJudgedIn run_params set h 1 streams reports → IsClosed run_params.layout set streams

@@ -1,4 +1,4 @@
--- What the events of a line are: a deletion only retires, and no other line does.
+-- What kinds of events a line has: a deletion only retires, and no other line does.
 use Rattle.std.proofs.Common.{ℕ, Bool, List, [], ◌∷◌}
 use Rattle.std.specs.Prelude.{IsTrue}
 use Rattle.std.specs.List.{AllByRecursion}
@@ -15,7 +15,7 @@ use Rattle.stream_check.specs.Judging.{JudgesLine}
 use Rattle.run_laws.specs.Lines.{RetiresLast}
 use Rattle.run_laws.specs.OrderLaws.{RetiresOnly}
 
--- what holds of the retires of a deletion's identities holds of its events
+-- what holds for the retires of a deletion's identities holds for its events
 pub identities_all : (c : StreamParams) (P : Event → Type 0) (is_dropped : ℕ → Bool) (earlier ids : List ℕ) (es : History) (v : LineVerdict)
     → AllByRecursion (λ id. (r : Retired) → P (events.retire c.stream id r)) ids → JudgesDeletion c is_dropped earlier ids es v
     → AllByRecursion P es
@@ -37,7 +37,7 @@ never_last : (es : History) → AllByRecursion (λ e. ¬ IsRetire e) es → Reti
 never_last [] all = tt
 never_last (e ∷ es) all = ((λ is. absurd (all.0 is)), never_last es all.1)
 
--- after a retire of a line there are only retires
+-- after a retire, a line has only retires
 pub line_last : (c : StreamParams) (st : StreamContext) (line : StreamLine) (es : History) (v : LineVerdict) → JudgesLine c st line es v
     → RetiresLast es
 line_last c st (Addition id lits hints) es v judged =

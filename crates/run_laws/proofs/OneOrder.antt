@@ -1,4 +1,4 @@
--- Two orders by turns of the same streams are one.
+-- Two orders of the same streams that both take them in turn are one.
 use Rattle.std.proofs.Common.{◌≡◌, ◌≢◌, ◌<◌, ◌≤◌, ◌+◌, ℕ, true, List, [], ◌∷◌, ◌++◌, length, Bool, cond, eqb, eq-eqb, ne_eqb, inl, inr}
 use Rattle.std.proofs.Common.{refl, sym, ap, ap₂, subst, ◌∙◌, arith, append_assoc}
 use Rattle.std.specs.List.{AllByRecursion}
@@ -33,7 +33,7 @@ lines_other t s order other =
     let none : ◌≡◌ {A = ℕ} (cond (eqb t s) 1 0) 0 = ap (λ (b : Bool). cond {A = ℕ} b 1 0) (ne_eqb t s other) in
     omega (arith, sum_by-cons (λ u. cond (eqb u s) 1 0) t order, none)
 
--- where a stream has a line left no other is ahead of it
+-- if a stream has a line left, no other stream is ahead of it
 waits : (before order : List ℕ) (t : ℕ) → AreTurns before order → 0 < line_count t order → IsTurnOf t before
 waits before [] t turns some = absurd (omega (arith, some))
 waits before (s ∷ order) t turns some = elim (cases_eq s t) [
@@ -47,7 +47,7 @@ waits before (s ∷ order) t turns some = elim (cases_eq s t) [
       )
 ]
 
--- so it is where the next line is another stream's, which then is ahead
+-- the same if the next line is another stream's, which is then ahead
 waits_for : (before order : List ℕ) (s t : ℕ) → AreTurns before (s ∷ order) → s ≢ t → 0 < line_count t (s ∷ order)
     → (t ≤ s → line_count s before + 1 ≤ line_count t before) × (s < t → line_count s before ≤ line_count t before)
 waits_for before order s t turns other some =
@@ -58,7 +58,7 @@ waits_for before order s t turns other some =
       λ ahead. omega (arith, later.1 ahead, mine, own),
     )
 
--- two orders go on with the same stream, where each of the two has a line left in both
+-- two orders continue with the same stream, if each of the two streams has a line left in both
 same_turn : (before xs ys : List ℕ) (s t : ℕ) → AreTurns before (s ∷ xs) → AreTurns before (t ∷ ys)
     → 0 < line_count t (s ∷ xs) → 0 < line_count s (t ∷ ys) → s ≡ t
 same_turn before xs ys s t turns others left too = elim (cases_eq s t) [
@@ -72,7 +72,7 @@ same_turn before xs ys s t turns others left too = elim (cases_eq s t) [
       ]
 ]
 
--- a stream's lines are its blocks
+-- a stream has as many lines as blocks
 lines_are : (s : ℕ) (blocks : List Block) → line_count s (streams_of blocks) ≡ length (blocks_of s blocks)
 lines_are s [] = refl
 lines_are s (x ∷ blocks) = elim (cases_eq x.stream s) [
@@ -90,7 +90,7 @@ lines_are s (x ∷ blocks) = elim (cases_eq x.stream s) [
       )
 ]
 
--- Lists of blocks that go on alike
+-- Lists of blocks that continue alike
 
 some_alike : (xs ys : List History) → GoAlike xs ys → 0 < length ys → 0 < length xs
 some_alike [] [] alike some = some
@@ -102,7 +102,7 @@ alike_some [] [] alike some = some
 alike_some (x ∷ xs) [] alike some = absurd alike
 alike_some xs (y ∷ ys) alike some = omega arith
 
--- a stream that is judged twice, by blocks of two orders, while there is memory
+-- a stream that is judged twice, by blocks of two orders, without running out of memory
 pub record JudgedTwice (c : StreamParams) (xs ys : List History) : Type 0 where
   pub bytes : List ℕ
   pub end : StreamEnd
@@ -115,7 +115,7 @@ pub record JudgedTwice (c : StreamParams) (xs ys : List History) : Type 0 where
 
 module _ (alike : BlocksGoAlike) (forks : LegalNeverFork) (f : Cnf) (run_params : RunParamsValue) (ps qs : List Block)
     (both : (s : ℕ) → IsStream run_params.layout s → JudgedTwice (stream_params run_params s) (blocks_of s ps) (blocks_of s qs)) where
-  -- behind the same lines each stream goes on alike
+  -- after the same lines each stream continues alike
   alike_at : (before xs ys : List Block) (s : ℕ) → IsStream run_params.layout s → ps ≡ before ++ xs → qs ≡ before ++ ys
       → GoAlike (blocks_of s xs) (blocks_of s ys)
   alike_at before xs ys s stream is also =
@@ -127,7 +127,7 @@ module _ (alike : BlocksGoAlike) (forks : LegalNeverFork) (f : Cnf) (run_params 
       (ap (blocks_of s) also ∙ blocks_of-append s before ys) j.second)
       j.memory j.none
 
-  -- the next line of both orders is one
+  -- the next lines of both orders are the same
   same_line : (before xs ys : List Block) (x y : Block) (m : State) → IsStream run_params.layout x.stream → x.stream ≡ y.stream
       → ps ≡ before ++ x ∷ xs → qs ≡ before ++ y ∷ ys
       → LegalFrom f run_params.layout m (events_in (x ∷ xs)) → LegalFrom f run_params.layout m (events_in (y ∷ ys)) → x ≡ y
@@ -140,7 +140,7 @@ module _ (alike : BlocksGoAlike) (forks : LegalNeverFork) (f : Cnf) (run_params 
       go (events_in xs) (events_in ys) (forks f run_params.layout m (x.events ++ events_in xs) (y.events ++ events_in ys) legal lawful) in
       ap₂ (λ (t : ℕ) (es : History). record { stream = t; events = es }) same events
 
-  -- where the stream of a line of one order has a line left, it has one in the other
+  -- if the stream of a line of one order has a line left, it has one in the other
   left_in_both : (before xs ys : List Block) (s : ℕ) → IsStream run_params.layout s → ps ≡ before ++ xs → qs ≡ before ++ ys
       → (0 < line_count s (streams_of xs) → 0 < line_count s (streams_of ys))
       × (0 < line_count s (streams_of ys) → 0 < line_count s (streams_of xs))

@@ -31,7 +31,7 @@ use Rattle.run_laws.proofs.BlockLemmas.{IsSettled}
 use Rattle.run_laws.proofs.AheadLemmas.{Lines, HasOrder}
 use Rattle.run_laws.proofs.WalkLemmas.{walk}
 
--- What events tell of retired identities
+-- What events say about retired identities
 
 settles_one : (f : Cnf) (p : LayoutValue) (final m : State) (e : Event) (h : History) → LegalFrom f p m (e ∷ h)
     → ((id : ℕ) → IsRetired (run m (e ∷ h) id) → IsRetired (final id)) → FindsKept p final e → Settles p final e
@@ -132,7 +132,7 @@ finds_less p set (events.fetch s id r ∷ h) all = (
 finds_less p set (events.publish s id c r ∷ h) all = (tt, finds_less p set h all.1)
 finds_less p set (events.retire s id r ∷ h) all = (tt, finds_less p set h all.1)
 
--- what holds of the own events of each stream of a set holds of the set's events
+-- what holds for the own events of each stream of a set holds for the set's events
 pub own_each : (P : Event → Type 0) (set : ℕ → Bool) (h : History)
     → ((s : ℕ) → IsTrue (set s) → AllByRecursion P (own h s))
     → AllByRecursion (λ e. IsTrue (set (stream_of e)) → P e) h
@@ -150,7 +150,7 @@ members_are : (p : LayoutValue) (set : ℕ → Bool) (h : History) → AllByRecu
 members_are p set [] all = tt
 members_are p set (e ∷ h) all = ((streams_are p set (stream_of e) all.0).1, members_are p set h all.1)
 
--- the lines of the set's streams, and none of others
+-- the lines of the set's streams, and none of other streams
 abbrev lines_in : LayoutValue → (ℕ → Bool) → Lines → Lines
 lines_in p set blocks = λ s. cond (streams_in p set s) (blocks s) []
 
@@ -167,7 +167,7 @@ none-of set s (e ∷ h) out all = own-other e h s (λ mine. true≢false (sym al
 some_block : (b : History) (bs gs : List History) → gs ≡ b ∷ bs → gs ≡ [] → ⊥
 some_block b bs gs is none = absurd (cc)
 
--- each block is of a stream of the set
+-- each block belongs to a stream of the set
 within_set : (p : LayoutValue) (set : ℕ → Bool) (final : State) (rest : Lines) (blocks : List Block)
     → AllByRecursion (IsSettled p final) blocks
     → ((s : ℕ) → streams_in p set s ≡ false → blocks_of s blocks ≡ []) → AllByRecursion (IsBlockWithin p set) blocks

@@ -1,4 +1,4 @@
--- The stream at a place, counted on from the first.
+-- The stream at a place, counted from the first.
 use Rattle.std.proofs.Common.{ℕ, ◌-◌, ◌<◌, ◌≤◌, Bool, List, length, inl, inr, arith}
 use Rattle.std.specs.Prelude.{IsTrue}
 use Rattle.std.proofs.lemmas.Option.{slice_get_cases}
@@ -27,7 +27,7 @@ pub judged_at : (run_params : RunParamsValue) (set : ℕ → Bool) (h : History)
 judged_at run_params set h streams reports judged s stream report member at says =
     each_at _ streams reports judged s stream report at says member
 
--- fewer streams are judged too
+-- the streams of a smaller set are judged, too
 pub judged_fewer : (run_params : RunParamsValue) (all set : ℕ → Bool) (h : History) → ((s : ℕ) → IsTrue (set s) → IsTrue (all s))
     → (s : ℕ) (streams : List Stream) (reports : List Report) → AreJudgedIn run_params all h s streams reports
     → AreJudgedIn run_params set h s streams reports

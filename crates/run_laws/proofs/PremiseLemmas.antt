@@ -31,7 +31,7 @@ use Rattle.run_laws.proofs.SwapLemmas.{gone_stays}
 use Rattle.run_laws.proofs.WalkLemmas.{own-calls}
 use Rattle.run_laws.proofs.StreamLemmas.{IsJudgedStream, judged_stream, is_inside, inside_owner, fetched_inside}
 
--- What a history leaves retired it retires
+-- What a history leaves retired, it retires
 
 gone_back : (m : State) (e : Event) (id : ℕ) → IsRetired (after m e id) → IsRetired (m id) ⊎ IsRetireOf id e
 gone_back m (events.fetch s j r) id is_dropped = inl is_dropped
@@ -75,7 +75,7 @@ opening_retires f h id is_dropped =
       | inr retires ↦ retires
     ]
 
--- What a legal history retires it leaves retired
+-- What a legal history retires, it leaves retired
 
 retired_at : (f : Cnf) (p : LayoutValue) (m : State) (e : Event) (id : ℕ) (h : History)
     → LegalFrom f p m (e ∷ h) → IsRetireOf id e → IsRetired (after m e id)
@@ -135,7 +135,7 @@ retires_more e h t id retires =
       | inr other ↦ subst (λ (g : History). HistoryRetires g id) (sym (own-other e h t other)) retires
     ]
 
--- the stream that owns it, by a call of its own
+-- the stream that owns it, with a call of its own
 retirer : (f : Cnf) (p : LayoutValue) (m : State) (h : History) (id : ℕ) → LegalFrom f p m h → HistoryRetires h id
     → (t : ℕ) × Owns p t id × HistoryRetires (own h t) id
 retirer f p m [] id legal retires = absurd retires
@@ -253,7 +253,7 @@ shared_stays cited_fetched deleted_retired f run_params set h streams reports fi
     (your_lines.lines, your_lines.rest, your_lines.cut, retired_passes (deletes your_lines.lines) id (own h t) only retires.2))
     (own h s) (own-calls h s) cited (fetched_inside cited_fetched run_params set h streams s mine my_lines)
 
--- Beginnings
+-- Prefixes
 
 pub beginnings_cite : BeginningCut → EveryCut → BeginningsCite
 beginnings_cite beginning every_cut bytes more id =

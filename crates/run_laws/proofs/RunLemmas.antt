@@ -31,7 +31,7 @@ use Rattle.run_laws.proofs.AloneLemmas.{ReadsTo, me, own-one}
 
 -- What is observed of a reader
 
--- what is observed of a reader of known place
+-- what is observed of the reader of stream s
 pub observed_at : (observed : List InputObservation) (streams : List Stream) (s : ℕ) (observation : InputObservation) (stream : Stream)
     → AllZip MatchesInput observed streams → IsOfStream observed s observation → IsOfStream streams s stream
     → MatchesInput observation stream
@@ -52,7 +52,7 @@ readers_closed law p set observed streams match_inputs closed s stream member at
     let known = closed s was.observation member (at.0, was.at) in
     observed_within law p set was.observation known.0 stream was.matches_input known.1 known.2
 
--- how a reader ends whose stream has this end, if any
+-- how the reader of a stream with this end, if any, ends
 abbrev pub EndsWith : Option StreamEnd → Option (List ℕ) → Bool → Type 0
 EndsWith its left has_failed = MatchOption its (has_failed ≡ false) (λ end. EndsSo end left has_failed)
 
@@ -104,7 +104,7 @@ closed_group law f run_params observed reports fits run set closed memory =
     law f run_params set run.history run.streams reports fits run.count run.legal
     (judged_fewer run_params (λ s. true) set run.history (λ s member. refl) 1 run.streams reports run.judged) closed memory
 
--- where one stream's report doesn't tell that memory ran out, none of it alone does
+-- if one stream's report doesn't say that memory ran out, no report of the stream as a set does
 alone_fine : (s : ℕ) (reports : List Report) (report : Report) → IsOfStream reports s report → ¬ IsExcused OutOfMemory report
     → NoneExcused (one s) OutOfMemory reports
 alone_fine s reports report says memory t other member there =
@@ -153,7 +153,7 @@ same_reading_agrees within group alone f run_params s whole end observed other_o
     (reading_within within p (one s) other.end other.bytes whole end also cites) none)
     at there reads also says too
 
--- what isn't cut off ran out of no memory, and no read of it failed
+-- if a report isn't of a cut off stream, memory didn't run out, and no read failed
 pub fine_memory : (report : Report) → ¬ IsExcused CutOff report → ¬ IsExcused OutOfMemory report
 fine_memory report fine memory = fine (memory.0, inl memory.1)
 
@@ -178,7 +178,7 @@ judged_to law c None bytes unneeded whole (Some left) has_failed blocks report t
     subst (λ b. JudgesBlocks c b stream_ends.Ended blocks report) (sym (took ∙ append_assoc bytes unneeded left))
     (law c bytes (unneeded ++ left) stream_ends.Ended blocks report machine (j stream_ends.Failed tt))
 
--- a legal history judges all these bytes so
+-- a legal history gives all these bytes this judgement
 pub record IsJudgedWhole (f : Cnf) (run_params : RunParamsValue) (s : ℕ) (whole : List ℕ) (report : Report) : Type 0 where
   pub history : History
   pub legal : IsLegal f run_params.layout history

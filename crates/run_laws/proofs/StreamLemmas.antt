@@ -1,4 +1,4 @@
--- The order of the lines of streams: each one's blocks, gathered from what it is judged by.
+-- The order of the lines of streams: each stream's blocks, taken from its judgement.
 use Rattle.std.proofs.Common.{◌≡◌, ◌+◌, ◌-◌, ◌<◌, ◌≤◌, ℕ, Bool, true, cond, eqb, List, [], ◌∷◌, map, length, Some, refl, sym}
 use Rattle.std.proofs.Common.{subst, ◌∙◌, inl, inr, arith, ne_eqb, eq-eqb}
 use Rattle.std.specs.Prelude.{IsTrue, slice_get}
@@ -37,7 +37,7 @@ reduced_judged : ReducedStream → (c : StreamParams) (stream : Stream) (blocks 
 reduced_judged law c stream blocks report judged = λ end its. law c stream.bytes end blocks report (judged end its)
 
 module _ (run_params : RunParamsValue) (set : ℕ → Bool) (h : History) where
-  -- if the stream is of the set, these blocks are its own events, and it is judged by them
+  -- if the stream is in the set, these blocks are its own events, and judge it
   abbrev IsJudgedWith : ℕ → Stream → Report → List History → Type 0
   IsJudgedWith s stream report bs = IsTrue (set s) → (own h s ≡ joined bs) × JudgesStream (stream_params run_params s) stream bs report
 
@@ -49,7 +49,7 @@ module _ (run_params : RunParamsValue) (set : ℕ → Bool) (h : History) where
         | inr out ↦ ([], (λ member. absurd (true≢false (sym member ∙ out))))
       ]
 
-  -- so for each stream, counted on from s
+  -- the same for each stream, counted from s
   abbrev AreJudgedWith : (ℕ → List History) → ℕ → List Stream → List Report → Type 0
   AreJudgedWith blocks s streams reports = Each (λ t stream report. IsJudgedWith t stream report (blocks t)) s streams reports
 
@@ -76,7 +76,7 @@ module _ (run_params : RunParamsValue) (set : ℕ → Bool) (h : History) where
         ),
       )
 
-  -- a stream of the set, as it stands in the list
+  -- a stream of the set, at its place in the list
   record IsJudgedAt (blocks : ℕ → List History) (streams : List Stream) (k s : ℕ) : Type 0 where
     stream : Stream
     report : Report
@@ -139,7 +139,7 @@ judged_stream run_params set h streams reports count judged s is member =
 
 -- Closed sets
 
--- no stream outside the set owns what has this owner
+-- no stream outside the set has this owner's identities
 pub inside_for : (ℕ → Bool) → Owner → Bool
 inside_for set owners.Formula = true
 inside_for set (owners.Stream t) = set t
@@ -252,7 +252,7 @@ all_closed every_cut p streams s stream member at =
 
 -- Runs
 
--- streams that are all judged so are judged so where they are of a set
+-- if all streams have these judgements, so have those of a set
 judged_members : (run_params : RunParamsValue) (set : ℕ → Bool) (h : History) (s : ℕ) (streams : List Stream) (reports : List Report)
     → AreJudgedIn run_params (λ t. true) h s streams reports → AreJudgedIn run_params set h s streams reports
 judged_members run_params set h s streams reports judged = each_more s streams reports judged (λ t stream report j member. j refl)

@@ -1,4 +1,4 @@
--- An event that may stand before others of its line goes behind an event of another stream.
+-- An event that may come before others of its line moves to after an event of another stream.
 use Rattle.std.proofs.Common.{◌≡◌, ◌⊎◌, ℕ, false, [], ◌∷◌, ◌++◌, refl, sym, subst, ◌∙◌, inl, inr}
 use Rattle.std.specs.List.{AllByRecursion}
 use Rattle.std.proofs.lemmas.Bool.{cases_eq, true≢false}
@@ -20,7 +20,7 @@ use Rattle.lrup_model.specs.declared.layout.Owner.{Owner}
 use Rattle.lrup_model.specs.declared.layout.Owner.TheVariants as owners
 use Rattle.stream_check.specs.Reducing.{is_vacant}
 
--- what an event tells of the identities that are retired in the end
+-- what an event says about the identities that are retired in the end
 abbrev pub Settles : LayoutValue → State → Event → Type 0
 Settles p final (events.fetch s id events.vacant) = Unit {0}
 Settles p final (events.fetch s id (events.live c)) = (Owns p s id → ⊥) → IsRetired (final id) → ⊥
@@ -95,7 +95,7 @@ gone_stays (retired c) (retired d) advances is = tt
 not_absent : (x : Slot) (c : Clause) → x ≡ live c → x ≡ absent → ⊥
 not_absent x c is none = absurd (cc)
 
--- a clause that a stream finds is still there after another stream's event, where it stays findable
+-- a clause that a stream finds is still there after another stream's event, if it isn't retired in the end
 live_stays : (f : Cnf) (p : LayoutValue) (final m : State) (s id : ℕ) (c : Clause) (d : Event)
     → (s ≡ stream_of d → ⊥) → IsAllowed f p d → Settles p final (events.fetch s id (events.live c)) → Settles p final d
     → m id ≡ live c → Answers m d → after m d id ≡ live c
@@ -109,7 +109,7 @@ live_stays f p final m s id c (events.retire t j retiring.Done) other also settl
     (subst (λ (i : ℕ). IsRetired (final i)) (sym same) too)) ∙ is
 live_stays f p final m s id c (events.retire t j retiring.NotLive) other also settles too is answers = is
 
--- the fetch has its reply after the other event too
+-- the fetch has the same reply after the other event
 then-answers : (f : Cnf) (p : LayoutValue) (final m : State) (e d : Event)
     → IsFetch e → is_vacant e ≡ false → (stream_of e ≡ stream_of d → ⊥) → IsAllowed f p d → Settles p final e → Settles p final d
     → Answers m e → Answers m d → Answers (after m d) e
@@ -140,7 +140,7 @@ swap f p final m e d h fetches some other settles too legal =
       ),
     )
 
--- a fetch that found something goes behind a whole block of another stream
+-- a fetch that found something moves to after a whole block of another stream
 pub goes-behind : (f : Cnf) (p : LayoutValue) (final m : State) (e : Event) (t : ℕ) (block h : History)
     → IsFetch e → is_vacant e ≡ false → (stream_of e ≡ t → ⊥) → Settles p final e
     → AllByRecursion (λ d. stream_of d ≡ t) block → AllByRecursion (Settles p final) block
@@ -154,14 +154,14 @@ goes-behind f p final m e t (d ∷ block) h fetches some other settles theirs se
       goes-behind f p final (after m d) e t block h fetches some other settles theirs.1 settled.1 swapped.2,
     )
 
--- Retires come before events of other streams
+-- Retires move to before events of other streams
 
 alive_some : (x : Slot) → IsLive x → x ≡ absent → ⊥
 alive_some absent alive is = absurd alive
 alive_some (live c) alive is = absurd (cc)
 alive_some (retired c) alive is = absurd alive
 
--- a fetch has its reply also after another stream's retire, where what it shows stays
+-- a fetch also has its reply after another stream's retire, if what it finds stays
 fetch-after : (p : LayoutValue) (final m : State) (s id t j : ℕ) (r : Reply)
     → (s ≡ t → ⊥) → Owns p s id → IsRetired (final id) → Settles p final (events.fetch t j r)
     → IsLive (m id) → Answers m (events.fetch t j r) → Answers (after m (events.retire s id retiring.Done)) (events.fetch t j r)
@@ -222,7 +222,7 @@ one-before f p final m e t (d ∷ block) h retires other settles theirs settled 
     swap-back f p final m e d (block ++ h) retires (λ same. other (same ∙ theirs.0)) settles settled.0
     (legal.0, legal.1, one-before f p final (after m d) e t block h retires other settles theirs.1 settled.1 legal.2)
 
--- retires of a stream come before a whole block of another
+-- retires of a stream move to before a whole block of another stream
 pub comes-before : (f : Cnf) (p : LayoutValue) (final m : State) (s : ℕ) (g : History) (t : ℕ) (block h : History)
     → (s ≡ t → ⊥) → AllByRecursion IsRetire g → AllByRecursion (λ e. stream_of e ≡ s) g → AllByRecursion (Settles p final) g
     → AllByRecursion (λ d. stream_of d ≡ t) block → AllByRecursion (Settles p final) block

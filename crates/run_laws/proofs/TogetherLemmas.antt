@@ -40,9 +40,9 @@ use Rattle.run_laws.proofs.AnyRunLemmas.{HaveBytesOf, tells_on}
 use Rattle.run_laws.proofs.ValidLemmas.{next_going, first_agrees, is_first, ended_report}
 use Rattle.run_laws.proofs.ValidLines.{Agrees, Goes, line_goes, left, not_callers}
 
--- Each stream, one line further
+-- Each stream, one more line
 
--- a stream as far as it was checked: its bytes, their blocks, and what they leave
+-- a stream as far as it was checked: its bytes, their blocks, and what they lead to
 record Track : Type 0 where
   bytes : List ℕ
   blocks : List History
@@ -53,7 +53,7 @@ record IsOn (f : Cnf) (run_params : RunParamsValue) (t : ℕ) (base : Database) 
   agrees : Agrees f run_params.layout t base track.going.context m
   reaches : ReachesState (stream_params run_params t) track.bytes track.blocks (Going track.going)
 
--- the stream goes on to the end of its lines, by its blocks of this order
+-- the stream continues to the end of its lines, with its blocks of this order
 record GoesOn (run_params : RunParamsValue) (t : ℕ) (base : Database) (track : Track) (steps : List Step)
     (order : List Block) : Type 0 where
   more : List History
@@ -65,7 +65,7 @@ record GoesOn (run_params : RunParamsValue) (t : ℕ) (base : Database) (track :
   reaches : ReachesState (stream_params run_params t) (track.bytes ++ flat_map line_text (lines_by t steps)) (track.blocks ++ more)
       (Going going)
 
--- what is said of either case of a test is said of both
+-- what holds in either case of a test holds for its result
 on_either : {A B : Type 0} (P : A → B → Type 0) (b : Bool) (x y : A) (v w : B) → (b ≡ true → P x v) → (b ≡ false → P y w)
     → P (cond b x y) (cond b v w)
 on_either P true x y v w holds fails = holds refl
@@ -91,7 +91,7 @@ not_eqb a b test same = true≢false (sym (eq-eqb a b same) ∙ test)
 
 module _ (taken : GoodLineTaken) (f : Cnf) (run_params : RunParamsValue)
     (fits : Fits run_params.layout f) where
-  -- the stream whose line it is
+  -- the stream that wrote the line
   on_with : (step : Step) (base : Database) (m : State) (track : Track) → 0 < run_params.layout.streams → IsWithinLimits step.line
       → IsOn f run_params step.stream base m track
       → (g : Goes f (stream_params run_params step.stream) base track.going.context m step.line)
@@ -106,7 +106,7 @@ module _ (taken : GoodLineTaken) (f : Cnf) (run_params : RunParamsValue)
         (record { tally = refl; context = record { last = refl; free = refl; is_dropped = λ id. refl }; pending = refl; line = refl });
   }
 
-  -- and any other
+  -- and any other stream
   on_beside : (step : Step) (base its : Database) (m : State) (track other : Track) (t : ℕ) → t ≢ step.stream
       → IsOn f run_params t its m other
       → (g : Goes f (stream_params run_params step.stream) base track.going.context m step.line)
@@ -117,7 +117,7 @@ module _ (taken : GoodLineTaken) (f : Cnf) (run_params : RunParamsValue)
     reaches = on.reaches;
   }
 
-  -- a stream that goes on after a line goes on from before it
+  -- if a stream continues after a line, it does so from before the line
   goes_with : (step : Step) (base : Database) (m : State) (track : Track) (steps : List Step) (order : List Block)
       → (g : Goes f (stream_params run_params step.stream) base track.going.context m step.line)
       → GoesOn run_params step.stream (after_line base step.line) (further run_params step g.block step.stream track) steps order
@@ -254,7 +254,7 @@ module _ (taken : GoodLineTaken) (f : Cnf) (run_params : RunParamsValue)
 
 -- What is cited
 
--- every clause of every database is the formula's, or of a stream of the set
+-- each clause of each database is the formula's, or of a stream of the set
 abbrev AreWithin : LayoutValue → (ℕ → Bool) → (ℕ → Database) → Type 0
 AreWithin p set bases = (t id : ℕ) (d : Clause) → (bases t).clauses id ≡ Some d → IsOwnedWithin p set id
 
@@ -328,7 +328,7 @@ lines_limits (step ∷ steps) t all = elim (cases_eq step.stream t) [
       (lines_limits steps t all.1)
 ]
 
--- Lists that have a thing for each stream
+-- Lists with an element for each stream
 
 pub each_from : {X : Type 0} → ℕ → ℕ → (ℕ → X) → List X
 each_from zero k of = []
@@ -383,15 +383,15 @@ each_own run_params own (suc n) k streams reports judged =
 
 -- All together
 
--- a stream that has the texts of its lines, and ends
+-- the stream that has the texts of its lines, and ends
 abbrev pub text_stream : List Step → ℕ → Stream
 text_stream steps t = record { bytes = flat_map line_text (lines_by t steps); unneeded = []; end = Some stream_ends.Ended }
 
--- what is said of the stream of these lines
+-- the report of these lines
 its_report : RunParamsValue → List Step → ℕ → Report
 its_report run_params steps t = valid_report run_params t (lines_by t steps)
 
--- a legal history judges all of them so
+-- a legal history gives all of them this judgement
 record AreJudgedTogether (f : Cnf) (run_params : RunParamsValue) (set : ℕ → Bool) (steps : List Step) : Type 0 where
   history : History
   legal : IsLegal f run_params.layout history
@@ -421,7 +421,7 @@ each_place n s of first last =
     let place : 1 + (s - 1) ≡ s = omega (arith, first) in
     (first, each_get n 1 (s - 1) of (omega (arith, first, last)) ∙ ap (λ (j : ℕ). Some (of j)) place)
 
--- a legal order of valid lines, by which each stream is judged so
+-- a legal order of valid lines, which judges each stream accordingly
 pub record IsOrderOf (f : Cnf) (run_params : RunParamsValue) (steps : List Step) (order : List Block) : Type 0 where
   pub streams : streams_of order ≡ map (λ step. step.stream) steps
   pub within : AllByRecursion (IsBlockWithin run_params.layout (λ t. true)) order

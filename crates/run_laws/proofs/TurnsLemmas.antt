@@ -32,7 +32,7 @@ same_at_each {X} (x ∷ xs) (y ∷ ys) count same =
     ap₂ (λ (z : X) (zs : List X). z ∷ zs) (same 0 x y refl refl)
     (same_at_each xs ys (omega (arith, count)) (λ k u v at there. same (suc k) u v at there))
 
--- lists that have the same thing for each stream are one
+-- lists that have the same element for each stream are equal
 same_for_each : {X : Type 0} (xs ys : List X) → length xs ≡ length ys
     → ((s : ℕ) (x y : X) → IsOfStream xs s x → IsOfStream ys s y → x ≡ y) → xs ≡ ys
 same_for_each {X} xs ys count same = same_at_each xs ys count (λ k x y at there.
@@ -54,7 +54,7 @@ own_at run_params own s streams reports stream report judged at says =
 
 -- Two runs
 
--- whatever is said twice of each stream, by its own blocks of two orders, the orders and the reports are the same
+-- if each stream is judged twice, by its own blocks of the two orders, the orders and the reports are the same
 module _ (alike : BlocksGoAlike) (forks : LegalNeverFork) (one : OneReport) (f : Cnf) (run_params : RunParamsValue)
     (streams others : List Stream) (reports other_reports : List Report)
     (a : IsOrderedByTurns f run_params streams reports) (b : IsOrderedByTurns f run_params others other_reports)

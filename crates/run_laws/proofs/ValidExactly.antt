@@ -50,7 +50,7 @@ use Rattle.run_laws.proofs.ValidLines.{AreValid, ownership_by, formulas_ownershi
 use Rattle.run_laws.proofs.ValidLines.{order_of_one}
 use Rattle.run_laws.proofs.VerdictLemmas.{or_none}
 
--- Whose an identity is
+-- Who owns an identity
 
 inside_side : (c : StreamParams) (id : ℕ) (o : Owner) → owner c.layout id ≡ o → IsOwnedWithin c.layout (one c.stream) id
     → (ownership_by c o ≡ ownerships.Outside → ⊥) → IsNear (ownership_by c o)
@@ -63,7 +63,7 @@ near_or_outside : (c : StreamParams) (id : ℕ) → IsOwnedWithin c.layout (one 
     → IsNear (ownership_of c id)
 near_or_outside c id within some = inside_side c id (owner c.layout id) refl within some
 
--- of a near ownership it is one or the other
+-- a near identity is the formula's or the stream's own
 by_ownership : (c : StreamParams) (id : ℕ) (o : Owner) → owner c.layout id ≡ o → IsNear (ownership_by c o)
     → (owner c.layout id ≡ owners.Formula) ⊎ Owns c.layout c.stream id
 by_ownership c id owners.Formula is near = inl is
@@ -78,7 +78,7 @@ formula_or_own c id near = by_ownership c id (owner c.layout id) refl near
 
 -- What lines leave
 
--- the database of some lines has every clause of the formula and of the stream that can be cited
+-- the database of some lines has each clause of the formula and of the stream that can be cited
 pub record Mirrors (f : Cnf) (c : StreamParams) (base : Database) (st : StreamContext) (m : State) : Type 0 where
   pub last : st.last ≡ base.last
   pub free : st.free ≡ base.free
@@ -136,7 +136,7 @@ valid_addition f c Found m base st id lits hints es a within (fetches, good, is)
   shown = good.shown;
 }
 
--- the parts of what is gone one line further
+-- what isn't dropped after a line wasn't dropped before it, and isn't a shared identity that the line deletes
 was_kept : (c : StreamParams) (st next : StreamContext) (line : StreamLine) (j : ℕ) → SameContext (context_after c st line) next
     → next.is_dropped j ≡ false → (st.is_dropped j ≡ false) × ((is_shared (ownership_of c j) && is_among (deleted_by line) j) ≡ false)
 was_kept c st next line j same kept =
@@ -179,13 +179,13 @@ addition_mirrors f c m base before id lits hints es a judged =
 
 -- Deletions
 
--- the identity can go: an own one is live, and one of the formula isn't gone
+-- the identity can be deleted: an own one is live, and one of the formula isn't dropped
 abbrev CanGo : StreamParams → (ℕ → Bool) → List ℕ → State → ℕ → Type 0
 CanGo c is_dropped earlier m id =
     ((ownership_of c id ≡ ownerships.Own) × IsLive (m id))
     ⊎ ((ownership_of c id ≡ ownerships.Formula) × ((is_dropped id || is_among earlier id) ≡ false))
 
--- what a good deletion of near identities says of them
+-- what a good deletion of near identities says about them
 record HasGone (c : StreamParams) (is_dropped : ℕ → Bool) (earlier ids : List ℕ) (m after_it : State) : Type 0 where
   can : AllByRecursion (CanGo c is_dropped earlier m) ids
   once : AreDistinct ids
@@ -205,7 +205,7 @@ among_last (i ∷ earlier) id = elim (cases_Bool (i == id)) [
   | inr other ↦ ap (λ (b : Bool). b || is_among (earlier ++ id ∷ []) id) other ∙ among_last earlier id
 ]
 
--- none of the others is this one, if this one can't go any more
+-- if this identity can no longer be deleted, it isn't among the others
 none_same : (c : StreamParams) (is_dropped : ℕ → Bool) (earlier ids : List ℕ) (n : State) (id : ℕ) → ¬ CanGo c is_dropped earlier n id
     → AllByRecursion (CanGo c is_dropped earlier n) ids → is_among ids id ≡ false
 none_same c is_dropped earlier [] n id cannot can = refl
@@ -214,7 +214,7 @@ none_same c is_dropped earlier (j ∷ ids) n id cannot can =
     (ne_eqb j id (λ same. cannot (subst (CanGo c is_dropped earlier n) same can.0)))
     (none_same c is_dropped earlier ids n id cannot can.1)
 
--- what holds of the others before this one
+-- what holds for the others before this one
 others_can : (c : StreamParams) (is_dropped : ℕ → Bool) (earlier ids : List ℕ) (id : ℕ) (m n : State) → is_among ids id ≡ false
     → ((j : ℕ) → j ≢ id → n j ≡ m j) → AllByRecursion (CanGo c is_dropped (earlier ++ id ∷ []) n) ids
     → AllByRecursion (CanGo c is_dropped earlier m) ids
@@ -374,7 +374,7 @@ valid_deletion f c Found m base st ids es a within fair judged =
     let is_dropped = has_gone c Found st.is_dropped [] ids m es (near_all c ids within) fair judged in
     record { there = all_have f c m base st ids a is_dropped.can; once = is_dropped.once }
 
--- what is shared and deleted is gone
+-- a shared identity that is deleted is dropped
 kept_apart : (ownership : Ownership) (among : Bool) → ownership ≡ ownerships.Formula → (is_shared ownership && among) ≡ false
     → among ≡ false
 kept_apart ownership among is kept = sym (ap (λ (x : Ownership). is_shared x && among) is) ∙ kept

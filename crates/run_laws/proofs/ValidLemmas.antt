@@ -50,7 +50,7 @@ both_true : (a b : Bool) → (a && b) ≡ true → (a ≡ true) × (b ≡ true)
 both_true true b is = (refl, is)
 both_true false b is = absurd (true≢false (sym is))
 
--- an identity that has a clause there is the formula's
+-- an identity that has a clause at first is the formula's
 pub record IsFirst (f : Cnf) (id : ℕ) (d : Clause) : Type 0 where
   pub positive : 0 < id
   pub within : id ≤ length f.clauses
@@ -84,7 +84,7 @@ first_agrees f c cnf fits = record {
 
 -- The lines one after the other
 
--- these blocks more are legal there, take no more than the room that is left, and leave a checker going
+-- these further blocks are legal here, take no more than the room that is left, and leave the checker unfinished
 record LinesGo (f : Cnf) (c : StreamParams) (base : Database) (m : State) (bytes : List ℕ) (blocks : List History)
     (lines : List StreamLine) : Type 0 where
   more : List History
@@ -147,7 +147,7 @@ pub all_others : (s t : ℕ) (h : History) → s ≢ t → AllByRecursion (λ e.
 all_others s t [] other all = tt
 all_others s t (e ∷ h) other all = (λ same. other (sym all.0 ∙ same), all_others s t h other all.1)
 
--- the room of a history that is all one stream's
+-- the room that a history of one stream takes
 all_spent : (p : LayoutValue) (s : ℕ) (h : History) → AllByRecursion (λ e. stream_of e ≡ s) h → sum_by size_of h ≤ p.room
     → (t : ℕ) → spent t h ≤ p.room
 all_spent p s h callers room t = elim (cases_eq s t) [
@@ -157,7 +157,7 @@ all_spent p s h callers room t = elim (cases_eq s t) [
       omega (arith, spent-sizes t h, ap (sum_by size_of) none)
 ]
 
--- A list that has one thing at its end, after so many of another
+-- A list with one element at its end, after copies of another
 
 padded : {X : Type 0} → ℕ → X → X → List X
 padded zero x y = y ∷ []
@@ -184,11 +184,11 @@ all_members : (s : ℕ) (h : History) → AllByRecursion (λ e. stream_of e ≡ 
 all_members s [] all = tt
 all_members s (e ∷ h) all = (eq-eqb (stream_of e) s all.0, all_members s h all.1)
 
--- a count that is shown as few is shown as it is
+-- a count that is small is shown exactly
 all_counted : (n most : ℕ) → capped (n + 0) ≤ most → most ≤ 268435456 → capped (n + 0) ≡ n
 all_counted n most shown few = omega (arith, shown, few)
 
--- a stream whose lines were all taken, and of which nothing is left, is judged as its valid report says
+-- a stream whose lines were all taken, and of which nothing is left, has its valid report
 pub ended_report : EndJudged → EmptyCut → OneCut
     → (run_params : RunParamsValue) (s : ℕ) (lines : List StreamLine) (more : List History) (going : GoingState)
     → going.pending ≡ [] → AllByRecursion IsWithinLimits lines
@@ -207,7 +207,7 @@ ended_report ends empty_cut one_cut run_params s lines more going pending limits
 
 module _ (taken : GoodLineTaken) (fresh : FreshLeft) (ends : EndJudged)
     (empty_cut : EmptyCut) (one_cut : OneCut) where
-  -- a legal history of its own judges it so
+  -- a legal history of the stream's own calls gives it this judgement
   pub valid_judged : (f : Cnf) (run_params : RunParamsValue) (s : ℕ) (bytes : List ℕ) (lines : List StreamLine)
       → IsCnf f → Fits run_params.layout f → IsStream run_params.layout s → IsValidProof f run_params.layout s bytes lines
       → (j : IsJudgedWhole f run_params s bytes (valid_report run_params s lines)) × AllByRecursion (λ e. stream_of e ≡ s) j.history

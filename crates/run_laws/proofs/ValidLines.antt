@@ -1,4 +1,4 @@
--- Valid lines are judged good, by events that a legal history may go on with.
+-- Valid lines are judged good, by events with which a legal history may continue.
 use Rattle.std.proofs.Common.{◌≡◌, ◌≢◌, ◌⊎◌, ◌<◌, ◌≤◌, ◌+◌, ◌-◌, ◌%◌, ℕ, ℤ, Bool, true, false, cond, eqb, List, [], ◌∷◌, ◌++◌}
 use Rattle.std.proofs.Common.{length, map, Option, Some, None, inl, inr, refl, sym, ap, subst, ◌∙◌, arith, eq-eqb, ne_eqb, leb, leb-true}
 use Rattle.std.specs.Prelude.{IsSome, ◌&&◌, ◌||◌, ◌==◌}
@@ -74,13 +74,13 @@ order_of_one p s (line ∷ lines) bases valid = (
       (subst (λ (base : Database). AreValid p s base lines) (sym (after_own p s line bases)) valid.1),
 )
 
--- Whose an identity is
+-- Who owns an identity
 
 -- the formula's or a stream's
 abbrev pub IsOneOf : LayoutValue → ℕ → Type 0
 IsOneOf p id = (owner p id ≡ owners.Formula) ⊎ ((t : ℕ) × Owns p t id)
 
--- whose the identity of this owner is, as the stream sees it
+-- what an identity with this owner is to the stream
 abbrev pub ownership_by : StreamParams → Owner → Ownership
 ownership_by c o = elim o [
   | owners.Formula ↦ ownerships.Formula
@@ -99,7 +99,7 @@ others_ownership : (c : StreamParams) (id t : ℕ) → Owns c.layout t id → t 
 others_ownership c id t owns other =
     ap (ownership_by c) owns ∙ cond-false (eqb t c.stream) ownerships.Own ownerships.Foreign (ne_eqb t c.stream other)
 
--- an identity of the formula isn't above its last
+-- an identity of the formula isn't above the formula's last one
 formulas_within : (a b d : Bool) (s : ℕ)
     → cond a owners.Outside (cond b owners.Formula (cond d (owners.Stream s) owners.Outside)) ≡ owners.Formula
     → (a ≡ false) × (b ≡ true)
@@ -110,7 +110,7 @@ formulas_within false false false s is = absurd (let no : owners.Outside ≡ own
 
 -- What lines leave
 
--- what the database of some lines of stream s, their context and the map of all events have in common
+-- what the database of some lines of stream s, their context and the map after all events have in common
 pub record Agrees (f : Cnf) (p : LayoutValue) (s : ℕ) (base : Database) (st : StreamContext) (m : State) : Type 0 where
   pub last : st.last ≡ base.last
   pub free : st.free ≡ base.free
@@ -122,7 +122,7 @@ pub record Agrees (f : Cnf) (p : LayoutValue) (s : ℕ) (base : Database) (st : 
   pub unseen : (id : ℕ) → m id ≡ absent → st.is_dropped id ≡ false
   pub vacant : AreVacantAbove p s m base.last
 
--- the line is judged good by this block, which is legal there, and takes no more room than the line does
+-- this block judges the line good, is legal here, and takes no more room than the line does
 pub record Goes (f : Cnf) (c : StreamParams) (base : Database) (st : StreamContext) (m : State) (line : StreamLine) : Type 0 where
   pub block : History
   pub judged : JudgesLine c st line block Good
@@ -324,14 +324,14 @@ addition_goes f c base st m id lits hints fits some a limits valid =
 
 -- Deletions
 
--- what can be deleted: an identity whose clause is live, and that isn't gone
+-- what can be deleted: an identity whose clause is live, and that isn't dropped
 record CanDelete (c : StreamParams) (is_dropped : ℕ → Bool) (earlier : List ℕ) (m : State) (id : ℕ) : Type 0 where
   known : IsOneOf c.layout id
   kept : is_dropped id ≡ false
   new : is_among earlier id ≡ false
   alive : IsLive (m id)
 
--- the deletion of these identities is judged good by this block, which is legal there, takes no room, and leaves all others as they are
+-- this block judges the deletion of these identities good, is legal here, takes no room, and leaves all other identities unchanged
 record DeletionGoes (f : Cnf) (c : StreamParams) (is_dropped : ℕ → Bool) (earlier ids : List ℕ) (m : State) : Type 0 where
   block : History
   judged : JudgesDeletion c is_dropped earlier ids block Good
@@ -371,7 +371,7 @@ still c is_dropped earlier (j ∷ ids) id m n same once all =
       still c is_dropped earlier ids id m n same parts.1 all.1,
     )
 
--- one of the formula's or another stream's is dropped, without an event
+-- an identity of the formula or of another stream is dropped, without an event
 dropped : (f : Cnf) (c : StreamParams) (is_dropped : ℕ → Bool) (earlier ids : List ℕ) (id : ℕ) (m : State)
     → CanDelete c is_dropped earlier m id → AllByRecursion (CanDelete c is_dropped earlier m) ids → is_among ids id ≡ false
     → ((n : State) → AllByRecursion (CanDelete c is_dropped (earlier ++ id ∷ []) n) ids
@@ -469,12 +469,12 @@ can_delete f c base st m (id ∷ ids) a all =
       can_delete f c base st m ids a all.1,
     )
 
--- what is left of the database was there, and isn't deleted
+-- what is left of the database was there, and wasn't deleted
 pub left : (b : Bool) (o : Option Clause) (d : Clause) → cond b None o ≡ Some d → (b ≡ false) × (o ≡ Some d)
 left true o d is = absurd (let no : None ≡ Some d = is in cc)
 left false o d is = (refl, is)
 
--- an own identity is never gone
+-- an own identity is never dropped
 not_shared : (is_dropped among : Bool) (ownership : Ownership) → is_dropped ≡ false → ownership ≡ ownerships.Own
     → (is_dropped || (is_shared ownership && among)) ≡ false
 not_shared is_dropped among ownership kept own =
@@ -505,7 +505,7 @@ not_both : (a b : Bool) → (a && b) ≡ false → b ≡ true → a ≡ false
 not_both true b none is = absurd (true≢false (sym is ∙ none))
 not_both false b none is = refl
 
--- what isn't the deleter's own, or isn't deleted, stays at the map
+-- an identity that isn't the deleter's own, or isn't deleted, is unchanged in the map
 untouched : (f : Cnf) (c : StreamParams) (is_dropped : ℕ
     → Bool) (ids : List ℕ) (m : State) (d : DeletionGoes f c is_dropped [] ids m) (j : ℕ)
     → (is_among ids j && is_own c.layout c.stream j) ≡ false → run m d.block j ≡ m j
@@ -594,7 +594,7 @@ import_goes f c base st m id lits some a valid =
       beside = λ t its also other b. subst (Agrees f c.layout t its also) (sym found.still) b;
     }
 
--- a valid line goes on
+-- an order continues with a valid line
 pub line_goes : (f : Cnf) (c : StreamParams) (base : Database) (st : StreamContext) (m : State) (line : StreamLine)
     → Fits c.layout f → 0 < c.layout.streams → Agrees f c.layout c.stream base st m → IsWithinLimits line
     → IsValidLine c.layout c.stream base line → Goes f c base st m line

@@ -1,4 +1,4 @@
--- Streams that are valid together, by turns, on one thread.
+-- Streams that are valid together, in turn, on one thread.
 use Rattle.std.proofs.Common.{◌≡◌, ℕ, ◌-◌, List, [], ◌++◌, length, map, Option, refl, sym, ap, subst, ◌∙◌, arith}
 use Rattle.std.specs.List.{flat_map}
 use Rattle.std.specs.Io.KnownBytes.{Consumes}
@@ -26,14 +26,14 @@ use Rattle.run_laws.proofs.RunLemmas.{fine_failure, fine_memory, judged_to, obse
 use Rattle.run_laws.proofs.TogetherLemmas.{each_from, each_count, each_own, at_stream, text_stream, IsOrderOf, valid_ordered}
 use Rattle.run_laws.proofs.TurnsLemmas.{own_at, reports_same}
 
--- a valid report isn't of memory
+-- a valid report doesn't say that memory ran out
 not_memory : (run_params : RunParamsValue) (steps : List Step) (t : ℕ) (report : Report)
     → valid_report run_params t (lines_by t steps) ≡ report
     → ¬ IsExcused OutOfMemory report
 not_memory run_params steps t report is memory =
     let no : endings.Ended ≡ endings.Memory memory.0 = ap (λ (r : Report). r.ending) is ∙ memory.1 in cc
 
--- what is valid has an order by turns
+-- valid lines have an order that takes the streams in turn
 valid_order_by_turns : (f : Cnf) (run_params : RunParamsValue) (steps : List Step) (order : List Block) → IsOrderOf f run_params steps order
     → IsByTurns (map (λ step. step.stream) steps)
     → IsOrderedByTurns f run_params (each_from run_params.layout.streams 1 (text_stream steps)) (each_from run_params.layout.streams 1

@@ -1,5 +1,5 @@
--- The verdict that an order of lines comes to: some stream says that it added the empty clause, or one within the cube, exactly if
--- the order publishes one.
+-- The verdict of an order of lines: some stream says that it added the empty clause, or one within the cube, exactly if the order publishes
+-- one.
 use Rattle.std.proofs.Common.{◌≡◌, ◌||◌, ◌+◌, ◌-◌, ◌<◌, ◌≤◌, ℕ, zero, suc, ℤ, Bool, true, false, List, [], ◌∷◌, ◌++◌, length, refl, sym, ap}
 use Rattle.std.proofs.Common.{subst, ◌∙◌, inl, inr, arith}
 use Rattle.std.specs.Prelude.{◌==◌}
@@ -44,10 +44,10 @@ both_ways true b to back = sym (to refl)
 both_ways false true to back = back refl
 both_ways false false to back = refl
 
--- What is told of
+-- What a test is about
 
--- A test of events, one of additions and one of reports that tell of the same: no fetch and no retire passes, the publish of an addition
--- passes exactly if the addition does, and a report passes exactly if a good addition does.
+-- Tests of events, of additions and of reports that are about the same: no fetch and no retire passes, the publish of an addition passes
+-- exactly if the addition does, and a report passes exactly if a good addition does.
 record CallerStep (c : StreamParams) (passes : Event → Bool) (adds : ℕ × Clause → Bool) (says : Report → Bool) : Type 0 where
   fetches_none : (id : ℕ) (r : Reply) → passes (events.fetch c.stream id r) ≡ false
   retires_none : (id : ℕ) (r : Retired) → passes (events.retire c.stream id r) ≡ false
@@ -63,7 +63,7 @@ adds_empty a = length a.1 == 0
 abbrev adds_within : CubeValue → ℕ × Clause → Bool
 adds_within cube a = is_within cube a.1
 
--- of the empty clause
+-- for the empty clause
 empty_tells : (c : StreamParams) → CallerStep c publishes_empty adds_empty (λ report. report.empty)
 empty_tells c = record {
   fetches_none = λ id r. refl;
@@ -72,7 +72,7 @@ empty_tells c = record {
   of_good = said_empty c;
 }
 
--- and of a clause within the cube
+-- and for a clause within the cube
 within_tells : (c : StreamParams) → CallerStep c (publishes_within c.cube) (adds_within c.cube) (λ report. report.within)
 within_tells c = record {
   fetches_none = λ id r. refl;
@@ -98,7 +98,7 @@ module _ (c : StreamParams) (passes : Event → Bool) (adds : ℕ × Clause → 
   quiet_retires [] = tt
   quiet_retires (id ∷ ids) = (tells.retires_none id, quiet_retires ids)
 
-  -- a good line publishes what passes exactly if it adds what does
+  -- a good line publishes something that passes exactly if it adds something that passes
   good_line : (st : StreamContext) (line : StreamLine) (es : History) → JudgesLine c st line es Good
       → list_any passes es ≡ list_any adds (additions_of (line ∷ []))
   good_line st (Addition id lits hints) es judged =
@@ -153,7 +153,7 @@ module _ (c : StreamParams) (passes : Event → Bool) (adds : ℕ × Clause → 
   no_quiet : (back : List History) → back ≡ [] → list_any passes (joined back) ≡ false
   no_quiet back is = ap (λ (bs : List History). list_any passes (joined bs)) is
 
-  -- what ends a stream publishes nothing that passes
+  -- the end of a stream publishes nothing that passes
   ends_quiet : (lines : List StreamLine) (rest : List ℕ) (end : StreamEnd) (back : List History) (report : Report)
       → EndsAfter c lines rest end back report → list_any passes (joined back) ≡ false
   ends_quiet lines rest end back report (at_bad_line line more text fits block one_block deleted fault bad observed) =
@@ -164,7 +164,7 @@ module _ (c : StreamParams) (passes : Event → Bool) (adds : ℕ × Clause → 
       (identities_all c (IsQuiet passes) (context_of c lines).is_dropped [] earlier block Good (quiet_retires earlier) stops.before))
   ends_quiet lines rest end back report (at_end pending no_block observed) = no_quiet back no_block
 
-  -- a stream publishes what passes exactly if its report passes
+  -- a stream publishes something that passes exactly if its report passes
   stream_tells : (bytes : List ℕ) (end : StreamEnd) (blocks : List History) (report : Report)
       → JudgesBlocks c bytes end blocks report → list_any passes (joined blocks) ≡ says report
   stream_tells bytes end blocks report j =
@@ -178,7 +178,7 @@ module _ (c : StreamParams) (passes : Event → Bool) (adds : ℕ × Clause → 
 -- The blocks of an order
 
 module _ (passes : Event → Bool) where
-  -- what one of a stream's blocks publishes the order does
+  -- what one of a stream's blocks publishes, the order does
   in_order : (s : ℕ) (order : List Block) → list_any passes (joined (blocks_of s order)) ≡ true
       → list_any passes (events_in order) ≡ true
   in_order s [] is = is
@@ -205,7 +205,7 @@ module _ (passes : Event → Bool) where
         | inr other ↦ ap (λ (bs : List History). list_any passes (joined bs)) (blocks-other block order s other) ∙ is
       ]
 
-  -- what an order publishes a block of one of its streams does
+  -- what an order publishes, a block of one of its streams does
   by_stream : (p : LayoutValue) (set : ℕ → Bool) (order : List Block) → AllByRecursion (IsBlockWithin p set) order
       → list_any passes (events_in order) ≡ true
       → (s : ℕ) × IsStream p s × (list_any passes (joined (blocks_of s order)) ≡ true)
@@ -269,7 +269,7 @@ module _ (run_params : RunParamsValue) (order : List Block) (passes : Event → 
       (published_said (s + 1) streams reports judged.1 k (omega (arith, below))
       (subst (λ (t : ℕ). list_any passes (joined (blocks_of t order)) ≡ true) next is))
 
-  -- some report passes exactly if the order publishes what does
+  -- some report passes exactly if the order publishes something that passes
   reports_tell : (streams : List Stream) (reports : List Report) → length streams ≡ run_params.layout.streams
       → AllByRecursion (IsBlockWithin run_params.layout (λ s. true)) order
       → AreJudged run_params (λ s. true) (λ s events. events ≡ blocks_of s order) 1 streams reports

@@ -1,4 +1,4 @@
--- The order of lines, by one walk along a history from its end: an event goes to its stream's next block, or begins one.
+-- The order of lines, from one walk along a history from its end: an event joins its stream's next block, or begins a block.
 use Rattle.std.proofs.Common.{◌≡◌, ◌&&◌, ℕ, Bool, true, false, not, List, [], ◌∷◌, ◌++◌, map, refl, sym, ap, subst, ◌∙◌, inl, inr}
 use Rattle.std.specs.List.{AllByRecursion, list_all}
 use Rattle.std.proofs.lemmas.Bool.{cases_eq, cases_Bool, true≢false}
@@ -32,7 +32,7 @@ reduced-one (events.fetch s id events.retired) = refl
 reduced-one (events.publish s id c r) = refl
 reduced-one (events.retire s id r) = refl
 
--- a vacant fetch of a stream, of an identity
+-- a vacant fetch of a stream and of an identity
 same_fetch : (s id : ℕ) (d : Event) (es : History) → stream_of d ≡ s → StartsWithFetchOf id (d ∷ es) → list_all is_vacant (d ∷ es) ≡ true
     → d ≡ events.fetch s id events.vacant
 same_fetch s id (events.fetch t j events.vacant) es caller is all = ap (λ (i : ℕ). events.fetch i j events.vacant) caller
@@ -59,10 +59,10 @@ again-tail (events.fetch s id events.retired) es again = again
 again-tail (events.publish s id c r) es again = again
 again-tail (events.retire s id r) es again = again
 
--- An event that is the first of a line that goes on
+-- An event that is the first of a longer line
 
 module _ (f : Cnf) (p : LayoutValue) (final m : State) where
-  -- it is left out, or it joins what follows
+  -- it is left out, or joins the events after it
   lines-join : (rest : Lines) (e d : Event) (b : History) (more : List History) (blocks : List Block)
       → rest (stream_of e) ≡ (e ∷ d ∷ b) ∷ more → reduced (e ∷ d ∷ b) ≡ e ∷ reduced (d ∷ b)
       → ((t : ℕ) → blocks_of t blocks ≡ map reduced (with rest (stream_of e) ((d ∷ b) ∷ more) t))
@@ -94,7 +94,7 @@ module _ (f : Cnf) (p : LayoutValue) (final m : State) where
         | inr other ↦ lines t ∙ ap (map reduced) (with-other rest s ((d ∷ b) ∷ more) t (λ same. other (sym same)))
       ]
 
-  -- it found something, or changed something
+  -- it found something
   goes-on : (rest : Lines) (e d : Event) (b : History) (more : List History)
       → rest (stream_of e) ≡ (e ∷ d ∷ b) ∷ more → IsFetch e → is_vacant e ≡ false → Settles p final e → Answers m e → IsAllowed f p e
       → HasOrder f p final (after m e) (with rest (stream_of e) ((d ∷ b) ∷ more)) → HasOrder f p final m rest
@@ -242,7 +242,7 @@ IsWalked f p final h = (m : State) (rest : Lines) → LegalFrom f p m h → Ahea
 module _ (f : Cnf) (p : LayoutValue) (final m : State) (e : Event) (h : History) (stream : IsStream p (stream_of e))
     (settles : Settles p final e)
     (legal : LegalFrom f p m (e ∷ h)) (walked : IsWalked f p final h) where
-  -- the blocks when the event has passed
+  -- the blocks after the event
   after-it : (rest : Lines) (bs : List History) → Ahead p (e ∷ h) rest → own h (stream_of e) ≡ joined bs → AllByRecursion IsLineBlock bs
       → Ahead p h (with rest (stream_of e) bs)
   after-it rest bs ahead here lines =
@@ -265,7 +265,7 @@ module _ (f : Cnf) (p : LayoutValue) (final m : State) (e : Event) (h : History)
         lines.1,
       )))
 
-  -- its stream's blocks begin with lines without events, and the line that it begins
+  -- its stream's blocks begin with lines without events, and then with the line that the event begins
   passes : (bs : List History) (rest : Lines) → rest (stream_of e) ≡ bs → e ∷ own h (stream_of e) ≡ joined bs → Ahead p (e ∷ h) rest
       → HasOrder f p final m rest
   passes [] rest is events ahead = absurd (cc)

@@ -1,4 +1,4 @@
--- Laws of groups of streams. Each is the contract of a function of laws.
+-- Laws of groups of streams. Each is the contract of a function in a module of laws.
 use Rattle.std.specs.Prelude.{◌≡◌, ◌≢◌, ◌++◌, ℕ, Bool, true, false, List, [], length, Some, None}
 use Rattle.std.specs.List.{AllZip}
 use Rattle.lrup_model.specs.Formula.{Cnf}
@@ -18,12 +18,12 @@ use Rattle.run_laws.specs.Groups.{one, AreClosedReaders, NoneExcused, IsGroup, A
 
 -- Closed sets
 
--- where the lines of some bytes cite within a set, those of a beginning of them do
+-- if the lines of some bytes cite within a set, so do those of a prefix of the bytes
 abbrev pub BeginningsWithin : Type 0
 BeginningsWithin = (p : LayoutValue) (set : ℕ → Bool) (bytes more : List ℕ)
     → CiteWithin p set (bytes ++ more) → CiteWithin p set bytes
 
--- so a set is closed where all bytes that its readers have left at first cite within it
+-- so a set is closed if all bytes that its readers have left at first cite within it
 abbrev pub ReadersClosed : Type 0
 ReadersClosed =
     (p : LayoutValue) (set : ℕ → Bool) (observed : List InputObservation) (streams : List Stream)
@@ -41,7 +41,8 @@ ClosedIsGroup = (f : Cnf) (run_params : RunParamsValue) (set : ℕ → Bool) (h 
     → IsClosed run_params.layout set streams → NoneExcused set OutOfMemory reports
     → IsGroup f run_params set streams reports
 
--- A group is judged as in a run in which all other streams are empty: they have no bytes, and their reports have ended.
+-- A group is judged as in a run in which all other streams are empty: they have no bytes, and their
+-- reports say that they ended.
 abbrev pub OthersEmpty : Type 0
 OthersEmpty = (f : Cnf) (run_params : RunParamsValue) (set : ℕ → Bool) (streams : List Stream)
     (reports : List Report)
@@ -74,13 +75,15 @@ RunIsolated = (f : Cnf) (run_params : RunParamsValue) (observed : List InputObse
     (reports : List Report)
     → Fits run_params.layout f → (run : IsRun f run_params observed reports) → AreIsolated run
 
--- of a stream that was stopped early the report tells of a bad line, or that memory ran out: no other ending is right for both ends
+-- if a stream was stopped early, its report has a bad line or says that memory ran out: no other
+-- ending is right for both ends
 abbrev pub EarlyIsDecided : Type 0
 EarlyIsDecided = (c : StreamParams) (stream : Stream) (blocks : List History) (report : Report)
     → stream.end ≡ None → JudgesStream c stream blocks report
     → (report.ending ≢ endings.Ended) × ¬ IsExcused ReadFailed report
 
--- a reader that hasn't failed told a reading of the bytes that it had left at first, which end
+-- if a reader hasn't failed, its stream is a reading of the bytes that the reader had left at
+-- first, with their end
 abbrev pub MatchIsReading : Type 0
 MatchIsReading = (observed : List InputObservation) (streams : List Stream) (s : ℕ)
     (observation : InputObservation)
@@ -90,7 +93,8 @@ MatchIsReading = (observed : List InputObservation) (streams : List Stream) (s :
     → observation.entry ≡ Some whole → observation.has_failed ≡ false
     → IsReadingOf whole stream_ends.Ended stream
 
--- a reader that failed told all bytes before those that it has left then
+-- if a reader failed, its stream is a reading of the bytes before those that the reader then has
+-- left, with a failed read
 abbrev pub FailedIsReading : Type 0
 FailedIsReading = (observed : List InputObservation) (streams : List Stream) (s : ℕ)
     (observation : InputObservation)
@@ -101,8 +105,9 @@ FailedIsReading = (observed : List InputObservation) (streams : List Stream) (s 
     → observation.has_failed ≡ true
     → IsReadingOf whole stream_ends.Failed stream
 
--- In two runs of one formula, by the same parameters, a stream that cites within itself has one report where the readers told the
--- same bytes and end of it, unless memory ran out: whatever the other streams are, and whichever runs have threads.
+-- In two runs of one formula with the same parameters, a stream that cites within itself has one
+-- report if both times it is a reading of the same bytes and end, unless memory ran out. The other
+-- streams and the use of threads make no difference.
 abbrev pub SameReadingAgrees : Type 0
 SameReadingAgrees =
     (f : Cnf) (run_params : RunParamsValue) (s : ℕ) (whole : List ℕ) (end : StreamEnd)
@@ -117,7 +122,8 @@ SameReadingAgrees =
     → IsOfStream reports s report → IsOfStream other_reports s other_report
     → ¬ IsExcused OutOfMemory report → ¬ IsExcused OutOfMemory other_report → report ≡ other_report
 
--- Where both readers have the same bytes left at first it has one report, unless memory ran out or a read failed.
+-- It has one report if both readers have the same bytes left at first, unless memory ran out or a
+-- read failed.
 abbrev pub SameBytesAgree : Type 0
 SameBytesAgree = (f : Cnf) (run_params : RunParamsValue) (s : ℕ) (whole : List ℕ)
     (observed other_observed : List InputObservation)

@@ -1,4 +1,5 @@
--- What a run is, and its groups of streams: what holds of their reports whatever the streams outside the group do (this project's own).
+-- What a run is, and its groups of streams: what holds for their reports no matter what the streams
+-- outside the group do (this project's own).
 use Rattle.std.specs.Prelude.{◌≡◌, ◌+◌, ◌==◌, ◌++◌, ℕ, Bool, true, false, IsTrue, List, [], ◌∷◌, length, Some, MatchOption, if◌then◌else◌}
 use Rattle.std.specs.List.{AllByRecursion, AllZip}
 use Rattle.lrup_model.specs.Formula.{Cnf}
@@ -16,8 +17,8 @@ use Rattle.stream_check.specs.SequentialConsistency.{AreJudgedIn}
 
 -- Runs
 
--- A run, as far as its first streams go, so many: the readers told streams, and one legal history judges each by its own events, as
--- its report says.
+-- A run as far as its first `many` streams go: these streams match what is observed of their
+-- readers, and one legal history judges each by its own events, as its report says.
 pub record IsRunOfFirst (many : ℕ) (formula : Cnf) (run_params : RunParamsValue)
     (observed : List InputObservation)
     (reports : List Report) : Type 0 where
@@ -28,18 +29,18 @@ pub record IsRunOfFirst (many : ℕ) (formula : Cnf) (run_params : RunParamsValu
   pub legal : IsLegal formula run_params.layout history
   pub judged : AreJudgedIn run_params (λ s. true) history 1 streams reports
 
--- What a run is: so it is with all streams of the layout.
+-- What a run is: the same with all streams of the layout.
 abbrev pub IsRun : Cnf → RunParamsValue → List InputObservation → List Report → Type 0
 IsRun formula run_params observed reports =
     IsRunOfFirst run_params.layout.streams formula run_params observed reports
 
--- one stream, as a set
+-- one stream as a set
 abbrev pub one : ℕ → ℕ → Bool
 one s = λ t. t == s
 
 -- Closed sets
 
--- each reader of the set's streams has known bytes left at first, and all of them cite within the set
+-- each reader of the set's streams has known bytes left at first, and these cite within the set
 abbrev pub AreClosedReaders : LayoutValue → (ℕ → Bool) → List InputObservation → Type 0
 AreClosedReaders layout set observed =
     (s : ℕ) (observation : InputObservation) → IsTrue (set s) → IsOfStream observed s observation
@@ -47,7 +48,8 @@ AreClosedReaders layout set observed =
 
 -- Readings
 
--- one reading of a stream that has these bytes and this end: all of it, or a beginning after which no more was needed
+-- the stream is one reading of these bytes with this end: all of it, or a prefix after which no
+-- more was needed
 abbrev pub IsReadingOf : List ℕ → StreamEnd → Stream → Type 0
 IsReadingOf whole end stream =
     MatchOption stream.end ((more : List ℕ) × (whole ≡ stream.bytes ++ more))
@@ -55,13 +57,13 @@ IsReadingOf whole end stream =
 
 -- Groups
 
--- no report of the set is excused by this
+-- no report of the set has this excuse
 abbrev pub NoneExcused : (ℕ → Bool) → Excuse → List Report → Type 0
 NoneExcused set excuse reports = (s : ℕ) (report : Report) → IsTrue (set s)
     → IsOfStream reports s report → ¬ IsExcused excuse report
 
--- The reports of a set of streams are those of the set alone: a legal history, with events of its streams and of no others,
--- judges each of them so, and none tells that memory ran out.
+-- The reports of a set of streams are those of the set alone: a legal history, with events of its
+-- streams and of no others, gives each of them this judgement, and none says that memory ran out.
 pub record IsGroup (formula : Cnf) (run_params : RunParamsValue) (set : ℕ → Bool)
     (streams : List Stream)
     (reports : List Report) : Type 0 where
@@ -71,7 +73,8 @@ pub record IsGroup (formula : Cnf) (run_params : RunParamsValue) (set : ℕ → 
   pub judged : AreJudgedIn run_params set history 1 streams reports
   pub memory : NoneExcused set OutOfMemory reports
 
--- a report that stream s may have alone, as a group of this one stream, where these are its bytes and its end
+-- a report that stream s may have alone, as a group of this one stream, with these bytes and this
+-- end
 pub record IsReportAlone (formula : Cnf) (run_params : RunParamsValue) (s : ℕ) (whole : List ℕ)
     (end : StreamEnd) (report : Report) : Type 0 where
   pub streams : List Stream
@@ -82,9 +85,10 @@ pub record IsReportAlone (formula : Cnf) (run_params : RunParamsValue) (s : ℕ)
   pub reads : IsReadingOf whole end stream
   pub says : IsOfStream reports s report
 
--- The run's groups are isolated. Each closed set of its streams, none of whose reports tells that memory ran out, has such reports as it
--- may have alone. And if a stream is a closed set by itself, and its report doesn't tell that memory ran out, each report that it may have
--- alone, with all bytes and any end of which the stream is a reading, is this report.
+-- The run's groups are isolated. Each closed set of its streams in which no report says that memory
+-- ran out has reports that it may have alone. And if a stream is a closed set by itself, and its
+-- report doesn't say that memory ran out, then this is the only report that it may have alone, with
+-- any bytes and end of which the stream is a reading.
 pub record AreIsolated {formula : Cnf} {run_params : RunParamsValue}
     {observed : List InputObservation} {reports : List Report}
     (run : IsRun formula run_params observed reports) : Type 0 where
@@ -98,7 +102,8 @@ pub record AreIsolated {formula : Cnf} {run_params : RunParamsValue}
 
 -- A run in which the other streams are empty
 
--- the list, of the streams counted on from s, with this one in place of each that is of a stream outside the set
+-- the list for the streams, counted from s, with this element in place of each that belongs to a
+-- stream outside the set
 abbrev pub with_others : {X : Type 0} → (ℕ → Bool) → X → ℕ → List X → List X
 with_others set x s [] = []
 with_others set x s (y ∷ ys) = (if set s then y else x) ∷ with_others set x (s + 1) ys

@@ -1,4 +1,4 @@
--- What the events of a line are like, and an order of lines (this project's own).
+-- The form of a line's events, and an order of lines (this project's own).
 use Rattle.std.specs.Prelude.{◌≡◌, ℕ, Bool, IsTrue, List, [], ◌∷◌, map}
 use Rattle.std.specs.List.{AllByRecursion}
 use Rattle.lrup_model.specs.Formula.{Cnf}
@@ -15,15 +15,17 @@ RetiresLast [] = Unit {0}
 RetiresLast (event ∷ history) =
     (IsRetire event → AllByRecursion IsRetire history) × RetiresLast history
 
--- The events are like those of a line: before the last there are only fetches, and retires with Done; what a fetch doesn't find
--- is fetched again, or the line ends; and a line that retires does nothing else from there on.
+-- The events have the form of a line's: before the last one there are only fetches, and retires
+-- with Done; what a fetch doesn't find is fetched again, or the line ends; and once a line retires
+-- it does nothing else.
 pub record IsLineBlock (history : History) : Type 0 where
   pub early : AreEarly history
   pub again : TriesAgain history
   pub apart : RetiresLast history
 
--- An order of the lines of a set of streams, where these are each stream's blocks of events: a legal history of whole lines, each
--- stream's in its order, and each without the vain fetches of what it found.
+-- An order of the lines of a set of streams, whose blocks of events are `blocks`: a legal history
+-- of whole lines, those of each stream in its order, each without the vacant fetches of what it
+-- found later.
 pub record IsOrder (formula : Cnf) (layout : LayoutValue) (set : ℕ → Bool)
     (blocks : ℕ → List History) (order : List Block) : Type 0 where
   pub within : AllByRecursion (IsBlockWithin layout set) order

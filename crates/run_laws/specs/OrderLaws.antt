@@ -1,4 +1,4 @@
--- Laws of the order of lines. Each is the contract of a function of laws.
+-- Laws of the order of lines. Each is the contract of a function in a module of laws.
 use Rattle.std.specs.Prelude.{◌≡◌, ◌↔◌, ◌++◌, ℕ, Bool, true, IsTrue, List, length}
 use Rattle.std.specs.List.{AllByRecursion, AllZip}
 use Rattle.lrup_model.specs.Formula.{Cnf}
@@ -24,19 +24,20 @@ use Rattle.run_laws.specs.Serializable.{ComeToVerdict, IsSerializable}
 
 -- The lines of a stream
 
--- the blocks by which a stream is judged are like those of lines
+-- the blocks by which a stream is judged have the form of lines
 abbrev pub JudgedBlocks : Type 0
 JudgedBlocks = (c : StreamParams) (bytes : List ℕ) (end : StreamEnd) (blocks : List History)
     (report : Report)
     → JudgesBlocks c bytes end blocks report → AllByRecursion IsLineBlock blocks
 
--- a retire is of an identity that passes the test
+-- if the event is a retire, its identity passes the test
 abbrev pub RetiresOnly : (ℕ → Bool) → Event → Type 0
 RetiresOnly p (events.fetch s id r) = Unit {0}
 RetiresOnly p (events.publish s id c r) = Unit {0}
 RetiresOnly p (events.retire s id r) = IsTrue (p id)
 
--- A stream retires no identity that its lines don't delete: where all that they delete pass a test, so does what it retires.
+-- A stream retires no identity that its lines don't delete: if all that they delete passes a test,
+-- so does all that the stream retires.
 abbrev pub DeletedRetired : Type 0
 DeletedRetired = (c : StreamParams) (bytes : List ℕ) (end : StreamEnd) (blocks : List History)
     (report : Report)
@@ -47,8 +48,8 @@ DeletedRetired = (c : StreamParams) (bytes : List ℕ) (end : StreamEnd) (blocks
 
 -- An order of lines
 
--- Lines of streams that find no clause of streams outside their set have an order, where what they found live of one another
--- isn't left retired.
+-- Lines of streams that find no clause of streams outside their set have an order, if what they
+-- found live of one another isn't left retired.
 abbrev pub LinesOrdered : Type 0
 LinesOrdered = (f : Cnf) (p : LayoutValue) (set : ℕ → Bool) (h : History) (blocks : ℕ
     → List History)
@@ -58,8 +59,8 @@ LinesOrdered = (f : Cnf) (p : LayoutValue) (set : ℕ → Bool) (h : History) (b
     → FoundStays f p set h
     → (order : List Block) × IsOrder f p set blocks order
 
--- The reports of a closed set of streams that one legal history judges have an order of lines, where what the streams found live
--- of one another isn't left retired.
+-- The reports of a closed set of streams that one legal history judges have an order of lines, if
+-- what the streams found live of one another isn't left retired.
 abbrev pub ClosedOrdered : Type 0
 ClosedOrdered = (f : Cnf) (run_params : RunParamsValue) (set : ℕ → Bool) (h : History)
     (streams : List Stream) (reports : List Report)
@@ -72,8 +73,9 @@ ClosedOrdered = (f : Cnf) (run_params : RunParamsValue) (set : ℕ → Bool) (h 
 abbrev pub AllClosed : Type 0
 AllClosed = (p : LayoutValue) (streams : List Stream) → IsClosed p (λ s. true) streams
 
--- The reports of all streams have an order of lines, and the verdict that these lines come to is that of the reports: a stream
--- said that it added the empty clause exactly if the order publishes it, and one within the cube exactly if the order publishes one.
+-- The reports of all streams have an order of lines, with the verdict of the reports: a report says
+-- that its stream added the empty clause exactly if the order publishes it, and one within the cube
+-- exactly if the order publishes one.
 abbrev pub AllOrdered : Type 0
 AllOrdered = (f : Cnf) (run_params : RunParamsValue) (h : History)
     (streams : List Stream) (reports : List Report)
@@ -85,19 +87,21 @@ AllOrdered = (f : Cnf) (run_params : RunParamsValue) (h : History)
 
 -- The premise
 
--- it is the same to say by events what a legal history leaves retired
+-- what a legal history leaves retired can also be read off its events
 abbrev pub KeptByEvents : Type 0
 KeptByEvents = (f : Cnf) (p : LayoutValue) (h : History) → IsLegal f p h
     → (e : Event) → FindsKept p (state f h) e ↔ FindsUnretired p h e
 
--- where no stream of the set but its owner found an identity, live or retired, that the history retires, what was found stays
+-- if no stream of the set except its owner found an identity, live or retired, that the history
+-- retires, what was found stays
 abbrev pub OwnersAloneSuffices : Type 0
 OwnersAloneSuffices = (f : Cnf) (p : LayoutValue) (set : ℕ → Bool) (h : History)
     → IsLegal f p h
     → ((s : ℕ) → IsStream p s → IsTrue (set s) → AllByRecursion (MeetsUnretired p h) (own h s))
     → FoundStays f p set h
 
--- a closed set of streams that retire nothing of their own that another cites leaves what they found of one another
+-- if the streams of a closed set retire nothing of their own that another one cites, what they
+-- found of one another stays
 abbrev pub SharedStays : Type 0
 SharedStays =
     (f : Cnf) (run_params : RunParamsValue) (set : ℕ → Bool) (h : History) (streams : List Stream)
@@ -107,14 +111,15 @@ SharedStays =
     → IsClosed run_params.layout set streams → KeepShared run_params.layout set streams
     → FoundStays f run_params.layout set h
 
--- what the lines of some bytes cite or delete, those of all bytes that begin with them do
+-- if the lines of some bytes cite or delete an identity, so do those of all bytes that begin with
+-- them
 abbrev pub BeginningsCite : Type 0
 BeginningsCite = (bytes more : List ℕ) (id : ℕ)
     → (Cites bytes id → Cites (bytes ++ more) id)
     × (SomeLineDeletes bytes id → SomeLineDeletes (bytes ++ more) id)
 
--- So where the streams keep what they share in all bytes that their readers have left at first, they keep it in those that were
--- needed.
+-- So if the streams keep what they share, in all bytes that their readers have left at first, they
+-- keep it in the bytes that were needed.
 abbrev pub ReadersShare : Type 0
 ReadersShare =
     (p : LayoutValue) (set : ℕ → Bool) (observed : List InputObservation) (streams : List Stream)

@@ -14,15 +14,16 @@ use Rattle.stream_check.specs.Laws.{cited_by}
 use Rattle.stream_check.specs.Streams.{Stream, InputObservation}
 use Rattle.stream_check.specs.Closed.{IsOfStream}
 
--- By what the history leaves
+-- By the last state
 
--- where a stream found an identity live that isn't its own, this state has it not retired
+-- if the event found an identity live that isn't the stream's own, this state doesn't have it
+-- retired
 abbrev pub FindsKept : LayoutValue → State → Event → Type 0
 FindsKept layout final (events.fetch s id (events.live clause)) =
     ¬ Owns layout s id → ¬ IsRetired (final id)
 FindsKept layout final _ = Unit {0}
 
--- The history doesn't leave retired what a stream of the set found live and doesn't own.
+-- What a stream of the set found live and doesn't own is not retired after the history.
 abbrev pub FoundStays : Cnf → LayoutValue → (ℕ → Bool) → History → Type 0
 FoundStays formula layout set history =
     (s : ℕ) → IsStream layout s → IsTrue (set s)
@@ -42,13 +43,14 @@ abbrev pub HistoryRetires : History → ℕ → Type 0
 HistoryRetires [] id = ⊥
 HistoryRetires (event ∷ history) id = IsRetireOf id event ⊎ HistoryRetires history id
 
--- where a stream found an identity live that isn't its own, the history doesn't retire it
+-- if the event found an identity live that isn't the stream's own, the history doesn't retire it
 abbrev pub FindsUnretired : LayoutValue → History → Event → Type 0
 FindsUnretired layout history (events.fetch s id (events.live clause)) =
     ¬ Owns layout s id → ¬ HistoryRetires history id
 FindsUnretired layout history _ = Unit {0}
 
--- where a stream found an identity that isn't its own, live or retired, the history doesn't retire it
+-- if the event found an identity, live or retired, that isn't the stream's own, the history doesn't
+-- retire it
 abbrev pub MeetsUnretired : LayoutValue → History → Event → Type 0
 MeetsUnretired layout history (events.fetch s id reply) =
     IsFound reply → ¬ Owns layout s id → ¬ HistoryRetires history id
@@ -64,24 +66,25 @@ cites lines id = list_any (λ line. is_among (cited_by line) id) lines
 abbrev pub deletes : List StreamLine → ℕ → Bool
 deletes lines id = list_any (λ line. is_among (deleted_by line) id) lines
 
--- a line that the bytes are cut into cites the identity
+-- one of the lines in the bytes cites the identity
 abbrev pub Cites : List ℕ → ℕ → Type 0
 Cites bytes id =
     (lines : List StreamLine) × (rest : List ℕ) × Cut bytes lines rest × IsTrue (cites lines id)
 
--- a line that the bytes are cut into deletes the identity
+-- one of the lines in the bytes deletes the identity
 abbrev pub SomeLineDeletes : List ℕ → ℕ → Type 0
 SomeLineDeletes bytes id =
     (lines : List StreamLine) × (rest : List ℕ) × Cut bytes lines rest × IsTrue (deletes lines id)
 
--- No stream of the set deletes an identity of its own that a line of another stream of the set cites.
+-- No stream of the set deletes an identity of its own that a line of another stream of the set
+-- cites.
 abbrev pub KeepShared : LayoutValue → (ℕ → Bool) → List Stream → Type 0
 KeepShared layout set streams =
     (s t id : ℕ) (citing deleting : Stream) → s ≢ t → IsTrue (set s) → IsTrue (set t)
     → IsOfStream streams s citing → IsOfStream streams t deleting → Owns layout t id
     → Cites citing.bytes id → ¬ SomeLineDeletes deleting.bytes id
 
--- So it is in all bytes that the readers of the set's streams have left at first, which are known.
+-- The same for all bytes that the readers of the set's streams have left at first, which are known.
 abbrev pub ReadersKeepShared : LayoutValue → (ℕ → Bool) → List InputObservation → Type 0
 ReadersKeepShared layout set observed =
     (s t id : ℕ) (citing deleting : InputObservation) → s ≢ t → IsTrue (set s) → IsTrue (set t)

@@ -11,8 +11,9 @@ use Rattle.stream_check.specs.Closed.{IsClosed}
 use Rattle.run_laws.specs.Groups.{IsRun}
 use Rattle.run_laws.specs.Premises.{FoundStays}
 
--- These events come to the verdict of the reports: the empty clause is published exactly if a report says that its stream added
--- it, and a clause within the cube exactly if a report says that its stream added one.
+-- These events have the verdict of the reports: the empty clause is published exactly if a report
+-- says that its stream added it, and a clause within the cube exactly if a report says that its
+-- stream added one.
 pub record ComeToVerdict (cube : CubeValue) (history : History)
     (reports : List Report) : Type 0 where
   pub empty : list_any (λ report. report.empty) reports
@@ -20,9 +21,10 @@ pub record ComeToVerdict (cube : CubeValue) (history : History)
   pub within : list_any (λ report. report.within) reports
       ≡ list_any (λ entry. is_within cube entry.1) (published history)
 
--- The run's lines are serializable: for every closed set of its streams, of which none found an identity of another stream live that the
--- run's history leaves retired, the set's lines have one order in which a checker of one thread gives the same reports; and if this holds
--- of all streams together, they have one that comes to the verdict of the reports besides.
+-- The run's lines are serializable: for every closed set of its streams, if none of them found an
+-- identity of another stream live that is retired after the run's history, the set's lines have one
+-- order in which a checker of one thread gives the same reports; and if this holds for all streams
+-- together, they have such an order with the verdict of the reports.
 pub record IsSerializable {formula : Cnf} {run_params : RunParamsValue}
     {observed : List InputObservation} {reports : List Report}
     (run : IsRun formula run_params observed reports) : Type 0 where

@@ -1,6 +1,8 @@
--- Valid proofs that cite one another: lines of several streams, in some order, each of which is valid by what the lines before it
--- leave to its stream; and the law that they aren't blamed (this project's own). Some good lines have no such order: a checker
--- also takes the deletion of another stream's clause that its owner has deleted already (the law `ValidInAnyRun` speaks of those).
+-- Valid proofs that cite one another: lines of several streams in an order in which each line is
+-- valid, given what the lines before it leave to its stream; and the law that these streams aren't
+-- blamed (this project's own). Some good lines have no such order: a checker also accepts the
+-- deletion of another stream's clause that its owner has already deleted (the law `ValidInAnyRun`
+-- covers those).
 use Rattle.std.specs.Prelude.{◌≡◌, ◌⊎◌, ◌≤◌, ◌==◌, ◌&&◌, ◌++◌, ℕ, Bool, false, IsTrue, List, [], ◌∷◌, length, None, Some, if◌then◌else◌}
 use Rattle.std.specs.List.{AllByRecursion, flat_map}
 use Rattle.lrup_model.specs.Distinct.{distinct}
@@ -22,22 +24,25 @@ lines_by s [] = []
 lines_by s (step ∷ steps) =
     if step.stream == s then step.line ∷ lines_by s steps else lines_by s steps
 
--- This order of lines shows that its streams are valid together: each line has a text within the limits, and is valid.
+-- This order of lines shows that its streams are valid together: each line has a text within the
+-- limits, and is valid.
 pub record IsValidOrder (formula : Cnf) (layout : LayoutValue) (steps : List Step) : Type 0 where
   pub streams : AllByRecursion (λ step. IsStream layout step.stream) steps
   pub fits : AllByRecursion (λ step. IsWithinLimits step.line) steps
   pub valid : AreValidTogether layout (λ t. first_database formula layout) steps
 
--- the readers of the set have the texts of its streams' lines left at first, and maybe more behind them
+-- the readers of the set have the texts of its streams' lines left at first, and maybe more after
+-- them
 abbrev pub HaveTexts : (ℕ → Bool) → List Step → List InputObservation → Type 0
 HaveTexts set steps observed =
     (t : ℕ) (observation : InputObservation) → IsTrue (set t) → IsOfStream observed t observation
     → (more : List ℕ)
     × (observation.entry ≡ Some (flat_map line_text (lines_by t steps) ++ more))
 
--- Where lines of a set of streams have a valid order, then in every run of these streams the report of each tells at least what its
--- lines do; or memory ran out, or a read failed, in these lines; or one of them cites a clause of another stream that wasn't there,
--- or wasn't any more. That is so whatever the streams outside the set are, and whatever comes behind the lines.
+-- If lines of a set of streams have a valid order, then in every run of these streams the report of
+-- each one says at least what the report of its lines does; or memory ran out or a read failed in
+-- these lines; or one of them cites a clause of another stream that wasn't there yet, or was no
+-- longer there. The streams outside the set, and what comes after the lines, make no difference.
 abbrev pub TogetherBegins : Type 0
 TogetherBegins = (formula : Cnf) (run_params : RunParamsValue) (set : ℕ → Bool) (steps : List Step)
     (observed : List InputObservation) (reports : List Report) (s : ℕ) (report : Report)
@@ -49,8 +54,9 @@ TogetherBegins = (formula : Cnf) (run_params : RunParamsValue) (set : ℕ → Bo
     ⊎ ((line : ℕ) × (line ≤ length (lines_by s steps))
     × IsExcusedAt (Lacking (stream_params run_params s)) report line)
 
--- Where nothing comes behind a stream's lines, it ended, as its valid report says; or memory ran out, or a read failed; or a line of
--- it cites a clause of another stream that wasn't there, or wasn't any more.
+-- If nothing comes after a stream's lines, it ended with its valid report; or memory ran out, or a
+-- read failed; or a line of it cites a clause of another stream that wasn't there yet, or was no
+-- longer there.
 abbrev pub ValidTogether : Type 0
 ValidTogether = (formula : Cnf) (run_params : RunParamsValue) (set : ℕ → Bool) (steps : List Step)
     (observed : List InputObservation) (reports : List Report) (s : ℕ)

@@ -1,4 +1,5 @@
--- Laws of runs on one thread, whose order of lines is by turns. Each is the contract of a function of laws.
+-- Laws of runs on one thread, whose order of lines takes the streams in turn. Each is the contract
+-- of a function in a module of laws.
 use Rattle.std.specs.Prelude.{◌≡◌, ℕ, true, List, map, Some}
 use Rattle.std.specs.List.{flat_map}
 use Rattle.lrup_model.specs.Formula.{Cnf, IsCnf}
@@ -15,8 +16,8 @@ use Rattle.run_laws.specs.Valid.{valid_report}
 use Rattle.run_laws.specs.Valid.{Step}
 use Rattle.run_laws.specs.Together.{IsValidOrder, lines_by}
 
--- The order by turns of streams that are readings of the same bytes and ends is one, and so are their reports, unless memory ran
--- out.
+-- Streams that are readings of the same bytes and ends have one order that takes them in turn, and
+-- the same reports, unless memory ran out.
 abbrev pub TurnsDecide : Type 0
 TurnsDecide = (f : Cnf) (run_params : RunParamsValue) (streams others : List Stream)
     (reports other_reports : List Report)
@@ -30,8 +31,8 @@ TurnsDecide = (f : Cnf) (run_params : RunParamsValue) (streams others : List Str
     → NoneExcused (λ s. true) OutOfMemory other_reports
     → (a.order.blocks ≡ b.order.blocks) × (reports ≡ other_reports)
 
--- Two runs on one thread of one formula, by the same parameters, have the same reports where their readers have the same bytes left
--- at first, unless memory ran out or a read failed.
+-- Two runs on one thread of one formula, with the same parameters, have the same reports if their
+-- readers have the same bytes left at first, unless memory ran out or a read failed.
 abbrev pub BytesDecide : Type 0
 BytesDecide =
     (f : Cnf) (run_params : RunParamsValue) (observed other_observed : List InputObservation)
@@ -46,8 +47,9 @@ BytesDecide =
     → NoneExcused (λ s. true) CutOff reports → NoneExcused (λ s. true) CutOff other_reports
     → reports ≡ other_reports
 
--- Where the lines of streams have a valid order that is by turns, then in a run on one thread over their texts each stream ended, as
--- its valid report says, unless memory ran out or a read failed.
+-- If the lines of streams have a valid order that takes the streams in turn, then in a run on one
+-- thread over their texts each stream ended with its valid report, unless memory ran out or a read
+-- failed.
 abbrev pub ValidByTurns : Type 0
 ValidByTurns =
     (f : Cnf) (run_params : RunParamsValue) (steps : List Step) (observed : List InputObservation)

@@ -1,7 +1,9 @@
--- Valid proofs: what a stream that cites only its own clauses and the formula's has to write. The lines are replayed over a
--- database of clauses, as LRAT proofs are (Cruz-Filipe et al., CADE 2017), without RAT. This project's own are identities by
--- residue, each above those before it, room and imports; and that no hint comes after the conflict, and nothing is deleted that
--- isn't there. All is read off the lines: there is no history here, and no checker.
+-- Valid proofs: what a stream that cites only its own clauses and the formula's has to write. The
+-- lines are replayed over a database of clauses, as LRAT proofs are (Cruz-Filipe et al., CADE
+-- 2017), without RAT. This project's own are identities by residue, each above those before it,
+-- room and imports; and the rules that no hint comes after the conflict, and that nothing is
+-- deleted that isn't there. All of this depends on the lines alone: there is no history here, and
+-- no checker.
 use Rattle.std.specs.Prelude.{◌≡◌, ◌≤◌, ◌-◌, ◌==◌, ◌&&◌, ◌++◌, ℕ, nat_lt, nat_le, false, IsTrue, List, [], ◌∷◌, length, Option, None, Some, IsSome, if◌then◌else◌, Bool, map}
 use Rattle.std.specs.List.{AllByRecursion, AllZip, Any, flat_map}
 use Rattle.lrup_model.specs.Clause.{Clause}
@@ -18,14 +20,15 @@ use Rattle.stream_check.specs.StreamContext.{is_among}
 use Rattle.stream_check.specs.Judging.{report_of}
 use Rattle.stream_check.specs.Streams.{RunParamsValue, stream_params}
 
--- What the lines so far leave: the clauses that may be cited, imported and deleted, by identity; the greatest identity that was
--- added, or the formula's last one; and the room that is left, in literals.
+-- What the lines so far leave: the clauses that may be cited, imported and deleted, by identity;
+-- the largest identity that was added, or the formula's last one; and the room that is left, in
+-- literals.
 pub record Database : Type 0 where
   pub clauses : ℕ → Option Clause
   pub last : ℕ
   pub free : ℕ
 
--- before the first line: the formula's clauses, from 1 on
+-- before the first line: the formula's clauses, from identity 1 on
 abbrev pub first_database : Cnf → LayoutValue → Database
 first_database formula layout = record {
   clauses = λ id.
@@ -35,8 +38,8 @@ first_database formula layout = record {
   free = layout.room;
 }
 
--- after a line: an addition puts its clause at its identity, each literal once; a deletion takes clauses away; an import changes
--- nothing
+-- after a line: an addition puts its clause at its identity, with each literal once; a deletion
+-- removes clauses; an import changes nothing
 abbrev pub after_line : Database → StreamLine → Database
 after_line base (Addition id lits hints) = record {
   clauses = λ j. if j == id then Some (distinct lits) else base.clauses j;
@@ -50,17 +53,18 @@ after_line base (Deletion lead ids) = record {
 }
 after_line base (Import id lits) = base
 
--- no number stands twice
+-- no number occurs twice
 abbrev pub AreDistinct : List ℕ → Type 0
 AreDistinct [] = Unit {0}
 AreDistinct (id ∷ ids) = (is_among ids id ≡ false) × AreDistinct ids
 
--- A deletion is valid: each of its identities has a clause, and none stands twice.
+-- A deletion is valid: each of its identities has a clause, and none occurs twice.
 pub record IsValidDeletion (base : Database) (ids : List ℕ) : Type 0 where
   pub there : AllByRecursion (λ id. IsSome (base.clauses id)) ids
   pub once : AreDistinct ids
 
--- a line of stream s is valid, after lines that left this database: identities name the clauses that are there
+-- a line of stream s is valid after lines that left this database, which has the clauses that the
+-- line names
 abbrev pub IsValidLine : LayoutValue → ℕ → Database → StreamLine → Type 0
 IsValidLine layout s base (Addition id lits hints) =
     IsValidAddition layout s base.last base.free
@@ -71,7 +75,7 @@ IsValidLine layout s base (Import id lits) =
 
 -- Lines of several streams, in some order. Each stream has a database.
 
--- a line, and the stream, from 1 on, whose line it is
+-- a line, and the stream that wrote it, counted from 1
 pub record Step : Type 0 where
   pub stream : ℕ
   pub line : StreamLine
@@ -85,8 +89,8 @@ is_own layout s id =
       | owners.Outside ↦ false
     ]
 
--- what a line of stream s leaves of another stream's database: an addition puts its clause there too, and a deletion takes away
--- what is stream s's own
+-- what a line of stream s leaves of another stream's database: an addition puts its clause there
+-- too, and a deletion removes the clauses that are stream s's own
 abbrev pub beside_line : LayoutValue → ℕ → Database → StreamLine → Database
 beside_line layout s base (Addition id lits hints) = record {
   clauses = λ j. if j == id then Some (distinct lits) else base.clauses j;
@@ -100,21 +104,21 @@ beside_line layout s base (Deletion lead ids) = record {
 }
 beside_line layout s base (Import id lits) = base
 
--- the databases of all streams, after a line of one
+-- the databases of all streams after a line of one stream
 abbrev pub after_step : LayoutValue → Step → (ℕ → Database) → ℕ → Database
 after_step layout step bases t =
     if t == step.stream then after_line (bases t) step.line
     else beside_line layout step.stream (bases t) step.line
 
--- each line is valid, after those before it
+-- each line is valid after those before it
 abbrev pub AreValidTogether : LayoutValue → (ℕ → Database) → List Step → Type 0
 AreValidTogether layout bases [] = Unit {0}
 AreValidTogether layout bases (step ∷ steps) =
     IsValidLine layout step.stream (bases step.stream) step.line
     × AreValidTogether layout (after_step layout step bases) steps
 
--- The bytes are a valid proof, as stream s, by these lines: they are the lines' texts and nothing else, and each line is valid, in the
--- order that has these lines alone.
+-- The bytes are a valid proof, as stream s, with these lines: the bytes are the lines' texts and
+-- nothing else, and each line is valid, in the order that has only these lines.
 pub record IsValidProof (formula : Cnf) (layout : LayoutValue) (s : ℕ) (bytes : List ℕ)
     (lines : List StreamLine) : Type 0 where
   pub text : bytes ≡ flat_map line_text lines
@@ -128,8 +132,8 @@ AddsEmpty (Addition id lits hints) = lits ≡ []
 AddsEmpty (Deletion lead ids) = ⊥
 AddsEmpty (Import id lits) = ⊥
 
--- The bytes are a valid refutation of the formula, as stream s: they begin with a valid proof, a line of which adds the empty clause. What
--- comes after it may be anything.
+-- The bytes are a valid refutation of the formula, as stream s: they begin with a valid proof, a
+-- line of which adds the empty clause. Anything may come after it.
 pub record IsValidRefutation (formula : Cnf) (layout : LayoutValue) (s : ℕ)
     (bytes : List ℕ) : Type 0 where
   pub proof : List ℕ
@@ -139,12 +143,12 @@ pub record IsValidRefutation (formula : Cnf) (layout : LayoutValue) (s : ℕ)
   pub valid : IsValidProof formula layout s proof lines
   pub empty : Any AddsEmpty lines
 
--- The report of a valid proof: that it ended; what was added and deleted, as counted off the lines; and whether a line adds the
--- empty clause, or one within the cube.
+-- The report of a valid proof: that it ended; what was added and deleted, counted from the lines;
+-- and whether a line adds the empty clause, or one within the cube.
 abbrev pub valid_report : RunParamsValue → ℕ → List StreamLine → Report
 valid_report run_params s lines = report_of (stream_params run_params s) lines 0 endings.Ended
 
--- the report tells at least what the other does, whatever its ending is
+-- the report says at least what the other one does; its ending may be any
 pub record TellsAtLeast (report least : Report) : Type 0 where
   pub added : least.added ≤ report.added
   pub deleted : least.deleted ≤ report.deleted

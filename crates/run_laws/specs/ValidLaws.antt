@@ -1,4 +1,4 @@
--- Laws of valid proofs. Each is the contract of a function of laws.
+-- Laws of valid proofs. Each is the contract of a function in a module of laws.
 use Rattle.std.specs.Prelude.{◌≡◌, ◌⊎◌, ◌↔◌, ◌≤◌, ◌++◌, ℕ, Bool, IsTrue, List, length, Some}
 use Rattle.std.specs.List.{AllByRecursion, Any, sum_by}
 use Rattle.lrup_model.specs.Formula.{Cnf, IsCnf}
@@ -19,7 +19,8 @@ abbrev pub ValidCiteWithin : Type 0
 ValidCiteWithin = (f : Cnf) (p : LayoutValue) (s : ℕ) (bytes : List ℕ) (lines : List StreamLine)
     → Fits p f → IsValidProof f p s bytes lines → CiteWithin p (one s) bytes
 
--- Valid proofs are accepted: alone, a valid proof may have the report that it ended, with its additions and deletions counted.
+-- Valid proofs are accepted: alone, a valid proof may have the report that says that it ended, with
+-- its additions and deletions counted.
 abbrev pub ValidAccepted : Type 0
 ValidAccepted =
     (f : Cnf) (run_params : RunParamsValue) (s : ℕ) (bytes : List ℕ) (lines : List StreamLine)
@@ -36,8 +37,8 @@ ValidHasOneReport = (f : Cnf) (run_params : RunParamsValue) (s : ℕ) (bytes : L
     → IsReportAlone f run_params s bytes stream_ends.Ended report
     → report ≡ valid_report run_params s lines
 
--- A valid proof has this report in every run in which its reader has these bytes, unless memory ran out or a read failed: whatever
--- the other streams are, and however the threads ran.
+-- A valid proof has this report in every run in which its reader has these bytes, unless memory ran
+-- out or a read failed. The other streams, and how the threads ran, make no difference.
 abbrev pub ValidReported : Type 0
 ValidReported =
     (f : Cnf) (run_params : RunParamsValue) (s : ℕ) (bytes : List ℕ) (lines : List StreamLine)
@@ -50,8 +51,8 @@ ValidReported =
     → IsOfStream reports s report → ¬ IsExcused CutOff report
     → report ≡ valid_report run_params s lines
 
--- Where a reader's bytes only begin with a valid proof, the report says at least what these lines come to, whatever follows them; unless
--- memory ran out, or a read failed, in these lines.
+-- If a reader's bytes begin with a valid proof, the report says at least what the report of its
+-- lines says, no matter what follows; unless memory ran out or a read failed in these lines.
 abbrev pub ValidBegins : Type 0
 ValidBegins =
     (f : Cnf) (run_params : RunParamsValue) (s : ℕ) (bytes more : List ℕ) (lines : List StreamLine)
@@ -65,7 +66,8 @@ ValidBegins =
     → TellsAtLeast report (valid_report run_params s lines)
     ⊎ ((line : ℕ) × (line ≤ length lines) × IsExcusedAt CutOff report line)
 
--- A valid proof's count of deletions is that of all identities that its lines delete: 64 bits suffice for it
+-- A valid proof's count of deletions is that of all identities that its lines delete: 64 bits
+-- suffice for it.
 abbrev pub ValidCounted : Type 0
 ValidCounted =
     (f : Cnf) (run_params : RunParamsValue) (s : ℕ) (bytes : List ℕ) (lines : List StreamLine)
@@ -73,8 +75,9 @@ ValidCounted =
     → IsValidProof f run_params.layout s bytes lines
     → (valid_report run_params s lines).deleted ≡ sum_by (λ line. length (deleted_by line)) lines
 
--- Conversely, a stream that cites, imports and deletes only its own clauses and the formula's is valid if it may have, alone, a
--- report that it ended. (One that deletes what another stream never had may end too, and isn't valid.)
+-- Conversely, a stream that cites, imports and deletes only its own clauses and the formula's is
+-- valid if it may have, alone, a report that says that it ended. (One that deletes what another
+-- stream never had may end, too, and isn't valid.)
 abbrev pub EndedIsValid : Type 0
 EndedIsValid = (f : Cnf) (run_params : RunParamsValue) (s : ℕ) (bytes rest : List ℕ)
     (all : List StreamLine) (report : Report)

@@ -1,4 +1,4 @@
--- Lemmas, which other crates' proofs may cite.
+-- Lemmas that proofs of other crates may cite.
 pub mod ReportLemmas
 pub mod PublishLemmas
 pub mod OwnLemmas

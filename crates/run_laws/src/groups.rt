@@ -1,4 +1,5 @@
-//! Laws of groups. Each function does nothing: its contract is the law, which holds of every formula, layout, set and run.
+//! Laws of groups. Each function does nothing: its contract is the law, which holds for every
+//! formula, layout, set and run.
 ghost use Rattle.run_laws.specs.GroupLaws.{BeginningsWithin, ReadersClosed, ClosedIsGroup, OthersEmpty, AloneHasOneReport, RunIsolated, EarlyIsDecided, MatchIsReading, FailedIsReading, SameReadingAgrees, SameBytesAgree};
 
 use lrup_text::laws::{a_beginning_is_cut_alike, every_stream_is_cut};
@@ -6,7 +7,7 @@ use stream_check::laws::{
     alone_decides, cited_fetched, decided_before_failure, end_judged, fresh_left, over_stays,
 };
 
-/// If the lines of some bytes cite within a set of streams, those of a beginning of them do.
+/// If the lines of some bytes cite within a set of streams, so do those of a prefix of the bytes.
 pub fn beginnings_within()
     ensures { BeginningsWithin }
 {
@@ -57,17 +58,20 @@ pub fn early_is_decided()
     ensures { EarlyIsDecided }
 {}
 
-/// A reader that hasn't failed told a reading of the bytes that it had left at first.
+/// If a reader hasn't failed, its stream is a reading of the bytes that the reader had left at
+/// first.
 pub fn match_is_reading()
     ensures { MatchIsReading }
 {}
 
-/// A reader that failed told all bytes before those that it has left then.
+/// If a reader failed, its stream is a reading of the bytes before those that the reader then has
+/// left.
 pub fn failed_is_reading()
     ensures { FailedIsReading }
 {}
 
-/// A stream that cites within itself has one report if the readers told the same bytes and end, unless memory ran out.
+/// A stream that cites within itself has one report if the readers delivered the same bytes and
+/// end, unless memory ran out.
 pub fn same_reading_agrees()
     ensures { SameReadingAgrees }
 {
@@ -76,8 +80,8 @@ pub fn same_reading_agrees()
     alone_has_one_report();
 }
 
-/// A stream that cites within itself has one report if the readers have the same bytes left at first, unless memory ran out
-/// or a read failed.
+/// A stream that cites within itself has one report if its readers have the same bytes left at
+/// first, unless memory ran out or a read failed.
 pub fn same_bytes_agree()
     ensures { SameBytesAgree }
 {

@@ -1,11 +1,11 @@
-//! Laws of the order of lines. Each function does nothing: its contract is the law, which holds of every formula, layout, set and
-//! history.
+//! Laws of the order of lines. Each function does nothing: its contract is the law, which holds for
+//! every formula, layout, set and history.
 ghost use Rattle.run_laws.specs.OrderLaws.{JudgedBlocks, DeletedRetired, LinesOrdered, ClosedOrdered, AllClosed, AllOrdered, KeptByEvents, OwnersAloneSuffices, SharedStays, BeginningsCite, ReadersShare, RunSerializable};
 
 use lrup_text::laws::{a_beginning_is_cut_alike, bytes_begin_with_one_line, every_stream_is_cut};
 use stream_check::laws::{cited_fetched, early_events, reduced_stream, vacant_tries_again};
 
-/// The blocks by which a stream is judged are like those of lines.
+/// The blocks by which a stream is judged have the form of lines.
 pub fn judged_blocks()
     ensures { JudgedBlocks }
 {
@@ -42,7 +42,7 @@ pub fn all_closed()
     every_stream_is_cut();
 }
 
-/// The reports of all streams have an order of lines, which comes to the verdict of the reports.
+/// The reports of all streams have an order of lines, with the verdict of the reports.
 pub fn all_ordered()
     ensures { AllOrdered }
 {
@@ -50,19 +50,21 @@ pub fn all_ordered()
     all_closed();
 }
 
-/// The premise on what is found live says the same by events as by the last state.
+/// The premise on what is found live is the same by events and by the last state.
 pub fn kept_by_events()
     ensures { KeptByEvents }
 {}
 
-/// If only its owner found an identity that the history retires, what a stream found live of another stays.
+/// If only its owner found an identity that the history retires, what a stream found live of
+/// another one stays live.
 pub fn owners_alone_suffices()
     ensures { OwnersAloneSuffices }
 {
     kept_by_events();
 }
 
-/// If no stream deletes an identity of its own that another stream's line cites, what a stream found live of another stays.
+/// If no stream deletes an identity of its own that a line of another stream cites, what a stream
+/// found live of another one stays live.
 pub fn shared_stays()
     ensures { SharedStays }
 {
@@ -70,7 +72,8 @@ pub fn shared_stays()
     deleted_retired();
 }
 
-/// What the lines of some bytes cite or delete, those of all bytes that begin with them cite or delete too.
+/// If the lines of some bytes cite or delete an identity, so do those of all bytes that begin with
+/// them.
 pub fn beginnings_cite()
     ensures { BeginningsCite }
 {
@@ -78,7 +81,8 @@ pub fn beginnings_cite()
     every_stream_is_cut();
 }
 
-/// If streams keep what they share in all bytes that their readers have left at first, they keep it in those that were needed.
+/// If streams keep what they share, in all bytes that their readers have left at first, they keep
+/// it in the bytes that were needed.
 pub fn readers_share()
     ensures { ReadersShare }
 {

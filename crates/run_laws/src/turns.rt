@@ -1,4 +1,5 @@
-//! Laws of runs on one thread. Each function does nothing: its contract is the law, which holds of every formula and run.
+//! Laws of runs on one thread. Each function does nothing: its contract is the law, which holds for
+//! every formula and run.
 ghost use Rattle.run_laws.specs.TurnsLaws.{BytesDecide, ValidByTurns, TurnsDecide};
 
 use lrup_text::laws::{a_stream_is_cut_in_one_way, no_bytes_have_no_lines};
@@ -7,7 +8,8 @@ use stream_check::laws::{
     legal_never_fork, one_report, over_stays,
 };
 
-/// Streams that are readings of the same bytes and ends have one order by turns, and the same reports, unless memory ran out.
+/// Streams that are readings of the same bytes and ends have one order that takes them in turn, and
+/// the same reports, unless memory ran out.
 pub fn turns_decide()
     ensures { TurnsDecide }
 {
@@ -17,7 +19,8 @@ pub fn turns_decide()
     blocks_go_alike();
 }
 
-/// Two runs on one thread over the same bytes have the same reports, unless memory ran out or a read failed.
+/// Two runs on one thread over the same bytes have the same reports, unless memory ran out or a
+/// read failed.
 pub fn bytes_decide()
     ensures { BytesDecide }
 {
@@ -27,8 +30,8 @@ pub fn bytes_decide()
     blocks_go_alike();
 }
 
-/// If the lines of streams have a valid order that is by turns, a run on one thread gives each its valid report, unless memory
-/// ran out or a read failed.
+/// If the lines of streams have a valid order that takes the streams in turn, a run on one thread
+/// gives each stream its valid report, unless memory ran out or a read failed.
 pub fn valid_by_turns()
     ensures { ValidByTurns }
 {

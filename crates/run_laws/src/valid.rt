@@ -1,4 +1,5 @@
-//! Laws of valid proofs. Each function does nothing: its contract is the law, which holds of every formula, layout, stream and run.
+//! Laws of valid proofs. Each function does nothing: its contract is the law, which holds for every
+//! formula, layout, stream and run.
 ghost use Rattle.run_laws.specs.AnyRun.{ValidInAnyRun};
 ghost use Rattle.run_laws.specs.Together.{ValidTogether, TogetherBegins};
 ghost use Rattle.run_laws.specs.ValidLaws.{ValidCiteWithin, ValidAccepted, ValidHasOneReport, ValidReported, ValidBegins, ValidCounted, EndedIsValid, ValidEmpty};
@@ -20,7 +21,8 @@ pub fn valid_cite_within()
     no_bytes_have_no_lines();
 }
 
-/// Alone, a valid proof may have the report that it ended, with its additions and deletions counted.
+/// Alone, a valid proof may have the report that says that it ended, with its additions and
+/// deletions counted.
 pub fn valid_accepted()
     ensures { ValidAccepted }
 {
@@ -55,8 +57,9 @@ pub fn valid_reported()
     decided_before_failure();
 }
 
-/// In every run the report of a stream that begins with valid lines tells at least what these do, whatever comes behind them;
-/// unless memory ran out, or a read failed, in these lines.
+/// In every run the report of a stream that begins with valid lines says at least what the report
+/// of these lines says, no matter what follows; unless memory ran out or a read failed in these
+/// lines.
 pub fn valid_begins()
     ensures { ValidBegins }
 {
@@ -81,7 +84,8 @@ pub fn valid_counted()
     counts_within();
 }
 
-/// A stream that cites, imports and deletes only its own clauses and the formula's, and that may end alone, is valid.
+/// A stream that cites, imports and deletes only its own clauses and the formula's, and that may
+/// end alone, is valid.
 pub fn ended_is_valid()
     ensures { EndedIsValid }
 {
@@ -95,9 +99,10 @@ pub fn valid_empty()
     ensures { ValidEmpty }
 {}
 
-/// If some legal history judges a closed set of streams, and one of them ended there, it has the same report in every run in which
-/// its reader has the same bytes, and the set's other readers have at least theirs, unless memory ran out or a read failed; or a line
-/// of it cites a clause of another stream that wasn't there, or wasn't any more.
+/// If some legal history judges a closed set of streams, and one of them ended there, it has the
+/// same report in every run in which its reader has the same bytes, and the set's other readers
+/// have at least theirs, unless memory ran out or a read failed; or a line of it cites a clause of
+/// another stream that wasn't there yet, or was no longer there.
 pub fn valid_in_any_run()
     ensures { ValidInAnyRun }
 {
@@ -108,9 +113,10 @@ pub fn valid_in_any_run()
     cited_fetched();
 }
 
-/// If lines of a set of streams have a valid order, the report of each tells at least what its lines do, in every run in which the
-/// readers begin with them, unless memory ran out, or a read failed, in these lines; or one of them cites a clause of another stream
-/// that wasn't there, or wasn't any more.
+/// If lines of a set of streams have a valid order, then in every run in which the readers begin
+/// with them the report of each stream says at least what the report of its lines does, unless
+/// memory ran out or a read failed in these lines; or one of them cites a clause of another stream
+/// that wasn't there yet, or was no longer there.
 pub fn together_begins()
     ensures { TogetherBegins }
 {
@@ -124,8 +130,9 @@ pub fn together_begins()
     cited_fetched();
 }
 
-/// If nothing comes behind a stream's lines, it ended, as its valid report says, unless memory ran out or a read failed; or a line
-/// of it cites a clause of another stream that wasn't there, or wasn't any more.
+/// If nothing comes after a stream's lines, it ended with its valid report, unless memory ran out
+/// or a read failed; or a line of it cites a clause of another stream that wasn't there yet, or was
+/// no longer there.
 pub fn valid_together()
     ensures { ValidTogether }
 {

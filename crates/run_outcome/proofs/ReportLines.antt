@@ -1,4 +1,4 @@
--- The text of a report by the parts that are written one after the other.
+-- The text of a report, in the parts that are written one after the other.
 use Rattle.std.proofs.Common.{◌≡◌, ℕ, ◌+◌, ◌<◌, ◌≤◌, List, [], ◌∷◌, ◌++◌, length, take, drop, get_or, sym, ◌∙◌, ap, arith}
 use Rattle.std.specs.Prelude.{codes}
 use Rattle.std.specs.Fmt.{decimal}
@@ -41,7 +41,7 @@ lines_more rs k d inside =
     ap (stream_lines 1) (take_more rs k d inside) ∙ lines_append 1 (take k rs) (r ∷ [])
     ∙ ap (λ t. stream_lines 1 (take k rs) ++ t) (append-nil (stream_line (1 + length (take k rs)) r) ∙ ap (λ n. stream_line n r) number)
 
--- the lines up to one, and what follows them
+-- the lines up to this one, and the rest
 pub lines_split : (rs : List Report) (verdict : Verdict) (k : ℕ) (d : Report) → k < length rs
     → (rest : List ℕ) × (report_text rs verdict ≡ (stream_lines 1 (take k rs) ++ stream_line (k + 1) (get_or rs k d)) ++ rest)
 lines_split rs verdict k d inside =

@@ -1,4 +1,4 @@
--- What the fetches after a run are answered by: the state that the run's history leaves.
+-- The answers to the fetches after a run come from the state that the run's history leaves.
 use Rattle.std.proofs.Common.{◌≡◌, ℕ, suc, zero, ◌+◌, ◌-◌, ◌<◌, ◌≤◌, List, [], ◌∷◌, ◌++◌, length, Some, refl, sym, ap, ap₂, subst, ◌∙◌, inl}
 use Rattle.std.proofs.Common.{◌⊎◌, Bool, Err, Option, Result, inr, arith, append-nil, append_assoc}
 use Rattle.std.specs.Prelude.{slice_get}
@@ -25,7 +25,7 @@ use Rattle.clause_store.specs.Passes.{AreOf, PassValue, StoreValue, store_of}
 use Rattle.stream_check.specs.SequentialConsistency.{HaveOneHistory}
 use Rattle.run_laws.specs.lemmas.OwnLemmas.{own_all}
 
--- these replies answered fetches of the identities from 1 on, and what was found live and is wanted was saved, or memory ran out
+-- these replies answered fetches of the identities from 1 on, and the live and wanted clauses were saved, or memory ran out
 abbrev pub SavesFound : {S : Type 0} → (S → Option (List ℕ)) → Result (Option Cnf) SaveFault → LayoutValue → (ℕ → Bool) → List Reply
     → S → S → Type 0
 SavesFound written result layout wants replies old new = (length replies ≤ last_identity layout)
@@ -38,7 +38,7 @@ are_fetches : (s id : ℕ) (replies : List Reply) → AllByRecursion IsFetch (fe
 are_fetches s id [] = tt
 are_fetches s id (r ∷ replies) = (tt, are_fetches s (id + 1) replies)
 
--- what holds of a stream's events holds of those behind the first
+-- what holds for a stream's events holds for those after the first
 own_rest : (P : Event → Type 0) (e : Event) (h : History) (s : ℕ) → AllByRecursion P (own (e ∷ h) s)
     → AllByRecursion P (own h s)
 own_rest P e h s all =
@@ -47,11 +47,11 @@ own_rest P e h s all =
       | inr other ↦ subst (λ (g : History). AllByRecursion P g) (own-other e h s other) all
     ]
 
--- and of the first, where it is the stream's
+-- and for the first, if it is the stream's
 own_first : (P : Event → Type 0) (e : Event) (h : History) → AllByRecursion P (own (e ∷ h) (stream_of e)) → P e
 own_first P e h all = (subst (λ (g : History). AllByRecursion P g) (own-mine e h (stream_of e) refl) all).0
 
--- A legal publish or retire is one of an owner. So where owners only fetch, all events are fetches.
+-- A legal publish or retire comes from an owner. So if owners only fetch, all events are fetches.
 pub all_fetch : (f : Cnf) (p : LayoutValue) (m : State) (h : History) → LegalFrom f p m h
     → ((t id : ℕ) → Owns p t id → AllByRecursion IsFetch (own h t)) → AllByRecursion IsFetch h
 all_fetch f p m [] legal owners = tt
@@ -62,7 +62,7 @@ all_fetch f p m (events.publish s id c r ∷ h) legal owners =
 all_fetch f p m (events.retire s id r ∷ h) legal owners =
     absurd (own_first IsFetch (events.retire s id r) h (owners s id legal.1))
 
--- legal fetches are answered by the state before them
+-- the state before them answers legal fetches
 pub all_answer : (f : Cnf) (p : LayoutValue) (m : State) (h : History) → LegalFrom f p m h
     → AllByRecursion IsFetch h → AllByRecursion (Answers m) h
 all_answer f p m [] legal all = tt
@@ -70,7 +70,7 @@ all_answer f p m (events.fetch s id r ∷ h) legal all = (legal.0, all_answer f 
 all_answer f p m (events.publish s id c r ∷ h) legal all = absurd all.0
 all_answer f p m (events.retire s id r ∷ h) legal all = absurd all.0
 
--- a fetch is answered alike whichever stream asks
+-- a fetch has the same answer for each stream
 answer_any : (m : State) (s t id : ℕ) (r : Reply) → Answers m (events.fetch s id r) → Answers m (events.fetch t id r)
 answer_any m s t id events.vacant answers = answers
 answer_any m s t id (events.live c) answers = answers
@@ -81,14 +81,14 @@ pub answers_any : (m : State) (s t id : ℕ) (replies : List Reply) → AllByRec
 answers_any m s t id [] all = tt
 answers_any m s t id (r ∷ replies) all = (answer_any m s t id r all.0, answers_any m s t (id + 1) replies all.1)
 
--- legal fetches are answered by the state before them, whichever stream asks
+-- the state before them answers legal fetches, for each stream
 pub fetches_answer : (f : Cnf) (p : LayoutValue) (m : State) (s : ℕ) (replies : List Reply)
     → LegalFrom f p m (fetches s 1 replies) → (t : ℕ) → AllByRecursion (Answers m) (fetches t 1 replies)
 fetches_answer f p m s replies legal t =
     answers_any m s t 1 replies (all_answer f p m (fetches s 1 replies) legal (are_fetches s 1 replies))
 
--- Where each owner of an identity has only fetches behind a history, and this stream these, they are answered by the state that
--- the history leaves.
+-- If, after a history, each owner of an identity only fetches, and this stream makes these fetches, the state that the history leaves
+-- answers them.
 pub answered_behind : (f : Cnf) (p : LayoutValue) (h more : History) (s : ℕ) (replies : List Reply)
     → IsLegal f p (h ++ more) → ((t id : ℕ) → Owns p t id → AllByRecursion IsFetch (own more t))
     → own more s ≡ fetches s 1 replies → (t : ℕ) → AllByRecursion (Answers (state f h)) (fetches t 1 replies)
@@ -101,7 +101,7 @@ answered_behind f p h more s replies legal owners mine t =
 
 -- ---- passes that meet once more
 
--- the pass at this place after all met: it made no call, and is fair at their history
+-- the pass at this place after all met: it made no call, and is fair with their history
 record SyncedAt (h : History) (x : View) : Type 0 where
   after : View
   moves : PassMoves x after []
@@ -127,7 +127,7 @@ pub last_at : (vs : List View) (v : View) → slice_get (vs ++ v ∷ []) (length
 last_at [] v = refl
 last_at (w ∷ vs) v = last_at vs v
 
--- where the last is another, each other is where it was
+-- a list with another last element has the same elements before it
 front_at : (vs : List View) (v w : View) (k : ℕ) → k < length vs
     → (x : View) × (slice_get (vs ++ v ∷ []) k ≡ Some x) × (slice_get (vs ++ w ∷ []) k ≡ Some x)
 front_at [] v w k within = absurd (omega arith)
@@ -138,12 +138,12 @@ last_count : (vs : List View) (v : View) → length (vs ++ v ∷ []) ≡ length 
 last_count [] v = refl
 last_count (w ∷ vs) v = omega (arith, last_count vs v)
 
--- where a stream has the same events in a history and in its beginning, it has none behind that
+-- a stream whose events in a history are those in its prefix has none after the prefix
 own_none_behind : (h more : History) (s : ℕ) → own (h ++ more) s ≡ own h s → own more s ≡ []
 own_none_behind h more s same =
     append_cancel_left (own h s) (own more s) [] (sym (own-append h more s) ∙ same ∙ sym (append-nil (own h s)))
 
--- The last of a run's passes fetched, and then all met once more: what was fetched is what the run's history left.
+-- The last of a run's passes fetched, and then all met once more: the fetches gave what the run's history left.
 pub fetched_so : (f : Cnf) (p : LayoutValue) (h : History) (vs : List View) (v w : View) (replies : List Reply)
     (us : List View) (g : History)
     → HaveOneHistory f p h (vs ++ v ∷ []) → PassMoves v w (fetches v.caller.stream 1 replies)
@@ -191,7 +191,7 @@ fetched_so f p h vs v w replies us g one moves synced saw =
     ] in
     answered_behind f p h more s replies legal owners mine
 
--- the store's passes, of which the last is another
+-- the passes are still the store's with another last one
 pub other_last : (store : StoreValue) (ps : List PassValue) (p q : PassValue) → AreOf store (ps ++ p ∷ []) → store_of q ≡ store_of p
     → AreOf store (ps ++ q ∷ [])
 other_last store [] p q all same = (same ∙ all.0, tt)

@@ -13,8 +13,8 @@ use Rattle.stream_check.specs.Stopping.{DropsUntilStop}
 use Rattle.stream_check.specs.Each.{EachOfThree}
 use Rattle.stream_check.specs.Streams.{Stream, RunParamsValue, stream_params}
 
--- These are the identities that the lines of the bytes, which are good by these blocks of events, drop: of those that a deletion among them
--- names, the formula's and other streams'.
+-- These are the identities that the lines of the bytes drop. The lines are good by these blocks of
+-- events; a deletion drops those of its identities that are the formula's or another stream's.
 pub record AreDroppedBy (params : StreamParams) (bytes : List ℕ) (blocks : List History)
     (ids : List ℕ) : Type 0 where
   pub lines : List StreamLine
@@ -23,7 +23,7 @@ pub record AreDroppedBy (params : StreamParams) (bytes : List ℕ) (blocks : Lis
   pub good : AreGood params [] lines blocks
   pub are : (id : ℕ) → is_among ids id ≡ (context_of params lines).is_dropped id
 
--- what a stream dropped that ended so
+-- what a stream with this ending dropped
 abbrev pub HasDroppedBy : Ending → StreamParams → List ℕ → List History → Report → DroppedIdsValue
     → Type 0
 HasDroppedBy endings.Ended params bytes blocks report dropped =
@@ -35,14 +35,15 @@ HasDroppedBy (endings.ReadFailed line) params bytes blocks report dropped =
 HasDroppedBy (endings.Memory line) params bytes blocks report dropped =
     DropsUntilStop params bytes blocks report (is_among dropped.ids) × (dropped.spare ≡ 0)
 
--- Where the report says that the stream ended, or that a read failed, so that all its lines were good, these are the identities that
--- they drop. Where it says that a line is bad, or that memory ran out in it, these are the identities that the lines before it drop,
--- and that the line itself does, up to where it stopped. Where memory ran out, there is no room for one more.
+-- If the stream ended or a read failed, all its lines were good, and these are the identities that
+-- they drop. If a line was bad, or memory ran out in a line, these are the identities that the
+-- lines before it drop, and those that the line itself dropped before it stopped. If memory ran
+-- out, there is no room for one more identity.
 abbrev pub HasDropped : StreamParams → List ℕ → List History → Report → DroppedIdsValue → Type 0
 HasDropped params bytes blocks report dropped =
     HasDroppedBy report.ending params bytes blocks report dropped
 
--- so it is with each stream, counted on from s, by blocks of events of which `AreOwn` holds
+-- `HasDropped` for each stream, counted from s, by blocks of events for which `AreOwn` holds
 abbrev pub HaveDropped : RunParamsValue → (ℕ → List History → Type 0) → ℕ → List Stream
     → List Report → List DroppedIdsValue → Type 0
 HaveDropped run_params AreOwn s streams reports all = EachOfThree (λ t stream report dropped.

@@ -1,4 +1,5 @@
--- What a run promises of its streams, on one thread or with two threads for each (this project's own).
+-- What a run promises of its streams, on one thread or with two threads for each (this project's
+-- own).
 use Rattle.std.specs.Prelude.{◌≡◌, ℕ, Bool, true, false, List, IsSome}
 use Rattle.std.specs.List.{AllByRecursion}
 use Rattle.lrup_model.specs.Event.{History, own}
@@ -13,8 +14,9 @@ use Rattle.stream_check.specs.Turns.{IsOrderedByTurns}
 use Rattle.run_laws.specs.Groups.{IsRunOfFirst}
 use Rattle.run_outcome.specs.Dropping.{HaveDropped}
 
--- What more is known of a run's history, its streams and its reports. On one thread, `serial`, the history is that of an order of lines,
--- which takes one of each stream in turn. With threads each stream was read to its end, or to a read that failed.
+-- What else is known of a run's history, streams and reports. On one thread (`serial`), the history
+-- is that of an order of lines that takes one line of each stream in turn. With threads, each
+-- stream was read to its end, or to a read that failed.
 abbrev pub RanSo : (serial : Bool) → Cnf → RunParamsValue → History → List Stream → List Report
     → Type 0
 RanSo true formula run_params history streams reports =
@@ -23,9 +25,11 @@ RanSo true formula run_params history streams reports =
 RanSo false formula run_params history streams reports =
     AllByRecursion (λ stream. IsSome stream.end) streams
 
--- What a run promises of its first `many` streams, with threads or on one thread. `firsts` are their readers before the first read, and `lasts`
--- those in the end. It is a run of what these gave; reads of them gave its streams; and each stream dropped just what its lines drop, or,
--- if a line stopped it, what was dropped until then. These lines are good by the stream's own calls in the run's history.
+-- What a run promises of its first `many` streams, with threads or on one thread. `firsts` are
+-- their readers before the first read, and `lasts` those at the end. It is a run of what the
+-- readers gave; reads of the readers gave its streams; and each stream dropped just what its lines
+-- drop, up to the line that stopped it, if any. These lines are good by the stream's own calls in
+-- the run's history.
 pub record IsRunOfSome {S : Type 0} (many : ℕ) (serial : Bool) (view : SourceView S) (formula : Cnf)
     (run_params : RunParamsValue) (firsts lasts : List S) (reports : List Report)
     (dropped : List DroppedIdsValue) : Type 0 where
@@ -35,7 +39,7 @@ pub record IsRunOfSome {S : Type 0} (many : ℕ) (serial : Bool) (view : SourceV
   pub have_dropped : HaveDropped run_params (λ t blocks. own run.history t ≡ joined blocks) 1
       run.streams reports dropped
 
--- so it is with all streams of the layout
+-- the same for all streams of the layout
 abbrev pub IsRunOf : {S : Type 0} → (serial : Bool) → SourceView S → Cnf → RunParamsValue
     → (firsts lasts : List S) → List Report → List DroppedIdsValue → Type 0
 IsRunOf serial view formula run_params firsts lasts reports dropped =

@@ -1,4 +1,4 @@
--- What a run is asked for, and what it says in the end (this project's own).
+-- What a run is asked for, and its verdict (this project's own).
 use Rattle.std.specs.Prelude.{ℕ, List, length, if◌then◌else◌}
 use Rattle.std.specs.List.{list_any}
 use Rattle.lrup_model.specs.Cube.{CubeValue}
@@ -9,13 +9,14 @@ use Rattle.run_outcome.specs.declared.outcome.Verdict.{Verdict}
 use Rattle.run_outcome.specs.declared.outcome.Verdict.TheVariants.{Unsatisfiable, UnsatisfiableUnder, Unknown}
 use Rattle.stream_check.specs.Streams.{RunParamsValue}
 
--- how often an identity of another stream is fetched again while it is vacant; and for each stream, identities and room in literals
+-- how often an identity of another stream is fetched again while it is vacant; and for each stream,
+-- its number of identities and its room in literals
 pub record OptionsValue : Type 0 where
   pub tries : ℕ
   pub lines : ℕ
   pub room : ℕ
 
--- the layout of a formula and so many streams
+-- the layout of a formula and this many streams
 abbrev pub layout_of : OptionsValue → Cnf → ℕ → LayoutValue
 layout_of options formula streams =
     record {
@@ -27,13 +28,13 @@ layout_of options formula streams =
       room = options.room;
     }
 
--- what a run of a formula and so many streams is checked by, under a cube
+-- the parameters for checking this many streams of a formula, under a cube
 abbrev pub run_params_of : OptionsValue → CubeValue → Cnf → ℕ → RunParamsValue
 run_params_of options cube formula streams =
     record { layout = layout_of options formula streams; cube = cube; tries = options.tries }
 
--- The verdict: 'unsatisfiable' exactly if some stream added the empty clause; else 'unsatisfiable under assumptions' exactly if
--- some stream added a clause within the cube.
+-- The verdict: 'unsatisfiable' exactly if some stream added the empty clause; else 'unsatisfiable
+-- under assumptions' exactly if some stream added a clause within the cube.
 abbrev pub verdict_of : List Report → Verdict
 verdict_of reports =
     if list_any (λ report. report.empty) reports then Unsatisfiable

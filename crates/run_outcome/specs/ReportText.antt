@@ -15,7 +15,7 @@ ending_text (endings.Bad line fault) =
 ending_text (endings.ReadFailed line) = codes "read failed at line " ++ decimal line
 ending_text (endings.Memory line) = codes "out of memory at line " ++ decimal line
 
--- what is said of a stream, from 1 on, after these words, ended by LF
+-- the report of a stream, counted from 1, after these words, ended by LF
 abbrev pub line_after : List ℕ → ℕ → Report → List ℕ
 line_after words s report =
     words ++ decimal s ++ codes ": " ++ decimal report.added ++ codes " added, "
@@ -26,7 +26,7 @@ line_after words s report =
 abbrev pub stream_line : ℕ → Report → List ℕ
 stream_line s report = line_after (codes "c stream ") s report
 
--- the lines of the streams, counted on from s
+-- the lines of the streams, counted from s
 abbrev pub stream_lines : ℕ → List Report → List ℕ
 stream_lines s [] = []
 stream_lines s (report ∷ reports) = stream_line s report ++ stream_lines (s + 1) reports
@@ -36,6 +36,6 @@ verdict_line verdicts.Unsatisfiable = codes "s UNSATISFIABLE\n"
 verdict_line verdicts.UnsatisfiableUnder = codes "s UNSATISFIABLE UNDER ASSUMPTIONS\n"
 verdict_line verdicts.Unknown = codes "s UNKNOWN\n"
 
--- a line for each stream in order, and the verdict's line
+-- a line for each stream in order, and the line of the verdict
 abbrev pub report_text : List Report → Verdict → List ℕ
 report_text reports verdict = stream_lines 1 reports ++ verdict_line verdict

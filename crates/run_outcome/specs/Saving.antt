@@ -1,4 +1,4 @@
--- What of a run is saved, and what became of it (this project's own).
+-- What a run saves (this project's own).
 use Rattle.std.specs.Prelude.{◌≡◌, ◌⊎◌, ◌<◌, ◌≤◌, ◌==◌, ◌||◌, ℕ, Bool, not, List, length, vec_len, Option, Result, Err}
 use Rattle.std.specs.List.{AllByRecursion, list_any}
 use Rattle.clause_store.specs.Passes.{AreOf, views}
@@ -21,9 +21,10 @@ use Rattle.run_outcome.specs.declared.saving.Clauses.TheVariants as clauses
 abbrev pub is_wanted : List DroppedIdsValue → ℕ → Bool
 is_wanted dropped id = length dropped == 0 || list_any (λ d. not (is_among d.ids id)) dropped
 
--- What became of the saving of what is live in this state of the clause map, and wanted. The replies are the state's answers, whichever
--- stream fetches, to fetches of the identities from 1 on. All were fetched, and what was found live and is wanted was saved, as the result
--- says; or memory ran out before the first write.
+-- An attempt to save the clauses that are live in this state of the clause map and wanted. The
+-- replies are the state's answers to fetches of the identities from 1 on, for any stream. Either
+-- all identities were fetched, and the live and wanted clauses were saved, as the result says; or
+-- memory ran out before the first write.
 pub record SavesState {S : Type 0} (written : S → Option (List ℕ))
     (result : Result (Option Cnf) SaveFault) (slots : State) (layout : LayoutValue)
     (wants : ℕ → Bool)
@@ -40,7 +41,7 @@ abbrev pub layout_left : Clauses → LayoutValue
 layout_left (clauses.Shared store passes) = store.layout
 layout_left (clauses.Plain map) = map.layout
 
--- a run of this formula, with this history, left these clauses
+-- a run of this formula with this history left these clauses
 abbrev pub WereLeftBy : Cnf → History → Clauses → Type 0
 WereLeftBy formula history (clauses.Shared store passes) =
     HaveOneHistory formula store.layout history (views passes.items)

@@ -9,7 +9,8 @@ use lrup_model::{Formula, Layout, LayoutFault};
 use std::marker::Model;
 use stream_check::Checker;
 
-/// The options of a run: how often a hint of another stream is fetched again while it is vacant, and how much each stream may publish.
+/// The options of a run: how often a hint of another stream is fetched again while it is vacant,
+/// and how much each stream may publish.
 #[derive(Clone, Copy, Debug, PartialEq, Eq)]
 pub struct Options {
     tries: u64,
@@ -32,12 +33,12 @@ impl Model for Options {
 }
 
 impl Options {
-    /// The greatest number of tries.
+    /// The largest number of tries.
     pub const MAX_TRIES: u64 = Checker::MAX_TRIES;
 
-    /// A vacant hint is fetched again up to `tries` times, and each stream has `lines` identities and room for `room` literals. `layout`
-    /// says whether a formula and that many streams fit.
-    /// None exactly if there are more than 1,000,000 tries.
+    /// A vacant hint is fetched again up to `tries` times, and each stream has `lines` identities
+    /// and room for `room` literals. `None` exactly if `tries` is above 1,000,000. `layout` says
+    /// whether a formula and a number of streams fit.
     pub fn new(tries: u64, lines: u64, room: u64) -> Option<Options>
         ensures none { IsNone result ↔ (max_tries < tries) }
         ensures some { IfSome result (λ o.

@@ -1,4 +1,4 @@
-//! The outcome of a run, its verdict, and why there is none.
+//! The outcome of a run, its verdict, and why there may be no outcome.
 ghost use Rattle.std.specs.Prelude.{◌≡◌};
 ghost use Rattle.run_outcome.specs.Outcomes.{verdict_of};
 
@@ -8,15 +8,15 @@ use std::alloc::AllocError;
 use stream_check::{DroppedIds, Report};
 use thiserror::Error;
 
-/// What a run says of its formula, by the reports of all streams.
+/// What a run says of its formula, from the reports of all streams.
 #[derive(Clone, Copy, Debug, PartialEq, Eq)]
 pub enum Verdict {
     /// No assignment satisfies the formula: a stream added the empty clause.
     Unsatisfiable,
-    /// No assignment satisfies the formula and makes each literal of the cube true: a stream added a clause that the cube makes false, and
-    /// none added the empty clause.
+    /// No assignment satisfies the formula together with all literals of the cube: a stream added a
+    /// clause that the cube falsifies, and none added the empty clause.
     UnsatisfiableUnder,
-    /// No stream added such a clause. This says nothing of the formula.
+    /// No stream added such a clause. This says nothing about the formula.
     Unknown,
 }
 
@@ -38,19 +38,22 @@ impl Verdict {
 /// Why a run has no outcome.
 #[derive(Clone, Copy, Debug, PartialEq, Eq, Error)]
 pub enum RunFault {
-    /// The formula, the options and the number of streams have no layout. It is answered before any other fault.
+    /// The formula, the options and the number of streams have no layout. This fault comes before
+    /// any other.
     #[error("{0}")]
     Layout(LayoutFault),
-    /// Out of memory. By the code, and by no clause, this comes before the first read.
+    /// Out of memory. In the code this comes before the first read; no clause says so.
     #[error("out of memory")]
     Memory,
-    /// A thread of this stream, from 1 on, couldn't be started. By the code no stream was read: threads that have started leave without a
-    /// read, as a test of one stream's two threads shows.
+    /// A thread of this stream, counted from 1, couldn't be started. In the code no stream was read
+    /// then: the threads that have started leave without a read, as a test of one stream's two
+    /// threads shows.
     #[error("worker {0} not started")]
     Spawn(u64),
-    /// The checking thread of this stream, from 1 on, found its ring abandoned before the mark for the end, though the stream was read out.
-    /// The reading thread pushes the mark, and its `Producer` is kept until both threads are joined. No contract of `rtrb` says that this
-    /// is enough, so the fault stands here. Tests show that it doesn't come.
+    /// The checking thread of this stream, counted from 1, found its ring abandoned without the
+    /// mark for the end, although the stream was read to its end. The reading thread pushes the
+    /// mark, and its `Producer` is kept until both threads are joined. No contract of `rtrb` says
+    /// that this is enough, so there is this fault. In tests it never occurs.
     #[error("ring of stream {0}")]
     Ring(u64),
 }
@@ -84,7 +87,7 @@ pub struct SerialOutcome<R: Drop> {
     pub verdict: Verdict,
     /// The map of all clauses, as the run left it.
     pub map: PlainMap,
-    /// The readers, as far as they were read, in order.
+    /// The readers, in order, each as far as it was read.
     pub readers: Vec<R>,
     /// The identities that each stream dropped, in order.
     pub dropped: Vec<DroppedIds>,
@@ -97,11 +100,11 @@ pub struct Outcome<R: Drop> {
     pub reports: Vec<Report>,
     /// The verdict of the reports.
     pub verdict: Verdict,
-    /// The streams' passes, in order. They have met: all have seen one history.
+    /// The streams' passes, in order. They have met: all have seen the same history.
     pub passes: Vec<Pass>,
     /// The store of all clauses, as the run left it.
     pub store: Store,
-    /// The readers, as far as they were read, in order.
+    /// The readers, in order, each as far as it was read.
     pub readers: Vec<R>,
     /// The identities that each stream dropped, in order.
     pub dropped: Vec<DroppedIds>,

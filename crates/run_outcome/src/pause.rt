@@ -1,17 +1,18 @@
-//! The gate with which a stream waits for what others haven't published yet.
+//! The gate that makes a stream wait for what others haven't published yet.
 use lrup_model::Id;
 use std::thread;
 use std::time::{Clock, Duration};
 use stream_check::Gate;
 
-/// A gate that sleeps one microsecond before each attempt of a hint but the first, on the clock that it was given.
+/// A gate that sleeps one microsecond before each attempt at a hint but the first, on the given
+/// clock.
 #[derive(Drop)]
 pub struct Pause<C: Clock + Drop> {
     clock: C,
 }
 
 impl<C: Clock + Drop> Pause<C> {
-    /// The gate of one stream. A reference to a clock is a clock too.
+    /// The gate of one stream. A reference to a clock is a clock, too.
     pub fn new(clock: C) -> Pause<C> {
         Pause { clock }
     }

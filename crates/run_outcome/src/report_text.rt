@@ -1,4 +1,4 @@
-//! The report as users read it.
+//! The report for users.
 ghost use Rattle.std.specs.Prelude.{◌≡◌, ◌++◌, false, is_err};
 ghost use Rattle.std.specs.Fmt.{decimal};
 ghost use Rattle.lrup_text.specs.Writing.{PutsAll, WritesText};
@@ -11,7 +11,8 @@ use lrup_model::Id;
 use lrup_text::{Sink, WriteBuffer, WriteFault};
 use stream_check::{Ending, Fault, Report};
 
-/// Writes the line of each stream, in order, and the verdict's line. After a fault, what went out is a beginning of the text.
+/// Writes the line of each stream, in order, and the line of the verdict. If the sink fails, a
+/// prefix of the text was written.
 pub fn write_report<W: Sink>(
     reports: &[Report],
     verdict: Verdict,
@@ -40,7 +41,7 @@ fn verdict_text(verdict: Verdict) -> &'static [u8]
     }
 }
 
-/// Puts a stream's report, after some words.
+/// Puts a stream's report, after `words`.
 fn put_stream<W: Sink>(
     buffer: &mut WriteBuffer,
     words: &[u8],
@@ -61,7 +62,7 @@ fn put_stream<W: Sink>(
     buffer.put(b"\n", sink)
 }
 
-/// Writes the report of a stream that is over, by one write if the sink takes all at once.
+/// Writes the report of a finished stream, with one write if the sink takes all at once.
 pub fn write_over<W: Sink>(stream: u64, report: &Report, sink: &mut W) -> Result<(), WriteFault>
     requires { W.has_failed sink.old ≡ false }
     ensures text { WritesText result (W.written sink.old) (W.written sink.new)
@@ -73,7 +74,7 @@ pub fn write_over<W: Sink>(stream: u64, report: &Report, sink: &mut W) -> Result
     buffer.flush(sink)
 }
 
-/// Writes that a stream has waited for the clause of an identity, by one write, too.
+/// Writes that a stream has waited for the clause of an identity, with one write, too.
 pub fn write_wait<W: Sink>(stream: u64, id: Id, sink: &mut W) -> Result<(), WriteFault>
     requires { W.has_failed sink.old ≡ false }
     ensures text { WritesText result (W.written sink.old) (W.written sink.new)
@@ -87,7 +88,7 @@ pub fn write_wait<W: Sink>(stream: u64, id: Id, sink: &mut W) -> Result<(), Writ
     buffer.flush(sink)
 }
 
-/// Writes how many clauses a stream has added so far, by one write, too.
+/// Writes how many clauses a stream has added so far, with one write, too.
 pub fn write_count<W: Sink>(stream: u64, added: u64, sink: &mut W) -> Result<(), WriteFault>
     requires { W.has_failed sink.old ≡ false }
     ensures text { WritesText result (W.written sink.old) (W.written sink.new)

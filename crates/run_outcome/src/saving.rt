@@ -21,15 +21,16 @@ use stream_check::DroppedIds;
 /// The clauses that a run left.
 #[derive(Drop)]
 pub enum Clauses {
-    /// They lie in the store of a run with threads, and these are its passes.
+    /// The store of a run with threads has them, and these are the run's passes.
     Shared(Store, Vec<Pass>),
-    /// They lie in the map of a run on one thread.
+    /// The map of a run on one thread has them.
     Plain(PlainMap),
 }
 
 impl Clauses {
-    /// Writes the formula of the clauses that are live, except for those that all streams dropped, and gives it if the run goes on with
-    /// it. Each id is fetched once. It takes memory as `checkpoint::save` does.
+    /// Writes a formula of the live clauses, except those that all streams dropped, and returns it
+    /// if the run continues. Each identity is fetched once. It allocates as `checkpoint::save`
+    /// does.
     pub fn save<W: Sink>(
         self,
         alloc: Global,
@@ -39,12 +40,14 @@ impl Clauses {
     ) -> Result<Option<Formula>, SaveFault>
         requires ready { CanBeSaved self }
         requires running { W.has_failed sink.old ≡ false }
-        // What was written whole is a text of a formula, each clause of which follows from the run's.
+        // A successful save wrote a text of a formula whose clauses all follow from the run's
+        // formula.
         ensures checkpoint { (f : Cnf) (h : History) → WereLeftBy f h self
             → IfOk result (WritesCheckpoint f (W.written sink.old) (W.written sink.new)) }
-        // It is given just if the run goes on with it.
+        // The formula is returned exactly if the run continues.
         ensures goes_on { IfOk result (λ next. is_some next ≡ goes_on) }
-        // It is that of the clauses that the run's history leaves live, and that not all streams dropped.
+        // It has the clauses that are live after the run's history, except those that all streams
+        // dropped.
         ensures saves { (f : Cnf) (h : History) → WereLeftBy f h self
             → SavesState W.written result (state f h) (layout_left self) (is_wanted dropped.now)
             sink.old sink.new }
@@ -59,7 +62,7 @@ impl Clauses {
     }
 }
 
-/// Wants each clause that some stream hasn't dropped; all, if there are no streams.
+/// Wanted are the clauses that some stream hasn't dropped, or all clauses if there are no streams.
 #[derive(Drop)]
 struct NotAllDropped<'a> {
     dropped: &'a [DroppedIds],
@@ -73,7 +76,7 @@ impl Wanted for NotAllDropped<'_> {
     }
 }
 
-/// Saves the clauses of a run with threads. The passes are used up.
+/// Saves the clauses of a run with threads. It consumes the passes.
 fn save_live<W: Sink>(
     alloc: Global,
     store: &Store,
@@ -85,13 +88,13 @@ fn save_live<W: Sink>(
     requires of { AreOf store.now passes.items }
     requires some { 0 < vec_len passes }
     requires running { W.has_failed sink.old ≡ false }
-    // What was written whole is a text of a formula, each clause of which follows from the run's.
+    // A successful save wrote a text of a formula whose clauses all follow from the run's formula.
     ensures checkpoint { (f : Cnf) (h : History)
         → HaveOneHistory f store.now.layout h (views passes.items)
         → IfOk result (WritesCheckpoint f (W.written sink.old) (W.written sink.new)) }
-    // It is given just if the run goes on with it.
+    // The formula is returned exactly if the run continues.
     ensures goes_on { IfOk result (λ next. is_some next ≡ goes_on) }
-    // It is that of the clauses that the run's history leaves live, and that not all streams
+    // It has the clauses that are live after the run's history, except those that all streams
     // dropped.
     ensures saves { (f : Cnf) (h : History)
         → HaveOneHistory f store.now.layout h (views passes.items) → SavesState W.written result
@@ -103,13 +106,14 @@ fn save_live<W: Sink>(
     let Some(pass) = passes.pop() else {
         unreachable!()
     };
-    // For the proof alone: the contract of `stream` says that the pass is fair, so the layout is one for the formula.
+    // For the proof only: by the contract of `stream` the pass is fair, so the layout fits the
+    // formula.
     let _ = pass.stream();
     let mut desk = Desk::new(store, pass);
     let wanted = NotAllDropped { dropped };
     let saved = save(alloc, &mut desk, layout, &wanted, goes_on, sink);
-    // For the proof alone: the passes meet once more, which shows that no other stream published or retired meanwhile. So what was
-    // fetched is what the run left.
+    // For the proof only: the passes meet once more, which shows that no other stream published or
+    // retired in between. So the fetched clauses are those that the run left.
     passes.push_reserved(desk.into_pass());
     store.meet_all(&mut passes);
     saved
@@ -125,20 +129,20 @@ fn save_plain<W: Sink>(
 ) -> Result<Option<Formula>, SaveFault>
     requires fits { Fits map.old.layout (formula_of map.old) }
     requires running { W.has_failed sink.old ≡ false }
-    // What was written whole is a text of a formula, each clause of which follows from the map's.
+    // A successful save wrote a text of a formula whose clauses all follow from the map's formula.
     ensures checkpoint { IfOk result
         (WritesCheckpoint (formula_of map.old) (W.written sink.old) (W.written sink.new)) }
     ensures goes_on { IfOk result (λ next. is_some next ≡ goes_on) }
-    // It is that of the clauses that the map has live, and that not all streams dropped.
+    // It has the clauses that are live in the map, except those that all streams dropped.
     ensures saves { SavesState W.written result (plain_state map.old) map.old.layout
         (is_wanted dropped.now) sink.old sink.new }
-    // The map only answered fetches.
+    // The map answered these fetches, and no other call was made.
     ensures moves { (replies : List Reply)
         × PlainMoves map.old map.new 1 (fetches 1 1 replies) }
     ensures failed { IsTrue (W.has_failed sink.new) ↔ (result ≡ Err SaveFault.Unwritten) }
 {
     let layout = *map.layout();
-    // For the proof alone: the contract of `streams` says that there is a stream.
+    // For the proof only: by the contract of `streams` there is a stream.
     let _ = layout.streams();
     let mut desk = map.desk(1);
     let wanted = NotAllDropped { dropped };

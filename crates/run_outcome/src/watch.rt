@@ -5,35 +5,35 @@ use lrup_text::Sink;
 use std::time::{Clock, Instant};
 use stream_check::{Gate, Report};
 
-/// How many publishes lie between two looks at the clock: a power of two, so that no division is made.
+/// The clock is read once in this many publishes: a power of two, so that there is no division.
 const PUBLISHES: u64 = 64;
 
-/// How many attempts of a hint lie between two looks at the clock: a power of two, too.
+/// The clock is read once in this many attempts at a hint: a power of two, too.
 const ATTEMPTS: u64 = 1_024;
 
-/// How long a hint is looked up before that is reported, in seconds.
+/// How long a hint is vacant before the wait is reported, in seconds.
 const WAIT: u64 = 1;
 
-/// How long a stream adds clauses before their count is reported, in seconds.
+/// The time between two reports of how many clauses a stream added, in seconds.
 const INTERVAL: u64 = 10;
 
-/// Reports the progress of one stream on its sink. A clock that fails leaves out the lines that need the time; after a write that
-/// fails nothing more is reported.
-// Its methods are cold: a run that isn't watched has a test in their place, and no more.
+/// Reports the progress of one stream on its sink. If the clock fails, the lines that need the time
+/// are left out; after a write that fails, nothing more is reported.
+// Its methods are cold: in a run that isn't watched, a test is all that remains of them.
 #[derive(Drop)]
 struct Reporter<C: Clock + Drop, S: Sink + Drop> {
     clock: C,
     sink: S,
     /// How many clauses were published.
     added: u64,
-    /// When their count was reported last, or the clock was looked at first.
+    /// When their count was last reported, or else when the clock was first read for it.
     counted: Option<Instant>,
-    /// When a hint was first looked up again. None if its waiting isn't reported any more.
+    /// When the current hint was fetched for the second time; `None` once its wait was reported.
     asked: Option<Instant>,
 }
 
 impl<C: Clock + Drop, S: Sink + Drop> Reporter<C, S> {
-    /// Makes one that reports on the sink, if there is a sink.
+    /// Makes a reporter for the sink, if there is a sink.
     fn with_sink(clock: C, sink: Option<S>) -> Option<Reporter<C, S>> {
         let sink = sink?;
         Some(Reporter {
@@ -50,7 +50,7 @@ impl<C: Clock + Drop, S: Sink + Drop> Reporter<C, S> {
         Instant::now(&self.clock).ok()
     }
 
-    /// Counts a clause, and reports at times how many there are.
+    /// Counts a clause, and from time to time reports the count.
     #[cold]
     #[inline(never)]
     fn count(&mut self, stream: u64) {
@@ -60,7 +60,8 @@ impl<C: Clock + Drop, S: Sink + Drop> Reporter<C, S> {
         }
     }
 
-    /// Reports how many clauses the stream has added, if the last such report is at least ten seconds old.
+    /// Reports how many clauses the stream has added, unless the last such report, or the first
+    /// look at the clock, was less than ten seconds ago.
     fn report_count(&mut self, stream: u64) {
         let Some(now) = self.now() else {
             return;
@@ -78,7 +79,7 @@ impl<C: Clock + Drop, S: Sink + Drop> Reporter<C, S> {
         }
     }
 
-    /// Takes the time of a hint's second attempt, and looks at the clock again at later ones.
+    /// Takes the time at a hint's second attempt, and looks at the clock again at some later ones.
     #[cold]
     #[inline(never)]
     fn note_attempt(&mut self, stream: u64, id: Id, attempt: u64) {
@@ -103,7 +104,7 @@ impl<C: Clock + Drop, S: Sink + Drop> Reporter<C, S> {
         }
     }
 
-    /// Reports that the stream is over, and how it is judged.
+    /// Reports that the stream is finished, with its report.
     #[cold]
     #[inline(never)]
     fn report_over(&mut self, stream: u64, report: &Report) {
@@ -113,10 +114,11 @@ impl<C: Clock + Drop, S: Sink + Drop> Reporter<C, S> {
     }
 }
 
-/// A gate that reports progress on a sink while a stream is checked: that the stream is over, and how it is judged; that a hint
-/// has been looked up again for a second; and every ten seconds how many clauses were added, if there are more. For its waiting it
-/// holds another gate. Without a sink it is that gate: so a run has one type of gate, watched or not, and its checkers are compiled
-/// once, with what they call inlined.
+/// A gate that reports progress on a sink while a stream is checked: that a hint has been vacant
+/// for a second; about every ten seconds how many clauses were added; and at the end the stream's
+/// report. It leaves the waiting to the gate within. Without a sink it only passes its calls on to
+/// that gate. So a run has one type of gate, watched or not, and the checker is compiled once, with
+/// its calls inlined.
 #[derive(Drop)]
 pub struct Watch<G: Gate + Drop, C: Clock + Drop, S: Sink + Drop> {
     gate: G,
@@ -160,8 +162,9 @@ impl<G: Gate + Drop, C: Clock + Drop, S: Sink + Drop> Gate for Watch<G, C, S> {
     }
 }
 
-/// The gate of a stream of a run on one thread. It never waits, since no other stream publishes meanwhile. It reports what a `Watch`
-/// does, except for waits: a call before each fetch would cost each hint some instructions.
+/// The gate of a stream of a run on one thread. It never waits, since no other stream publishes
+/// while it would. It reports the same as a `Watch`, except for waits: a call before each fetch
+/// would cost some instructions for each hint.
 #[derive(Drop)]
 pub struct TurnWatch<C: Clock + Drop, S: Sink + Drop> {
     reporter: Option<Reporter<C, S>>,

@@ -1,4 +1,4 @@
--- Lists that were gone through one after the other.
+-- Lists that are traversed element by element.
 use Rattle.std.proofs.Common.{◌≡◌, ◌++◌, List, [], ◌∷◌, sym, ap, ap₂, ◌∙◌, map, append_assoc}
 use Rattle.std.proofs.lemmas.List.{map-append}
 
@@ -7,7 +7,7 @@ pub pushed_more : {A B : Type 0} (f : B → A) (xs zs : List A) (ys : List B) (x
 pushed_more {A} {B} f xs zs ys x y pushed before here = pushed ∙ ap₂ (λ (l : List A) (a : A). l ++ a ∷ []) before here
     ∙ sym (map-append f ys (y ∷ []))
 
--- one more was taken of a list
+-- one more element was taken from a list
 pub whole_more : {A : Type 0} (yielded before rest all : List A) (x : A) → before ≡ x ∷ rest → yielded ++ before ≡ all
     → (yielded ++ x ∷ []) ++ rest ≡ all
 whole_more yielded before rest all x taken whole = append_assoc yielded (x ∷ []) rest ∙ ap (λ xs. yielded ++ xs) (sym taken) ∙ whole

@@ -1,4 +1,4 @@
--- The blocks of a run by turns: those of one turn more, and the rounds.
+-- The blocks of a run on one thread: those of one more turn, and the rounds.
 use Rattle.std.proofs.Common.{◌≡◌, ◌≢◌, IsSome, ℕ, zero, suc, ◌+◌, ◌-◌, ◌<◌, ◌≤◌, true, false, List, [], ◌∷◌, ◌++◌, length, set, slice_get}
 use Rattle.std.proofs.Common.{Option, Some, None, refl, sym, ap, subst, ◌∙◌, inl, inr, arith, append-nil, eqb, eq-eqb, ne_eqb}
 use Rattle.std.specs.List.{AllByRecursion}
@@ -18,7 +18,7 @@ use Rattle.stream_check.specs.Turns.{IsByTurns, IsTurnOf, line_count}
 use Rattle.serial_run.specs.internal.Turns.{IsInRound}
 use Rattle.serial_run.specs.internal.Working.{AreBlocksOfTurn, WorkerValue}
 
--- ---- the blocks of one stream's lines, behind others
+-- ---- the blocks of one stream's lines, after others
 
 -- the blocks of one stream's lines
 pub tagged : ℕ → List History → List Block
@@ -33,7 +33,7 @@ unfolding tagged
 events_in-tagged s [] = refl
 events_in-tagged s (b ∷ bs) = ap (λ (es : History). b ++ es) (events_in-tagged s bs)
 
--- the events of the blocks so far, and of a stream's further ones
+-- the events of the blocks so far, and of further ones of a stream
 pub events_more : (s : ℕ) (blocks : List Block) (bs : List History) → events_in (blocks ++ tagged s bs) ≡ events_in blocks ++ joined bs
 events_more s blocks bs = events_in-append blocks (tagged s bs) ∙ ap (λ (es : History). events_in blocks ++ es) (events_in-tagged s bs)
 
@@ -64,7 +64,7 @@ all-back : {X : Type 0} (P : X → Type 0) (xs ys : List X) → AllByRecursion P
 all-back P [] ys all = all
 all-back P (x ∷ xs) ys all = all-back P xs ys all.1
 
--- they are within the layout, as the stream is
+-- they are within the layout, since the stream is
 pub within-tagged : (p : LayoutValue) (s : ℕ) (bs : List History) → IsStream p s → AllByRecursion (λ e. stream_of e ≡ s) (joined bs)
     → AllByRecursion (IsBlockWithin p (λ t. true)) (tagged s bs)
 unfolding tagged
@@ -131,7 +131,7 @@ module _ {S : Type 0} where
   stream_at : (ws : List (WorkerValue S)) (i : ℕ) (w : WorkerValue S) → slice_get ws i ≡ Some w → IsOfStream ws (i + 1) w
   stream_at ws i w at = let place : i ≡ i + 1 - 1 = omega arith in (omega arith, subst (λ k. slice_get ws k ≡ Some w) place at)
 
-  -- another stream's worker is the one of before
+  -- another stream's worker is unchanged
   stream_beside : (ws : List (WorkerValue S)) (i s : ℕ) (v w : WorkerValue S) → i + 1 ≢ s → IsOfStream (set ws i v) s w → IsOfStream ws s w
   stream_beside ws i s v w other at =
       let apart : s - 1 ≢ i = λ is. other (omega (arith, is, at.0)) in
@@ -151,7 +151,7 @@ module _ {S : Type 0} where
 
   module _ (rounds i : ℕ) (blocks : List Block) (ws : List (WorkerValue S)) (w : WorkerValue S) (at : slice_get ws i ≡ Some w)
       (now : IsInRound rounds i (streams_of blocks) ws) where
-    -- after the turn of stream i + 1, which isn't over before
+    -- after the turn of stream i + 1, which was unfinished before
     pub round_turned : (v : WorkerValue S) (bs : List History) → w.checker.ending ≡ None → AreBlocksOfTurn v.checker.ending bs
         → IsInRound rounds (i + 1) (streams_of (blocks ++ tagged (i + 1) bs)) (set ws i v)
     round_turned v bs going are =
@@ -190,7 +190,7 @@ module _ {S : Type 0} where
           ));
         }
 
-    -- stream i + 1 is over: it has no turn
+    -- stream i + 1 is finished: it has no turn
     pub round_passed : IsSome w.checker.ending → IsInRound rounds (i + 1) (streams_of blocks) ws
     round_passed over = record {
       before = λ s most. elim (cases_lt i s) [
@@ -209,7 +209,7 @@ module _ {S : Type 0} where
       turns = now.turns;
     }
 
-  -- all streams had their turn of this round
+  -- all streams had their turns in this round
   pub round_over : (rounds : ℕ) (order : List ℕ) (ws : List (WorkerValue S)) → IsInRound rounds (length ws) order ws
       → IsInRound (rounds + 1) 0 order ws
   round_over rounds order ws now = record {

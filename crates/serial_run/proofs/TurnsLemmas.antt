@@ -1,4 +1,4 @@
--- A run on one thread: before the first turn, after one more, and when all streams are over.
+-- A run on one thread: before the first turn, after one more turn, and when all streams are finished.
 use Rattle.std.proofs.Common.{◌≡◌, ◌≢◌, IsSome, IfSome, ℕ, zero, suc, ◌+◌, ◌-◌, ◌<◌, ◌≤◌, Bool, true, false, eqb, List, [], ◌∷◌, ◌++◌}
 use Rattle.std.proofs.Common.{length, get_or, set, replicate, map, Option, Some, None, refl, sym, ap, subst, ◌∙◌, inl, inr, arith}
 use Rattle.std.proofs.Common.{length-set, ne_eqb}
@@ -49,7 +49,7 @@ use Rattle.serial_run.specs.internal.Turns.{SerialEnd, HaveReports}
 
 -- ---- room
 
--- what other streams publish takes nothing of a stream's room
+-- what a stream publishes takes no room from other streams
 spent-others : (s t : ℕ) (es : History) → AllByRecursion (λ e. stream_of e ≡ s) es → s ≢ t → spent t es ≡ 0
 spent-others s t [] calls other = refl
 spent-others s t (e ∷ es) calls other =
@@ -57,7 +57,7 @@ spent-others s t (e ∷ es) calls other =
     ap (λ (h : History). sum_by (λ p. length p.1) (published h)) (cond-false (eqb (stream_of e) t) (e ∷ own es t) (own es t) not_mine)
     ∙ spent-others s t es calls.1 other
 
--- nor what is no stream of the layout
+-- and none from what is no stream of the layout
 spent-outside : (p : LayoutValue) (t : ℕ) (blocks : List Block) → AllByRecursion (IsBlockWithin p (λ s. true)) blocks → ¬ IsStream p t
     → spent t (events_in blocks) ≡ 0
 spent-outside p t [] within outside = refl
@@ -84,7 +84,7 @@ within_room f p blocks m has t =
 
 -- ---- a turn
 
--- the map, after the events of a stream's further blocks
+-- the map after the events of a stream's further blocks
 pub run_more : (f : Cnf) (p : LayoutValue) (blocks : List Block) (m n : Plain) (s : ℕ) (bs : List History) → HasRun f p blocks m
     → IsStream p s → PlainMoves m n s (joined bs) → HasRun f p (blocks ++ tagged s bs) n
 run_more f p blocks m n s bs has stream moves =
@@ -132,7 +132,7 @@ report_at_end None t r over is = absurd (let none : false ≡ true = over in cc)
 report_at_end (Some ending) t r over is = (ending, refl, is)
 
 module _ {S : Type 0} (view : SourceView S) where
-  -- the worker whose turn it was
+  -- the worker that had the turn
   working_on : (run_params : RunParamsValue) (blocks : List Block) (m n : Plain) (s : ℕ) (bs : List History) (first : S)
       (w v : WorkerValue S)
       → IsWorking view run_params blocks m s first w
@@ -182,13 +182,13 @@ module _ {S : Type 0} (view : SourceView S) where
 
   -- ---- what a worker has before its turn
 
-  -- the worker at this place isn't over
+  -- the worker at this place is unfinished
   pub going_at : (ws : List (WorkerValue S)) (i : ℕ) (d e : WorkerValue S) (over : Bool) → i < length ws
       → (IsTrue over ↔ IsSome (get_or ws i d).checker.ending) → over ≡ false → (get_or ws i e).checker.ending ≡ None
   going_at ws i d e over within is going =
       ap (λ (w : WorkerValue S). w.checker.ending) (get_or_default ws i e d within) ∙ not_over over (get_or ws i d).checker.ending is going
 
-  -- the worker of stream i + 1 of a run, whatever run it is
+  -- the worker of stream i + 1, in any run
   pub ready_at : (taken : ℕ) (m : Plain) (ws : List (WorkerValue S)) (i : ℕ) (d : WorkerValue S) → IsInSerialRun view taken m ws
       → i < length ws
       → IsReadyAt (get_or ws i d).checker (plain_caller_view m (i + 1))
@@ -198,7 +198,7 @@ module _ {S : Type 0} (view : SourceView S) where
       let place : 1 + i ≡ i + 1 = omega arith in
       subst (λ t. IsReadyAt (get_or ws i d).checker (plain_caller_view m t)) place here.1.ready
 
-  -- a run goes on by a turn of the worker at place i
+  -- a run continues with a turn of the worker at place i
   pub serial_more : (law : ReadyBeside) (f : Cnf) (run_params : RunParamsValue) (firsts : List S) (m n : Plain)
       (ws : List (WorkerValue S)) (i : ℕ)
       (d v : WorkerValue S) (bs : List History)
@@ -218,7 +218,7 @@ module _ {S : Type 0} (view : SourceView S) where
         in_round = round_turned runs.rounds i runs.blocks ws (get_or ws i d) (slice_get-get_or ws i d within) runs.in_round v bs going are;
       }
 
-  -- a stream that is over has no turn
+  -- a finished stream has no turn
   pub serial_past : (f : Cnf) (run_params : RunParamsValue) (firsts : List S) (m : Plain) (ws : List (WorkerValue S)) (i : ℕ)
       (d : WorkerValue S)
       → i < length ws → IsSome (get_or ws i d).checker.ending → SerialInvariant view f run_params firsts i m ws
@@ -244,18 +244,18 @@ module _ {S : Type 0} (view : SourceView S) where
     in_round = round_over runs.rounds (streams_of runs.blocks) ws runs.in_round;
   }
 
-  -- whatever run stood at the start stands after two stretches
+  -- two steps one after the other are a step
   pub step_twice : (i j k : ℕ) (a b c : Plain) (us vs ws : List (WorkerValue S)) → SerialStep view i a us j b vs
       → SerialStep view j b vs k c ws
       → SerialStep view i a us k c ws
   step_twice i j k a b c us vs ws front back f run_params firsts runs = back f run_params firsts (front f run_params firsts runs)
 
-  -- so some run stands
+  -- so there is still a run
   pub running_on : (i j : ℕ) (a b : Plain) (us vs : List (WorkerValue S)) → IsInSerialRun view i a us → SerialStep view i a us j b vs
       → IsInSerialRun view j b vs
   running_on i j a b us vs running on = (running.0, running.1, running.2, on running.0 running.1 running.2 running.3)
 
-  -- one more stream was over, where all were
+  -- one more stream was finished, if all before it were
   pub over_more : (i : ℕ) (going turned : Bool) (first old new : List (WorkerValue S)) → (going || turned) ≡ false
       → (going ≡ false → (old ≡ first) × ((k : ℕ) → k < i → IsOverAt old k)) → (turned ≡ false → IsOverAt old i × (new ≡ old))
       → (new ≡ first) × ((k : ℕ) → k < i + 1 → IsOverAt new k)
@@ -267,7 +267,7 @@ module _ {S : Type 0} (view : SourceView S) where
         λ k below. subst (λ (ws : List (WorkerValue S)). IsOverAt ws k) (sym last.1) (below_more (IsOverAt old) i over.1 last.0 k below),
       )
 
-  -- each worker is over
+  -- each worker is finished
   pub over_each : (ws : List (WorkerValue S)) → ((k : ℕ) → k < length ws → IsOverAt ws k) → AreOver ws
   over_each [] over = tt
   over_each (w ∷ ws) over = (over zero (omega arith), over_each ws (λ k below. over (suc k) (omega arith)))
@@ -351,9 +351,9 @@ module _ {S : Type 0} (view : SourceView S) where
           in_round = round_opened ws;
         }
 
-  -- ---- when all streams are over
+  -- ---- when all streams are finished
 
-  -- a worker that is over tells of its stream
+  -- the stream of a finished worker
   told_over : (o : Option Ending) (ending : Ending) (first : S) (w : WorkerValue S) (free : ℕ) (blocks : List History) → o ≡ Some ending
       → WorkerInvariantBy view o first w free blocks
       → (stream : Stream) × IsStreamOf view first w.reader stream
@@ -363,7 +363,7 @@ module _ {S : Type 0} (view : SourceView S) where
       let at : WorkerInvariantBy view (Some ending) first w free blocks = subst (λ e. WorkerInvariantBy view e first w free blocks)
       is holds in at
 
-  -- each stream matches what is observed of its reader, is judged by its blocks, and has dropped what its bytes and its report say
+  -- each stream matches what is observed of its reader, is judged by its blocks, and dropped what its bytes and its report say
   pub streams_over : (run_params : RunParamsValue) (blocks : List Block) (m : Plain) (k : ℕ) (firsts : List S) (ws : List (WorkerValue S))
       (reports : List Report)
       → AreWorking view run_params blocks m k firsts ws → HaveReports ws reports
@@ -392,7 +392,7 @@ module _ {S : Type 0} (view : SourceView S) where
         ((blocks_of k blocks, refl, dropped), others.4),
       )
 
-  -- the reports have an order of lines, by turns, whose events leave the map as it is
+  -- the reports have an order of lines that takes the streams in turn, and its events leave the map
   pub ordered_over : (f : Cnf) (run_params : RunParamsValue) (firsts : List S) (m : Plain) (ws : List (WorkerValue S))
       (reports : List Report) → length firsts ≡ run_params.layout.streams
       → SerialInvariant view f run_params firsts 0 m ws → HaveReports ws reports
@@ -421,7 +421,7 @@ module _ {S : Type 0} (view : SourceView S) where
         ),
       )
 
--- the whole run: begun, gone on with, and over
+-- the whole run, from its start to its end
 pub run_ordered : {S : Type 0} (view : SourceView S) (f : Cnf) (run_params : RunParamsValue) (firsts : List S) (m : Plain)
     (ws : List (WorkerValue S)) → length firsts ≡ run_params.layout.streams → SerialInvariant view f run_params firsts 0 m ws
     → (n : Plain) (reports : List Report) (lasts : List S) (dropped : List DroppedIdsValue) → SerialEnd view m ws n reports lasts dropped

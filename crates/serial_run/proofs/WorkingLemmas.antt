@@ -27,17 +27,17 @@ use Rattle.run_outcome.specs.Dropping.{HasDropped}
 use Rattle.serial_run.specs.internal.Working.{AreBlocksOfTurn, WorkerValue, WorkerInvariantBy, WorkerInvariant, WorkerStep}
 use Rattle.run_outcome.specs.lemmas.DroppingLemmas.{going_drops, stopped_drops}
 
--- ---- going on
+-- ---- unfinished checkers
 
 none_of : (ending : Option Ending) → (IsSome ending → ⊥) → ending ≡ None
 none_of None none = refl
 none_of (Some ending) none = absurd (none refl)
 
--- what isn't over has no ending
+-- an unfinished checker has no ending
 pub not_over : (over : Bool) (ending : Option Ending) → (IsTrue over ↔ IsSome ending) → over ≡ false → ending ≡ None
 not_over over ending is going = none_of ending (λ some. let yes : over ≡ true = is.1 some in cc)
 
--- ---- what is judged so for both ends is judged so for each
+-- ---- a judgement for both ends is one for each
 
 pub either_end : (c : StreamParams) (bytes : List ℕ) (blocks : List History) (report : Report) (end : StreamEnd)
     → JudgesBlocks c bytes stream_ends.Ended blocks report → JudgesBlocks c bytes stream_ends.Failed blocks report
@@ -55,14 +55,14 @@ turn_blocks statuses.More ending blocks ends over are = absurd (ends refl)
 turn_blocks statuses.Over None blocks ends over are = absurd (let none : false ≡ true = over refl in cc)
 turn_blocks statuses.Over (Some ending) blocks ends over are = are
 
--- the end of a stream has none
+-- the end of a stream has no block
 pub over_without : (ending : Option Ending) → IsSome ending → AreBlocksOfTurn ending []
 over_without None over = absurd (let none : false ≡ true = over in cc)
 over_without (Some ending) over = omega arith
 
 -- ---- what is dropped
 
--- what a checker that isn't over dropped, it has dropped at its end
+-- what an unfinished checker dropped, it has dropped at its end
 end_drops : (end : StreamEnd) (v u : CheckerValue) (room : ℕ) (bytes : List ℕ) (blocks : List History) (ending : Ending)
     → v.ending ≡ None → ReachesState v.params bytes blocks (checker_state v room) → EndsBy None end v u → u.ending ≡ Some ending
     → HasDropped u.params bytes blocks (report_of_tally u.tally ending) u.dropped
@@ -90,14 +90,14 @@ module _ {S : Type 0} (view : SourceView S) where
   worker_append a b c i j k front back first second entry before holds =
       subst (WorkerInvariant view entry c k) (append_assoc before front back) (second entry (before ++ front) (first entry before holds))
 
-  -- what was done so far, a read, and what the checker took
+  -- the earlier steps, a read, and what the checker took
   pub worker_turn : (a b c d : WorkerValue S) (i j k : ℕ) (front back : List History) → WorkerStep view a i front b j
       → WorkerStep view b j [] c j
       → WorkerStep view c j back d k → WorkerStep view a i (front ++ back) d k
   worker_turn a b c d i j k front back first read fed =
       worker_append a b d i j k front back first (worker_append b c d j j k [] back read fed)
 
-  -- a read, where all bytes were taken
+  -- a read, if all bytes were taken
   pub worker_read : (old new : S) (unread piece : List ℕ) (size : ℕ) (v : CheckerValue) (room : ℕ)
       → Consumes (view.left old) (view.left new) piece → view.reads old size (Some piece) new → 0 < length piece → unread ≡ []
       → v.ending ≡ None → WorkerStep view (worker_of old unread v) room [] (worker_of new piece v) room
@@ -145,7 +145,7 @@ module _ {S : Type 0} (view : SourceView S) where
         end_drops end v u room here.0 before judged.0 going here.3 ended judged.1,
       ))
 
-  -- the bytes so far left the checker so, and it is over or not
+  -- the bytes so far led to this checker, finished or not
   worker_at : (ending : Option Ending) (first reader : S) (bytes rest : List ℕ) (v : CheckerValue) (room : ℕ) (blocks : List History)
       → v.ending ≡ ending → view.has_failed reader ≡ false → Consumes (view.left first) (view.left reader) (bytes ++ rest)
       → Gave S view.reads first (bytes ++ rest) reader → ReachesState v.params bytes blocks (state_by v room ending)
@@ -181,7 +181,7 @@ module _ {S : Type 0} (view : SourceView S) where
 
 -- ---- the buffer
 
--- the checker took the front of what lies between two places
+-- the checker took the front of the bytes between two places
 pub unread_split : (xs now : List ℕ) (start end used : ℕ) → now ≡ xs → used ≤ length (take (end - start) (drop start now))
     → take (end - start) (drop start xs)
     ≡ take used (take (end - start) (drop start now)) ++ take (end - (start + used)) (drop (start + used) xs)

@@ -1,4 +1,4 @@
-//! A run on one thread: a line of each stream in turn.
+//! A run on one thread that takes one line of each stream in turn.
 ghost use Rattle.std.specs.Prelude.{◌≡◌, ◌↔◌, ◌≢◌, ◌+◌, ◌<◌, ◌≤◌, true, false, ℕ, List, [], None, IfOk, IfErr, Err, length, map, vec_len, vec_capacity};
 ghost use Rattle.std.specs.List.{AllByRecursion};
 ghost use Rattle.lrup_model.specs.Cube.{IsUnsatisfiableUnder};
@@ -27,10 +27,12 @@ use std::sync::Wait;
 use stream_check::laws::ready_beside;
 use stream_check::{DroppedIds, Gate, Report, RunParams};
 
-/// Checks all streams of a formula on this thread, in turn, stream 1 first: in its turn a stream is read until one line was taken, or the
-/// stream is over. The outcome has a report for each stream, and the verdict of these: whether a stream added the empty clause, or one
-/// that the cube, of assumed literals, makes false. There is one gate for each reader. By the code all memory is taken before the first
-/// read, except for the identities that streams drop. It blocks while a reader does. There are the faults `Layout` and `Memory` alone.
+/// Checks all streams of a formula on this thread, round-robin from stream 1 on: in its turn a
+/// stream is read until one line was taken or the stream is finished. The outcome has a report for
+/// each stream, and the verdict: whether a stream added the empty clause, or one that the cube of
+/// assumed literals falsifies. Each reader has a gate. In the code all memory is allocated before
+/// the first read, except for the identities that streams drop. The call blocks while a reader
+/// does. Its only faults are `Layout` and `Memory`.
 pub fn run_serial<W: Wait, R: Source + Drop, G: Gate + Drop>(
     wait: &W,
     alloc: Global,
@@ -42,14 +44,14 @@ pub fn run_serial<W: Wait, R: Source + Drop, G: Gate + Drop>(
 ) -> Result<SerialOutcome<R>, RunFault>
     requires gates { vec_len gates ≡ vec_len readers }
     requires running { AllByRecursion (λ r. R.has_failed r ≡ false) readers.items }
-    // `Layout` is answered exactly where these numbers have no layout, whatever is read.
+    // The result is `Layout` exactly if these numbers have no layout.
     ensures layout { (fault : LayoutFault) → (result ≡ Err (RunFault.Layout fault))
         ↔ IsFault (layout_of options formula.now (length readers.items)) fault }
     ensures no_threads { (stream : ℕ) → (result ≢ Err (RunFault.Spawn stream))
         × (result ≢ Err (RunFault.Ring stream)) }
-    // It is a run on one thread (`true`) of the readers' bytes and of what their reads gave, and its
-    // history is that of an order of lines, which takes one of each stream in turn. The map has what
-    // this leaves. Its groups of streams are isolated.
+    // It is a run on one thread (`true`) of the readers' bytes and of what their reads gave, and
+    // its history is that of an order of lines that takes one of each stream in turn. The map has
+    // what the history leaves. Its groups of streams are isolated.
     ensures ordered { let run_params = run_params_of options cube.now formula.now
         (length readers.items) in
         IfOk result (λ outcome. (ran : IsRunOf true (readers_view R.Source) formula.now run_params
@@ -58,7 +60,7 @@ pub fn run_serial<W: Wait, R: Source + Drop, G: Gate + Drop>(
         × AreIsolated ran.run)) }
     ensures verdict { IfOk result (λ outcome.
         outcome.verdict ≡ verdict_of outcome.reports.items) }
-    // The clauses stay, for whoever saves them.
+    // The clauses stay, to be saved.
     ensures kept { IfOk result (λ outcome. (formula_of outcome.map ≡ formula.now)
         × (outcome.map.layout ≡ layout_of options formula.now (length readers.items))) }
     // What a user relies on.
@@ -71,12 +73,13 @@ pub fn run_serial<W: Wait, R: Source + Drop, G: Gate + Drop>(
     let run_params = RunParams::new(&layout, cube, options.tries());
     let map = PlainMap::open(alloc, formula, &layout)?;
     let workers = workers_of(alloc, &run_params, readers, gates)?;
-    // A law, which does nothing: the proof of `ordered` uses its contract.
+    // A law, with no effect at run time: the proof of `ordered` uses its contract.
     run_isolated();
     check(wait, alloc, map, workers)
 }
 
-/// Takes turns until all streams are over, and gathers their results. Memory for these is taken before the first turn.
+/// Takes turns until all streams are finished, and collects their results. The memory for these is
+/// allocated before the first turn.
 fn check<W: Wait, R: Source + Drop, G: Gate + Drop>(
     wait: &W,
     alloc: Global,
@@ -119,7 +122,7 @@ pub(crate) fn workers_of<R: Source + Drop, G: Gate + Drop>(
     Ok(workers)
 }
 
-/// Takes turns until all streams are over.
+/// Takes turns until all streams are finished.
 fn take_turns<W: Wait, R: Source + Drop, G: Gate + Drop>(
     wait: &W,
     map: &mut PlainMap,
@@ -138,7 +141,7 @@ fn take_turns<W: Wait, R: Source + Drop, G: Gate + Drop>(
     }
 }
 
-/// Takes one turn of each stream that isn't over, stream 1 first, and returns whether there was one.
+/// Takes one turn of each unfinished stream, from stream 1 on, and returns whether there was one.
 fn take_round<W: Wait, R: Source + Drop, G: Gate + Drop>(
     wait: &W,
     map: &mut PlainMap,
@@ -157,7 +160,7 @@ fn take_round<W: Wait, R: Source + Drop, G: Gate + Drop>(
     going
 }
 
-/// Takes one turn of stream `i + 1`, unless it is over, and returns whether it wasn't.
+/// Takes one turn of stream `i + 1` unless it is finished, and returns whether it took it.
 fn take_turn<W: Wait, R: Source + Drop, G: Gate + Drop>(
     wait: &W,
     map: &mut PlainMap,
@@ -171,7 +174,8 @@ fn take_turn<W: Wait, R: Source + Drop, G: Gate + Drop>(
         map.new workers.new }
     ensures over { result ≡ false → IsOverAt workers.old i × (workers.new ≡ workers.old) }
 {
-    // A law, which does nothing: after another stream's calls a worker's checker may still be fed.
+    // A law, with no effect at run time: after another stream's calls, a worker's checker can still
+    // be fed.
     ready_beside();
     if workers[i].is_over() {
         return false;
@@ -180,7 +184,7 @@ fn take_turn<W: Wait, R: Source + Drop, G: Gate + Drop>(
     true
 }
 
-/// Takes one turn of the worker of stream `s`, from 1 on, at its desk.
+/// Takes one turn of the worker of stream `s`, counted from 1, at its desk.
 fn turn_at_desk<W: Wait, R: Source + Drop, G: Gate + Drop>(
     wait: &W,
     map: &mut PlainMap,
@@ -200,7 +204,7 @@ fn turn_at_desk<W: Wait, R: Source + Drop, G: Gate + Drop>(
     worker.turn(wait, &mut map.desk(s));
 }
 
-/// Gathers the outcome of the streams, which are over.
+/// Collects the outcome of the finished streams.
 fn outcome_of<R: Source + Drop, G: Gate + Drop>(
     plain: PlainMap,
     workers: Vec<Worker<R, G>>,

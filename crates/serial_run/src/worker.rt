@@ -16,8 +16,8 @@ use std::marker::Model;
 use std::sync::Wait;
 use stream_check::{CheckStatus, Checker, DroppedIds, Gate, Report, RunParams};
 
-/// What a run on one thread has of a stream: its reader, its gate and its checker, and a buffer of what was read. The bytes that aren't
-/// checked yet lie in the buffer between `from` and `to`.
+/// One stream of a run on one thread: its reader, its gate, its checker, and a buffer for what was
+/// read. Bytes `from` to `to` of the buffer aren't checked yet.
 #[derive(Drop)]
 pub struct Worker<R: Source + Drop, G: Gate + Drop> {
     reader: R,
@@ -45,8 +45,8 @@ impl<R: Source + Drop, G: Gate + Drop> Model for Worker<R, G> {
 }
 
 impl<R: Source + Drop, G: Gate + Drop> Worker<R, G> {
-    /// Makes a worker of stream `stream`, from 1 on, before its first byte. By the code all memory is taken here, except for the identities
-    /// that the stream drops.
+    /// Makes a worker of stream `stream`, counted from 1, before its first byte. In the code all
+    /// memory is allocated here, except for the identities that the stream drops.
     pub fn new(
         alloc: Global,
         reader: R,
@@ -75,14 +75,15 @@ impl<R: Source + Drop, G: Gate + Drop> Worker<R, G> {
         })
     }
 
-    /// Whether the worker's checker is over.
+    /// Whether the worker's checker is finished.
     pub fn is_over(&self) -> bool
         ensures { IsTrue result ↔ IsSome self.now.checker.ending }
     {
         self.checker.is_over()
     }
 
-    /// Takes one turn: reads until one line was taken, or the checker is over. It blocks while the reader does.
+    /// Takes one turn: reads until one line was taken, or the checker is finished. It blocks while
+    /// the reader does.
     pub fn turn<W: Wait, M: ClauseMap>(&mut self, wait: &W, map: &mut M)
         requires ready { IsReadyAt self.old.checker (M.caller_view map.old) }
         requires going { self.old.checker.ending ≡ None }
@@ -103,8 +104,9 @@ impl<R: Source + Drop, G: Gate + Drop> Worker<R, G> {
         }
     }
 
-    /// Reads the next piece, if all bytes were taken. It returns `false` if there is none: the stream ended, or the read failed, the
-    /// checker is over, and the gate has its report.
+    /// Reads the next piece, if all bytes were taken. It returns `false` if there is none, because
+    /// the stream ended or the read failed; then the checker is finished, and the gate has its
+    /// report.
     fn read(&mut self) -> bool
         requires { self.old.checker.ending ≡ None }
         ensures holds { (room : ℕ) → WorkerStep (readers_view R.Source)

@@ -45,7 +45,7 @@ spent-fetches s (events.retire t id r ∷ es) h = absurd h.0
 pub room_stays : (p q : CallerView) (es : History) → CallerStep p q es → AllByRecursion IsFetch es → q.room ≡ p.room
 room_stays p q es step quiet = omega (arith, step.room, spent-fetches p.caller.stream es quiet)
 
--- an owned identity, as a view of the stream has it
+-- an own identity, as a view of the stream has it
 pub owns_at : (c : StreamParams) (p : CallerView) (id : ℕ) → IsViewOf c p → Owns c.layout c.stream id
     → Owns p.caller.layout p.caller.stream id
 owns_at c p id at owns =
@@ -57,14 +57,14 @@ pub owned_by : (c : StreamParams) (p : CallerView) (id : ℕ) → IsViewOf c p �
 owned_by c p id at owns =
     subst (λ (l : LayoutValue). Owns l c.stream id) at.layout (subst (λ (s : ℕ). Owns p.caller.layout s id) at.stream owns)
 
--- the view stays the stream's
+-- the view is still the stream's
 pub still_at : (c : StreamParams) (p q : CallerView) (es : History) → IsViewOf c p → CallerStep p q es → IsViewOf c q
 still_at c p q es at step = record {
   layout = ap (λ (r : Caller). r.layout) step.caller ∙ at.layout;
   stream = ap (λ (r : Caller). r.stream) step.caller ∙ at.stream;
 }
 
--- The literals of a line, which are none of them 0
+-- The literals of a line, none of which is 0
 
 pub variables_within : (vars : ℕ) (ls : List ℤ) → AllByRecursion (IsLiteral vars) ls → AllByRecursion (λ l. nat_abs l ≤ vars) ls
 variables_within vars [] all = tt
@@ -72,7 +72,7 @@ variables_within vars (l ∷ ls) all = (all.0.1, variables_within vars ls all.1)
 
 -- The conditions of the publish
 
--- the clause of the marks, after the hints, is the addition's
+-- after the hints, the clause of the marks is the addition's
 pub clause_is : (c : StreamParams) (st : StreamContext) (id : ℕ) (lits : List ℤ) (old new : Propagation) (clause : Clause)
     → Admits c st id lits old
     → KeepsClause old new → clause ≡ new.clause → clause ≡ distinct lits
@@ -116,7 +116,7 @@ published_is c p q es id clause lits r at step is done =
     ∙ ap (λ (d : Clause). events.publish c.stream id d r ∷ []) is
     ∙ ap (λ (x : Published). events.publish c.stream id (distinct lits) x ∷ []) done
 
--- What the addition comes to
+-- The result of the addition
 
 -- a condition before those of the hints is violated
 pub fails_before : (c : StreamParams) (st : StreamContext) (id : ℕ) (lits : List ℤ) (fault : Fault) (A : Type 0)

@@ -1,4 +1,4 @@
--- A hint that is fetched, and again while it is vacant.
+-- A hint is fetched, and again while it is vacant.
 use Rattle.std.proofs.Common.{◌≡◌, ◌∙◌, ◌+◌, ◌-◌, ◌%◌, ◌<◌, ◌≤◌, ◌==◌, ℕ, Bool, [], ◌∷◌, ◌++◌, nat_eq, nat_le, inl, inr, refl, sym, ap}
 use Rattle.std.proofs.Common.{subst, arith}
 use Rattle.std.specs.Prelude.{replicate, if◌then◌else◌}
@@ -21,7 +21,7 @@ use Rattle.stream_check.specs.internal.CheckerInside.{tries_on}
 use Rattle.stream_check.specs.Lookup.{FetchesUpTo, FetchesHintAt, FetchesHint}
 use Rattle.stream_check.proofs.TryLemmas.{replicate-more}
 
--- Fetches after a first one that was vacant
+-- Fetches after a vacant first one
 
 pub again_found : (most k s id : ℕ) (r : Reply) → k < most → (r ≡ vacant → ⊥)
     → FetchesUpTo most s id (fetch s id vacant ∷ replicate k (fetch s id vacant) ++ fetch s id r ∷ []) r
@@ -55,7 +55,7 @@ asks_at ownerships.Own c h es r inside fetches = once c.stream h es r fetches
 asks_at ownerships.Foreign c h es r inside fetches = fetches
 asks_at ownerships.Outside c h es r inside fetches = absurd (inside refl)
 
--- whose an identity of this owner is, as stream s sees it
+-- who owns an identity of this owner, as stream s sees it
 abbrev pub ownership_for : ℕ → Owner → Ownership
 ownership_for s o =
     elim o [
@@ -90,7 +90,7 @@ inside_owner p id is e = elim (eqb_tells id 0) [
   ]
 ]
 
--- a first fetch that was vacant, and those after it, are what asking for an identity makes
+-- a vacant first fetch and those after it are the fetches of a hint
 pub asks_again : (c : StreamParams) (h s most : ℕ) (es : History) (r : Reply) → IsIdentity c.layout h → s ≡ c.stream
     → most ≡ tries_on (ownership_of c h) c.tries → FetchesUpTo most s h es r → FetchesHint c h es r
 asks_again c h s most es r is stream tries fetches =
@@ -98,7 +98,7 @@ asks_again c h s most es r is stream tries fetches =
     (subst (λ (t : ℕ). FetchesUpTo (tries_on (ownership_of c h) c.tries) t h es r) stream
     (subst (λ (n : ℕ). FetchesUpTo n s h es r) tries fetches))
 
--- one fetch, where its reply isn't vacant
+-- one fetch is, if its reply isn't vacant
 pub asks_once : (c : StreamParams) (h s : ℕ) (r : Reply) → IsIdentity c.layout h → s ≡ c.stream → (r ≡ vacant → ⊥)
     → FetchesHint c h (fetch s h r ∷ []) r
 asks_once c h s r is stream other =
@@ -118,14 +118,14 @@ outside_owner p id never = elim (eqb_tells id 0) [
   ]
 ]
 
--- no event for what is no identity
+-- for a number that isn't an identity there is no event
 pub asks_nothing : (c : StreamParams) (h : ℕ) → (IsIdentity c.layout h → ⊥) → FetchesHint c h [] vacant
 asks_nothing c h never =
     subst (λ (ownership : Ownership). FetchesHintAt ownership c h [] vacant)
     (sym (ap (ownership_for c.stream) (outside_owner c.layout h never)))
     (refl, refl)
 
--- What a fetch answered
+-- The reply to a fetch
 
 pub not_vacant : (p : CallerView) (r : Fetched) → (r ≡ answers.Vacant → ⊥) → reply_of p r ≡ vacant → ⊥
 not_vacant p answers.Vacant other e = other refl

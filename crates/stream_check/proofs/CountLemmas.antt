@@ -25,7 +25,7 @@ put_other m id j slot ne = elim (eqb_tells j id) [
 
 -- A stream's own events, run by themselves
 
--- what an own event finds at its identity
+-- what an event of the stream finds at its own identity
 unfoldable pub OwnAnswers : State → Event → Type 0
 OwnAnswers m (events.fetch s id r) = Unit {0}
 OwnAnswers m (events.publish s id c publishing.Done) = m id ≡ absent
@@ -89,7 +89,7 @@ own_runs f p s m n (e ∷ h) legal same = elim (eqb_tells (stream_of e) s) [
       (own_runs f p s (after m e) n h legal.2 (other_after f p s m n e h other.1 same legal))
 ]
 
--- what is retired stays so
+-- what is retired stays retired
 pub stays_retired : (n : State) (e : Event) (id : ℕ) → OwnAnswers n e → IsRetired (n id) → IsRetired (after n e id)
 unfolding OwnAnswers
 stays_retired n (events.fetch s j r) id answers is = is

@@ -1,4 +1,4 @@
--- What a report says of a cube.
+-- What a report says about a cube.
 use Rattle.std.proofs.Common.{◌∙◌, ℕ, Bool, sym, ap}
 use Rattle.std.specs.List.{list_any}
 use Rattle.std.proofs.lemmas.List.Folds.{Any-from_list_any, list_any-from_Any}

@@ -1,4 +1,4 @@
--- The lines that a stream is judged by, and what they fetch.
+-- The lines by which a stream is judged, and what they fetch.
 use Rattle.std.proofs.Common.{◌≡◌, ℕ, Bool, IsTrue, List, [], ◌∷◌, ◌++◌, refl, sym, ap, subst, ◌∙◌, append-nil}
 use Rattle.std.specs.List.{AllByRecursion, flat_map}
 use Rattle.lrup_model.specs.Event.{History}
@@ -15,7 +15,7 @@ use Rattle.stream_check.specs.lemmas.ReportLemmas.{split_first, joined-append}
 use Rattle.stream_check.proofs.EventLemmas.{line_fetches}
 use Rattle.stream_check.proofs.StreamLemmas.{TextLaws, same_first}
 
--- lines at the beginning of bytes are the first of the lines that the bytes are cut into
+-- lines at the front of some bytes are the first of those that the bytes are cut into
 lines_begin : TextLaws → (lines all : List StreamLine) (left rest : List ℕ) → AllByRecursion IsWithinLimits lines
     → AllByRecursion IsWithinLimits all → HasNoLine rest
     → flat_map line_text lines ++ left ≡ flat_map line_text all ++ rest
@@ -29,7 +29,7 @@ lines_begin laws (l ∷ lines) (o ∷ all) left rest fit fits none e =
     let later = lines_begin laws lines all left rest fit.1 fits.1 none same.1 in
     (later.0, ap (λ x. x ∷ all) (sym same.0) ∙ ap (λ x. l ∷ x) later.1, later.2)
 
--- a whole line at the beginning is the first
+-- a whole line at the front is the first one
 line_begins : TextLaws → (line : StreamLine) (all : List StreamLine) (more left rest : List ℕ) → IsWithinLimits line
     → AllByRecursion IsWithinLimits all → HasNoLine rest
     → left ≡ line_text line ++ more → left ≡ flat_map line_text all ++ rest → (others : List StreamLine) × (all ≡ line ∷ others)
@@ -63,7 +63,7 @@ one_fetches p block back e all =
 none_fetch : (p : ℕ → Bool) (back : List History) → back ≡ [] → AllByRecursion (FetchesOnly p) (joined back)
 none_fetch p back e = subst (λ b. AllByRecursion (FetchesOnly p) (joined b)) (sym e) tt
 
--- a line that passes, where it is the first of some that do
+-- a line passes if it is the first of lines that pass
 first_passes : (p : ℕ → Bool) (line : StreamLine) (lines others : List StreamLine) → lines ≡ line ∷ others
     → AllByRecursion (CitedPass p) lines → CitedPass p line
 first_passes p line lines others e all = (subst (AllByRecursion (CitedPass p)) e all).0

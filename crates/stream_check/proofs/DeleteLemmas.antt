@@ -17,7 +17,7 @@ use Rattle.stream_check.specs.Verdicts.{LineVerdict, Good, Bad}
 use Rattle.stream_check.specs.Deletions.{DeletesAt, JudgesDeletion}
 use Rattle.stream_check.specs.internal.Checking.{DeletesByOwnership, DeletesOne, AreDropped, Deletes}
 
--- The dropped ones
+-- The dropped identities
 
 drop_bool : (f s e b : Bool) → (b ≡ true → s ≡ true) → ((f || s && e) || b) ≡ (f || s && (e || (b || false)))
 drop_bool true s e b h = refl
@@ -34,7 +34,7 @@ own_bool false true false true h = sym (h refl)
 own_bool false true false false h = refl
 own_bool false false e b h = refl
 
--- what is dropped after one identity more, which is a shared one or an own one
+-- the dropped identities after one more identity, a shared one or an own one
 dropped_shared : (c : StreamParams) (first earlier old new : List ℕ) (id : ℕ) → is_shared (ownership_of c id) ≡ true
     → AreDropped c first earlier old
     → ((j : ℕ) → is_among new j ≡ (is_among old j || id == j)) → AreDropped c first (earlier ++ id ∷ []) new
@@ -69,7 +69,7 @@ pub dropped_more : (c : StreamParams) (first earlier old new : List ℕ) (id : �
     → DeletesOne c id old new es (Ok tt) → AreDropped c first (earlier ++ id ∷ []) new
 dropped_more c first earlier old new id es before deletes = dropped_at (ownership_of c id) c first earlier old new id es refl before deletes
 
--- a shared identity is dropped exactly if it is among those that are kept
+-- a shared identity counts as dropped exactly if it is in the set
 dropped_shared_is : (c : StreamParams) (first earlier old : List ℕ) (id : ℕ) (b : Bool) → is_shared (ownership_of c id) ≡ true
     → AreDropped c first earlier old → is_among old id ≡ b → (is_among first id || is_among earlier id) ≡ b
 dropped_shared_is c first earlier old id b shared before among =
@@ -130,7 +130,7 @@ no_memory_at ownerships.Foreign c first earlier old new id es is before deletes 
 no_memory_at ownerships.Outside c first earlier old new id es is before deletes =
     absurd (let e : Err stops.Memory ≡ Err (stops.Bad (faults.NotLive id)) = deletes.1 in cc)
 
--- what stopped the deletion drops nothing itself
+-- the identity at which the deletion stopped isn't dropped
 kept_at : (ownership : Ownership) (c : StreamParams) (old new : List ℕ) (id : ℕ) (es : History) (stop : LineStop)
     → DeletesByOwnership ownership c id old new es (Err stop) → new ≡ old
 kept_at ownerships.Formula c old new id es (stops.Bad fault) deletes = deletes.1.2
@@ -149,7 +149,7 @@ dropped_until c first earlier old new id es stop before deletes =
 
 -- One after the other
 
--- what the identities that are left are judged to be gives what all are
+-- a judgement of the remaining identities gives one of all
 abbrev pub GoesOn : StreamParams → List ℕ → List ℕ → History → Type 0
 GoesOn c first earlier es = (more : List ℕ) (rest : History) (v : LineVerdict)
     → JudgesDeletion c (is_among first) earlier more rest v → JudgesDeletion c (is_among first) [] (earlier ++ more) (es ++ rest) v
@@ -175,7 +175,7 @@ good_front c first earlier es before =
     subst (λ (ids : List ℕ). JudgesDeletion c (is_among first) [] ids es Good) (append-nil earlier)
     (subst (λ (x : History). JudgesDeletion c (is_among first) [] (earlier ++ []) x Good) (append-nil es) (before [] [] Good (refl, refl)))
 
--- it stops the deletion: it is bad, or there is no memory for it
+-- the deletion stops at it: it is bad, or there is no memory for it
 pub stopped_deletion : (c : StreamParams) (first earlier old new : List ℕ) (id : ℕ) (later ids : List ℕ) (es fs : History) (stop : LineStop)
     → ids ≡ earlier ++ id ∷ later → GoesOn c first earlier es → AreDropped c first earlier old
     → DeletesOne c id old new fs (Err stop) → Deletes c first new ids (es ++ fs) (length earlier) (Err stop)

@@ -1,4 +1,4 @@
--- The identities that a stream deletes in a legal history differ from each other.
+-- The identities that a stream deletes in a legal history are distinct.
 use Rattle.std.proofs.Common.{◌≡◌, ◌<◌, ◌+◌, ◌==◌, ◌&&◌, ◌||◌, ℕ, Bool, true, false, List, [], ◌∷◌, ◌++◌, length, length-append, eqb}
 use Rattle.std.proofs.Common.{nat_eq, nat_le, inl, inr, refl, sym, ap, subst, ◌∙◌, arith, append_assoc, append-nil}
 use Rattle.std.specs.List.{AllByRecursion, IsDistinct, list_any, sum_by}
@@ -26,7 +26,7 @@ use Rattle.stream_check.specs.Deletions.{DeletesAt, JudgesDeletion}
 use Rattle.stream_check.specs.Judging.{JudgesLine, AreGood, joined}
 use Rattle.stream_check.proofs.CountLemmas.{put_same, OwnAnswers, OwnRun, run_retired, run_on, stays_retired}
 
--- Sides and identities
+-- Ownership and identities
 
 pub identity_below : (p : LayoutValue) (id : ℕ) → (owner p id ≡ owners.Outside → ⊥) → IsIdentity p id
 identity_below p id inside = elim (eqb_tells id 0) [
@@ -65,7 +65,7 @@ unfolding IsDistinct
 are_distinct [] apart = tt
 are_distinct (x ∷ xs) apart = (apart.0, are_distinct xs apart.1)
 
--- the identities taken so far: they differ, each was taken, and there are so many
+-- the identities taken so far: they are distinct, each was taken, and there are this many
 pub record AreTaken (c : StreamParams) (n : State) (is_dropped : ℕ → Bool) (earlier : List ℕ) (many : ℕ) : Type 0 where
   pub ids : List ℕ
   pub apart : Apart ids
@@ -118,7 +118,7 @@ taken_more ownerships.Own n m is_dropped earlier id y stays t = stays t
 taken_more ownerships.Foreign n m is_dropped earlier id y stays t = dropped_more is_dropped earlier id y t
 taken_more ownerships.Outside n m is_dropped earlier id y stays t = t
 
--- one identity more
+-- one more identity
 take_more : (c : StreamParams) (n m : State) (is_dropped : ℕ → Bool) (earlier : List ℕ) (id many : ℕ)
     → ((y : ℕ) → IsRetired (n y) → IsRetired (m y))
     → ¬ Taken c n is_dropped earlier id → Taken c m is_dropped (earlier ++ id ∷ []) id → AreTaken c n is_dropped earlier many
@@ -157,7 +157,7 @@ took_failed : (c : StreamParams) (n : State) (is_dropped : ℕ → Bool) (earlie
 took_failed c n is_dropped earlier ids many es v fault bad are =
     subst (λ w. Took c n is_dropped earlier ids many es w) (sym bad) (n, earlier, many, are, refl)
 
--- what is taken after one identity, counted from before it
+-- what was taken after one identity, counted from before it
 took_back : (c : StreamParams) (n : State) (is_dropped : ℕ → Bool) (earlier : List ℕ) (id : ℕ) (ids : List ℕ) (many : ℕ) (es : History)
     (v : LineVerdict)
     → Took c n is_dropped (earlier ++ id ∷ []) ids (many + 1) es v → Took c n is_dropped earlier (id ∷ ids) many es v

@@ -1,4 +1,4 @@
--- Numbers that are kept in a set.
+-- A set of numbers.
 use Rattle.std.proofs.Common.{◌≡◌, ℕ, Bool, true, false, cond, List, [], ◌∷◌, refl, sym, ap, ◌∙◌, inl, inr}
 use Rattle.std.specs.Prelude.{◌||◌, ◌==◌}
 use Rattle.std.specs.List.{list_any}
@@ -15,7 +15,7 @@ same_test a b =
       ]
     ]
 
--- a set has a number exactly if its list of keys does
+-- a set contains a number exactly if its list of keys does
 pub among_keys : (xs : List ℕ) (j : ℕ) → is_among xs j ≡ list_any (λ x. j == x) xs
 among_keys [] j = refl
 among_keys (x ∷ xs) j = ap (λ (b : Bool). b || is_among xs j) (same_test x j) ∙ ap (λ (b : Bool). (j == x) || b) (among_keys xs j)

@@ -19,9 +19,9 @@ use Rattle.stream_check.specs.Judging.{JudgesLine}
 use Rattle.stream_check.specs.Reducing.{IsEarly, AreEarly, StartsWithFetchOf, TriesAgain}
 use Rattle.stream_check.specs.Laws.{EarlyEvents, VacantTriesAgain, cited_by, FetchesOnly}
 
--- Something that holds of the events of a line, from the last one on
+-- What holds for the events of a line, from the last one on
 
--- the list is empty; or it is the publish; or a retire is before it; or the events of a hint are
+-- the list is empty; or it is the publish; or a retire comes first, or the events of a hint
 pub record Holds (c : StreamParams) (IsHint : ℕ → Type 0) (P : History → Type 0) : Type 0 where
   pub none : P []
   pub published : (id : ℕ) (d : Clause) (r : Published) → P (events.publish c.stream id d r ∷ [])

@@ -1,4 +1,4 @@
--- What a piece leaves of a checker.
+-- What a checker is after a piece.
 use Rattle.std.specs.Fmt.{decimal, signed_decimal}
 use Rattle.std.proofs.Common.{◌≡◌, ℕ, Bool, true, false, List, [], ◌∷◌, ◌++◌, length, take, Option, None, Some, Ok, refl, sym, ap}
 use Rattle.std.proofs.Common.{subst, ◌∙◌, append_assoc, arith}
@@ -44,7 +44,7 @@ pub none_of : (o : Option Ending) → is_some o ≡ false → o ≡ None
 none_of None none = refl
 none_of (Some ending) none = absurd (cc)
 
--- where a checker goes on, nothing is said of one that is over
+-- if a checker is unfinished, nothing is claimed about a finished one
 pub not_over : {A : Type 0} (old : Option Ending) (ending : Ending) → old ≡ None → old ≡ Some ending → A
 not_over old ending none some = absurd (let e : None ≡ Some ending = sym none ∙ some in cc)
 
@@ -85,14 +85,14 @@ ends_later : (front back more : List ℕ) (byte : ℕ) → [] ≡ (front ++ byte
 ends_later [] back more byte e = absurd (cc)
 ends_later (b ∷ front) back more byte e = absurd (cc)
 
--- no line is in no bytes
+-- no bytes contain no line
 no_line : HasNoLine []
 no_line (Addition id lits hints) more fits e =
     ends_later (decimal id) (clause_text (map signed_decimal lits) (list_text (map decimal hints))) more space e
 no_line (Import id lits) more fits e = ends_later (decimal id) (letter_i ∷ list_text (map signed_decimal lits)) more space e
 no_line (Deletion lead ids) more fits e = ends_later (decimal lead) (letter_d ∷ list_text (map decimal ids)) more space e
 
--- one line more is cut off
+-- one more line is cut off
 pub line_cut : (bytes pending used : List ℕ) (lines : List StreamLine) (line : StreamLine) → LineText line (pending ++ used)
     → Cut bytes lines pending → Cut (bytes ++ used) (lines ++ line ∷ []) []
 line_cut bytes pending used lines line text cut = record {
@@ -101,7 +101,7 @@ line_cut bytes pending used lines line text cut = record {
   last = no_line;
 }
 
--- What a checker asks of its parts, call after call
+-- What a checker requires of its parts, call after call
 
 pub ready_inside : (h : StreamStateValue) (read : List ℕ) (ending : Option Ending) (v : CheckerValue) (p : CallerView)
     → value_of h read ending ≡ v
@@ -129,7 +129,7 @@ either_report : (c : StreamParams) (bytes : List ℕ) (blocks : List History) (e
 either_report c bytes blocks stream_ends.Ended report over = over.0
 either_report c bytes blocks stream_ends.Failed report over = over.1
 
--- a checker that is over stays as it is
+-- a finished checker stays unchanged
 pub ends_over : (end : StreamEnd) (v : CheckerValue) (ending : Ending) → v.ending ≡ Some ending → Ends end v v
 ends_over end v ending over = subst (λ (o : Option Ending). EndsBy o end v v) (sym over) refl
 
@@ -141,7 +141,7 @@ reports_over end v ending over bytes blocks free reaches = (
       (subst (λ (o : Option Ending). ReachesState v.params bytes blocks (state_by v free o)) over reaches).0,
 )
 
--- one that isn't over has this ending then
+-- an unfinished one then has this ending
 pub ends_now : (end : StreamEnd) (old new : CheckerValue) → old.ending ≡ None → new.params ≡ old.params → new.tally ≡ old.tally
     → new.ending ≡ Some (ending_at end old.pending old.line) → new.last ≡ old.last → new.dropped ≡ old.dropped → Ends end old new
 ends_now end old new none params tally ending last dropped =
@@ -159,7 +159,7 @@ reports_now end old new none tally ending bytes blocks free reaches =
           (end_judged old.params bytes blocks (going_of old free) end going),
     )
 
--- the end of the lines, where a line is open and where none is
+-- the end of the lines, if a line is open, and if none is
 
 pub ended_clean : (r : ReaderState) (line : ℕ) → r ≡ Ok [] → ending_at stream_ends.Ended (read_of r) line ≡ endings.Ended
 ended_clean r line reads = ap (λ (s : ReaderState). ending_at stream_ends.Ended (read_of s) line) reads

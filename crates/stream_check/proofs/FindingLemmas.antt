@@ -1,4 +1,4 @@
--- Good additions follow from the clauses that their hints found.
+-- The clauses of good additions follow from the clauses that their hints found.
 use Rattle.std.proofs.Common.{◌≡◌, ℕ, Bool, List, [], ◌∷◌, ◌++◌, replicate, subst}
 use Rattle.std.specs.List.{AllByRecursion}
 use Rattle.lrup_model.specs.Clause.{Clause, IsClause}
@@ -21,7 +21,7 @@ all_front : (P : Event → Type 0) (a b : History) → AllByRecursion P (a ++ b)
 all_front P [] b all = (tt, all)
 all_front P (e ∷ a) b all = let rest = all_front P a b all.1 in ((all.0, rest.0), rest.1)
 
--- a hint that is live at last has an event that shows its clause
+-- a hint that is found live has an event with its clause
 live_sound : (ownership : Ownership) (f : Cnf) (c : StreamParams) (h : ℕ) (asked : History) (d : Clause)
     → FetchesHintAt ownership c h asked (events.live d)
     → AllByRecursion (FindsSound f) asked → IsClause f.vars d × Follows f d

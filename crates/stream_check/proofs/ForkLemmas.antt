@@ -34,11 +34,11 @@ pub never_fork_behind : (a g h : History) → NeverFork (a ++ g) (a ++ h) → Ne
 never_fork_behind [] g h never = never
 never_fork_behind (d ∷ a) g h never = never_fork_behind a g h (never.1 refl)
 
--- so many vacant fetches, one more, and other events
+-- k vacant fetches, one more fetch
 abbrev pub fetches : ℕ → ℕ → ℕ → Reply → History
 fetches s id k r = replicate k (fetch s id vacant) ++ fetch s id r ∷ []
 
--- fetches that never fork are as many, with one last reply, where done of them are after
+-- fetches that never fork are equally many, with the same last reply, if there were `done` fetches before
 same_fetches : (s id most done k j : ℕ) (x y : Reply) (q r : History)
     → k + done ≤ most → j + done ≤ most → (x ≡ vacant → k + done ≡ most) → (y ≡ vacant → j + done ≡ most)
     → NeverFork (fetches s id k x ++ q) (fetches s id j y ++ r) → (k ≡ j) × (x ≡ y)
@@ -71,7 +71,7 @@ same_at ownerships.Foreign c h a b q r x y one two never =
     (one.3 ∙ ap (λ k. fetches c.stream h k x) same.0 ∙ ap (λ z. fetches c.stream h two.0 z) same.1 ∙ sym two.3, same.1)
 same_at ownerships.Outside c h a b q r x y one two never = (one.0 ∙ sym two.0, one.1 ∙ sym two.1)
 
--- the events of one hint, where they never fork
+-- the events of one hint are the same if they never fork
 pub same_asked : (c : StreamParams) (h : ℕ) (a b q r : History) (x y : Reply) → FetchesHint c h a x → FetchesHint c h b y
     → NeverFork (a ++ q) (b ++ r)
     → (a ≡ b) × (x ≡ y)

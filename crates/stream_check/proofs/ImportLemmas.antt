@@ -1,4 +1,4 @@
--- An import that is compared.
+-- An import is compared.
 use Rattle.std.proofs.Common.{◌≡◌, ◌≤◌, ◌==◌, ◌∙◌, ℕ, ℤ, nat_abs, true, false, List, [], Ok, Err, inl, inr, refl, sym, ap, eq-eqb}
 use Rattle.std.specs.Prelude.{◌↔◌}
 use Rattle.std.specs.List.{AllByRecursion}
@@ -23,7 +23,7 @@ use Rattle.stream_check.proofs.DeletedLemmas.{identity_below}
 
 -- What may be imported
 
--- the identity is one, and not the stream's own
+-- the number is an identity, and not the stream's own
 abbrev IsOthers : StreamParams → ℕ → Type 0
 IsOthers c id = IsIdentity c.layout id × (¬ Owns c.layout c.stream id)
 

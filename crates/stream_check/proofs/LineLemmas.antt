@@ -1,4 +1,4 @@
--- What one line leaves of what is held, and of the view.
+-- What one line leaves of the checker's state, and of the view.
 use Rattle.std.proofs.Common.{◌≡◌, ◌<◌, ◌+◌, ◌-◌, ℕ, ℤ, Bool, true, false, List, [], ◌∷◌, ◌++◌, length, Ok, Err, refl, sym, ap, subst, ◌∙◌}
 use Rattle.std.proofs.Common.{inl, inr, arith}
 use Rattle.std.specs.Prelude.{◌||◌, ◌&&◌, ◌==◌}
@@ -37,7 +37,7 @@ use Rattle.stream_check.specs.lemmas.StoppingLemmas.{drops_none}
 
 -- The view after fetches alone
 
--- what the view before has at an own identity
+-- what the view before had at an own identity
 own_before : (p q : CallerView) (es : History) (j : ℕ) → CallerStep p q es → Owns q.caller.layout q.caller.stream j
     → Owns p.caller.layout p.caller.stream j
 own_before p q es j step theirs = subst (λ (r : Caller). Owns r.layout r.stream j) step.caller theirs
@@ -146,7 +146,7 @@ empty_is : (b : Bool) (lits : List ℤ) → b ≡ (length lits == 0) → b ≡ (
 empty_is b [] is = is
 empty_is b (l ∷ lits) is = is ∙ eqb-suc-zero (length lits) ∙ sym (ap (λ x. x || false) (eqb-suc-zero _))
 
--- with one addition more
+-- with one more addition
 pub takes_addition : (old : StreamStateValue) (free left : ℕ) (id : ℕ) (lits : List ℤ) (hints : List ℕ) (es : History)
     (is_empty within_cube : Bool)
     → is_empty ≡ (length lits == 0) → within_cube ≡ is_within old.params.cube (distinct lits) → left ≡ free - length (distinct lits)
@@ -175,7 +175,7 @@ takes_addition old free left id lits hints es is_empty within_cube is within roo
   },
 )
 
--- with one line more that adds nothing
+-- with one more line that adds nothing
 pub takes_deletion : (old mid : StreamStateValue) (free left : ℕ) (lead : ℕ) (ids : List ℕ) (es : History) (count : ℕ) → KeepsLines old mid
     → deleted_at mid ≡ capped (deleted_at old + count) → left ≡ free
     → Deletes old.params old.dropped.ids mid.dropped.ids ids es count (Ok tt)

@@ -1,4 +1,4 @@
--- A stream that is judged twice, whose blocks begin alike.
+-- A stream that is judged twice, with blocks that begin alike.
 use Rattle.std.proofs.Common.{◌≡◌, ◌⊎◌, ℕ, List, [], ◌∷◌, ◌++◌, length, inl, inr, refl, sym, subst, ◌∙◌, append-nil}
 use Rattle.std.specs.List.{AllByRecursion, flat_map}
 use Rattle.lrup_model.specs.Event.{History}
@@ -17,7 +17,7 @@ use Rattle.stream_check.proofs.AgreeLemmas.{line_agrees}
 use Rattle.stream_check.proofs.StreamLemmas.{TextLaws, EndsWithout, same_first, faulty_has_no_line, out_of_memory, ends_not_good}
 use Rattle.stream_check.proofs.StreamLemmas.{behind_one}
 
--- the text begins with a line, of whose events the first block is
+-- the text begins with a line, whose events are the first block
 record HasNext (c : StreamParams) (st : StreamContext) (text : List ℕ) (blocks : List History) : Type 0 where
   line : StreamLine
   more : List ℕ
@@ -29,7 +29,7 @@ record HasNext (c : StreamParams) (st : StreamContext) (text : List ℕ) (blocks
   verdict : LineVerdict
   judged : JudgesLine c st line block verdict
 
--- or no line is whole in it, and there is no block
+-- or it contains no whole line, and there is no block
 abbrev Next : StreamParams → StreamContext → List ℕ → List History → Type 0
 Next c st text blocks = HasNext c st text blocks ⊎ ((blocks ≡ []) × HasNoLine text)
 
@@ -77,7 +77,7 @@ next_of laws c before (l ∷ lines) all rest end (b ∷ front) back report is fi
       judged = good.0;
     })
 
--- after the same text two such go on alike
+-- after the same text, two of these continue alike
 next_alike : TextLaws → (c : StreamParams) (st : StreamContext) (text : List ℕ) (xs ys : List History) → Next c st text xs
     → Next c st text ys → GoAlike xs ys
 next_alike laws c st text xs ys (inl a) (inl b) =
@@ -90,7 +90,7 @@ next_alike laws c st text xs ys (inr a) (inl b) = absurd (a.1 b.line b.more b.fi
 next_alike laws c st text xs ys (inr a) (inr b) =
     subst (λ (bs : List History). GoAlike bs ys) (sym a.0) (subst (λ (bs : List History). GoAlike [] bs) (sym b.0) tt)
 
--- where no line is good any more there is one block at most
+-- if no line is good from here on, there is at most one block
 none_behind : TextLaws
     → (c : StreamParams) (lines : List StreamLine) (rest : List ℕ) (end : StreamEnd) (p : History) (back pre xs : List History)
     (report : Report)
@@ -108,7 +108,7 @@ none_behind laws c lines rest end p back pre xs report (at_bad_text fault text n
 none_behind laws c lines rest end p back pre xs report (at_end pending no_block says, no_memory) is =
     let e : p ∷ (pre ++ xs) ≡ [] = is ∙ no_block in absurd (cc)
 
--- what ends the stream isn't a line that was good with the same block
+-- a line that was good with the same block doesn't end the stream
 not_both : TextLaws → (c : StreamParams) (before all : List StreamLine) (rest : List ℕ) (end : StreamEnd) (p : History)
     (back pre xs : List History) (report : Report) (o : StreamLine) (more : List ℕ)
     → all ≡ before ++ [] → EndsWithout c all rest end back report → p ∷ (pre ++ xs) ≡ back → IsWithinLimits o → rest ≡ line_text o ++ more

@@ -1,4 +1,4 @@
--- What a checker is left as.
+-- The state of a checker.
 use Rattle.std.proofs.Common.{◌≡◌, ◌+◌, ◌-◌, ◌^◌, ◌||◌, ◌&&◌, min, ℕ, Bool, List, [], ◌∷◌, ◌++◌, length, inl, inr, refl, sym}
 use Rattle.std.proofs.Common.{ap, subst, ◌∙◌, arith, append_assoc, append-nil, length-append}
 use Rattle.std.specs.List.{flat_map, AllByRecursion}
@@ -31,7 +31,7 @@ use Rattle.stream_check.specs.Laws.{DecidedBeforeFailure}
 use Rattle.stream_check.specs.lemmas.ContextLemmas.{context_of-snoc, counts_of, tally_is, tally_says, counts_of-snoc, same_context}
 use Rattle.stream_check.specs.lemmas.StoppingLemmas.{drops_none}
 
--- one good line more, with its block
+-- one more good line, with its block
 good_snoc : (c : StreamParams) (before lines : List StreamLine) (blocks : List History) (line : StreamLine) (block : History)
     → AreGood c before lines blocks → JudgesLine c (context_of c (before ++ lines)) line block Good
     → AreGood c before (lines ++ line ∷ []) (blocks ++ block ∷ [])
@@ -49,7 +49,7 @@ good_snoc c before (l ∷ lines) (b ∷ blocks) line block good judged = (
 text_grows : (texts bytes rest piece : List ℕ) → bytes ≡ texts ++ rest → bytes ++ piece ≡ texts ++ (rest ++ piece)
 text_grows texts bytes rest piece e = ap (λ b. b ++ piece) e ∙ append_assoc texts rest piece
 
--- and these bytes are one line more
+-- and these bytes are one more line
 pub line_grows : (lines : List StreamLine) (line : StreamLine) (bytes rest piece : List ℕ) → bytes ≡ flat_map line_text lines ++ rest
     → rest ++ piece ≡ line_text line → bytes ++ piece ≡ flat_map line_text (lines ++ line ∷ []) ++ []
 line_grows lines line bytes rest piece e whole =
@@ -103,7 +103,7 @@ pending_grows c bytes piece blocks old before pending = record {
   line = before.line;
 }
 
--- what is judged by what a checker holds is judged by what the lines leave
+-- what is judged from what a checker holds is judged from what the lines leave
 by_lines : (c : StreamParams) (old : GoingState) (lines : List StreamLine) (P : StreamContext → Type 0)
     → SameContext old.context (context_of c lines)
     → P old.context → P (context_of c lines)
@@ -160,18 +160,18 @@ ends_behind c bytes piece blocks back old end report before ends = record {
   ends = ends;
 }
 
--- the same report by what the checker holds and by the lines
+-- the report is the same from what the checker holds and from the lines
 held_report : (c : StreamParams) (bytes : List ℕ) (blocks : List History) (old : GoingState) (ending : ℕ → Ending)
     → (before : ReachesGoing c bytes blocks old)
     → report_of_tally old.tally (ending old.line) ≡ report_of c before.lines 0 (ending (capped (length before.lines + 1)))
 held_report c bytes blocks old ending before =
     before.tally (ending old.line) ∙ ap (λ n. report_of c before.lines 0 (ending n)) before.line
 
--- these counts, and so many deleted identities more
+-- these counts, with this many more deleted identities
 abbrev with_deleted : Tally → ℕ → Tally
 with_deleted t deleted = record t { deleted = capped (t.deleted + deleted) }
 
--- and where so many identities more were deleted
+-- the same if more identities were deleted
 held_more : (c : StreamParams) (bytes : List ℕ) (blocks : List History) (old : GoingState) (deleted : ℕ) (ending : ℕ → Ending)
     → (before : ReachesGoing c bytes blocks old)
     → report_of_tally (with_deleted old.tally deleted) (ending old.line)
@@ -183,7 +183,7 @@ held_more c bytes blocks old deleted ending before =
     ∙ ap (λ (n : ℕ). record r { deleted = n }) count
     ∙ ap (λ n. report_of c before.lines deleted (ending n)) before.line
 
--- and what was dropped until then
+-- and what was dropped up to there
 held_drops : (c : StreamParams) (bytes piece : List ℕ) (blocks back all : List History) (old : GoingState) (ids : List ℕ)
     (is_dropped : ℕ → Bool) (report : Report) → all ≡ blocks ++ back
     → (before : ReachesGoing c bytes blocks old) → StopsAtLine report.ending (capped (length before.lines + 1))
@@ -312,7 +312,8 @@ judges_longer c bytes more end other blocks report j ends = record {
   ends = ends;
 }
 
--- what is judged by a line, a text or memory that ran out is so for either end, whatever follows; what is judged by its end is left
+-- what is judged by a line, by a text or by memory that ran out is right for either end and for any further bytes; what remains is judged
+-- by its end
 before_end : (c : StreamParams) (bytes more : List ℕ) (end other : StreamEnd) (blocks : List History) (report : Report)
     → (j : JudgesBlocks c bytes end blocks report)
     → (report ≡ report_of c j.lines 0 (ending_at end j.rest (capped (length j.lines + 1)))
@@ -334,7 +335,7 @@ pub decided_before_failure : DecidedBeforeFailure
 decided_before_failure c bytes more end blocks report untold j = before_end c bytes more stream_ends.Failed end blocks report j
     (λ says. absurd (untold (capped (length j.lines + 1), ap (λ (r : Report). r.ending) says)))
 
--- the ending that a failed read has is no other's
+-- no other end gives the ending of a failed read
 says_failed : (c : StreamParams) (lines others : List StreamLine) (rest left : List ℕ) (report : Report)
     → report ≡ report_of c lines 0 (ending_at stream_ends.Ended rest (capped (length lines + 1)))
     → report ≡ report_of c others 0 (ending_at stream_ends.Failed left (capped (length others + 1))) → ⊥
@@ -344,7 +345,7 @@ says_failed c lines others (byte ∷ rest) left report a b =
     let e : endings.Bad (capped (length lines + 1)) _ ≡ endings.ReadFailed (capped (length others + 1)) =
     ap (λ (r : Report). r.ending) (sym a ∙ b) in cc
 
--- A report that fits both ends is decided before the end, so that it fits whatever follows.
+-- A report that fits both ends is decided before the end, so it fits any further bytes.
 over_longer : (c : StreamParams) (bytes more : List ℕ) (blocks : List History) (report : Report) (end : StreamEnd)
     → JudgesBlocks c bytes stream_ends.Ended blocks report → JudgesBlocks c bytes stream_ends.Failed blocks report
     → JudgesBlocks c (bytes ++ more) end blocks report

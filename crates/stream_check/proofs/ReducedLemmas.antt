@@ -1,4 +1,4 @@
--- A line without the vain fetches of what it found.
+-- A line without the vacant fetches of what it found later.
 use Rattle.std.proofs.Common.{◌≡◌, ◌&&◌, ℕ, zero, suc, Bool, true, false, not, List, [], ◌∷◌, ◌++◌, map, Result}
 use Rattle.std.proofs.Common.{replicate, inl, inr, refl, sym, ap, ◌∙◌, arith, append_assoc, append-nil}
 use Rattle.std.specs.List.{list_all}
@@ -24,7 +24,7 @@ use Rattle.stream_check.specs.lemmas.ReducingLemmas.{reduced_kept, reduced_left_
 
 -- Reducing
 
--- an event that is no vacant fetch stays
+-- an event that isn't a vacant fetch stays
 other_stays : (e : Event) (es : History) → is_vacant e ≡ false → reduced (e ∷ es) ≡ e ∷ reduced es
 other_stays e es other = reduced_kept e es (ap (λ b. b && not (list_all is_vacant es)) other)
 
@@ -33,7 +33,7 @@ not_all_vacant : (s id k : ℕ) (e : Event) (es : History) → is_vacant e ≡ f
 not_all_vacant s id zero e es other = ap (λ b. b && list_all is_vacant es) other
 not_all_vacant s id (suc k) e es other = not_all_vacant s id k e es other
 
--- vacant fetches before another event go
+-- vacant fetches before another event are removed
 vacants_go : (s id k : ℕ) (e : Event) (es : History) → is_vacant e ≡ false
     → reduced (replicate k (events.fetch s id events.vacant) ++ e ∷ es) ≡ e ∷ reduced es
 vacants_go s id zero e es other = other_stays e es other
@@ -77,7 +77,7 @@ missing_at ownerships.Own c h asked asks = ap (list_all is_vacant) asks
 missing_at ownerships.Foreign c h asked asks = ap (list_all is_vacant) asks.3 ∙ vacants_all c.stream h asks.0
 missing_at ownerships.Outside c h asked asks = ap (list_all is_vacant) asks.0
 
--- a look-up without its vain fetches
+-- a look-up without the vacant fetches of what it found later
 asks_reduced : (reply : Reply) (c : StreamParams) (is_dropped : ℕ → Bool) (h : ℕ) (asked rest : History) (answer : Result Clause Fault)
     → is_dropped h ≡ false → FetchesHint c h asked reply → answer ≡ answer_of h reply → (answer ≡ answer_of h events.vacant → rest ≡ [])
     → LooksOn c reduced is_dropped h asked rest answer

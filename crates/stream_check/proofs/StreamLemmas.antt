@@ -1,4 +1,4 @@
--- Two judgements of one stream, of events that never fork, agree.
+-- Two judgements of one stream, with events that never fork, agree.
 use Rattle.std.proofs.Common.{◌≡◌, ◌⊎◌, ◌+◌, ℕ, List, [], ◌∷◌, ◌++◌, length, inl, inr, refl, sym, ap, subst, ◌∙◌, append_assoc, append-nil}
 use Rattle.std.specs.List.{AllByRecursion, flat_map}
 use Rattle.std.proofs.lemmas.List.{append_cancel_left}
@@ -30,7 +30,7 @@ pub record TextLaws : Type 0 where
   pub lines : TextsAreLines
   pub fault : OneFault
 
--- of two beginnings of one list one begins the other
+-- of two prefixes of one list, one is a prefix of the other
 one_begins : (a b m n : List ℕ) → a ++ m ≡ b ++ n → ((x : List ℕ) × (b ≡ a ++ x)) ⊎ ((x : List ℕ) × (a ≡ b ++ x))
 one_begins [] b m n e = inl (b, refl)
 one_begins (x ∷ a) [] m n e = inr (x ∷ a, refl)
@@ -45,7 +45,7 @@ one_begins (x ∷ a) (y ∷ b) m n e =
 same_text : TextLaws → (l o : StreamLine) → IsWithinLimits l → IsWithinLimits o → line_text l ≡ line_text o → l ≡ o
 same_text laws l o a b e = laws.line l o (line_text l) (a, refl) (b, e)
 
--- bytes begin with the text of one line at most
+-- bytes begin with the text of at most one line
 pub same_first : TextLaws → (l o : StreamLine) (m n : List ℕ) → IsWithinLimits l → IsWithinLimits o → line_text l ++ m ≡ line_text o ++ n
     → (l ≡ o) × (m ≡ n)
 same_first laws l o m n a b e =
@@ -57,7 +57,7 @@ same_first laws l o m n a b e =
     ] in
     (same_text laws l o a b same, append_cancel_left (line_text o) m n (subst (λ t. t ++ m ≡ line_text o ++ n) same e))
 
--- a line that begins with what was read goes on with the byte
+-- a line that begins with what was read, and isn't whole yet, continues with the byte
 goes_on : (read : List ℕ) (byte : ℕ) (after more text x : List ℕ) → IsLine standard text → text ≡ read ++ x
     → read ++ (byte ∷ after) ≡ text ++ more → (text ≡ read) ⊎ Begins (read ++ byte ∷ [])
 goes_on read byte after more text [] whole e split = inl (e ∙ append-nil read)
@@ -67,7 +67,7 @@ goes_on read byte after more text (y ∷ x) whole e split =
     let head : byte ≡ y = cc in
     inr (x, subst (IsLine standard) (e ∙ ap (λ z. read ++ (z ∷ x)) (sym head) ∙ sym (append_assoc read (byte ∷ []) x)) whole)
 
--- no line is whole in what has a text fault
+-- what has a text fault contains no whole line
 pub faulty_has_no_line : TextLaws → (rest : List ℕ) (fault : LineFault) → HasTextFault rest fault → HasNoLine rest
 faulty_has_no_line laws rest fault text line more fits e =
     let refused = text.3 in
@@ -86,7 +86,7 @@ faulty_has_no_line laws rest fault text line more fits e =
 
 -- After the same good lines
 
--- what ends a stream while there is memory
+-- what ends a stream that doesn't run out of memory
 abbrev pub EndsWithout : StreamParams → List StreamLine → List ℕ → StreamEnd → List History → Report → Type 0
 EndsWithout c lines rest end back report = EndsAfter c lines rest end back report × ¬ IsExcused OutOfMemory report
 
@@ -140,7 +140,7 @@ ends_agree laws c lines rest end back aft report other (at_end pending no_block 
 ends_agree laws c lines rest end back aft report other (at_end pending no_block says, no_memory) (at_end waiting no_more told, none) never =
     (no_block ∙ sym no_more, says ∙ sym told)
 
--- a stream doesn't end at a line that is good
+-- a good line doesn't end a stream
 pub ends_not_good : TextLaws → (c : StreamParams) (lines : List StreamLine) (rest more : List ℕ) (end : StreamEnd) (back : List History)
     (report : Report) (line : StreamLine) (block r : History)
     → EndsWithout c lines rest end back report → IsWithinLimits line → rest ≡ line_text line ++ more

@@ -1,4 +1,4 @@
--- An identity that is looked up, and hints one after the other.
+-- An identity is looked up, and hints one after the other.
 use Rattle.std.proofs.Common.{◌≡◌, ◌≤◌, ◌+◌, ◌∙◌, ℕ, ℤ, neg_ℤ, Bool, List, [], ◌∷◌, ◌++◌, length, Ok, Err, inl, inr, refl}
 use Rattle.std.proofs.Common.{sym, ap, subst, arith, append_assoc, append-nil}
 use Rattle.std.specs.Prelude.{replicate}
@@ -26,19 +26,19 @@ use Rattle.stream_check.specs.internal.Checking.{Shows, excess_of}
 pub replicate-more : (k : ℕ) (e : Event) → replicate k e ++ e ∷ [] ≡ replicate (k + 1) e
 replicate-more k e = replicate-append-replicate k 1 e
 
--- a clip that is known follows, as the view before has it
+-- the clause of a known clip follows, in terms of the view before
 pub derived_before : (p q : CallerView) (es : History) (clip : ClipValue) → CallerStep p q es → IsKnown q clip → AllFollow q
     → IsDerived p.caller.formula (clip_clause q clip)
 derived_before p q es clip step known follow =
     subst (λ (f : Cnf). IsDerived f (clip_clause q clip)) (ap (λ (r : Caller). r.formula) step.caller) (known_follows q clip follow known)
 
--- the formula's variables are those of the stream's layout, as the view before has it
+-- the formula's variables are those of the stream's layout, in terms of the view before
 pub variables_before : (c : StreamParams) (p q : CallerView) (es : History) → IsViewOf c p → CallerStep p q es
     → q.caller.formula.vars ≡ q.caller.layout.vars → p.caller.formula.vars ≡ c.layout.vars
 variables_before c p q es at step there = subst (λ (r : Caller). r.formula.vars ≡ r.layout.vars) step.caller there
     ∙ ap (λ (l : LayoutValue). l.vars) at.layout
 
--- so the marks have all of them
+-- so the marks cover all of them
 pub variables_fit : (c : StreamParams) (p q : CallerView) (es : History) (vars : ℕ) → IsViewOf c p → CallerStep p q es
     → q.caller.formula.vars ≡ q.caller.layout.vars → c.layout.vars ≤ vars → q.caller.formula.vars ≤ vars
 variables_fit c p q es vars at step there most =
@@ -51,8 +51,8 @@ pub all_derived : (f : Cnf) (cs : List Clause) (d : Clause) → AllByRecursion (
 all_derived f [] d h k = (k, tt)
 all_derived f (c ∷ cs) d h k = (h.0, all_derived f cs d h.1 k)
 
--- The hints so far have these clauses, which are unit, one after the other, and follow; and what those that are left come to says what
--- all come to.
+-- The hints so far have these clauses, which are unit, one after the other, and follow; and the result of the remaining hints gives that of
+-- all.
 pub record HasLed (c : StreamParams) (is_dropped : ℕ → Bool) (f : Cnf) (n : List ℤ) (hints : List ℕ) (m : List ℤ) (left : List ℕ)
     (es : History) : Type 0 where
   pub clauses : List Clause

@@ -1,4 +1,4 @@
--- The counts of a report are at most the identities, in a legal history.
+-- In a legal history the counts of a report are at most the number of identities.
 use Rattle.std.proofs.Common.{◌≡◌, ◌<◌, ◌≤◌, ◌+◌, ◌||◌, ℕ, Bool, true, false, List, [], ◌∷◌, ◌++◌, length, eqb, inl, inr, refl}
 use Rattle.std.proofs.Common.{sym, ap, subst, ◌∙◌, arith, append_assoc, append-nil}
 use Rattle.std.specs.List.{AllByRecursion, list_any, sum_by}
@@ -23,7 +23,7 @@ use Rattle.stream_check.proofs.AskLemmas.{ownership_for}
 use Rattle.stream_check.proofs.CountLemmas.{SameOwn, OwnRun, own_runs, run_on}
 use Rattle.stream_check.proofs.DeletedLemmas.{identity_below, TakenAt, Taken, Apart, are_distinct, AreTaken, identities_took, lines_took}
 
--- Identities that differ are at most as many as there are
+-- There are at most as many distinct identities as there are identities
 
 all_below : (xs : List ℕ) (n : ℕ) → AllByRecursion (λ x. x < n) xs → (q : ℕ) → list_any (eqb q) xs ≡ true → q < n
 all_below [] n all q e = absurd (let f : false ≡ true = e in cc)
@@ -32,7 +32,7 @@ all_below (x ∷ xs) n all q e = elim (eqb_tells q x) [
   | inr other ↦ all_below xs n all.1 q (sym (ap (λ b. b || list_any (eqb q) xs) other.0) ∙ e)
 ]
 
--- an identity that was taken is one
+-- a number that was taken is an identity
 taken_is : (c : StreamParams) (n : State) (is_dropped : ℕ → Bool) (earlier : List ℕ) (id : ℕ) → Taken c n is_dropped earlier id
     → IsIdentity c.layout id
 taken_is c n is_dropped earlier id t = identity_below c.layout id
@@ -111,7 +111,7 @@ ends_delete c n lines rest end back report answers are (at_end pending no_block 
 owns_below : (p : LayoutValue) (s id : ℕ) → Owns p s id → id ≤ last_identity p
 owns_below p s id owns = (identity_below p id (λ e. let f : owners.Outside ≡ owners.Stream s = sym e ∙ owns in cc)).1
 
--- so many were added that the last identity is at least that far from the formula's
+-- the additions are at most as many as the identities above the formula's last one, up to the last added one
 record AreFewAdded (c : StreamParams) (lines : List StreamLine) : Type 0 where
   few : length (additions_of lines) + c.layout.clauses ≤ (context_of c lines).last
   below : (context_of c lines).last ≤ last_identity c.layout

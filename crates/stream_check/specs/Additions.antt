@@ -1,5 +1,5 @@
--- What makes an addition valid, and how one is judged (this project's own; that hinted clauses show the clause by propagation is the
--- idea of Cruz-Filipe et al., CADE 2017).
+-- What makes an addition valid, and how one is judged (this project's own; that hinted clauses show
+-- the clause by propagation is the idea of Cruz-Filipe et al., CADE 2017).
 use Rattle.std.specs.Prelude.{◌≡◌, ◌≤◌, ◌<◌, ◌⊎◌, ◌++◌, ℕ, ℤ, neg_ℤ, nat_abs, Bool, List, [], ◌∷◌, length, Result, Ok, Err}
 use Rattle.std.specs.List.{AllByRecursion}
 use Rattle.lrup_model.specs.Clause.{Clause, IsTautology}
@@ -16,9 +16,10 @@ use Rattle.stream_check.specs.StreamContext.{StreamContext}
 use Rattle.stream_check.specs.Verdicts.{LineVerdict, Good, Bad, Violates}
 use Rattle.stream_check.specs.Lookup.{AreFound, LooksUp}
 
--- An addition is valid: its identity is the stream's own, and above the last one that was added, or the formula's last one; its literals
--- are over the variables; there is room for its clause, in literals; and the clauses that its hints name show its clause, which is no
--- tautology, by propagation.
+-- An addition is valid: its identity is the stream's own, and above the last one that was added, or
+-- the formula's last one; its literals are over the variables; there is room for its clause, in
+-- literals; and the clauses that its hints name show its clause, which isn't a tautology, by
+-- propagation.
 pub record IsValidAddition (layout : LayoutValue) (stream last free : ℕ)
     (Names : List ℕ → List Clause → Type 0) (id : ℕ) (lits : List ℤ)
     (hints : List ℕ) : Type 0 where
@@ -30,7 +31,7 @@ pub record IsValidAddition (layout : LayoutValue) (stream last free : ℕ)
   pub named : Names hints clauses
   pub shown : Accepts (distinct lits) clauses
 
--- the conditions of an addition before those of its hints, in their order
+-- the conditions of an addition that come before those of its hints, in their order
 abbrev pub BeforeHints : StreamParams → StreamContext → ℕ → List ℤ → History → Fault
     → Type 0 → Type 0
 BeforeHints params context id lits history fault Next =
@@ -41,7 +42,8 @@ BeforeHints params context id lits history fault Next =
     (Violates (¬ IsTautology lits) faults.Tautology history fault
     (Violates (length (distinct lits) ≤ context.free) faults.NoRoom history fault Next)))
 
--- A hint's clause doesn't help: it is neither unit nor a conflict; or it is a conflict, and one more hint comes after it.
+-- A hint's clause doesn't help: it is neither unit nor a conflict; or it is a conflict, and another
+-- hint comes after it.
 abbrev pub Misleads : List ℤ → Clause → ℕ → List ℕ → Fault → Type 0
 Misleads falses clause hint later fault =
     ((¬ IsConflict falses clause) × ((literal : ℤ) → ¬ IsUnit falses clause literal)
@@ -49,8 +51,8 @@ Misleads falses clause hint later fault =
     ⊎ (IsConflict falses clause × (next : ℕ) × (more : List ℕ) × (later ≡ next ∷ more)
     × (fault ≡ faults.Excess next))
 
--- what the look-up of a hint came to: its fault; or its clause is unit, which makes one more literal false, and the hints after it
--- decide, or it doesn't help
+-- the result of a hint's look-up: a fault; or a unit clause, which makes one more literal false,
+-- and the later hints decide; or a clause that doesn't help
 abbrev pub FailsBy : Result Clause Fault → List ℤ → ℕ → List ℕ → History → Fault
     → (List ℤ → Type 0) → Type 0
 FailsBy (Ok clause) falses hint later history fault Next =
@@ -58,7 +60,8 @@ FailsBy (Ok clause) falses hint later history fault Next =
     ⊎ ((history ≡ []) × Misleads falses clause hint later fault)
 FailsBy (Err its) falses hint later history fault Next = (history ≡ []) × (fault ≡ its)
 
--- The hints fail, if these literals are false: the first one whose look-up or clause fails gives the fault, or none is a conflict.
+-- The hints fail, with these literals false: the fault comes from the first hint whose look-up or
+-- clause fails, or there is no conflict.
 abbrev pub FailsHints : StreamParams → (ℕ → Bool) → List ℤ → List ℕ → History → Fault → Type 0
 FailsHints params is_dropped falses [] history fault = (history ≡ []) × (fault ≡ faults.NoConflict)
 FailsHints params is_dropped falses (hint ∷ hints) history fault =
@@ -67,12 +70,13 @@ FailsHints params is_dropped falses (hint ∷ hints) history fault =
     × FailsBy answer falses hint hints rest fault
     (λ more_falses. FailsHints params is_dropped more_falses hints rest fault)
 
--- the publish of an addition that is good
+-- the publish of a good addition
 abbrev pub published_by : StreamParams → ℕ → List ℤ → Event
 published_by params id lits = events.publish params.stream id (distinct lits) publishing.Done
 
--- An addition's events and its verdict, after the lines that left this context: it is valid by what its events find, and its last
--- event publishes its clause; or it violates a condition, and the first of these gives the fault.
+-- An addition's events and its verdict, after lines that left this context: the addition is valid
+-- by what its events find, and its last event publishes its clause; or it violates a condition, and
+-- the first one that it violates gives the fault.
 abbrev pub JudgesAddition : StreamParams → StreamContext → ℕ → List ℤ → List ℕ → History
     → LineVerdict
     → Type 0

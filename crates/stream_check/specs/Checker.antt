@@ -32,40 +32,45 @@ state_by checker free None = Going (going_of checker free)
 state_by checker free (Some ending) =
     Over (report_of_tally checker.tally ending) (is_among checker.dropped.ids)
 
--- the state of a checker whose stream has so much room left
+-- the state of a checker whose stream has this much room left
 abbrev pub checker_state : CheckerValue → ℕ → CheckerState
 checker_state checker free = state_by checker free checker.ending
 
--- the view is this stream's, and of this layout
+-- the view belongs to this stream and this layout
 pub record IsViewOf (params : StreamParams) (view : CallerView) : Type 0 where
   pub layout : view.caller.layout ≡ params.layout
   pub stream : view.caller.stream ≡ params.stream
 
--- What a checker needs of a view: it is of the checker's stream, and its own identities above the last one that was added are vacant.
+-- What a checker requires of a view: it is of the checker's stream, and the stream's own identities
+-- above the last one that was added are vacant.
 pub record IsReadyAt (checker : CheckerValue) (view : CallerView) : Type 0 where
   pub at : IsViewOf checker.params view
   pub vacant : IsVacantAbove view checker.last
 
--- Whatever bytes and blocks left the checker as it was, these bytes and blocks more leave it as it is.
+-- If some bytes and blocks led to the old state, then with these further bytes and blocks they lead
+-- to the new one.
 abbrev pub Extends : StreamParams → CheckerState → List ℕ → List History → CheckerState → Type 0
 Extends params old used blocks new = (bytes : List ℕ) (before : List History)
     → ReachesState params bytes before old
     → ReachesState params (bytes ++ used) (before ++ blocks) new
 
--- How many blocks of events a call has: one if it ends a good line, none if it ends no line, at most one if it ends the reading.
+-- How many blocks of events a call has: one if it ends a good line, none if it ends no line, at
+-- most one if it ends the reading.
 abbrev pub AreBlocksOf : CheckStatus → List History → Type 0
 AreBlocksOf statuses.Line blocks = length blocks ≡ 1
 AreBlocksOf statuses.More blocks = blocks ≡ []
 AreBlocksOf statuses.Over blocks = length blocks ≤ 1
 
--- The text at which the reading ended: a whole line, or one that begins no line, through the byte that decided it.
+-- The text at which the reading ended: a whole line, or a text that begins no line, through the
+-- byte that decided this.
 abbrev pub StopsAt : Ending → List ℕ → Type 0
 StopsAt ending text =
     ((line : StreamLine) × LineText line text)
     ⊎ ((number : ℕ) × (fault : LineFault) × (ending ≡ endings.Bad number (faults.Text fault))
     × IsRefused text fault)
 
--- What the bytes used came to: one line more, the front of a line, or the end of the reading.
+-- The result for the bytes that were used: one more line, the front of a line, or the end of the
+-- reading.
 abbrev pub FeedsChecker : CheckStatus → CheckerValue → CheckerValue → List ℕ → List ℕ → Type 0
 FeedsChecker statuses.Line old new piece used =
     (new.ending ≡ None) × (new.pending ≡ [])
@@ -79,7 +84,7 @@ FeedsChecker statuses.Over old new piece used =
     (ending : Ending) × (new.ending ≡ Some ending)
     × (old.ending ≡ None → StopsAt ending (old.pending ++ used))
 
--- a checker that is over takes nothing
+-- a finished checker takes nothing and doesn't change
 abbrev pub StaysOver : CheckerValue → CheckerValue → List ℕ → Type 0
 StaysOver old new used = (ending : Ending) → old.ending ≡ Some ending → (new ≡ old) × (used ≡ [])
 
@@ -100,11 +105,12 @@ EndsBy None end old new =
     × (new.dropped ≡ old.dropped)
 EndsBy (Some ending) end old new = new ≡ old
 
--- The end of the stream, or a failed read, makes a checker over; one that was over stays as it is.
+-- The end of the stream, or a failed read, finishes the checker; a checker that was finished stays
+-- unchanged.
 abbrev pub Ends : StreamEnd → CheckerValue → CheckerValue → Type 0
 Ends end old new = EndsBy old.ending end old new
 
--- The report of a checker that is over is right for whatever bytes and blocks left it as it was, and this end.
+-- If some bytes and blocks led to the old checker, the new report is right for them and this end.
 abbrev pub ReportsEnd : StreamEnd → CheckerValue → CheckerValue → Type 0
 ReportsEnd end old new =
     (bytes : List ℕ) (blocks : List History) (free : ℕ)

@@ -5,14 +5,15 @@ use Rattle.stream_check.specs.DroppedIdsValue.{DroppedIdsValue}
 use Rattle.stream_check.specs.StreamParams.{StreamParams}
 use Rattle.stream_check.specs.declared.report.Report.{Report}
 
--- how many additions and deleted identities were good, whether an added clause is empty, and whether one is within the cube
+-- how many additions and deleted identities were good, whether an added clause is empty, and
+-- whether one is within the cube
 pub record Tally : Type 0 where
   pub added : ℕ
   pub deleted : ℕ
   pub empty : Bool
   pub within : Bool
 
--- the report of these counts, with this ending
+-- the report with these counts and this ending
 abbrev pub report_of_tally : Tally → Ending → Report
 report_of_tally tally ending =
     record {
@@ -23,8 +24,8 @@ report_of_tally tally ending =
       ending = ending;
     }
 
--- Whose lines it checks; the counts, the last identity and the dropped ones, and how many were retired; the text read of the
--- next line and that line's number; and how the stream ended, if it did.
+-- The parameters; the counts, the last identity and the dropped ones, and how many were retired;
+-- the text read of the next line, and that line's number; and how the stream ended, if it did.
 pub record CheckerValue : Type 0 where
   pub params : StreamParams
   pub tally : Tally

@@ -1,4 +1,5 @@
--- Closed sets of streams: no stream of the set cites an identity of a stream outside it (this project's own).
+-- Closed sets of streams: no stream of the set cites an identity of a stream outside it (this
+-- project's own).
 use Rattle.std.specs.Prelude.{◌≡◌, ◌-◌, ◌<◌, ℕ, Bool, IsTrue, List, Some, slice_get}
 use Rattle.std.specs.List.{AllByRecursion}
 use Rattle.lrup_model.specs.Layout.{LayoutValue, Owns}
@@ -6,7 +7,7 @@ use Rattle.lrup_text.specs.Lines.{StreamLine, Cut}
 use Rattle.stream_check.specs.Laws.{cited_by}
 use Rattle.stream_check.specs.Streams.{Stream}
 
--- in a list that has one element for each stream, this is stream s's, from 1 on
+-- in a list that has one element for each stream, this is that of stream s, counted from 1
 abbrev pub IsOfStream : {X : Type 0} → List X → ℕ → X → Type 0
 IsOfStream xs s x = (0 < s) × (slice_get xs (s - 1) ≡ Some x)
 
@@ -14,7 +15,7 @@ IsOfStream xs s x = (0 < s) × (slice_get xs (s - 1) ≡ Some x)
 abbrev pub IsOwnedWithin : LayoutValue → (ℕ → Bool) → ℕ → Type 0
 IsOwnedWithin layout set id = (t : ℕ) → Owns layout t id → IsTrue (set t)
 
--- no line that the bytes are cut into cites an identity that a stream outside the set owns
+-- no line in the bytes cites an identity that a stream outside the set owns
 pub record CiteWithin (layout : LayoutValue) (set : ℕ → Bool) (bytes : List ℕ) : Type 0 where
   pub lines : List StreamLine
   pub rest : List ℕ
@@ -22,8 +23,8 @@ pub record CiteWithin (layout : LayoutValue) (set : ℕ → Bool) (bytes : List 
   pub within :
       AllByRecursion (λ line. AllByRecursion (IsOwnedWithin layout set) (cited_by line)) lines
 
--- The set is closed: no stream of it cites an identity of a stream outside it, in the bytes by which it is
--- judged.
+-- The set is closed: no stream of it cites an identity of a stream outside it, in the bytes by
+-- which it is judged.
 abbrev pub IsClosed : LayoutValue → (ℕ → Bool) → List Stream → Type 0
 IsClosed layout set streams =
     (s : ℕ) (stream : Stream) → IsTrue (set s) → IsOfStream streams s stream

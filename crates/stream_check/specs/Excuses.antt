@@ -1,4 +1,4 @@
--- What a report is excused by, that doesn't say what the stream's lines come to (this project's own).
+-- Excuses for a report that isn't the one of the stream's lines (this project's own).
 use Rattle.std.specs.Prelude.{◌≡◌, ◌⊎◌, ℕ}
 use Rattle.stream_check.specs.declared.fault.Fault.TheVariants as faults
 use Rattle.stream_check.specs.declared.params.Ownership.TheVariants as ownerships
@@ -6,19 +6,19 @@ use Rattle.stream_check.specs.declared.report.Ending.TheVariants as endings
 use Rattle.stream_check.specs.declared.report.Report.{Report}
 use Rattle.stream_check.specs.StreamParams.{StreamParams, ownership_of}
 
--- what is excused
+-- what excuses it
 pub data Excuse : Type 0 where
   -- memory ran out
   OutOfMemory : Excuse
   -- a read failed
   ReadFailed : Excuse
-  -- the one or the other
+  -- one of the two
   CutOff : Excuse
-  -- so, or the line cites or imports a clause of another stream, by these parameters, which wasn't
-  -- there, or wasn't any more
+  -- one of the two, or the line cites or imports a clause of another stream, by these parameters,
+  -- that wasn't there yet, or was no longer there
   Lacking : (params : StreamParams) → Excuse
 
--- the report tells that this happened in the line with this number
+-- the report says that this happened in the line with this number
 abbrev pub IsExcusedAt : Excuse → Report → ℕ → Type 0
 IsExcusedAt OutOfMemory report line = report.ending ≡ endings.Memory line
 IsExcusedAt ReadFailed report line = report.ending ≡ endings.ReadFailed line
@@ -30,6 +30,6 @@ IsExcusedAt (Lacking params) report line =
     × ((report.ending ≡ endings.Bad line (faults.Missing id))
     ⊎ (report.ending ≡ endings.Bad line (faults.Retired id))))
 
--- the report tells that this happened in some line
+-- the report says that this happened in some line
 abbrev pub IsExcused : Excuse → Report → Type 0
 IsExcused excuse report = (line : ℕ) × IsExcusedAt excuse report line

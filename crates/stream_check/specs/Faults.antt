@@ -5,7 +5,7 @@ use Rattle.lrup_text.specs.declared.LineFault.TheVariants as texts
 use Rattle.stream_check.specs.declared.fault.Fault.{Fault}
 use Rattle.stream_check.specs.declared.fault.Fault.TheVariants as faults
 
--- the text of a fault; numbers are plain decimal
+-- the text of a fault, with numbers in decimal
 abbrev pub fault_text : Fault → List ℕ
 fault_text (faults.Text texts.Spelling) = codes "spelling"
 fault_text (faults.Text texts.TooLong) = codes "too long"

@@ -5,7 +5,7 @@ use Rattle.lrup_model.specs.Entailment.{Follows}
 use Rattle.lrup_model.specs.Event as events
 use Rattle.lrup_model.specs.Event.{Event}
 
--- a clause that the event finds is one of the formula's variables, and follows from it
+-- a clause that the event finds is over the formula's variables, and follows from the formula
 abbrev pub FindsSound : Cnf → Event → Type 0
 FindsSound formula (events.fetch s id events.vacant) = Unit {0}
 FindsSound formula (events.fetch s id (events.live clause)) =

@@ -10,8 +10,9 @@ use Rattle.stream_check.specs.StreamContext.{StreamContext}
 use Rattle.stream_check.specs.Verdicts.{LineVerdict, Good, Bad, Violates}
 use Rattle.stream_check.specs.Lookup.{AreFound, LooksUp}
 
--- An import is valid: its identity is one, and not the stream's own; its literals are over the variables; and the clause that its
--- identity names has its literals, in whatever order and however often each is written.
+-- An import is valid: its identity is an identity, and not the stream's own; its literals are over
+-- the variables; and the clause that its identity names has the same literals, in any order and
+-- each written any number of times.
 pub record IsValidImport (layout : LayoutValue) (stream : ℕ)
     (Names : List ℕ → List Clause → Type 0) (id : ℕ) (lits : List ℤ) : Type 0 where
   pub identity : IsIdentity layout id
@@ -21,8 +22,9 @@ pub record IsValidImport (layout : LayoutValue) (stream : ℕ)
   pub named : Names (id ∷ []) (clause ∷ [])
   pub same : (l : ℤ) → Has clause l ↔ Has lits l
 
--- An import's events and its verdict, after the lines that left this context: it is valid by what its events find; or it violates a
--- condition, and the first of these gives the fault.
+-- An import's events and its verdict, after lines that left this context: the import is valid by
+-- what its events find; or it violates a condition, and the first one that it violates gives the
+-- fault.
 abbrev pub JudgesImport : StreamParams → StreamContext → ℕ → List ℤ → History → LineVerdict → Type 0
 JudgesImport params context id lits history Good =
     IsValidImport params.layout params.stream

@@ -1,4 +1,5 @@
--- How a stream is judged: whole lists of lines, one block of events for each line, and no checker's state (this project's own).
+-- How a stream is judged: over whole lists of lines, with one block of events for each line, and
+-- without a checker's state (this project's own).
 use Rattle.std.specs.Prelude.{◌≡◌, ◌==◌, ◌+◌, ◌++◌, ℕ, List, [], ◌∷◌, length}
 use Rattle.std.specs.List.{AllByRecursion, flat_map, list_any, sum_by}
 use Rattle.lrup_model.specs.Event.{History}
@@ -20,7 +21,8 @@ use Rattle.stream_check.specs.Additions.{JudgesAddition}
 use Rattle.stream_check.specs.Deletions.{JudgesDeletion, StopsDeletion}
 use Rattle.stream_check.specs.Imports.{JudgesImport}
 
--- The line is judged so: it has these events and this verdict, after the lines that left this context.
+-- The judgement of a line: it has these events and this verdict, after lines that left this
+-- context.
 abbrev pub JudgesLine : StreamParams → StreamContext → StreamLine → History → LineVerdict → Type 0
 JudgesLine params context (Addition id lits hints) history verdict =
     JudgesAddition params context id lits hints history verdict
@@ -29,7 +31,7 @@ JudgesLine params context (Deletion lead ids) history verdict =
 JudgesLine params context (Import id lits) history verdict =
     JudgesImport params context id lits history verdict
 
--- each line is good after the good lines before it, and has one block of events
+-- each line is good after those before it, and has one block of events
 abbrev pub AreGood : StreamParams → List StreamLine → List StreamLine → List History → Type 0
 AreGood params before [] [] = Unit {0}
 AreGood params before [] (block ∷ blocks) = ⊥
@@ -42,7 +44,8 @@ AreGood params before (line ∷ lines) (block ∷ blocks) =
 abbrev pub joined : List History → History
 joined blocks = flat_map (λ block. block) blocks
 
--- the report of a stream with these good lines, so many more deleted identities, and this ending
+-- the report of a stream with these good lines, this many further deleted identities, and this
+-- ending
 abbrev pub report_of : StreamParams → List StreamLine → ℕ → Ending → Report
 report_of params lines deleted ending =
     record {
@@ -53,7 +56,7 @@ report_of params lines deleted ending =
       ending = ending;
     }
 
--- the ending of a stream whose lines are all good, and whose rest begins a line, which has this number
+-- the ending of a stream whose lines are all good, and whose rest begins a line, with this number
 abbrev pub ending_at : StreamEnd → List ℕ → ℕ → Ending
 ending_at stream_ends.Ended [] number = endings.Ended
 ending_at stream_ends.Ended (byte ∷ bytes) number = endings.Bad number (faults.Text texts.Truncated)
@@ -64,7 +67,7 @@ ending_at stream_ends.Failed rest number = endings.ReadFailed number
 pub data EndsAfter (params : StreamParams) (lines : List StreamLine) (rest : List ℕ)
     (end : StreamEnd)
     (blocks : List History) (report : Report) : Type 0 where
-  -- a line that is bad, whatever follows it
+  -- a bad line, with anything after it
   at_bad_line :
       (line : StreamLine) (more : List ℕ) (text : rest ≡ line_text line ++ more)
       (fits : IsWithinLimits line) (block : History) (one_block : blocks ≡ block ∷ [])
@@ -73,13 +76,13 @@ pub data EndsAfter (params : StreamParams) (lines : List StreamLine) (rest : Lis
       (says : report
       ≡ report_of params lines deleted (endings.Bad (capped (length lines + 1)) fault))
       → EndsAfter params lines rest end blocks report
-  -- a text that begins no line, whatever follows it
+  -- a text that begins no line, with anything after it
   at_bad_text :
       (fault : LineFault) (text : HasTextFault rest fault) (no_block : blocks ≡ [])
       (says : report
       ≡ report_of params lines 0 (endings.Bad (capped (length lines + 1)) (faults.Text fault)))
       → EndsAfter params lines rest end blocks report
-  -- a deletion that ran out of memory, whatever follows it
+  -- a deletion that ran out of memory, with anything after it
   at_memory :
       (lead : ℕ) (ids more : List ℕ) (text : rest ≡ line_text (Deletion lead ids) ++ more)
       (fits : IsWithinLimits (Deletion lead ids)) (block : History)
@@ -94,7 +97,8 @@ pub data EndsAfter (params : StreamParams) (lines : List StreamLine) (rest : Lis
       (says : report ≡ report_of params lines 0 (ending_at end rest (capped (length lines + 1))))
       → EndsAfter params lines rest end blocks report
 
--- The stream of these bytes and this end, whose lines have these blocks of events, is judged so: its good lines come first, and then what ended it.
+-- The judgement of a stream of these bytes and this end, whose lines have these blocks of events:
+-- first come its good lines, and then what ended it.
 pub record JudgesBlocks (params : StreamParams) (bytes : List ℕ) (end : StreamEnd)
     (blocks : List History) (report : Report) : Type 0 where
   pub lines : List StreamLine
@@ -107,7 +111,7 @@ pub record JudgesBlocks (params : StreamParams) (bytes : List ℕ) (end : Stream
   pub good : AreGood params [] lines front
   pub ends : EndsAfter params lines rest end back report
 
--- the stream of these bytes, this end and these events is judged so
+-- the judgement of a stream of these bytes, this end and these events
 pub record Judges (params : StreamParams) (bytes : List ℕ) (end : StreamEnd) (history : History)
     (report : Report) : Type 0 where
   pub blocks : List History

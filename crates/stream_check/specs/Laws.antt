@@ -1,4 +1,5 @@
--- Laws of judging, each the contract of a function in `src/laws.rt`, and the words that they need.
+-- Laws of judging, each the contract of a function in `src/laws.rt`, and the definitions that they
+-- need.
 use Rattle.std.specs.Prelude.{◌≡◌, ◌≢◌, ◌↔◌, ◌≤◌, ◌<◌, ◌^◌, ◌-◌, ◌++◌, ℕ, ℤ, Bool, IsTrue, List, [], ◌∷◌, map}
 use Rattle.std.specs.List.{AllByRecursion, Any}
 use Rattle.lrup_model.specs.Cube.{CubeValue, Within}
@@ -30,13 +31,13 @@ use Rattle.stream_check.specs.Reaching.{GoingState, Going, JudgesBothEnds, Reach
 use Rattle.stream_check.specs.CheckerValue.{report_of_tally, CheckerValue}
 use Rattle.stream_check.specs.Checker.{IsNew, IsReadyAt}
 
--- What a checker is left as, step by step
+-- What a checker holds, step by step
 
 -- no bytes and no blocks
 abbrev pub FreshLeft : Type 0
 FreshLeft = (c : StreamParams) (now : GoingState) → IsFresh c now → ReachesState c [] [] (Going now)
 
--- one good line more
+-- one more good line
 abbrev pub GoodLineTaken : Type 0
 GoodLineTaken = (c : StreamParams) (bytes piece : List ℕ) (blocks : List History) (block : History)
     (old new : GoingState) (line : StreamLine)
@@ -52,12 +53,13 @@ EndJudged = (c : StreamParams) (bytes : List ℕ) (blocks : List History) (old :
     → JudgesBlocks c bytes end blocks
     (report_of_tally old.tally (ending_at end old.pending old.line))
 
--- a report that is right for both ends stays so, whatever follows
+-- a report that is right for both ends stays right for any further bytes
 abbrev pub OverStays : Type 0
 OverStays = (c : StreamParams) (bytes more : List ℕ) (blocks : List History) (report : Report)
     → JudgesBothEnds c bytes blocks report → JudgesBothEnds c (bytes ++ more) blocks report
 
--- if the read failed and the report doesn't tell so, it was decided before: it is right for either end, and whatever follows
+-- if the read failed and the report doesn't say so, it was decided before: it is right for either
+-- end and for any further bytes
 abbrev pub DecidedBeforeFailure : Type 0
 DecidedBeforeFailure =
     (c : StreamParams) (bytes more : List ℕ) (end : StreamEnd) (blocks : List History)
@@ -65,7 +67,8 @@ DecidedBeforeFailure =
     → ¬ IsExcused ReadFailed report → JudgesBlocks c bytes stream_ends.Failed blocks report
     → JudgesBlocks c (bytes ++ more) end blocks report
 
--- if its numbers are below 2^64 - 1, a report decides what a stream dropped that a line stopped
+-- if its numbers are below 2^64 - 1, the report of a stream that a line stopped determines what the
+-- stream dropped
 abbrev pub DroppedOnce : Type 0
 DroppedOnce =
     (c : StreamParams) (bytes : List ℕ) (blocks others : List History) (report : Report)
@@ -74,9 +77,9 @@ DroppedOnce =
     → DropsUntilStop c bytes blocks report is_dropped → DropsUntilStop c bytes others report other
     → (id : ℕ) → is_dropped id ≡ other id
 
--- Where a checker may be fed
+-- When a checker can be fed
 
--- a new checker, with a view of its stream at the opening of a run
+-- a new checker can be fed with a view of its stream at the opening of a run
 abbrev pub ReadyNew : Type 0
 ReadyNew = (f : Cnf) (layout : LayoutValue) (cube : CubeValue) (stream tries : ℕ) (v : CheckerValue)
     (p : CallerView)
@@ -85,7 +88,8 @@ ReadyNew = (f : Cnf) (layout : LayoutValue) (cube : CubeValue) (stream tries : �
     → ((id : ℕ) → Owns layout stream id → p.own id ≡ opening f id)
     → IsReadyAt v p
 
--- a checker that may be fed at the map of one thread may be fed there after the calls of another stream
+-- a checker that can be fed at the map of one thread can also be fed there after the calls of
+-- another stream
 abbrev pub ReadyBeside : Type 0
 ReadyBeside = (v : CheckerValue) (old new : Plain) (t : ℕ) (es : History)
     → IsReadyAt v (plain_caller_view old v.params.stream) → PlainMoves old new t es
@@ -94,7 +98,8 @@ ReadyBeside = (v : CheckerValue) (old new : Plain) (t : ℕ) (es : History)
 
 -- One report
 
--- a stream's bytes, end and events have one report at most, and one list of blocks, unless memory ran out
+-- a stream's bytes, end and events have at most one report, and one list of blocks, unless memory
+-- ran out
 abbrev pub OneReport : Type 0
 OneReport = (c : StreamParams) (bytes : List ℕ) (end : StreamEnd) (blocks others : List History)
     (report other : Report)
@@ -112,8 +117,8 @@ RepliesDecide = (c : StreamParams) (bytes : List ℕ) (end : StreamEnd) (blocks 
     → ¬ IsExcused OutOfMemory report → ¬ IsExcused OutOfMemory other
     → (blocks ≡ others) × (report ≡ other)
 
--- neither list of blocks has ended if the other has a block, and their first blocks are one if they never fork, whatever events
--- follow them
+-- the two lists are both empty or neither is, and their first blocks are equal if they never fork,
+-- for any events after them
 abbrev pub GoAlike : List History → List History → Type 0
 GoAlike [] [] = Unit {0}
 GoAlike [] (other ∷ others) = ⊥
@@ -122,7 +127,7 @@ GoAlike (block ∷ blocks) (other ∷ others) =
     (later others_later : History) → NeverFork (block ++ later) (other ++ others_later)
     → block ≡ other
 
--- if a stream is judged twice, and its blocks begin alike, they go on alike
+-- if a stream is judged twice, and its blocks begin alike, they continue alike
 abbrev pub BlocksGoAlike : Type 0
 BlocksGoAlike = (c : StreamParams) (bytes : List ℕ) (end : StreamEnd)
     (before blocks others : List History) (report other : Report)
@@ -136,7 +141,7 @@ abbrev pub LegalNeverFork : Type 0
 LegalNeverFork = (f : Cnf) (p : LayoutValue) (m : State) (g h : History) → LegalFrom f p m g
     → LegalFrom f p m h → NeverFork g h
 
--- one stream alone has one report, whatever legal history it has
+-- one stream alone has one report, with any legal history
 abbrev pub AloneDecides : Type 0
 AloneDecides = (f : Cnf) (p : LayoutValue) (c : StreamParams) (bytes : List ℕ) (end : StreamEnd)
     (g h : History) (report other : Report)
@@ -175,19 +180,21 @@ ReducedStream = (c : StreamParams) (bytes : List ℕ) (end : StreamEnd) (blocks 
 
 -- What lines cite
 
--- each identity that the judgement of a line may fetch, also own ones and the formula's: the hints of an addition, and the identity of an import; a deletion fetches none
+-- each identity that the judgement of a line may fetch, including own ones and the formula's: the
+-- hints of an addition, and the identity of an import; a deletion fetches none
 abbrev pub cited_by : StreamLine → List ℕ
 cited_by (Addition id lits hints) = hints
 cited_by (Deletion lead ids) = []
 cited_by (Import id lits) = id ∷ []
 
--- a fetch is of an identity that passes the test
+-- if the event is a fetch, its identity passes the test
 abbrev pub FetchesOnly : (ℕ → Bool) → Event → Type 0
 FetchesOnly p (events.fetch s id r) = IsTrue (p id)
 FetchesOnly p (events.publish s id c r) = Unit {0}
 FetchesOnly p (events.retire s id r) = Unit {0}
 
--- a stream fetches no identity that its lines don't cite: if all that they cite pass a test, so does what it fetches
+-- a stream fetches no identity that its lines don't cite: if all that they cite passes a test, so
+-- does all that the stream fetches
 abbrev pub CitedFetched : Type 0
 CitedFetched = (c : StreamParams) (bytes : List ℕ) (end : StreamEnd) (blocks : List History)
     (report : Report) (all : List StreamLine) (rest : List ℕ) (p : ℕ → Bool)

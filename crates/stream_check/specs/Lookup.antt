@@ -1,4 +1,5 @@
--- How an identity is looked up that a hint or an import names, and how often it is fetched (this project's own).
+-- How the identity in a hint or an import is looked up, and how often it is fetched (this project's
+-- own).
 use Rattle.std.specs.Prelude.{◌≡◌, ◌⊎◌, ◌≤◌, ◌++◌, ℕ, Bool, true, false, List, [], ◌∷◌, replicate, Result, Ok, Err}
 use Rattle.lrup_model.specs.Clause.{Clause}
 use Rattle.lrup_model.specs.Event.{History, Reply, vacant, live, retired, fetch}
@@ -8,12 +9,14 @@ use Rattle.stream_check.specs.declared.params.Ownership.{Ownership}
 use Rattle.stream_check.specs.declared.params.Ownership.TheVariants as ownerships
 use Rattle.stream_check.specs.StreamParams.{StreamParams, ownership_of}
 
--- The events are k vacant fetches of one identity and one last fetch; k is at most `most`, and just that if the last is vacant, too.
+-- The events are k vacant fetches of one identity and one last fetch; k is at most `most`, and
+-- exactly `most` if the last fetch is vacant, too.
 abbrev pub FetchesUpTo : ℕ → ℕ → ℕ → History → Reply → Type 0
 FetchesUpTo most s id history reply = (k : ℕ) × (k ≤ most) × (reply ≡ vacant → k ≡ most)
     × (history ≡ replicate k (fetch s id vacant) ++ fetch s id reply ∷ [])
 
--- Own identities and the formula's are fetched once, another stream's until it isn't vacant or the tries are used up, and what is no identity never.
+-- An own identity or one of the formula is fetched once; another stream's until it isn't vacant or
+-- the tries are used up; and a number that isn't an identity never.
 abbrev pub FetchesHintAt : Ownership → StreamParams → ℕ → History → Reply → Type 0
 FetchesHintAt ownerships.Formula params id history reply = history ≡ fetch params.stream id reply ∷
     []
@@ -22,24 +25,27 @@ FetchesHintAt ownerships.Foreign params id history reply =
     FetchesUpTo params.tries params.stream id history reply
 FetchesHintAt ownerships.Outside params id history reply = (history ≡ []) × (reply ≡ vacant)
 
--- These are the fetches of a hint, or of an import's identity, and the last reply, which counts as vacant if there is no fetch.
+-- The fetches of a hint, or of an import's identity, and the last reply, which counts as vacant if
+-- there is no fetch.
 abbrev pub FetchesHint : StreamParams → ℕ → History → Reply → Type 0
 FetchesHint params id history reply = FetchesHintAt (ownership_of params id) params id history reply
 
--- what the last reply comes to: the clause of a live identity, or the fault of a missing or a retired one
+-- what the last reply gives: the clause of a live identity, or the fault of a missing or retired
+-- one
 abbrev pub answer_of : ℕ → Reply → Result Clause Fault
 answer_of id vacant = Err (faults.Missing id)
 answer_of id (live clause) = Ok clause
 answer_of id retired = Err (faults.Retired id)
 
--- What a look-up comes to: an identity that the stream dropped isn't fetched, and is a fault; of another the last reply decides.
+-- The result of a look-up: an identity that the stream dropped isn't fetched, and is a fault; for
+-- any other, the last reply decides.
 abbrev pub LooksUp : StreamParams → (ℕ → Bool) → ℕ → History → Result Clause Fault → Type 0
 LooksUp params is_dropped id history answer =
     ((is_dropped id ≡ true) × (history ≡ []) × (answer ≡ Err (faults.Dropped id)))
     ⊎ ((is_dropped id ≡ false) × (reply : Reply) × FetchesHint params id history reply
     × (answer ≡ answer_of id reply))
 
--- the identities are looked up in their order, by these events, and come to these clauses
+-- the identities are looked up in order, by these events, and give these clauses
 abbrev pub AreFound : StreamParams → (ℕ → Bool) → List ℕ → List Clause → History → Type 0
 AreFound params is_dropped [] [] history = history ≡ []
 AreFound params is_dropped [] (clause ∷ clauses) history = ⊥

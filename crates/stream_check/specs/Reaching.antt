@@ -1,4 +1,5 @@
--- The states of a checker, and which one it has after the bytes so far and the blocks of events of their lines (this project's own).
+-- The states of a checker, and which state the bytes so far and the blocks of events of their lines
+-- lead to (this project's own).
 use Rattle.std.specs.Prelude.{◌≡◌, ◌==◌, ◌+◌, ◌-◌, ◌&&◌, ◌||◌, ℕ, Bool, false, List, [], ◌∷◌, length}
 use Rattle.std.specs.List.{list_any, sum_by}
 use Rattle.lrup_model.specs.Event.{History}
@@ -12,14 +13,16 @@ use Rattle.stream_check.specs.Judging.{AreGood, report_of, JudgesBlocks}
 use Rattle.stream_check.specs.CheckerValue.{Tally, report_of_tally}
 use Rattle.stream_check.specs.Stopping.{DropsUntilStop}
 
--- what a checker holds that isn't over: its counts, what good lines left, the text read of the next line, and that line's number
+-- what an unfinished checker holds: its counts, what good lines left, the text read of the next
+-- line, and that line's number
 pub record GoingState : Type 0 where
   pub tally : Tally
   pub context : StreamContext
   pub pending : List ℕ
   pub line : ℕ
 
--- what a checker that isn't over holds, or the report of one that is over, and which identities it dropped
+-- what an unfinished checker holds; or the report of a finished one, and which identities it
+-- dropped
 pub data CheckerState : Type 0 where
   Going : GoingState → CheckerState
   Over : (report : Report) (is_dropped : ℕ → Bool) → CheckerState
@@ -30,8 +33,8 @@ pub record SameContext (context other : StreamContext) : Type 0 where
   pub free : context.free ≡ other.free
   pub is_dropped : (id : ℕ) → context.is_dropped id ≡ other.is_dropped id
 
--- All lines are good, with these blocks of events, the rest may still become a line, and the checker holds what they leave: its counts
--- are those that a report of these lines has, whatever the ending.
+-- All lines are good, with these blocks of events, the rest may still become a line, and the
+-- checker holds what they leave: its counts are those in a report of these lines, with any ending.
 pub record ReachesGoing (params : StreamParams) (bytes : List ℕ) (blocks : List History)
     (now : GoingState) : Type 0 where
   pub lines : List StreamLine
@@ -43,21 +46,22 @@ pub record ReachesGoing (params : StreamParams) (bytes : List ℕ) (blocks : Lis
   pub context : SameContext now.context (context_of params lines)
   pub line : now.line ≡ capped (length lines + 1)
 
--- the report is right whatever the end is
+-- the report is right for both ends
 abbrev pub JudgesBothEnds : StreamParams → List ℕ → List History → Report → Type 0
 JudgesBothEnds params bytes blocks report =
     JudgesBlocks params bytes stream_ends.Ended blocks report
     × JudgesBlocks params bytes stream_ends.Failed blocks report
 
--- The bytes so far, whose lines have these blocks of events, bring a checker to this state. If it is over, its report is right whatever
--- the end of the stream is, and it dropped what its lines delete until one stopped it.
+-- The bytes so far, whose lines have these blocks of events, lead to this state of a checker. If
+-- the checker is finished, its report is right for both ends of the stream, and it dropped what its
+-- lines delete until one stopped it.
 abbrev pub ReachesState : StreamParams → List ℕ → List History → CheckerState → Type 0
 ReachesState params bytes blocks (Going now) = ReachesGoing params bytes blocks now
 ReachesState params bytes blocks (Over report is_dropped) =
     JudgesBothEnds params bytes blocks report
     × DropsUntilStop params bytes blocks report is_dropped
 
--- One good line more
+-- One more good line
 
 abbrev pub last_after : ℕ → StreamLine → ℕ
 last_after last (Addition id lits hints) = id
@@ -81,7 +85,7 @@ tally_after params tally line = record {
       || list_any (λ addition. is_within params.cube addition.1) (additions_of (line ∷ []));
 }
 
--- what a checker holds after one good line more
+-- what a checker holds after one more good line
 pub record TakesLine (params : StreamParams) (old : GoingState) (taken : StreamLine)
     (new : GoingState) : Type 0 where
   pub tally : new.tally ≡ tally_after params old.tally taken

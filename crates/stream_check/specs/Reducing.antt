@@ -13,21 +13,22 @@ is_vacant (events.fetch s id events.retired) = false
 is_vacant (events.publish s id clause reply) = false
 is_vacant (events.retire s id reply) = false
 
--- A line's events without each vacant fetch that something else than vacant fetches follows. Those of a hint that stays missing are a line's last events, and stay.
+-- A line's events without each vacant fetch that is followed by anything but vacant fetches. The
+-- vacant fetches of a hint that stays missing are a line's last events, and stay.
 abbrev pub reduced : History → History
 reduced [] = []
 reduced (event ∷ history) =
     if is_vacant event && not (list_all is_vacant history) then reduced history
     else event ∷ reduced history
 
--- the event may stand before another of its line: a fetch, or a retire with Done
+-- the event may come before another event of its line: a fetch, or a retire with Done
 abbrev pub IsEarly : Event → Type 0
 IsEarly (events.fetch s id reply) = Unit {0}
 IsEarly (events.publish s id clause reply) = ⊥
 IsEarly (events.retire s id retiring.Done) = Unit {0}
 IsEarly (events.retire s id retiring.NotLive) = ⊥
 
--- each event but the last may stand before another
+-- each event but the last one may come before another event
 abbrev pub AreEarly : History → Type 0
 AreEarly [] = Unit {0}
 AreEarly (event ∷ []) = Unit {0}
@@ -40,7 +41,7 @@ StartsWithFetchOf id (events.fetch s j reply ∷ history) = j ≡ id
 StartsWithFetchOf id (events.publish s j clause reply ∷ history) = ⊥
 StartsWithFetchOf id (events.retire s j reply ∷ history) = ⊥
 
--- after each vacant fetch its identity is fetched again, or nothing comes any more
+-- after each vacant fetch, its identity is fetched again or nothing follows
 abbrev pub TriesAgain : History → Type 0
 TriesAgain [] = Unit {0}
 TriesAgain (events.fetch s id events.vacant ∷ history) =

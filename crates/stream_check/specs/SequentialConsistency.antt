@@ -15,8 +15,9 @@ abbrev pub seen_by : List View → History
 seen_by [] = []
 seen_by (pass ∷ passes) = pass.seen
 
--- The passes have this one history of the one-thread clause map: it is legal; each stream's pass is at this formula and layout and
--- has seen this history, and the calls made through it are the history's events of that stream, in order.
+-- The passes have this one history of the one-thread clause map: it is legal; each stream's pass is
+-- at this formula and layout and has seen this history, and the calls made through it are the
+-- events of that stream in the history, in order.
 pub record HaveOneHistory (formula : Cnf) (layout : LayoutValue) (history : History)
     (passes : List View) : Type 0 where
   pub legal : IsLegal formula layout history
@@ -25,7 +26,8 @@ pub record HaveOneHistory (formula : Cnf) (layout : LayoutValue) (history : Hist
       → (pass.caller ≡ record { formula = formula; layout = layout; stream = s })
       × (pass.seen ≡ history) × (pass.mine ≡ own history s)
 
--- Each stream of the set, counted on from s, is judged by its own events of the history, as its report says.
+-- Each stream of the set, counted from s, is judged by its own events in the history, as its report
+-- says.
 abbrev pub AreJudgedIn : RunParamsValue → (ℕ → Bool) → History → ℕ → List Stream
     → List Report → Type 0
 AreJudgedIn run_params set history s streams reports =

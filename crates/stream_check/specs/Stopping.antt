@@ -1,4 +1,4 @@
--- What a stream dropped that a line of it stopped (this project's own).
+-- What a stream dropped that one of its lines stopped (this project's own).
 use Rattle.std.specs.Prelude.{◌≡◌, ◌⊎◌, ◌+◌, ◌++◌, ◌||◌, ◌&&◌, ℕ, Bool, List, [], length}
 use Rattle.std.specs.List.{AllByRecursion, flat_map, sum_by}
 use Rattle.lrup_model.specs.Event.{History}
@@ -18,15 +18,16 @@ StopsAtLine (endings.Bad line fault) number = line ≡ number
 StopsAtLine (endings.ReadFailed line) number = ⊥
 StopsAtLine (endings.Memory line) number = line ≡ number
 
--- Where memory ran out, there is no room for one identity more among the dropped ones.
+-- If memory ran out, there is no room for one more dropped identity.
 abbrev pub IsFullAtMemory : Ending → DroppedIdsValue → Type 0
 IsFullAtMemory ending dropped = (line : ℕ) → ending ≡ endings.Memory line → dropped.spare ≡ 0
 
--- What a stream dropped whose report says that a line is bad, or that memory ran out in it: of the identities that the lines before it
--- delete, and of the first ones that it deletes itself, those of the formula and of other streams. The report tells both, up to
--- 2^64 - 1: by its number how many lines are before it, and by its count how many of the identities that the line names come before the
--- one at which it stopped. If no line begins there, or one that deletes nothing, these are none. The lines before are good by the first of
--- these blocks of events.
+-- What a stream dropped whose report says that a line is bad, or that memory ran out in it: the
+-- identities of the formula and of other streams among those that the lines before it delete, and
+-- among the first ones that it deletes itself. The report determines both, up to 2^64 - 1: its line
+-- number says how many lines come before, and its count says how many of the line's identities come
+-- before the one at which it stopped. If no line begins there, or one that deletes nothing, there
+-- are none. The lines before are good by the first of these blocks of events.
 pub record DropsUntilStop (params : StreamParams) (bytes : List ℕ) (blocks : List History)
     (report : Report) (is_dropped : ℕ → Bool) : Type 0 where
   pub lines : List StreamLine

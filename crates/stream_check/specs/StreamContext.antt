@@ -1,4 +1,5 @@
--- What good lines leave for the line after them (this project's own). It is read off the lines, not off a checker.
+-- What good lines leave for the line after them (this project's own). It depends on the lines, not
+-- on a checker.
 use Rattle.std.specs.Prelude.{◌==◌, ◌-◌, ◌^◌, ◌&&◌, ℕ, neg_ℤ, Bool, List, [], ◌∷◌, length, map, max, min}
 use Rattle.std.specs.List.{fold, list_all, list_any, sum_by}
 use Rattle.std.specs.Ordering.{int_eq}
@@ -8,7 +9,8 @@ use Rattle.lrup_text.specs.Lines.{StreamLine, Addition, Deletion, Import}
 use Rattle.lrup_model.specs.Distinct.{distinct}
 use Rattle.stream_check.specs.StreamParams.{StreamParams, ownership_of, is_shared}
 
--- the greatest identity that was added, the room that is left, in literals, and the identities that were dropped
+-- the largest identity that was added, the room that is left, in literals, and the identities that
+-- were dropped
 pub record StreamContext : Type 0 where
   pub last : ℕ
   pub free : ℕ
@@ -31,8 +33,9 @@ deleted_by (Import id lits) = []
 abbrev pub is_among : List ℕ → ℕ → Bool
 is_among ids id = list_any (λ j. j == id) ids
 
--- The context that these lines leave if all are good: the greatest identity of the additions, or the formula's last one if there are none; the room less the
--- sizes of their clauses; and of the deleted identities those of the formula and of other streams.
+-- The context that these lines leave if all are good: the largest identity of the additions, or the
+-- formula's last one if there are none; the room less the sizes of their clauses; and the deleted
+-- identities that are the formula's or another stream's.
 abbrev pub context_of : StreamParams → List StreamLine → StreamContext
 context_of params lines = record {
   last = fold max params.layout.clauses (map (λ addition. addition.0) (additions_of lines));
@@ -41,8 +44,8 @@ context_of params lines = record {
       is_shared (ownership_of params id) && list_any (λ line. is_among (deleted_by line) id) lines;
 }
 
--- What 64 bits show of a count: a greater one than 2^64 - 1 is shown as that. Counts of additions never come
--- there, since their identities don't; counts of deletions don't in a legal history.
+-- A count in 64 bits, which stays at 2^64 - 1. Counts of additions never get there, since
+-- identities don't; counts of deletions don't in a legal history.
 abbrev pub capped : ℕ → ℕ
 capped count = min count (2 ^ 64 - 1)
 

@@ -1,4 +1,5 @@
--- What is observed of a run's streams, and in which order of lines their reports hold (this project's own).
+-- What is observed of a run's streams, and in which order of lines their reports are right (this
+-- project's own).
 use Rattle.std.specs.Prelude.{◌≡◌, ◌++◌, ◌==◌, ℕ, Bool, false, IsTrue, List, [], ◌∷◌, Option, IsSome, IfSome, MatchOption, if◌then◌else◌, length}
 use Rattle.std.specs.Io.KnownBytes.{Consumes}
 use Rattle.std.specs.List.{AllByRecursion, flat_map}
@@ -14,15 +15,16 @@ use Rattle.stream_check.specs.StreamParams.{StreamParams}
 use Rattle.stream_check.specs.Judging.{JudgesBlocks}
 use Rattle.stream_check.specs.Each.{Each}
 
--- The bytes by which a stream is judged; those that were read after them, by which it isn't; and how the stream ended: at its end or
--- at the read that failed, or nothing if the judgement needs no end, as of one that was stopped early.
+-- The bytes by which a stream is judged; those that were read after them, by which it isn't; and
+-- how the stream ended, at its end or at a read that failed, or `None` if the judgement needs no
+-- end, as for a stream that was stopped early.
 pub record Stream : Type 0 where
   pub bytes : List ℕ
   pub unneeded : List ℕ
   pub end : Option StreamEnd
 
--- What is observed of a reader: which bytes it has left at first, and which in the end, if the device tells them; and whether it has failed
--- in the end.
+-- What is observed of a reader: which bytes it has left at first, and which at the end, if they are
+-- known; and whether it has failed at the end.
 pub record InputObservation : Type 0 where
   pub entry : Option (List ℕ)
   pub left : Option (List ℕ)
@@ -36,23 +38,25 @@ observation_of view first last = record {
   has_failed = view.has_failed last;
 }
 
--- what is observed of each of some readers
+-- what is observed of each of these readers
 abbrev pub observations : {S : Type 0} → SourceView S → List S → List S → List InputObservation
 observations view [] lasts = []
 observations view (first ∷ firsts) [] = []
 observations view (first ∷ firsts) (last ∷ lasts) =
     observation_of view first last ∷ observations view firsts lasts
 
--- The stream matches what is observed of a reader: the bytes read are a beginning of those left at first. If the stream has an end, the
--- reader is as that end says, and the stream is judged by all that was read; else the reader hasn't failed. If the reader doesn't tell what
--- it has left, the bytes may be any.
+-- The stream matches what is observed of a reader: the bytes read are a prefix of those left at
+-- first. If the stream has an end, the reader is in the state that this end implies, and the stream
+-- is judged by all that was read; else the reader hasn't failed. If what the reader has left is
+-- unknown, the bytes may be any.
 pub record MatchesInput (observation : InputObservation) (stream : Stream) : Type 0 where
   pub consumes : Consumes observation.entry observation.left (stream.bytes ++ stream.unneeded)
   pub ends : MatchOption stream.end (observation.has_failed ≡ false)
       (λ end. EndsSo end observation.left observation.has_failed)
   pub needed : IsSome stream.end → stream.unneeded ≡ []
 
--- The stream is judged by these blocks of events; one without an end is judged so whatever its end would have been.
+-- The stream is judged by these blocks of events; a stream without an end has this judgement for
+-- both ends.
 abbrev pub JudgesStream : StreamParams → Stream → List History → Report → Type 0
 JudgesStream params stream blocks report =
     (end : StreamEnd) → IfSome stream.end (λ known. known ≡ end)
@@ -60,7 +64,7 @@ JudgesStream params stream blocks report =
 
 -- An order of lines
 
--- all events of one line, and the stream, from 1 on, whose line it is
+-- all events of one line, and the stream, counted from 1, that wrote the line
 pub record Block : Type 0 where
   pub stream : ℕ
   pub events : History
@@ -75,19 +79,20 @@ blocks_of s (block ∷ blocks) =
 abbrev pub events_in : List Block → History
 events_in blocks = flat_map (λ block. block.events) blocks
 
--- the block is of a stream of the layout and of the set, and its events are that stream's
+-- the block belongs to a stream of the layout and of the set, and its events are that stream's
 abbrev pub IsBlockWithin : LayoutValue → (ℕ → Bool) → Block → Type 0
 IsBlockWithin layout set block =
     IsStream layout block.stream × IsTrue (set block.stream)
     × AllByRecursion (λ event. stream_of event ≡ block.stream) block.events
 
--- The parameters by which all streams of a run are checked: the layout, the cube, and how often an identity of another stream is fetched again.
+-- The parameters by which all streams of a run are checked: the layout, the cube, and how often an
+-- identity of another stream is fetched again.
 pub record RunParamsValue : Type 0 where
   pub layout : LayoutValue
   pub cube : CubeValue
   pub tries : ℕ
 
--- stream s's parameters in this run
+-- the parameters of stream s in this run
 abbrev pub stream_params : RunParamsValue → ℕ → StreamParams
 stream_params run_params s =
     record {
@@ -97,16 +102,17 @@ stream_params run_params s =
       tries = run_params.tries;
     }
 
--- Each stream of the set, counted on from s, is judged, as its report says, by blocks of events of which `AreOwn` holds; and there are
--- as many reports as streams.
+-- Each stream of the set, counted from s, is judged, as its report says, by blocks of events for
+-- which `AreOwn` holds; and there are as many reports as streams.
 abbrev pub AreJudged : RunParamsValue → (ℕ → Bool) → (ℕ → List History → Type 0) → ℕ → List Stream
     → List Report → Type 0
 AreJudged run_params set AreOwn s streams reports =
     Each (λ t stream report. IsTrue (set t) → (blocks : List History) × AreOwn t blocks
     × JudgesStream (stream_params run_params t) stream blocks report) s streams reports
 
--- The reports of a set of streams have an order of lines: a legal history of whole lines of these streams, each stream's in
--- its order, by which each stream is judged so. There are as many streams as the layout has.
+-- The reports of a set of streams have an order of lines: a legal history of whole lines of these
+-- streams, those of each stream in its order, that judges each stream as its report says. There are
+-- as many streams as in the layout.
 pub record IsOrdered (formula : Cnf) (run_params : RunParamsValue) (set : ℕ → Bool)
     (streams : List Stream)
     (reports : List Report) : Type 0 where

@@ -1,14 +1,16 @@
--- Which order of lines a run on one thread has: by turns (this project's own).
+-- The order of lines in a run on one thread: it takes the streams in turn (this project's own).
 use Rattle.std.specs.Prelude.{◌==◌, ◌+◌, ◌++◌, ◌<◌, ◌≤◌, ℕ, true, List, [], ◌∷◌, map, count_by}
 use Rattle.lrup_model.specs.Formula.{Cnf}
 use Rattle.stream_check.specs.declared.report.Report.{Report}
 use Rattle.stream_check.specs.Streams.{Stream, IsOrdered, RunParamsValue}
 
--- An order of lines is given here by the lines' streams, from 1 on: in it stream s has so many lines.
+-- An order of lines is given here by the lines' streams, counted from 1; this many of its lines are
+-- stream s's.
 abbrev pub line_count : ℕ → List ℕ → ℕ
 line_count s order = count_by (λ t. t == s) order
 
--- After these lines stream s may have a turn: no stream has had more lines than s, but one with a lower number may be one ahead.
+-- After these lines stream s may have a turn: no stream has had more lines than s, except that one
+-- with a lower number may be one ahead.
 abbrev pub IsTurnOf : ℕ → List ℕ → Type 0
 IsTurnOf s before = (t : ℕ) → (s ≤ t → line_count t before ≤ line_count s before)
     × (t < s → line_count t before ≤ line_count s before + 1)
@@ -18,11 +20,12 @@ abbrev pub AreTurns : List ℕ → List ℕ → Type 0
 AreTurns before [] = Unit {0}
 AreTurns before (s ∷ later) = IsTurnOf s before × AreTurns (before ++ s ∷ []) later
 
--- The order is by turns: the first line of each stream, stream 1 first, then the second line of each that has one, and so on.
+-- The order takes the streams in turn: first the first line of each stream, from stream 1 on, then
+-- the second line of each stream that has one, and so on.
 abbrev pub IsByTurns : List ℕ → Type 0
 IsByTurns order = AreTurns [] order
 
--- The reports of all streams have an order of lines, and it is by turns.
+-- The reports of all streams have an order of lines that takes the streams in turn.
 pub record IsOrderedByTurns (formula : Cnf) (run_params : RunParamsValue) (streams : List Stream)
     (reports : List Report) : Type 0 where
   pub order : IsOrdered formula run_params (λ s. true) streams reports

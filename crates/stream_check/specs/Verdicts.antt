@@ -1,20 +1,20 @@
--- What the judgement of a line comes to, and what its fault is (this project's own).
--- A line's events are one block. Each condition speaks of the events from it on, so that what comes after a fault is seen to be nothing.
+-- The verdict on a line, and its fault (this project's own). A line's events are one block. Each
+-- condition covers the events from this condition on, so that nothing can come after a fault.
 use Rattle.std.specs.Prelude.{◌≡◌, ◌⊎◌, ℕ, []}
 use Rattle.lrup_model.specs.Event.{History}
 use Rattle.stream_check.specs.declared.fault.Fault.{Fault}
 
--- a bad line comes with the count of the identities that it deleted before the fault
+-- a bad line has the count of the identities that it deleted before the fault
 pub data LineVerdict : Type 0 where
   Good : LineVerdict
   Bad : (deleted : ℕ) (fault : Fault) → LineVerdict
 
--- no more events, and this fault, if the line deleted so many identities before it
+-- no more events, and this fault, if the line deleted this many identities before it
 abbrev pub Fails : ℕ → Fault → History → LineVerdict → Type 0
 Fails deleted fault history verdict = (history ≡ []) × (verdict ≡ Bad deleted fault)
 
--- The first condition that a line violates gives the fault. Either it is this one, and there are no more events, or this one holds and
--- those after it decide.
+-- The first condition that a line violates gives the fault. Either it is this one, and there are no
+-- more events; or this one holds, and the later ones decide.
 abbrev pub Violates : Type 0 → Fault → History → Fault → Type 0 → Type 0
 Violates Holds its history fault Next =
     ((¬ Holds) × (history ≡ []) × (fault ≡ its)) ⊎ (Holds × Next)

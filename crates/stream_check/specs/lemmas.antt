@@ -1,4 +1,4 @@
--- Lemmas, which other crates' proofs may cite.
+-- Lemmas that proofs of other crates may cite.
 pub mod CubeLemmas
 pub mod AdditionLemmas
 pub mod EventLemmas

@@ -1,4 +1,4 @@
-//! How one addition is checked against a clause map.
+//! Checks an addition against a clause map.
 ghost use Rattle.std.specs.Prelude.{◌≡◌, ◌↔◌, ◌≤◌, ◌<◌, ◌^◌, IsTrue, length, IfOk, OnOk, vec_capacity};
 ghost use Rattle.std.specs.Bool.{OnTrue};
 ghost use Rattle.std.specs.List.{AllByRecursion};
@@ -22,7 +22,7 @@ use lrup_text::MAX_LITERALS;
 use propagate::Marks;
 use std::alloc::{AllocError, Global};
 
-/// The buffers of a stream's additions and imports. They are made once, and no line takes memory.
+/// The buffers for a stream's additions and imports. They are made once, so that no line allocates.
 #[derive(Drop)]
 pub struct LineScratch {
     pub marks: Marks,
@@ -46,7 +46,8 @@ impl LineScratch {
         })
     }
 
-    /// Makes the tests of an addition that fetch no clause, in the order of their faults. If all hold, `marks` has taken the clause up.
+    /// Makes the tests of an addition that fetch no clause, in the order of their faults. If all
+    /// hold, `marks` has taken the clause.
     fn admit<M: ClauseMap>(
         &mut self,
         state: &StreamState,
@@ -77,7 +78,7 @@ impl LineScratch {
         Ok(())
     }
 
-    /// The clause of the last addition, if that was published: its literals, each once.
+    /// The clause of the last addition, if it was published: its literals, each once.
     pub fn clause(&self) -> &[Lit]
         ensures { result.now ≡ self.now.marks.clause }
     {
@@ -114,14 +115,15 @@ impl LineScratch {
                 gate.after_publish(map.stream(), id);
                 Ok(())
             }
-            // It can't come: `admit` found the identity to be the stream's own and above all that it has published, and no other stream
-            // publishes under it.
+            // This can't be: `admit` found that the identity is the stream's own and above all that
+            // it has published, and no other stream publishes under it.
             Published::Taken => unreachable!(),
         }
     }
 }
 
-/// Makes literals of the numbers of a line, and returns whether all are literals over the variables 1 to `vars`.
+/// Converts the numbers of a line to literals, and returns whether all are literals over the
+/// variables 1 to `vars`.
 pub fn make_literals(literals: &mut Vec<Lit>, numbers: &[i64], vars: u32) -> bool
     requires room { length numbers.now ≤ vec_capacity literals.old }
     requires variables { vars ≤ max_variable }

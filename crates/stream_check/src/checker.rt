@@ -24,10 +24,11 @@ use lrup_text::{End, LineReader, ReaderStatus, StreamEnd};
 use std::alloc::{AllocError, Global};
 use std::marker::Model;
 
-/// Checks the lines of one stream, which comes in pieces, against a clause map, and reports in the end how the stream is judged.
+/// Checks the lines of one stream, which comes in pieces, against a clause map, and finally gives
+/// the stream's report.
 ///
-/// A checker is *over* once its ending is known: after a bad line, a line that ran out of memory, the end of the stream, or a failed read.
-/// Then nothing changes it any more.
+/// A checker is *finished* (`is_over`) once its ending is known: after a bad line, a line that ran
+/// out of memory, the end of the stream, or a failed read. Nothing changes it after that.
 #[derive(Drop)]
 pub struct Checker {
     state: StreamState,
@@ -50,12 +51,14 @@ impl Model for Checker {
 }
 
 impl Checker {
-    /// The greatest number of tries: how often a hint that is vacant may be fetched again.
+    /// The largest number of tries: how often a vacant hint may be fetched again.
     pub const MAX_TRIES: u64 = 1_000_000;
 
-    /// Makes a checker of stream `stream`, from 1 on, before its first byte. A hint of another stream is fetched again while it is vacant,
-    /// up to `tries` times, at most 1,000,000. The report will say whether the cube, of assumed literals, makes an added clause false. By
-    /// the code all memory is taken here, also for a copy of the cube, except for the identities that the stream drops.
+    /// Makes a checker of stream `stream`, counted from 1, before its first byte. A hint of another
+    /// stream is fetched again while it is vacant, up to `tries` times, at most 1,000,000. The
+    /// report will say whether the cube of assumed literals falsifies an added clause. In the code
+    /// all memory is allocated here, also for a copy of the cube, except for the identities that
+    /// the stream drops.
     pub fn new(
         alloc: Global,
         stream: u64,
@@ -67,7 +70,7 @@ impl Checker {
         requires tries { tries ≤ max_tries }
         ensures { IfOk result (IsNew layout.now cube.now stream tries) }
     {
-        // A law, which does nothing: no bytes leave the checker as it is here.
+        // A law, with no effect at run time: no bytes lead to this state of the checker.
         fresh_left();
         let params = StreamParams::new(layout, cube.try_clone()?, stream, tries);
         Ok(Checker {
@@ -78,10 +81,12 @@ impl Checker {
         })
     }
 
-    /// Takes bytes of a piece: through the LF of one line, through the first byte with which no line can go on, or all of them. A line that
-    /// ends is checked. Of an addition the hints are fetched, and the clause is published; the identities of a deletion are retired or
-    /// dropped; an import's identity is fetched, and its literals are compared. After a good line the caller feeds the rest of the piece.
-    /// After a bad one, or if memory ran out, the checker is over, and the gate gets the report. Later calls use no byte.
+    /// Takes bytes of a piece: through the LF of one line, through the first byte after which the
+    /// text can't become a line, or all of them. A line that ends is checked: for an addition, the
+    /// hints are fetched and the clause is published; for a deletion, the identities are retired or
+    /// dropped; for an import, the identity is fetched and the literals are compared. After a good
+    /// line the caller feeds the rest of the piece. After a bad one, or if memory ran out, the
+    /// checker is finished, and the gate gets the report. Later calls use no byte.
     pub fn feed<M: ClauseMap, G: Gate>(
         &mut self,
         map: &mut M,
@@ -89,8 +94,8 @@ impl Checker {
         piece: &[u8],
     ) -> Progress
         requires { IsReadyAt self.old (M.caller_view map.old) }
-        // Whatever bytes and blocks came before, the bytes used and the blocks of the call's events
-        // leave the checker as it is now.
+        // If some bytes and blocks led to the old checker, then with the bytes used and the blocks
+        // of this call's events they lead to the new one.
         ensures left { let old = checker_state self.old (M.caller_view map.old).room in
             let new = checker_state self.new (M.caller_view map.new).room in
             (blocks : List History) × M.moves map.old map.new (joined blocks)
@@ -100,7 +105,7 @@ impl Checker {
             (take result.used piece.now) }
         ensures used { result.used ≤ length piece.now }
         ensures moves_on { result.status ≡ CheckStatus.Line → 0 < result.used }
-        // Memory runs out only where the dropped identities have no room left.
+        // Memory runs out only if there is no room left for a dropped identity.
         ensures memory { IfSome self.new.ending (λ ending.
             IsFullAtMemory ending self.new.dropped) }
         ensures over { StaysOver self.old self.new (take result.used piece.now) }
@@ -113,7 +118,8 @@ impl Checker {
                 status: CheckStatus::Over,
             };
         }
-        // A law, which does nothing: one good line more leaves a checker as `take_line` does.
+        // A law, with no effect at run time: after one more good line a checker is as `take_line`
+        // leaves it.
         good_line_taken();
         let fed = self.reader.feed(piece);
         let used = fed.used;
@@ -141,8 +147,9 @@ impl Checker {
         }
     }
 
-    /// Gives the gate the report of the stream, whose checker is over. `used` bytes of the piece were used. It is marked as cold, since it
-    /// happens once in a stream: so the compiler makes the good lines fast.
+    /// Gives the gate the report of the stream, whose checker is finished. `used` bytes of the
+    /// piece were used. It happens once in a stream, so it is marked as cold: the compiler then
+    /// optimizes for good lines.
     #[cold]
     #[inline(never)]
     fn notify_gate<G: Gate>(&self, gate: &mut G, used: usize) -> Progress
@@ -156,8 +163,9 @@ impl Checker {
         }
     }
 
-    /// Takes the end of the stream by `end`, or the failure of a read by `read_failed`, and gives the gate the report, unless the checker
-    /// was over before: the gate has got it then.
+    /// Takes the end of the stream as `end` does, or the failure of a read as `read_failed` does,
+    /// and gives the gate the report, unless the checker was finished before: then the gate already
+    /// has it.
     #[cold]
     pub fn finish<G: Gate>(&mut self, gate: &mut G, end: StreamEnd)
         ensures ends { Ends end self.old self.new }
@@ -173,8 +181,8 @@ impl Checker {
         }
     }
 
-    /// Takes the end of the stream, which makes the checker over. If bytes of a line are pending, the line is bad, as truncated. The gate
-    /// isn't told: `finish` does that.
+    /// Takes the end of the stream, after which the checker is finished. If bytes of a line are
+    /// pending, the line is bad, as truncated. The gate isn't called: `finish` does that.
     pub fn end(&mut self)
         ensures ends { Ends stream_ends.Ended self.old self.new }
         ensures reports { ReportsEnd stream_ends.Ended self.old self.new }
@@ -188,7 +196,8 @@ impl Checker {
         });
     }
 
-    /// Takes the failure of a read, which makes the checker over. The gate isn't told: `finish` does that.
+    /// Takes the failure of a read, after which the checker is finished. The gate isn't called:
+    /// `finish` does that.
     pub fn read_failed(&mut self)
         ensures ends { Ends stream_ends.Failed self.old self.new }
         ensures reports { ReportsEnd stream_ends.Failed self.old self.new }
@@ -199,21 +208,21 @@ impl Checker {
         self.ending = Some(Ending::ReadFailed(self.state.line()));
     }
 
-    /// The stream whose lines are checked, from 1 on.
+    /// The stream whose lines are checked, counted from 1.
     pub fn stream(&self) -> u64
         ensures { result ≡ self.now.params.stream }
     {
         self.state.params.stream()
     }
 
-    /// Whether the checker is over: it takes nothing more, and has a report.
+    /// Whether the checker is finished: it takes nothing more, and has a report.
     pub fn is_over(&self) -> bool
         ensures { IsTrue result ↔ IsSome self.now.ending }
     {
         self.ending.is_some()
     }
 
-    /// The stream's report. The checker has to be over.
+    /// The stream's report. The checker has to be finished.
     pub fn report(&self) -> Report
         requires { IsSome self.now.ending }
         ensures says { IfSome self.now.ending (λ ending.

@@ -1,4 +1,4 @@
-//! How one deletion is made at a clause map.
+//! Performs a deletion at a clause map.
 ghost use Rattle.std.specs.Prelude.{◌≡◌, ◌+◌, ℕ, IsErrOf};
 ghost use Rattle.std.specs.List.{AllByRecursion};
 ghost use Rattle.lrup_model.specs.Event.{History};
@@ -33,7 +33,8 @@ fn retire_own<M: ClauseMap>(state: &mut StreamState, map: &mut M, id: Id) -> Res
     }
 }
 
-/// Deletes one identity: an own one is retired at the map, and one of the formula or of another stream is dropped by this stream alone.
+/// Deletes one identity: an own one is retired at the map; one of the formula or of another stream
+/// is only dropped by this stream.
 fn delete_one<M: ClauseMap>(state: &mut StreamState, map: &mut M, id: Id) -> Result<(), LineStop>
     requires at { IsViewOf state.old.params (M.caller_view map.old) }
     ensures deletes { (es : History) × M.moves map.old map.new es × AllByRecursion IsRetire es
@@ -50,7 +51,7 @@ fn delete_one<M: ClauseMap>(state: &mut StreamState, map: &mut M, id: Id) -> Res
     }
 }
 
-/// Deletes the identities, one after the other, up to the first that can't be deleted.
+/// Deletes the identities, from the left, up to the first that can't be deleted.
 pub fn delete<M: ClauseMap>(
     state: &mut StreamState,
     map: &mut M,

@@ -7,8 +7,9 @@ use std::alloc::{AllocError, Global};
 use std::collections::HashSet;
 use std::marker::Model;
 
-/// The set of identities of the formula and of other streams that a stream deleted. For the others they stay; this stream may not use them
-/// as hints any more. It takes no memory before the first.
+/// The identities of the formula and of other streams that a stream deleted. The other streams keep
+/// them; this stream may no longer use them as hints. The set allocates nothing before the first
+/// identity.
 #[derive(Drop)]
 pub struct DroppedIds {
     ids: HashSet<Id>,
@@ -49,7 +50,7 @@ impl DroppedIds {
         ensures full { OnErr result (self.new.spare ≡ 0) }
     {
         let added = self.insert(id);
-        // A refused growth may have left room: `HashSet` only promises that it leaves no less.
+        // There may be room after a refused growth: `HashSet` only promises that there isn't less.
         if added.is_err() && self.has_room() {
             return self.insert(id);
         }
@@ -69,7 +70,7 @@ impl DroppedIds {
         Ok(())
     }
 
-    /// Whether there is room for an identity more.
+    /// Whether there is room for one more identity.
     fn has_room(&self) -> bool
         ensures { IsTrue result ↔ (0 < self.now.spare) }
     {

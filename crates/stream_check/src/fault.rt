@@ -7,23 +7,26 @@ use lrup_text::LineFault;
 use std::error::Error;
 use std::fmt;
 
-/// Why a line is bad. A line has one fault at most: the first that holds, in the order in which a line is judged.
+/// Why a line is bad. A line has at most one fault: the first one in the order in which a line is
+/// judged.
 #[derive(Clone, Copy, Debug, PartialEq, Eq)]
 pub enum Fault {
-    /// The text is no line.
+    /// The text isn't a line.
     Text(LineFault),
-    /// The identity of an addition isn't the stream's own, or isn't above each one that the stream published;
-    /// that of an import is the stream's own, or none.
+    /// The identity of an addition isn't the stream's own, or isn't above all that the stream
+    /// published; that of an import is the stream's own, or not an identity.
     Identity,
     /// A literal's variable isn't one of the formula's.
     Literal,
-    /// A literal stands beside its complement.
+    /// The clause contains a literal and its complement.
     Tautology,
     /// The stream has no room left for the clause.
     NoRoom,
-    /// An earlier line of the stream dropped this identity, of a hint or of an import: a deletion of an identity that isn't its own.
+    /// An earlier line of the stream deleted this identity of a hint or of an import, which isn't
+    /// the stream's own.
     Dropped(Id),
-    /// Nothing was published under this hint or identity of an import, or the hint is no identity.
+    /// Nothing was published under this hint or identity of an import, or the hint isn't an
+    /// identity.
     Missing(Id),
     /// The clause of this hint, or identity of an import, was retired.
     Retired(Id),
@@ -33,14 +36,16 @@ pub enum Fault {
     Excess(Id),
     /// The hints ended without a conflict.
     NoConflict,
-    /// An identity to delete: an own one that isn't live, another one that the stream dropped before, or no identity at all.
+    /// An identity to delete: an own one that isn't live, another one that the stream dropped
+    /// before, or a number that isn't an identity.
     NotLive(Id),
-    /// The literals of an import aren't those of the clause of its identity.
+    /// The literals of this import aren't those of its identity's clause.
     Differs(Id),
 }
 
 impl Fault {
-    /// The fault's words in the report, and the identity behind them, if there is one; the words end with a space then.
+    /// The fault's words in the report, and the identity after them, if there is one; the words
+    /// then end with a space.
     pub fn words(self) -> (&'static str, Option<Id>)
         ensures { fault_text self ≡ result.0.now ++ number_text result.1 }
     {

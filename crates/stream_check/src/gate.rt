@@ -2,17 +2,19 @@
 use crate::report::Report;
 use lrup_model::Id;
 
-/// A hook of a run between the steps of a checker. It may wait, count, or let another thread go first, and changes nothing of what the
-/// checker does. Each call has the checker's stream.
+/// A hook of a run between the steps of a checker. It may wait, count, or let another thread go
+/// first, and has no influence on what the checker does. Each call gets the checker's stream.
 pub trait Gate {
-    /// Called before each fetch. `attempt` counts the fetches of one hint, from 1 on: from 2 on it was vacant before.
+    /// Called before each fetch. `attempt` counts the fetches of one hint from 1; from 2 on, the
+    /// hint was vacant before.
     fn before_fetch(&mut self, stream: u64, id: Id, attempt: u64);
 
     /// Called after each publish that answered `Done`.
     fn after_publish(&mut self, stream: u64, id: Id);
 
-    /// Called when the checker is over: by `Checker::feed` after the first bad line, or if memory ran out in a line; by `Checker::finish`
-    /// at the end of the stream, or at a failed read. No fetch and no publish comes after it, and the report is final. That it is called
-    /// once, no clause says: the code does so, and tests of both calls show it.
+    /// Called when the checker is finished: by `Checker::feed` after the first bad line, or if
+    /// memory ran out in a line; by `Checker::finish` at the end of the stream, or at a failed
+    /// read. No fetch and no publish comes after it, and the report is final. It is called once: no
+    /// clause says so, but the code does it, and tests of both calls show it.
     fn when_over(&mut self, _stream: u64, _report: &Report) {}
 }

@@ -23,7 +23,8 @@ fn excess(left: &[Id]) -> Result<(), Fault>
     }
 }
 
-/// Propagates the hints, one after the other: each before the last has to be unit, and the last a conflict.
+/// Propagates the hints, one after the other: each before the last has to be unit, and the last a
+/// conflict.
 pub fn try_hints<M: ClauseMap, G: Gate>(
     state: &StreamState,
     map: &mut M,

@@ -1,4 +1,4 @@
-//! One import against a clause map.
+//! Checks an import against a clause map.
 ghost use Rattle.std.specs.Prelude.{◌≡◌, ◌≤◌, ◌<◌, ◌^◌, length};
 ghost use Rattle.std.specs.List.{AllByRecursion};
 ghost use Rattle.lrup_model.specs.Event.{History};

@@ -1,5 +1,5 @@
-//! Laws of judging. Each function does nothing: its contract is the law, which holds of every stream, layout and history. If a body calls
-//! one, the proof of that body uses the law.
+//! Laws of judging. Each function does nothing: its contract is the law, which holds for every
+//! stream, layout and history. If a body calls one, the proof of that body uses the law.
 ghost use Rattle.stream_check.specs.Laws.{FreshLeft, GoodLineTaken, EndJudged, OverStays, DecidedBeforeFailure, DroppedOnce, ReadyNew, ReadyBeside, OneReport, RepliesDecide, BlocksGoAlike, LegalNeverFork, AloneDecides, GoodFollows, EarlyEvents, VacantTriesAgain, ReducedStream, CitedFetched, WithinReported, EmptyCubeReported, CountsWithin};
 
 use lrup_text::laws::{
@@ -7,7 +7,7 @@ use lrup_text::laws::{
     no_bytes_have_no_lines, no_text_begins_another, texts_are_lines,
 };
 
-/// Without bytes and blocks a checker stays fresh.
+/// Without bytes and blocks a checker is fresh.
 pub fn fresh_left()
     ensures { FreshLeft }
 {
@@ -15,7 +15,7 @@ pub fn fresh_left()
     no_bytes_have_no_lines();
 }
 
-/// One good line more is taken, with its block of events.
+/// One more good line is taken, with its block of events.
 pub fn good_line_taken()
     ensures { GoodLineTaken }
 {
@@ -23,34 +23,37 @@ pub fn good_line_taken()
     no_bytes_have_no_lines();
 }
 
-/// The end of a stream, or a failed read, is judged by what the checker holds.
+/// The end of a stream, or a failed read, is judged from what the checker holds.
 pub fn end_judged()
     ensures { EndJudged }
 {}
 
-/// A report that is right for both ends stays so, whatever follows.
+/// A report that is right for both ends stays right for any further bytes.
 pub fn over_stays()
     ensures { OverStays }
 {}
 
-/// If the read failed and the report doesn't say so, it is right for either end and whatever follows.
+/// If a read failed and the report doesn't say so, the report is right for either end and for any
+/// further bytes.
 pub fn decided_before_failure()
     ensures { DecidedBeforeFailure }
 {}
 
-/// If its numbers are below 2^64 - 1, a report decides what a stream dropped that a line stopped.
+/// If its numbers are below 2^64 - 1, the report of a stream that a line stopped determines what
+/// the stream dropped.
 pub fn dropped_once()
     ensures { DroppedOnce }
 {
     bytes_begin_with_one_line();
 }
 
-/// A new checker may be fed at the opening of a run.
+/// A new checker can be fed at the opening of a run.
 pub fn ready_new()
     ensures { ReadyNew }
 {}
 
-/// At the map of one thread a checker that may be fed may be fed after another stream's calls.
+/// On the map of one thread, a checker that can be fed can also be fed after another stream's
+/// calls.
 pub fn ready_beside()
     ensures { ReadyBeside }
 {}
@@ -65,7 +68,7 @@ pub fn one_report()
     a_text_has_one_fault();
 }
 
-/// If the same call, after the same events, never has another reply, a stream is judged alike.
+/// If the same call after the same events always has the same reply, a stream is judged alike.
 pub fn replies_decide()
     ensures { RepliesDecide }
 {
@@ -75,7 +78,8 @@ pub fn replies_decide()
     a_text_has_one_fault();
 }
 
-/// If a stream is judged twice, and its blocks begin alike, they go on alike, unless memory ran out.
+/// If a stream is judged twice, and its blocks begin alike, they continue alike, unless memory ran
+/// out.
 pub fn blocks_go_alike()
     ensures { BlocksGoAlike }
 {
@@ -85,7 +89,7 @@ pub fn blocks_go_alike()
     a_text_has_one_fault();
 }
 
-/// In legal histories the same call, after the same events, never has another reply.
+/// In legal histories, the same call after the same events always has the same reply.
 pub fn legal_never_fork()
     ensures { LegalNeverFork }
 {}

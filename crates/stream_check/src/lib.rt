@@ -1,6 +1,7 @@
-//! The checker of one proof stream, over any clause map: it cuts the stream's bytes into lines, checks each line, and reports how the
-//! stream is judged. Besides, what a run over several streams has read and judged: the definitions, for the crates that promise runs
-//! and for laws of runs, and the parameters by which all its streams are checked.
+//! The checker of one proof stream, over any clause map: it cuts the stream's bytes into lines,
+//! checks each line, and reports the result. It also has the definitions of what a run over several
+//! streams has read and judged, for the crates that promise runs and for laws of runs, and the
+//! parameters by which all streams of a run are checked.
 #![tactic(auto)]
 
 mod addition;

@@ -1,4 +1,4 @@
-//! How one line is checked against a clause map, and counted if it is good.
+//! Checks a line against a clause map, and counts it if it is good.
 ghost use Rattle.std.specs.Prelude.{◌≡◌, ◌<◌, ◌^◌, ℕ, IsErrOf};
 ghost use Rattle.lrup_model.specs.Event.{History};
 ghost use Rattle.lrup_text.specs.Lines.{IsWithinLimits, Addition, Deletion, Import, line_of};
@@ -12,7 +12,7 @@ use crate::stream_state::StreamState;
 use lrup_model::{ClauseMap, Id};
 use lrup_text::Line;
 
-/// Checks an addition, and publishes its clause and counts it if it is good.
+/// Checks an addition; if it is good, publishes its clause and counts it.
 fn take_addition<M: ClauseMap, G: Gate>(
     state: &mut StreamState,
     scratch: &mut LineScratch,
@@ -40,7 +40,7 @@ fn take_addition<M: ClauseMap, G: Gate>(
     Ok(())
 }
 
-/// Deletes the identities of a deletion, and counts its line if it is good.
+/// Deletes the identities of a deletion, and counts the line if it is good.
 fn take_deletion<M: ClauseMap>(
     state: &mut StreamState,
     map: &mut M,
@@ -60,7 +60,7 @@ fn take_deletion<M: ClauseMap>(
     Ok(())
 }
 
-/// Compares an import with the clause of its identity, and counts its line if it is good.
+/// Compares an import with the clause of its identity, and counts the line if it is good.
 fn take_import<M: ClauseMap, G: Gate>(
     state: &mut StreamState,
     scratch: &mut LineScratch,
@@ -86,7 +86,8 @@ fn take_import<M: ClauseMap, G: Gate>(
     Ok(())
 }
 
-/// Checks a line, and counts it if it is good. If it isn't, the error says why it ends the stream.
+/// Checks a line, and counts it if it is good. If it isn't, the error says why the line ends the
+/// stream.
 pub fn take_line<M: ClauseMap, G: Gate>(
     state: &mut StreamState,
     scratch: &mut LineScratch,

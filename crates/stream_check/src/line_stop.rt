@@ -25,7 +25,7 @@ impl From<Fault> for LineStop {
 }
 
 impl LineStop {
-    /// How the stream ends, if this is why the line of this number ended it.
+    /// How the stream ends if the line with this number ended it for this reason.
     pub fn ending(self, line: u64) -> Ending
         ensures { result ≡ ending_of line self }
     {

@@ -1,4 +1,4 @@
-//! How the clause of a hint, or of an import's identity, is looked up.
+//! Looks up the clause of a hint, or of an import's identity.
 ghost use Rattle.std.specs.Prelude.{◌∷◌, ◌<◌, ◌^◌, IfOk};
 ghost use Rattle.lrup_model.specs.Event.{History, vacant, fetch};
 ghost use Rattle.lrup_model.specs.Layout.{IsIdentity};
@@ -14,9 +14,9 @@ use crate::params::StreamParams;
 use crate::stream_state::StreamState;
 use lrup_model::{ClauseMap, Clip, Fetched, Id};
 
-/// Fetches an identity again that was vacant, until it isn't, and at most `most` times. Nobody wakes a stream that waits for a clause of
-/// another one: it polls, and the gate may sleep before each fetch.
-// If it or `fetch_hint` isn't inlined, each reply goes back through memory, even if there is no second fetch.
+/// Fetches a vacant identity again, until it isn't vacant, and at most `most` times. Nobody wakes a
+/// stream that waits for a clause of another one: it polls, and the gate may sleep before each
+/// fetch.
 #[inline(always)]
 fn fetch_again<M: ClauseMap, G: Gate>(most: u64, map: &mut M, gate: &mut G, id: Id) -> Fetched
     requires identity { IsIdentity (M.caller_view map.old).caller.layout id }
@@ -39,8 +39,9 @@ fn fetch_again<M: ClauseMap, G: Gate>(most: u64, map: &mut M, gate: &mut G, id: 
     Fetched::Vacant
 }
 
-/// Fetches a hint once, and up to `tries` times more while the hint is vacant and another stream's. Its owner is looked up only after a
-/// vacant answer, so a hint that is found at once costs one fetch and no division.
+/// Fetches a hint once, and up to `tries` times more while the hint is vacant and another stream's.
+/// Its owner is looked up only after a vacant reply, so a hint that is found at once costs one
+/// fetch and no division.
 #[inline(always)]
 fn fetch_hint<M: ClauseMap, G: Gate>(
     params: &StreamParams,
@@ -64,7 +65,8 @@ fn fetch_hint<M: ClauseMap, G: Gate>(
     }
 }
 
-/// Finds the clause of a hint, or of an import's identity. It is a fault if the stream dropped it, or if the map has no live clause.
+/// Finds the clause of a hint, or of an import's identity. It is a fault if the stream dropped the
+/// identity, or if the map has no live clause for it.
 #[inline(always)]
 pub fn look_up<M: ClauseMap, G: Gate>(
     state: &StreamState,

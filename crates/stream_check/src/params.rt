@@ -8,15 +8,17 @@ ghost use Rattle.stream_check.specs.StreamContext.{is_within};
 use lrup_model::{Cube, Id, Layout, Lit, Owner};
 use std::marker::Model;
 
-/// The parameters by which a stream's lines are checked: the layout, the cube of assumed literals, the stream, from 1 on, and how often a
-/// hint of another stream is fetched again while it is vacant.
+/// The parameters by which a stream's lines are checked: the layout, the cube of assumed literals,
+/// the stream, counted from 1, and how often a hint of another stream is fetched again while it is
+/// vacant.
 #[derive(Drop)]
 pub struct StreamParams {
     layout: Layout,
     cube: Cube,
     stream: u64,
     tries: u64,
-    // The layout's last identity. Each hint is compared with it, and `Layout::last_identity` multiplies.
+    // The layout's last identity. It is stored, since each hint is compared with it, and
+    // `Layout::last_identity` multiplies.
     last: u64,
 }
 
@@ -46,7 +48,7 @@ pub enum Ownership {
     Own,
     /// Another stream owns it.
     Foreign,
-    /// Nobody: it is no identity.
+    /// Nobody: the number isn't an identity.
     Outside,
 }
 
@@ -68,7 +70,7 @@ impl StreamParams {
         }
     }
 
-    /// The count of the formula's clauses.
+    /// The number of the formula's clauses.
     pub fn clauses(&self) -> u32
         ensures { result ≡ self.now.layout.clauses }
     {
@@ -81,15 +83,16 @@ impl StreamParams {
         self.stream
     }
 
-    /// Whether the cube makes the clause false. With the empty cube it is one test.
+    /// Whether the cube falsifies the clause. With the empty cube this is one test.
     pub fn refutes(&self, clause: &[Lit]) -> bool
         ensures { result ≡ is_within self.now.cube clause.now }
     {
         self.cube.refutes(clause)
     }
 
-    /// How often a hint that was vacant is fetched again: another stream's up to the tries, and no other, since only the stream itself
-    /// publishes its own, and the formula's are live.
+    /// How often a vacant hint is fetched again: another stream's up to `tries` times, and all
+    /// others never, since only the stream itself publishes its own identities, and the formula's
+    /// are live.
     #[cold]
     pub fn tries_for(&self, hint: Id) -> u64
         ensures { result ≡ tries_on (ownership_of self.now hint) self.now.tries }
@@ -100,14 +103,14 @@ impl StreamParams {
         }
     }
 
-    /// Whether this is an identity: 1 to the last.
+    /// Whether this is an identity: 1 to the last one.
     pub fn covers(&self, id: Id) -> bool
         ensures { IsTrue result ↔ IsIdentity self.now.layout id }
     {
         0 < id && id <= self.last
     }
 
-    /// Whether the identity is shared, which means here: the formula's or another stream's.
+    /// Whether the identity is shared, that is, the formula's or another stream's.
     pub fn shares(&self, id: Id) -> bool
         ensures { result ≡ is_shared (ownership_of self.now id) }
     {

@@ -5,8 +5,8 @@ ghost use Rattle.stream_check.specs.StreamParams.{max_tries};
 use lrup_model::{Cube, Layout};
 use std::marker::Model;
 
-/// The parameters by which all streams of a run are checked: the layout, the cube, and how often a hint of another stream is fetched again
-/// while it is vacant.
+/// The parameters by which all streams of a run are checked: the layout, the cube, and how often a
+/// hint of another stream is fetched again while it is vacant.
 #[derive(Drop)]
 pub struct RunParams<'a> {
     layout: &'a Layout,
@@ -46,7 +46,7 @@ impl<'a> RunParams<'a> {
         self.layout
     }
 
-    /// The literals that are assumed.
+    /// The assumed literals.
     pub fn cube(&self) -> &'a Cube
         ensures { result.now ≡ self.now.cube }
     {

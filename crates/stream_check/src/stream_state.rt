@@ -1,4 +1,4 @@
-//! What a checker knows of the good lines so far.
+//! What a checker has from the good lines so far.
 ghost use Rattle.std.specs.Prelude.{◌≡◌, ◌<◌, ◌^◌, ◌+◌, ◌||◌, [], length, IsErrOf};
 ghost use Rattle.stream_check.specs.internal.Checking.{DropsShared, counted};
 ghost use Rattle.stream_check.specs.internal.CheckerInside.{fresh_state};
@@ -13,24 +13,24 @@ use lrup_model::Id;
 use std::alloc::Global;
 use std::marker::Model;
 
-/// What a checker knows of the good lines so far, and of the identities that a bad deletion deleted before its fault; and the parameters
-/// by which lines are checked.
+/// What a checker has from the good lines so far, and from the identities that a bad deletion
+/// deleted before its fault; and the parameters by which lines are checked.
 #[derive(Drop)]
 pub struct StreamState {
     /// The stream, its layout and its cube, which never change.
     pub params: StreamParams,
-    /// The last identity that was added, or if none was, the last one of the formula.
+    /// The last identity that was added, or the formula's last one if none was added.
     last: Id,
     dropped: DroppedIds,
-    /// How many of the stream's own identities were retired. It stays at 2^64 - 1 once it is there.
+    /// How many of the stream's own identities were retired. The count stays at 2^64 - 1.
     retired: u64,
     /// How many clauses were added.
     added: u64,
     /// Whether one of them was empty.
     empty: bool,
-    /// Whether the cube makes one of them false.
+    /// Whether the cube falsifies one of them.
     within: bool,
-    /// The number of the next line, from 1 on. It stays at 2^64 - 1 once it is there.
+    /// The number of the next line, counted from 1. It stays at 2^64 - 1.
     line: u64,
 }
 
@@ -72,14 +72,14 @@ impl StreamState {
         }
     }
 
-    /// The last identity that was added, or if none was, the last one of the formula.
+    /// The last identity that was added, or the formula's last one if none was added.
     pub fn last(&self) -> Id
         ensures { result ≡ self.now.last }
     {
         self.last
     }
 
-    /// The number of the next line, from 1 on. It stays at 2^64 - 1 once it is there.
+    /// The number of the next line, counted from 1. It stays at 2^64 - 1.
     pub fn line(&self) -> u64
         ensures { result ≡ self.now.line }
     {
@@ -93,7 +93,8 @@ impl StreamState {
         self.dropped.has(id)
     }
 
-    /// Counts a good addition of this identity. `is_empty`: its clause is empty; `is_within`: the cube makes it false.
+    /// Counts a good addition of this identity. `is_empty`: its clause is empty; `is_within`: the
+    /// cube falsifies it.
     pub fn count_addition(&mut self, id: Id, is_empty: bool, is_within: bool)
         requires above { self.old.last < id }
         requires small { id < 2 ^ 63 }
@@ -126,8 +127,8 @@ impl StreamState {
         self.retired = self.retired.saturating_add(1);
     }
 
-    /// Drops an identity that isn't the stream's own, unless it was dropped before, which is a fault. It is looked for first, so that this
-    /// fault never wants memory.
+    /// Drops an identity that isn't the stream's own, unless it was dropped before, which is a
+    /// fault. The set is searched first, so that reporting this fault needs no memory.
     pub fn drop_shared(&mut self, id: Id) -> Result<(), LineStop>
         ensures drops { DropsShared id self.old.dropped.ids self.new.dropped.ids result }
         ensures count { length self.new.dropped.ids ≡ length self.old.dropped.ids + counted result }

@@ -1,4 +1,4 @@
--- What a checker took, piece by piece, and what both ends know together.
+-- What a checker took, piece by piece, and what the two ends of a ring know together.
 use Rattle.std.proofs.Common.{◌≡◌, ◌++◌, ◌∙◌, ◌⊎◌, inl, inr, ℕ, Bool, List, [], ◌∷◌, Option, Some, None, IfSome}
 use Rattle.std.proofs.Common.{refl, sym, ap, subst, append_assoc}
 use Rattle.lrup_model.specs.Event.{History}
@@ -26,7 +26,7 @@ reaches_append c one two three xs ys front back first second bytes before left =
     (subst (λ (bs : List History). ReachesState c ((bytes ++ xs) ++ ys) bs three) (append_assoc before front back)
     (second (bytes ++ xs) (before ++ front) (first bytes before left)))
 
--- a checker that is over takes the rest too
+-- a finished checker takes the rest, too
 over_takes : OverStays
     → (c : StreamParams) (old : CheckerState) (used rest : List ℕ) (blocks : List History) (v : CheckerValue) (free : ℕ) (ending : Ending)
     → v.ending ≡ Some ending → Extends c old used blocks (checker_state v free)
@@ -42,7 +42,7 @@ over_takes stays c old used rest blocks v free ending is reaches bytes before le
     ) in
     subst (ReachesState c (bytes ++ (used ++ rest)) (before ++ blocks)) (sym over) all
 
--- a call that ends no line has come to the piece's end, or to the checker's
+-- a call that ends no line has reached the end of the piece, or the checker has finished
 pub stopped_takes : OverStays
     → (status : CheckStatus) (old new : CheckerValue) (piece used rest : List ℕ) (c : StreamParams) (state : CheckerState)
     (blocks : List History) (free : ℕ)
@@ -55,12 +55,12 @@ stopped_takes stays statuses.Over old new piece used rest c state blocks free ot
     subst (λ (t : List ℕ). Extends c state t blocks (checker_state new free)) (sym split)
     (over_takes stays c state used rest blocks new free status.0 status.1 reaches)
 
--- a call that came to the piece's end, or to the checker's, ended no line
+-- a call that reached the end of the piece, or finished the checker, ended no line
 pub no_line : (status : CheckStatus) → (status ≡ statuses.More) ⊎ (status ≡ statuses.Over) → status ≡ statuses.Line → ⊥
 no_line status (inl more) line = cc
 no_line status (inr over) line = cc
 
--- what was taken so far, and then more, with the same parameters
+-- what was taken so far, and then more with the same parameters
 pub reaches_more : (c d : StreamParams) (one two three : CheckerState) (xs ys all : List ℕ) (front back : List History) → d ≡ c
     → all ≡ xs ++ ys
     → Extends c one xs front two → Extends d two ys back three → Extends c one all (front ++ back) three
@@ -68,14 +68,14 @@ reaches_more c d one two three xs ys all front back same split first second =
     subst (λ (t : List ℕ). Extends c one t (front ++ back) three) (sym split)
     (reaches_append c one two three xs ys front back first (subst (λ (e : StreamParams). Extends e two ys back three) same second))
 
--- after the end, or a failed read, a checker that was over keeps its ending, and each keeps its counts and what it dropped
+-- after the end or a failed read, a checker that was finished keeps its ending, and each checker keeps its counts and what it dropped
 ends_by : (o : Option Ending) (end : StreamEnd) (v u : CheckerValue) → v.ending ≡ o → EndsBy o end v u
     → (u.ending ≡ Some (ending_with o end v)) × (u.tally ≡ v.tally) × (u.dropped ≡ v.dropped)
 ends_by None end v u is ends = (ends.2, ends.1, ends.4)
 ends_by (Some ending) end v u is ends =
     (ap (λ (w : CheckerValue). w.ending) ends ∙ is, ap (λ (w : CheckerValue). w.tally) ends, ap (λ (w : CheckerValue). w.dropped) ends)
 
--- a checker that took all up to the mark, and then its end, judges by its report
+-- the report of a checker that took everything up to the mark, and then its end, is a judgement
 pub at_mark : (start v u : CheckerValue) (room free : ℕ) (bytes items : List ℕ) (blocks : List History) (end : StreamEnd) (report : Report)
     → EndsAtMark bytes end items → v.params ≡ start.params
     → Extends start.params (checker_state start room) bytes blocks (checker_state v free) → Ends end v u → ReportsEnd end v u
@@ -104,7 +104,7 @@ at_mark start v u room free bytes items blocks end report marked params left end
           (subst (JudgesBlocks v.params bytes end blocks) (sym (subst tells judged.1 told)) judged.2);
     }
 
--- where nothing was received, there was no mark
+-- if nothing was received, there was no mark
 pub none_before : EndsBeforeMark []
 none_before [] item e = cc
 none_before (x ∷ taken) item e = cc

@@ -1,4 +1,4 @@
--- What the threads of a stream gave back, and lists of them.
+-- What the threads of a stream returned, and lists of this.
 use Rattle.std.proofs.Common.{◌≡◌, ◌++◌, ◌+◌, ◌∙◌, ℕ, List, [], ◌∷◌, Option, Some, None, IfSome, Result, Ok}
 use Rattle.std.specs.Prelude.{IsSomeAnd, MatchResult, slice_get}
 use Rattle.std.specs.List.{AllByRecursion}
@@ -26,7 +26,7 @@ use Rattle.stream_threads.specs.declared.stream_jobs.ThreadFault.TheVariants.{Ri
 use Rattle.stream_check.specs.lemmas.EachLemmas.{zip_count}
 use Rattle.stream_check.specs.Streams.{RunParamsValue}
 
--- what was judged at a desk was judged at its pass
+-- what was judged at a desk was judged with its pass
 pub judged_at : (v : CheckerValue) (old new : Desk) (from to : PassValue) (items : List ℕ) (dropped : DroppedIdsValue)
     (report : Option Report)
     → old.pass ≡ from → to ≡ new.pass
@@ -39,13 +39,13 @@ judged_at v old new from to items dropped (Some r) first last judged =
     (subst (λ (q : PassValue). JudgesAtPass v old.pass q items dropped r) (sym last)
     (record { store = judged.1.store; blocks = judged.0; moves = judged.1.moves; judged = judged.2 }))
 
--- one more of a list was taken and put at the end of another
+-- one more element of a list was moved to the end of another
 pub moved_more : {A : Type 0} (done before rest all new : List A) (x : A) → before ≡ x ∷ rest → new ≡ done ++ x ∷ [] → done ++ before ≡ all
     → new ++ rest ≡ all
 moved_more done before rest all new x taken pushed whole =
     ap (λ xs. xs ++ rest) pushed ∙ append_assoc done (x ∷ []) rest ∙ ap (λ xs. done ++ xs) (sym taken) ∙ whole
 
--- what was found of one stream more
+-- the results with one more stream's
 finish_more : {S : Type 0} (view : SourceView S) (jobs : List (StreamJobsValue S)) (found : List (StreamResultValue S))
     (job : StreamJobsValue S) (one : StreamResultValue S)
     → AllFinish view jobs found → Finishes view job one → AllFinish view (jobs ++ job ∷ []) (found ++ one ∷ [])
@@ -70,7 +70,7 @@ found_more {S} view jobs old job one all here = record {
         → parts ++ part one ∷ [] ≡ map part (all.found ++ one ∷ [])
     pushed {X} part are = ap (λ (xs : List X). xs ++ part one ∷ []) are ∙ sym (map-append part all.found (one ∷ []))
 
--- of no streams nothing is found
+-- the results of no streams
 pub none_found : {S : Type 0} (view : SourceView S) (jobs : List (StreamJobsValue S)) (room : ℕ) (found : StreamResultsValue S)
     → length jobs ≡ 0 → found ≡ no_results room → AreResults view jobs found
 none_found view [] room found none is =
@@ -78,7 +78,7 @@ none_found view [] room found none is =
     (record { found = []; finish = tt; reports = refl; readers = refl; passes = refl; dropped = refl })
 none_found view (j ∷ jobs) room found none is = cc
 
--- the ring of a stream failed, behind those of which this was found
+-- the ring of the stream after these failed
 behind : {A : Type 0} (before after : List A) (x : A) → slice_get (before ++ x ∷ after) (length before) ≡ Some x
 behind [] after x = refl
 behind (b ∷ before) after x = behind before after x
@@ -113,7 +113,7 @@ jobs_more run_params k (e ∷ readers) (q ∷ ps) (i ∷ js) reader p j all here
     let place : k + length (i ∷ js) ≡ k + 1 + length js = omega arith in
     (all.0, jobs_more run_params (k + 1) readers ps js reader p j all.1 (subst (λ s. IsJob run_params s reader p j) place here))
 
--- one stream's more, and of what they are
+-- the jobs with one more stream's
 pub jobs_pushed : {S X : Type 0} (run_params : RunParamsValue) (s : ℕ) (read : X → S) (pass : X → PassValue) (xs : List X) (x : X)
     (js new : List (StreamJobsValue S)) (j : StreamJobsValue S)
     → new ≡ js ++ j ∷ [] → s ≡ length js + 1 → AreJobs run_params 1 (map read xs) (map pass xs) js → IsJob run_params s (read x) (pass x) j
@@ -127,11 +127,11 @@ jobs_pushed {S} {X} run_params s read pass xs x js new j pushed place all here =
     (jobs_more run_params 1 (map read xs) (map pass xs) js (read x) (pass x) j all
     (subst (λ k. IsJob run_params k (read x) (pass x) j) next here))))
 
--- an iterator of no more steps has no more items
+-- an iterator with no step left has no item left
 pub none_to_come : {A Z : Type 0} (s : IntoIter A Z) → into_iter_len s ≡ 0 → into_iter_items s ≡ []
 none_to_come s none = nil_from_length s.rest.items (sym s.rest.ok.0 ∙ none)
 
--- the jobs of all, where none is left
+-- the jobs of all streams, once none is left
 pub jobs_whole : {S : Type 0} (run_params : RunParamsValue) (rs readers more : List S) (ps passes others : List PassValue)
     (js : List (StreamJobsValue S))
     → AreJobs run_params 1 rs ps js → rs ++ more ≡ readers → ps ++ others ≡ passes → more ≡ [] → others ≡ []
@@ -144,7 +144,7 @@ jobs_whole {S} run_params rs readers more ps passes others js all first second n
 
 -- ---- threads that wait for a signal
 
--- all of them wait for the one with which they were started
+-- all of them wait for the signal with which they were started
 pub one_signal : {S : Type 0} (signal : ℕ) (jobs : List (StreamJobsValue S)) (all : List (StartedValue S))
     → all ≡ map (started_with signal) jobs → AllByRecursion (λ one. one.signal ≡ signal) all
 one_signal {S} signal jobs all is = subst (AllByRecursion (λ (one : StartedValue S). one.signal ≡ signal)) (sym is) (at jobs)
@@ -153,7 +153,7 @@ one_signal {S} signal jobs all is = subst (AllByRecursion (λ (one : StartedValu
     at [] = tt
     at (j ∷ js) = (refl, at js)
 
--- and their jobs are those with which they were
+-- their jobs are those with which they were started
 pub jobs_started : {S : Type 0} (signal : ℕ) (jobs : List (StreamJobsValue S)) (all : List (StartedValue S))
     → all ≡ map (started_with signal) jobs → map (λ one. one.jobs) all ≡ jobs
 jobs_started {S} signal jobs all is = ap (map (λ (one : StartedValue S). one.jobs)) is ∙ at jobs
@@ -162,12 +162,12 @@ jobs_started {S} signal jobs all is = ap (map (λ (one : StartedValue S). one.jo
     at [] = refl
     at (j ∷ js) = ap (λ (rest : List (StreamJobsValue S)). j ∷ rest) (at js)
 
--- and they are of as many streams
+-- there are as many of them as jobs
 pub started_count : {S : Type 0} (signal : ℕ) (jobs : List (StreamJobsValue S)) (all : List (StartedValue S))
     → all ≡ map (started_with signal) jobs → length all ≡ length jobs
 started_count signal jobs all is = ap length is ∙ length-map jobs (started_with signal)
 
--- what a thread gave back that wasn't told to leave keeps its promise
+-- the promise of a thread holds if it didn't leave
 pub if_stayed : {A E : Type 0} (end : Result A E) (P : A → Type 0) (Q : E → Type 0) → MatchResult end P Q
     → (found : A) → end ≡ Ok found → P found
 if_stayed end P Q kept found is = subst (λ r. MatchResult r P Q) is kept

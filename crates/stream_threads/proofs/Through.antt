@@ -25,7 +25,7 @@ no_more x m (_ ∷ _) ys e = cc
 byte_stays : (x : ℕ) → x < 256 → byte_of x ≡ x
 byte_stays x h = omega (arith, h)
 
--- the first mark of a list stands at one place
+-- the first mark of a list has just one place
 pub same_mark : (taken bytes rest : List ℕ) (mark m : ℕ) → All (λ b. b < 256) bytes → 256 ≤ mark → 256 ≤ m
     → taken ++ mark ∷ rest ≡ bytes ++ m ∷ [] → (map byte_of taken ≡ bytes) × (mark ≡ m)
 same_mark [] [] rest mark m b p q e = (refl, (cons_parts mark m rest [] e).0)
@@ -43,7 +43,7 @@ same_mark (x ∷ taken) (y ∷ bytes) rest mark m b p q e =
     let l : byte_of x ≡ y = byte_stays x h ∙ s.0 in
     (cc (l, t.0), t.1)
 
--- the items popped, and the last of them apart
+-- the popped items, with the last one apart
 pub front_and_last : (past items : List ℕ) (n : ℕ) → 0 < n → n ≤ length items
     → past ++ take n items ≡ (past ++ take (n - 1) items) ++ get_or items (n - 1) 0 ∷ []
 front_and_last past items n some fits =
@@ -53,14 +53,14 @@ front_and_last past items n some fits =
     ∙ take-suc items (n - 1) 0 below in
     ap (λ u. past ++ u) e ∙ sym (append_assoc past (take (n - 1) items) (get_or items (n - 1) 0 ∷ []))
 
--- one list has one last element
+-- a list has one last element
 one_last : (xs ys : List ℕ) (x y : ℕ) → xs ++ x ∷ [] ≡ ys ++ y ∷ [] → x ≡ y
 one_last [] [] x y e = cc
 one_last [] (b ∷ ys) x y e = absurd (omega (arith, no_more y 0 ys [] (sym (cons_parts x b [] (ys ++ y ∷ []) e).1)))
 one_last (a ∷ xs) [] x y e = absurd (omega (arith, no_more x 0 xs [] (cons_parts a y (xs ++ x ∷ []) [] e).1))
 one_last (a ∷ xs) (b ∷ ys) x y e = one_last xs ys x y (cons_parts a b (xs ++ x ∷ []) (ys ++ y ∷ []) e).1
 
--- the last item popped is a byte's
+-- the last popped item is a byte
 pub byte_is_last : (past items : List ℕ) (n : ℕ) → 0 < n → n ≤ length items → get_or items (n - 1) 0 < 256
     → EndsBeforeMark (past ++ take n items)
 byte_is_last past items n some fits small taken item e =
@@ -68,7 +68,7 @@ byte_is_last past items n some fits small taken item e =
     one_last (past ++ take (n - 1) items) taken (get_or items (n - 1) 0) item (sym (front_and_last past items n some fits) ∙ e) in
     omega (arith, last, small)
 
--- the last item popped is a mark
+-- the last popped item is a mark
 pub last_is_mark : (past items bytes : List ℕ) (n : ℕ) → 0 < n → n ≤ length items
     → 256 ≤ get_or items (n - 1) 0 → take (n - 1) bytes ≡ map byte_of (take (n - 1) items)
     → EndsAtMark (map byte_of past ++ take (n - 1) bytes) (end_of_mark (get_or items (n - 1) 0)) (past ++ take n items)
@@ -82,7 +82,7 @@ last_is_mark past items bytes n some fits m same =
       items_are = front_and_last past items n some fits;
     }
 
--- the bytes before the last of a block
+-- the bytes before the last one of a block
 front_bytes : (items rest : List ℕ) (k n : ℕ) → suc k ≡ n → n ≤ length items
     → take k (map byte_of (take n items) ++ rest) ≡ map byte_of (take k items)
 front_bytes items rest k n i fits =
@@ -96,7 +96,7 @@ front_bytes items rest k n i fits =
     ap (λ u. take k (u ++ rest)) f ∙ (ap (λ u. take k u) (append_assoc (map byte_of t) (b ∷ []) rest)
     ∙ (ap (λ m. take m (map byte_of t ++ b ∷ rest)) (sym j) ∙ take-append_seam (map byte_of t) (b ∷ rest)))
 
--- the last item popped is a mark, and all of them are narrowed
+-- the last popped item is a mark, and all popped items are narrowed
 pub ends_there : (past items new rest : List ℕ) (n count : ℕ) (end : StreamEnd) → 0 < n → n ≤ length items
     → 256 ≤ get_or items (n - 1) 0 → new ≡ map byte_of (take n items)
     → n - 1 ≡ count → end_of_mark (get_or items (n - 1) 0) ≡ end

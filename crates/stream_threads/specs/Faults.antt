@@ -1,12 +1,12 @@
--- What is promised if some stream has no result (this project's own).
+-- What holds if some stream has no result (this project's own).
 use Rattle.std.specs.Prelude.{◌≤◌, ◌<◌, List, IsSomeAnd, length, slice_get, take}
 use Rattle.lrup_text.specs.ReadOut.{SourceView}
 use Rattle.stream_threads.specs.Jobs.{AreResults, StreamJobsValue, MissesMark}
 use Rattle.stream_threads.specs.declared.stream_jobs.ThreadFault.{ThreadFault}
 use Rattle.stream_threads.specs.declared.stream_jobs.ThreadFault.TheVariants.{Spawn, Ring}
 
--- A fault of these streams' threads. It is of one of them, from 1 on. At a ring's fault the streams before it have these results, and
--- it missed its mark.
+-- A fault of the threads of these streams. It names one of the streams, counted from 1. With a
+-- ring's fault, the streams before that one have these results, and that one missed its mark.
 abbrev pub IsFaultOf : {S : Type 0} → SourceView S → List (StreamJobsValue S) → ThreadFault S
     → Type 0
 IsFaultOf view all (Spawn stream) = (0 < stream) × (stream ≤ length all)

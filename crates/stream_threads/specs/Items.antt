@@ -10,7 +10,7 @@ abbrev pub mark_of : StreamEnd → ℕ
 mark_of stream_ends.Ended = 256
 mark_of stream_ends.Failed = 257
 
--- the end of a stream for which a mark stands
+-- the end of the stream that this mark stands for
 abbrev pub end_of_mark : ℕ → StreamEnd
 end_of_mark mark = if nat_eq mark 257 then stream_ends.Failed else stream_ends.Ended
 
@@ -23,8 +23,9 @@ pub record IsSentOf (bytes : List ℕ) (end : StreamEnd) (items : List ℕ) : Ty
   pub small : All (λ b. b < 256) bytes
   pub items_are : items ≡ bytes ++ mark_of end ∷ []
 
--- What a reading thread sent: the bytes that its reader's reads gave up to the last, which are those that the reader told, if it tells
--- them; and then the mark of the end that the last read came to.
+-- What a reading thread sent: the bytes that its reader's reads gave up to the last one, which are
+-- those that the reader delivered, if these are known; and then the mark of the end at the last
+-- read.
 pub record SendsAll (S : Type 0) (view : SourceView S) (first last : S)
     (items : List ℕ) : Type 0 where
   pub bytes : List ℕ
@@ -34,7 +35,7 @@ pub record SendsAll (S : Type 0) (view : SourceView S) (first last : S)
   pub read : ReadOut S view.reads end first bytes last
   pub sent : IsSentOf bytes end items
 
--- what was received up to a mark: the bytes of the items before it
+-- what was received up to a mark: the bytes of the items before the mark
 pub record EndsAtMark (bytes : List ℕ) (end : StreamEnd) (items : List ℕ) : Type 0 where
   pub taken : List ℕ
   pub mark : ℕ
@@ -43,6 +44,6 @@ pub record EndsAtMark (bytes : List ℕ) (end : StreamEnd) (items : List ℕ) : 
   pub end_is : end ≡ end_of_mark mark
   pub items_are : items ≡ taken ++ mark ∷ []
 
--- what was received ends at no mark: the last item, if there is one, is a byte's
+-- what was received ends with no mark: the last item, if there is one, is a byte
 abbrev pub EndsBeforeMark : List ℕ → Type 0
 EndsBeforeMark items = (taken : List ℕ) (item : ℕ) → items ≡ taken ++ item ∷ [] → item < 256

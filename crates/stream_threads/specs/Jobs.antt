@@ -1,4 +1,4 @@
--- The two jobs of a stream, and what comes of them (this project's own).
+-- The two jobs of a stream, and their result (this project's own).
 use Rattle.std.specs.Prelude.{◌≡◌, ◌++◌, ℕ, List, [], IsSome, map}
 use Rattle.std.specs.List.{AllZip}
 use Rattle.lrup_model.specs.Event.{History}
@@ -23,27 +23,29 @@ pub record StreamJobsValue (S : Type 0) : Type 0 where
   pub checker : CheckerValue
   pub pass : PassValue
 
--- the jobs of a stream, from 1 on, before its first byte: its reader, a checker of that stream, and its pass
+-- the jobs of a stream, counted from 1, before its first byte: its reader, a checker of that
+-- stream, and its pass
 pub record IsJob {S : Type 0} (run_params : RunParamsValue) (s : ℕ) (reader : S) (at : PassValue)
     (jobs : StreamJobsValue S) : Type 0 where
   pub reader_is : jobs.reader ≡ reader
   pub checker : IsNew run_params.layout run_params.cube s run_params.tries jobs.checker
   pub pass : jobs.pass ≡ at
 
--- the jobs of the streams counted on from s
+-- the jobs of the streams, counted from s
 abbrev pub AreJobs : {S : Type 0} → RunParamsValue → ℕ → List S → List PassValue
     → List (StreamJobsValue S)
     → Type 0
 AreJobs run_params s readers passes all = EachOfThree (IsJob run_params) s readers passes all
 
--- what a stream's threads give back: the report, the reader, the pass, and the identities that the stream dropped
+-- what a stream's threads return: the report, the reader, the pass, and the identities that the
+-- stream dropped
 pub record StreamResultValue (S : Type 0) : Type 0 where
   pub report : Report
   pub reader : S
   pub pass : PassValue
   pub dropped : DroppedIdsValue
 
--- the results of streams, part by part, and for how many more there is room
+-- the results of streams, one list for each part, and for how many more there is room
 pub record StreamResultsValue (S : Type 0) : Type 0 where
   pub reports : List Report
   pub readers : List S
@@ -51,13 +53,14 @@ pub record StreamResultsValue (S : Type 0) : Type 0 where
   pub dropped : List DroppedIdsValue
   pub room : ℕ
 
--- the pass is one of this store, and the checker may take its first byte at it
+-- the pass belongs to this store, and with it the checker may take its first byte
 pub record CanBegin {S : Type 0} (store : StoreValue) (jobs : StreamJobsValue S) : Type 0 where
   pub here : store_of jobs.pass ≡ store
   pub ready : IsReadyAt jobs.checker (pass_caller_view jobs.pass.view)
 
--- The result is right: if the checker had taken no byte before, it has the report of the stream that the reader told and its reads gave,
--- judged by the calls that the pass made, and the identities that the stream's lines dropped.
+-- The result is right: if the checker had taken no byte before, the report judges the stream that
+-- the reader delivered and its reads gave, by the calls that the pass made, and the identities are
+-- those that the stream's lines dropped.
 pub record Finishes {S : Type 0} (view : SourceView S) (jobs : StreamJobsValue S)
     (found : StreamResultValue S) : Type 0 where
   pub store : store_of found.pass ≡ store_of jobs.pass
@@ -70,13 +73,13 @@ pub record Finishes {S : Type 0} (view : SourceView S) (jobs : StreamJobsValue S
       × DropsBy jobs.checker (pass_caller_view jobs.pass.view).room stream.bytes blocks
       found.dropped found.report
 
--- what was found of each stream, in order
+-- the result of each stream, in order
 abbrev pub AllFinish : {S : Type 0} → SourceView S → List (StreamJobsValue S)
     → List (StreamResultValue S)
     → Type 0
 AllFinish view all found = AllZip (Finishes view) all found
 
--- the same, where the results are given part by part
+-- the same, with the results given in parts
 pub record AreResults {S : Type 0} (view : SourceView S) (all : List (StreamJobsValue S))
     (results : StreamResultsValue S) : Type 0 where
   pub found : List (StreamResultValue S)
@@ -86,8 +89,8 @@ pub record AreResults {S : Type 0} (view : SourceView S) (all : List (StreamJobs
   pub passes : results.passes ≡ map (λ one. one.pass) found
   pub dropped : results.dropped ≡ map (λ one. one.dropped) found
 
--- The reader was read to its end or to the read that failed, all that it told was sent, and then the mark; but what was received
--- is a beginning of that which ends at no mark.
+-- The reader was read to its end or to a read that failed; all that it delivered was sent, and then
+-- the mark; but what was received is a prefix of this that ends with no mark.
 pub record MissesMark {S : Type 0} (view : SourceView S) (reader : S) : Type 0 where
   pub last : S
   pub stream : Stream

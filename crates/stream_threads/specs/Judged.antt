@@ -1,4 +1,4 @@
--- How the bytes that a checking thread received are judged.
+-- How the bytes received by a checking thread are judged.
 use Rattle.std.specs.Prelude.{◌≡◌, ℕ, List, [], Option, None, Some}
 use Rattle.lrup_model.specs.Event.{History}
 use Rattle.lrup_text.specs.declared.device.StreamEnd.{StreamEnd}
@@ -12,13 +12,15 @@ use Rattle.stream_check.specs.Reaching.{ReachesState}
 use Rattle.stream_check.specs.Stopping.{IsFullAtMemory}
 use Rattle.stream_threads.specs.Items.{EndsAtMark}
 
--- the ending of a checker after this end of its stream; if it was over before, it keeps its ending
+-- the ending of a checker after this end of its stream; if it was finished before, it keeps its
+-- ending
 abbrev pub ending_with : Option Ending → StreamEnd → CheckerValue → Ending
 ending_with None end checker = ending_at end checker.pending checker.line
 ending_with (Some ending) end checker = ending
 
--- The bytes, whose lines have these blocks of events, bring a checker, which had this room, to one that has dropped these
--- identities, and the report is what that one says at some end of the stream. Where memory ran out, there is no room for one more.
+-- A checker with this room takes the bytes, whose lines have these blocks of events, and then has
+-- dropped these identities; the report is the one that it gives at some end of the stream. If
+-- memory ran out, there is no room for one more identity.
 pub record DropsBy (checker : CheckerValue) (room : ℕ) (bytes : List ℕ) (blocks : List History)
     (dropped : DroppedIdsValue) (report : Report) : Type 0 where
   pub last : CheckerValue
@@ -30,8 +32,9 @@ pub record DropsBy (checker : CheckerValue) (room : ℕ) (bytes : List ℕ) (blo
   pub reports : report ≡ report_of_tally last.tally (ending_with last.ending end last)
   pub full : IsFullAtMemory report.ending dropped
 
--- The items received end at a mark; and the bytes before it, with the end that the mark tells and these blocks of events, are
--- judged so, if no byte had been taken when the checker had this room. The lines drop these identities.
+-- The received items end with a mark. If the checker had this room and had taken no byte, the
+-- report judges the bytes before the mark, with the end that the mark stands for and these blocks
+-- of events. The lines drop these identities.
 pub record JudgesAtMark (checker : CheckerValue) (room : ℕ) (items : List ℕ) (blocks : List History)
     (lines_dropped : DroppedIdsValue) (report : Report) : Type 0 where
   pub bytes : List ℕ

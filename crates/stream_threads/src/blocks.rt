@@ -1,8 +1,8 @@
-//! Bytes to items and back, a block at a time.
+//! Converts bytes to items and back, a block at a time.
 ghost use Rattle.std.specs.Prelude.{◌≡◌, ◌<◌, ◌≤◌, length, take, map, All};
 ghost use Rattle.stream_threads.specs.Items.{byte_of};
 
-/// Turns bytes to items.
+/// Converts bytes to items.
 pub fn widen(bytes: &[u8], items: &mut [u16])
     requires { length items.old ≡ length bytes.now }
     ensures same { items.new ≡ bytes.now }
@@ -13,7 +13,7 @@ pub fn widen(bytes: &[u8], items: &mut [u16])
     }
 }
 
-/// Turns items to bytes. Of a mark this gives its low byte, which no caller reads.
+/// Converts items to bytes. For a mark this is its low byte, which no caller reads.
 pub fn narrow(items: &[u16], bytes: &mut [u8])
     requires { length bytes.old ≡ length items.now }
     ensures { bytes.new ≡ map byte_of items.now }

@@ -1,11 +1,13 @@
-//! The two halves of a ring of items, and what each thread does at its own half.
+//! The two halves of a ring of items, and what each thread does with its half.
 //!
-//! A thread that can't go on spins for a while, and then parks. Each thread first pushes or pops, and then wakes the other one; each first
-//! looks at the ring, and then parks. If the wake-up comes between the look and the park, the park returns at once, so no wake-up is lost.
-//! All steps of the kit's `rtrb` are `SeqCst`: a thread that was woken, or that finds the producer gone, then finds all that was pushed.
+//! A thread that has to wait spins for a while, and then parks. Each thread pushes or pops before
+//! it wakes the other one, and looks at the ring before it parks. If the wake-up comes between the
+//! look and the park, the park returns at once, so no wake-up is lost. All steps of the kit's
+//! `rtrb` are `SeqCst`: a thread that was woken, or that finds the producer gone, then finds all
+//! that was pushed.
 //!
-//! A loop over `wait.forever()` is one without an end: the prover asks of any other loop why it ends. The `unreachable!` behind it is
-//! never met.
+//! A loop over `wait.forever()` has no end; for any other loop the prover requires a proof that it
+//! ends. The `unreachable!` after it is never reached.
 ghost use Rattle.std.specs.Prelude.{◌≡◌, ◌<◌, ◌≤◌, ℕ, List, [], ◌++◌, ◌∷◌, false, length, take, map, All, IfOk};
 ghost use Rattle.rtrb.specs.Ring.{sent, received, producer_capacity, consumer_capacity, SameProducer, SameConsumer, IsPair};
 ghost use Rattle.lrup_text.specs.ReadOut.{EndsSo, source_view};
@@ -19,13 +21,14 @@ use rtrb::{Consumer, Producer, RingBuffer};
 use std::alloc::{AllocError, Global};
 use std::sync::Wait;
 
-/// The mark of a stream that ended: the item behind its last byte. Bytes are the items 0 to 255.
+/// The mark of a stream that ended: the item after its last byte. Bytes are the items 0 to 255.
 const END: u16 = 256;
 
-/// The mark of a stream whose read failed: the item behind its last byte.
+/// The mark of a stream whose read failed: the item after its last byte.
 const FAILURE: u16 = 257;
 
-/// Wakes the thread at the other half: at each call, and once more when it is dropped, so that the other thread doesn't sleep for ever.
+/// Wakes the thread at the other half: at each call, and once more when it is dropped, so that the
+/// other thread doesn't sleep forever.
 struct Waker(Unparker);
 
 impl Waker {
@@ -41,21 +44,24 @@ impl Drop for Waker {
     }
 }
 
-/// The reading thread's half of the ring. If it is dropped whole, its fields are dropped in order: the receiver that the dropped waker
-/// wakes then finds the producer gone.
+/// The reading thread's half of the ring. If it is dropped whole, its fields are dropped in order:
+/// the receiver, which the drop of the waker wakes, then finds the producer gone.
 #[derive(Drop)]
 pub struct Sender {
     pub producer: Producer<u16>,
-    /// The reading thread parks here while the ring is full; the receiver's `wake_sender` unparks it.
+    /// The reading thread parks here while the ring is full; the receiver's `wake_sender` unparks
+    /// it.
     when_not_full: Parker,
     wake_receiver: Waker,
 }
 
-/// The checking thread's half of the ring. The order of its drops doesn't matter: the sender never looks whether the consumer is gone.
+/// The checking thread's half of the ring. The order of its drops makes no difference: the sender
+/// never checks whether the consumer is gone.
 #[derive(Drop)]
 pub struct Receiver {
     pub consumer: Consumer<u16>,
-    /// The checking thread parks here while the ring is empty; the sender's `wake_receiver` unparks it.
+    /// The checking thread parks here while the ring is empty; the sender's `wake_receiver` unparks
+    /// it.
     when_not_empty: Parker,
     wake_sender: Waker,
 }
@@ -67,7 +73,8 @@ pub enum Received {
     Bytes(usize),
     /// This many bytes, and then the mark that says how the stream ended: nothing more comes.
     Mark(usize, StreamEnd),
-    /// The reading thread dropped its half. All that it pushed was received before, and no mark was among it.
+    /// The reading thread dropped its half. All that it pushed was received before this, and had no
+    /// mark.
     Abandoned,
 }
 
@@ -98,7 +105,7 @@ pub fn ring(alloc: Global, capacity: usize) -> Result<(Sender, Receiver), AllocE
 }
 
 impl Sender {
-    /// Gives the producer. The waker is dropped here, which wakes the receiver once more.
+    /// Returns the producer. This drops the waker, which wakes the receiver once more.
     pub fn into_producer(self) -> Producer<u16>
         ensures { result ≡ self.producer }
     {
@@ -106,8 +113,9 @@ impl Sender {
         producer
     }
 
-    /// Pushes all items, and blocks while the ring is full. It doesn't look whether the consumer is gone: the checking thread receives
-    /// through the mark, also after a bad line, and its `Consumer` is kept until both threads are joined.
+    /// Pushes all items, and blocks while the ring is full. It doesn't check whether the consumer
+    /// is gone: the checking thread receives through the mark, even after a bad line, and its
+    /// `Consumer` is kept until both threads are joined.
     fn push_all<W: Wait>(&mut self, wait: &W, items: &[u16])
         ensures ring { SameProducer self.old.producer self.new.producer }
         ensures sent { sent self.new.producer ≡ sent self.old.producer ++ items.now }
@@ -132,7 +140,7 @@ impl Sender {
         unreachable!()
     }
 
-    /// Pushes bytes, in slices of at most as many as `items` has room for.
+    /// Pushes bytes, in slices of at most `items.len()`.
     fn push_bytes<W: Wait>(&mut self, wait: &W, bytes: &[u8], items: &mut [u16])
         requires { 0 < length items.old }
         ensures ring { SameProducer self.old.producer self.new.producer }
@@ -154,8 +162,9 @@ impl Sender {
         unreachable!()
     }
 
-    /// Reads a source to its end or to the read that fails, and sends what was read and then one mark. It returns which of the two it was.
-    /// `piece` is the buffer of a read, `items` that of a push. It blocks while the source does, or while the ring is full.
+    /// Reads a source to its end, or to a read that fails, and sends what was read and then one
+    /// mark. It returns which of the two happened. `piece` is the buffer of a read, `items` that of
+    /// a push. It blocks while the source does, and while the ring is full.
     pub fn send_all<W: Wait, R: Source>(
         &mut self,
         wait: &W,
@@ -189,7 +198,7 @@ impl Sender {
 }
 
 impl Receiver {
-    /// Gives the consumer. The waker is dropped here, which wakes the sender once more.
+    /// Returns the consumer. This drops the waker, which wakes the sender once more.
     pub fn into_consumer(self) -> Consumer<u16>
         ensures { result ≡ self.consumer }
     {
@@ -197,8 +206,9 @@ impl Receiver {
         consumer
     }
 
-    /// Pops at least one item, and blocks while there is none. If a pop finds nothing, and then the producer is found dropped, it pops once
-    /// more, since items may have been pushed in between. It returns 0 if that pop finds nothing either.
+    /// Pops at least one item, and blocks while there is none. If a pop finds nothing, and the
+    /// producer then turns out to be dropped, it pops once more, since items may have been pushed
+    /// in between. It returns 0 if that pop finds nothing, either.
     fn pop_some<W: Wait>(&mut self, wait: &W, items: &mut [u16]) -> usize
         requires { 0 < length items.old }
         ensures ring { SameConsumer self.old.consumer self.new.consumer }
@@ -230,7 +240,8 @@ impl Receiver {
         unreachable!()
     }
 
-    /// Receives what there is, and blocks while there is nothing. The bytes go to the front of `bytes`; `items` is the buffer of a pop.
+    /// Receives what there is, and blocks while there is nothing. The bytes go to the front of
+    /// `bytes`; `items` is the buffer of a pop.
     pub fn receive<W: Wait>(&mut self, wait: &W, items: &mut [u16], bytes: &mut [u8]) -> Received
         requires some { 0 < length items.old }
         requires room { length items.old ≡ length bytes.old }
@@ -253,7 +264,7 @@ impl Receiver {
         if count == 0 {
             return Received::Abandoned;
         }
-        // A mark is the last item that is pushed, so it can only be the last of those that are popped.
+        // A mark is the last item that is pushed, so it can only be the last of the popped items.
         let last = items[count - 1];
         narrow(&items[..count], &mut bytes[..count]);
         if last < END {
@@ -263,7 +274,7 @@ impl Receiver {
     }
 }
 
-/// How the stream ended, by its mark.
+/// How a stream with this mark ended.
 fn end_of(mark: u16) -> StreamEnd
     ensures { result ≡ end_of_mark mark }
 {
@@ -274,8 +285,9 @@ fn end_of(mark: u16) -> StreamEnd
     }
 }
 
-/// Brings the two halves together, once both threads have given them back. It is for the proof alone, and changes nothing: its contract
-/// says that what was received is the beginning of what was sent, and all of it, if it ends at a mark.
+/// Compares the two halves, once both threads have returned them. It is for the proof only, and
+/// changes nothing: by its contract, what was received is a prefix of what was sent, and all of it
+/// if it ends with a mark.
 pub fn halves_agree(producer: &mut Producer<u16>, consumer: &mut Consumer<u16>)
     requires { IsPair producer.old consumer.old }
     ensures beginning { (left : List ℕ)

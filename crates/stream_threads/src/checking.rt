@@ -20,15 +20,17 @@ use std::sync::{OnceLock, OnceToken, Wait};
 use stream_check::laws::over_stays;
 use stream_check::{CheckStatus, Checker, DroppedIds, Gate, Report, RunParams};
 
-/// The most items that one pop takes, and the most bytes that the checker is fed at once.
+/// The maximum number of items that one pop takes, and of bytes that the checker is fed at once.
 const POP_BATCH: usize = PIECE;
 
-/// What a checking thread is given: a stream's checker and its gate, and the receiving half of the ring. Nothing was received yet.
+/// What a checking thread starts with: a stream's checker and gate, and the receiving half of the
+/// ring. Nothing was received yet.
 #[derive(Drop)]
 pub struct CheckingJob<G: Gate + Drop> {
     /// The stream's checker, before its first byte.
     pub checker: Checker,
-    /// The stream's gate, which is called before each fetch, after each publish, and when the stream is over.
+    /// The stream's gate, which is called before each fetch, after each publish, and when the
+    /// stream is finished.
     pub gate: G,
     /// The half of the ring from which the stream's bytes come.
     pub receiver: Receiver,
@@ -38,20 +40,22 @@ pub struct CheckingJob<G: Gate + Drop> {
     ghost nothing: { received receiver.consumer ≡ [] },
 }
 
-/// What a checking thread gives back: the stream's report, or none if no mark came; what the stream dropped; and its half of the ring.
+/// What a checking thread returns: the stream's report, or none if no mark came; what the stream
+/// dropped; and its half of the ring.
 #[derive(Drop)]
 pub struct Checked {
-    /// The stream's report. There is none if the ring was found abandoned before a mark came.
+    /// The stream's report. There is none if the ring turned out to be abandoned before a mark
+    /// came.
     pub report: Option<Report>,
     /// The identities that the stream dropped.
     pub dropped: DroppedIds,
-    /// The receiving half, from which all was received, through the mark.
+    /// The receiving half, from which everything was received, through the mark.
     pub consumer: Consumer<u16>,
 }
 
 impl<G: Gate + Drop> CheckingJob<G> {
-    /// The job of stream `stream`, from 1 on. By the code all memory is taken here, except for the identities that the stream
-    /// drops.
+    /// The job of stream `stream`, counted from 1. In the code all memory is allocated here, except
+    /// for the identities that the stream drops.
     pub(crate) fn new(
         alloc: Global,
         receiver: Receiver,
@@ -85,10 +89,10 @@ impl<G: Gate + Drop> CheckingJob<G> {
     }
 }
 
-/// Waits for the start signal, and then checks what is received, through the mark. After a bad line the rest is received and thrown away:
-/// else the ring would fill, and the reading thread would wait for ever.
-/// If the signal says to leave, nothing is received, and the signal's token comes back: it shows that the signal said so. It blocks while
-/// the ring is empty.
+/// Waits for the start signal, and then checks what is received, through the mark. After a bad line
+/// the rest is received and discarded: otherwise the ring would fill up, and the reading thread
+/// would wait forever. If the signal says to leave, nothing is received, and the signal's token is
+/// returned, which proves that the signal said so. It blocks while the ring is empty.
 pub fn check_on_signal<'a, W: Wait, G: Gate + Drop, M: ClauseMap>(
     wait: &W,
     signal: &'a OnceLock<bool>,
@@ -132,7 +136,8 @@ pub fn check_on_signal<'a, W: Wait, G: Gate + Drop, M: ClauseMap>(
     })
 }
 
-/// Checks what is received, through the mark, and returns the stream's report, or none if no mark came.
+/// Checks what is received, through the mark, and returns the stream's report, or `None` if no mark
+/// came.
 fn check_received<W: Wait, G: Gate, M: ClauseMap>(
     wait: &W,
     checker: &mut Checker,
@@ -167,7 +172,8 @@ fn check_received<W: Wait, G: Gate, M: ClauseMap>(
     unreachable!()
 }
 
-/// Feeds the checker a piece, line by line. A checker that is over takes nothing more, and the rest is thrown away.
+/// Feeds the checker a piece, line by line. A finished checker takes nothing more, and the rest is
+/// discarded.
 fn take_all<G: Gate, M: ClauseMap>(checker: &mut Checker, gate: &mut G, map: &mut M, piece: &[u8])
     requires { IsReadyAt checker.old (M.caller_view map.old) }
     ensures took { let old = checker_state checker.old (M.caller_view map.old).room in
@@ -177,10 +183,11 @@ fn take_all<G: Gate, M: ClauseMap>(checker: &mut Checker, gate: &mut G, map: &mu
     ensures ready { IsReadyAt checker.new (M.caller_view map.new) }
     ensures params { checker.new.params ≡ checker.old.params }
 {
-    // A law, which does nothing: the proof uses that a report of a checker that is over stays right, whatever follows.
+    // A law, with no effect at run time: the report of a finished checker stays right for any
+    // further bytes.
     over_stays();
     let mut rest = piece;
-    // Each good line uses a byte at least, so that many rounds suffice.
+    // Each good line uses at least one byte, so this many iterations suffice.
     for _ in 0..piece.len() {
         let progress = checker.feed(map, gate, rest);
         match progress.status {

@@ -1,4 +1,4 @@
-//! Starts all threads, joins them, and gathers the result of each stream.
+//! Starts all threads, joins them, and collects the result of each stream.
 ghost use Rattle.std.specs.Prelude.{◌≡◌, ◌↔◌, ◌<◌, ◌≤◌, true, false, [], IfErr, IfNone, IfOk, IfSome, IsNone, OnOk, map, vec_capacity, vec_len};
 ghost use Rattle.std.specs.List.{AllByRecursion};
 ghost use Rattle.rtrb.specs.Ring.{received, IsPair};
@@ -23,14 +23,15 @@ use std::thread;
 use std::thread::{Scope, Threads};
 use stream_check::Gate;
 
-/// The start signal of a run, for which its threads wait before they do anything. It says once to start (`true`), or to leave (`false`).
+/// The start signal of a run, for which its threads wait before they do anything. It is set once:
+/// to start (`true`) or to leave (`false`).
 #[derive(Drop)]
 pub struct StartSignal {
     signalled: OnceLock<bool>,
 }
 
 impl StartSignal {
-    /// A signal that has said nothing yet.
+    /// A signal that isn't set yet.
     pub fn new() -> StartSignal {
         StartSignal {
             signalled: OnceLock::new(),
@@ -38,8 +39,9 @@ impl StartSignal {
     }
 }
 
-/// The signal for which the threads wait, and lists with room for the threads and the results of a number of streams: so no start and no
-/// join takes memory for a list. They are made before the scope of the threads, since the threads' tokens borrow the signal.
+/// The signal for which the threads wait, and lists with room for the threads and the results of a
+/// number of streams, so that starts and joins allocate no memory for lists. They are made before
+/// the scope of the threads, since the threads' tokens borrow the signal.
 #[derive(Drop)]
 pub struct ThreadLists<'a, R: Source + Drop, G: Gate + Drop> {
     signal: &'a OnceLock<bool>,
@@ -62,7 +64,8 @@ impl<'a, R: Source + Drop, G: Gate + Drop> Model for ThreadLists<'a, R, G> {
 }
 
 impl<'a, R: Source + Drop, G: Gate + Drop> ThreadLists<'a, R, G> {
-    /// Lists with room for `count` streams, whose threads wait for this signal. No other threads may wait for it.
+    /// Lists with room for `count` streams, whose threads wait for this signal. No other threads
+    /// may wait for it.
     pub fn new(
         alloc: Global,
         signal: &'a StartSignal,
@@ -79,7 +82,8 @@ impl<'a, R: Source + Drop, G: Gate + Drop> ThreadLists<'a, R, G> {
     }
 }
 
-/// Makes the stream's result of what its two threads gave back. There is none exactly if the checking thread received no mark.
+/// Makes a stream's result from what its two threads returned. There is none exactly if the
+/// checking thread received no mark.
 fn result_of<R: Source + Drop>(mut sent: Sent<R>, checked: CheckedPass) -> Option<StreamResult<R>>
     requires pair { IsPair sent.producer checked.checked.consumer }
     ensures none { IsNone result ↔ IsNone checked.checked.report }
@@ -103,8 +107,8 @@ fn result_of<R: Source + Drop>(mut sent: Sent<R>, checked: CheckedPass) -> Optio
 }
 
 impl<'a, R: Source + Drop, G: Gate + Drop> Started<'a, R, G> {
-    /// Waits until both threads have ended, and returns the stream's result, or none if no mark came. `signalled` shows that the threads were
-    /// told to start.
+    /// Waits until both threads have ended, and returns the stream's result, or `None` if no mark
+    /// came. `signalled` proves that the signal was to start.
     fn join<T: Threads>(
         self,
         threads: &T,
@@ -121,8 +125,9 @@ impl<'a, R: Source + Drop, G: Gate + Drop> Started<'a, R, G> {
     }
 }
 
-/// Joins the threads of all streams, stream 1 first, and gathers their results. They were told to start. At the first stream that has no
-/// result it leaves the others to the scope, which joins them.
+/// Joins the threads of all streams, from stream 1 on, and collects their results. The signal was
+/// to start. At the first stream without a result it leaves the other threads to the scope, which
+/// joins them.
 fn join_all<'a, T: Threads, R: Source + Drop, G: Gate + Drop>(
     threads: &T,
     signalled: &OnceToken<'a, bool>,
@@ -147,8 +152,8 @@ fn join_all<'a, T: Threads, R: Source + Drop, G: Gate + Drop>(
     Ok(found)
 }
 
-/// Starts all threads, first all that check, gives the start signal, and joins them. If one can't be started, the signal tells the others
-/// to leave.
+/// Starts all threads, the checking ones first, sets the signal to start, and joins the threads. If
+/// one can't be started, it sets the signal to leave.
 fn start_and_join<
     's,
     'a: 's,
@@ -174,8 +179,8 @@ fn start_and_join<
         mut started,
         found,
     } = lists;
-    // If a start fails, the threads that have started are told to leave, and the scope joins them before `check_all` returns. Nobody set
-    // the signal before, so `set` succeeds.
+    // If a start fails, the threads that have started get the signal to leave, and the scope joins
+    // them before `check_all` returns. Nobody set the signal before, so `set` succeeds.
     if let Err(stream) = start_all_checking(scope, threads, store, signal, all, &mut halves) {
         let _ = signal.set(threads, false);
         return Err(ThreadFault::Spawn(stream));
@@ -184,8 +189,9 @@ fn start_and_join<
         let _ = signal.set(threads, false);
         return Err(ThreadFault::Spawn(stream));
     }
-    // An `Err` says that somebody told the threads to leave before. The signal is the run's own, so nobody did, but no contract of
-    // `OnceLock` says so. `Spawn` has to name a stream that there is, so without streams the answer is the empty lists.
+    // An `Err` means that the signal had been set to leave. The signal is the run's own, so this
+    // can't be, but no contract of `OnceLock` says so. `Spawn` has to name an existing stream, so
+    // without streams the result is the empty lists.
     let Ok(signalled) = signal_start(threads, signal) else {
         if started.is_empty() {
             return Ok(found);
@@ -195,7 +201,8 @@ fn start_and_join<
     join_all(threads, &signalled, started, found)
 }
 
-/// Tells all threads to start, and returns the signal's token, which shows it. If they were told to leave before, its token is the fault.
+/// Sets the signal to start, and returns its token, which proves that. If the signal had been set
+/// to leave, the token that proves this is the error.
 fn signal_start<'a, W: Wait>(
     wait: &W,
     signal: &'a OnceLock<bool>,
@@ -216,10 +223,11 @@ fn signal_start<'a, W: Wait>(
     }
 }
 
-/// Reads and checks all streams, each in two threads of its own, and returns their results, in order, when all threads have ended. By
-/// the code no reader is read before all threads have started, and if one can't be started, those that were leave at once. It blocks while
-/// a reader does.
-/// A ring has failed if a checking thread received no mark: the fault has the results of the streams before the first such stream.
+/// Reads and checks all streams, each in two threads of its own, and returns their results, in
+/// order, once all threads have ended. In the code no reader is read before all threads have
+/// started, and if a thread can't be started, those that were leave at once. The call blocks while
+/// a reader does. If a checking thread received no mark, a ring has failed: the fault has the
+/// results of the streams before the first such stream.
 pub fn check_all<T: Threads + Wait + Sync, R: Source + Send + Drop, G: Gate + Send + Drop>(
     threads: &T,
     store: &Store,

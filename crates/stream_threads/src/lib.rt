@@ -1,6 +1,7 @@
-//! Two threads for each stream of a run, with one store of clauses for all: one reads the stream and sends its bytes through a ring,
-//! and the other checks what it receives. A ring is a bounded queue with one producer and one consumer (`rtrb`), and what makes an end
-//! sleep that has nothing to do. Its items are `u16`: a byte, or one of two marks behind the last byte.
+//! Two threads for each stream of a run, with one store of clauses for all streams: one thread
+//! reads the stream and sends its bytes through a ring, and the other checks what it receives. A
+//! ring is a bounded queue with one producer and one consumer (`rtrb`), whose threads sleep while
+//! they have nothing to do. Its items are `u16`: a byte, or one of two marks after the last byte.
 #![tactic(auto)]
 
 mod blocks;

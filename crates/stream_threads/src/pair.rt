@@ -1,4 +1,5 @@
-//! The two jobs of a stream before their threads start, and what they gave back after both have ended.
+//! The two jobs of a stream before their threads start, and what they returned after both have
+//! ended.
 ghost use Rattle.std.specs.Prelude.{◌≡◌, ◌++◌, ℕ, List, [], false, IfOk, IsSome};
 ghost use Rattle.lrup_model.specs.Event.{History};
 ghost use Rattle.lrup_model.specs.Layout.{IsStream};
@@ -20,11 +21,11 @@ use lrup_text::{PIECE, Source};
 use std::alloc::{AllocError, Global};
 use stream_check::{Gate, RunParams};
 
-/// How many items a ring has room for, two bytes each: as many as one read gives bytes.
+/// How many items a ring has room for, of two bytes each: as many as one read gives bytes.
 const CAPACITY: usize = PIECE;
 
-/// Makes the two jobs of stream `stream`, from 1 on, with the two halves of one ring. By the code all memory is taken here, except for the
-/// identities that the stream drops.
+/// Makes the two jobs of stream `stream`, counted from 1, with the two halves of one ring. In the
+/// code all memory is allocated here, except for the identities that the stream drops.
 pub fn jobs<R: Source + Drop, G: Gate + Drop>(
     alloc: Global,
     reader: R,
@@ -47,8 +48,9 @@ pub fn jobs<R: Source + Drop, G: Gate + Drop>(
     Ok((reading, checking))
 }
 
-/// Brings together what both threads gave back. It is for the proof alone, and changes nothing: its contract says that what was received is
-/// the beginning of what was sent, and that the bytes that were judged are all that the reader's reads gave.
+/// Compares what both threads returned. It is for the proof only, and changes nothing: by its
+/// contract, what was received is a prefix of what was sent, and the bytes that were judged are all
+/// that the reader's reads gave.
 pub fn jobs_agree<R: Source + Drop>(sent: &mut Sent<R>, checked: &mut Checked)
     requires { IsPair sent.old.producer checked.old.consumer }
     ensures reader { sent.new.reader ≡ sent.old.reader }

@@ -11,10 +11,12 @@ use rtrb::Producer;
 use std::alloc::{AllocError, Global};
 use std::sync::{OnceLock, OnceToken, Wait};
 
-/// The most bytes that are made items before these are pushed: so the checking thread begins before a whole piece is pushed.
+/// The maximum number of bytes that are converted to items before a push, so that the checking
+/// thread starts before a whole piece is pushed.
 const PUSH_BATCH: usize = 4_096;
 
-/// What a reading thread is given: a reader that hasn't failed, and the sending half of the ring. Nothing was sent yet.
+/// What a reading thread starts with: a reader that hasn't failed, and the sending half of the
+/// ring. Nothing was sent yet.
 #[derive(Drop)]
 pub struct ReadingJob<R: Source + Drop> {
     /// The stream's reader.
@@ -28,7 +30,7 @@ pub struct ReadingJob<R: Source + Drop> {
     ghost nothing: { sent sender.producer ≡ [] },
 }
 
-/// What a reading thread gives back: the reader, and its half of the ring.
+/// What a reading thread returns: the reader, and its half of the ring.
 #[derive(Drop)]
 pub struct Sent<R: Source + Drop> {
     /// The reader, at its end or after a read that failed.
@@ -38,7 +40,7 @@ pub struct Sent<R: Source + Drop> {
 }
 
 impl<R: Source + Drop> ReadingJob<R> {
-    /// The job of a reader. By the code all memory is taken here.
+    /// The job of a reader. In the code all memory is allocated here.
     pub(crate) fn new(alloc: Global, reader: R, sender: Sender) -> Result<ReadingJob<R>, AllocError>
         requires running { R.has_failed reader ≡ false }
         requires nothing { sent sender.producer ≡ [] }
@@ -56,8 +58,9 @@ impl<R: Source + Drop> ReadingJob<R> {
     }
 }
 
-/// Waits for the start signal, and then sends all bytes that the reader gives, and one mark. If the signal says to leave, nothing is read,
-/// and the signal's token comes back: it shows that the signal said so. It blocks while the reader does, or while the ring is full.
+/// Waits for the start signal, and then sends all bytes that the reader gives, and one mark. If the
+/// signal says to leave, nothing is read, and the signal's token is returned, which proves that the
+/// signal said so. It blocks while the reader does, and while the ring is full.
 pub fn read_on_signal<'a, W: Wait, R: Source + Drop>(
     wait: &W,
     signal: &'a OnceLock<bool>,
@@ -78,7 +81,7 @@ pub fn read_on_signal<'a, W: Wait, R: Source + Drop>(
         mut piece,
         mut items,
     } = job;
-    // How the reader ended isn't needed here: the mark tells it.
+    // How the reader ended isn't needed here: the mark says so.
     sender.send_all(
         wait,
         &mut reader,

@@ -1,4 +1,4 @@
-//! What the threads of streams give back.
+//! What the threads of streams return.
 ghost use Rattle.std.specs.Prelude.{◌≡◌, ◌<◌, IfOk};
 ghost use Rattle.stream_threads.specs.internal.Workers.{more_results, no_results};
 
@@ -8,7 +8,7 @@ use std::alloc::{AllocError, Global};
 use std::marker::Model;
 use stream_check::{DroppedIds, Report};
 
-/// The result of a stream, whose two threads have ended.
+/// The result of a stream whose two threads have ended.
 #[derive(Drop)]
 pub(crate) struct StreamResult<R: Source + Drop> {
     pub(crate) report: Report,
@@ -30,14 +30,15 @@ impl<R: Source + Drop> Model for StreamResult<R> {
     } };
 }
 
-/// The results of streams, in order, as lists of their parts. They have room for those of more streams, and take no memory for these.
+/// The results of streams, in order, as one list for each part. They have room for those of more
+/// streams, and allocate nothing for them.
 #[derive(Drop)]
 pub struct StreamResults<R: Source + Drop> {
-    /// How each stream is judged.
+    /// The report of each stream.
     pub reports: Vec<Report>,
     /// The readers, each at its end or after a read that failed.
     pub readers: Vec<R>,
-    /// The streams' passes. Contracts know from them which calls the streams made.
+    /// The streams' passes. For contracts they hold the calls that the streams made.
     pub passes: Vec<Pass>,
     /// The identities that each stream dropped.
     pub dropped: Vec<DroppedIds>,
@@ -76,7 +77,7 @@ impl<R: Source + Drop> StreamResults<R> {
         })
     }
 
-    /// Puts the result of a stream behind the others.
+    /// Appends the result of a stream.
     pub(crate) fn push(&mut self, one: StreamResult<R>)
         requires { 0 < self.old.room }
         ensures { self.new ≡ more_results self.old one }

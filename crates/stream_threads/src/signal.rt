@@ -1,14 +1,17 @@
-//! The start signal, for which all threads of a run wait before they do anything. It says once to start (`true`), or to leave.
+//! The start signal, for which all threads of a run wait before they do anything. It is set once:
+//! to start (`true`) or to leave.
 ghost use Rattle.std.specs.Prelude.{◌≡◌};
 
 use std::sync::{OnceLock, OnceToken, Wait};
 
-/// Waits for the start signal. The token that it returns has what the signal said, which never changes.
+/// Waits for the start signal. The token that it returns has the signal's value, which never
+/// changes.
 pub fn wait_for_start<'a, W: Wait>(wait: &W, signal: &'a OnceLock<bool>) -> OnceToken<'a, bool>
     ensures { result.of ≡ signal.now.id }
 {
-    // Once `wait` returns, the lock has its value, and `witness` gives a token of it. No contract of `wait` says so: hence the loop, which
-    // goes round once. `forever` has no end, so the `unreachable!` behind the loop is never met.
+    // Once `wait` returns, the lock has its value, and `witness` gives a token for it. No contract
+    // of `wait` says so: hence the loop, which runs once. `forever` has no end, so the
+    // `unreachable!` after the loop is never reached.
     for _ in wait.forever() {
         signal.wait(wait);
         if let Some(token) = signal.witness() {

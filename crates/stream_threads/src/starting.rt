@@ -1,5 +1,5 @@
-//! The start of the threads: first all that check, then all that read. No thread does anything before all have started, so the order
-//! decides only which stream a failed start names.
+//! Starts the threads: first all that check, then all that read. No thread does anything before all
+//! have started, so the order only decides which stream a failed start names.
 ghost use Rattle.std.specs.Prelude.{◌≡◌, ◌-◌, ◌<◌, ◌≤◌, [], IfErr, IfSome, OnOk, map, take, vec_capacity, vec_len};
 ghost use Rattle.std.specs.List.{AllByRecursion};
 ghost use Rattle.stream_threads.specs.Jobs.{CanBegin};
@@ -15,7 +15,8 @@ use std::sync::{OnceLock, Wait};
 use std::thread::Scope;
 use stream_check::Gate;
 
-/// Starts a checking thread, or returns none if it can't be started. The task is for the proof alone: it says with what the thread starts.
+/// Starts a checking thread, or returns `None` if it can't be started. The task is for the proof
+/// only: it says what the thread starts with.
 fn start_checking<'s, 'a: 's, E, W: Wait + Sync, R: Source + Drop, G: Gate + Send + Drop + 's>(
     scope: &Scope<'s, E>,
     wait: &'s W,
@@ -42,7 +43,7 @@ fn start_checking<'s, 'a: 's, E, W: Wait + Sync, R: Source + Drop, G: Gate + Sen
     Some(HalfStarted { reading, checking })
 }
 
-/// Starts a reading thread, or returns none if it can't be started.
+/// Starts a reading thread, or returns `None` if it can't be started.
 fn start_reading<'s, 'a: 's, E, W: Wait + Sync, R: Source + Send + Drop + 's, G: Gate + Drop + 's>(
     scope: &Scope<'s, E>,
     wait: &'s W,
@@ -66,7 +67,8 @@ fn start_reading<'s, 'a: 's, E, W: Wait + Sync, R: Source + Send + Drop + 's, G:
     Some(Started { reading, checking })
 }
 
-/// Starts the checking threads, in order. If one can't be started, the fault is its stream, from 1 on, and those before it have started.
+/// Starts the checking threads, in order. If one can't be started, the error is its stream, counted
+/// from 1, and the threads of the streams before it have started.
 pub(crate) fn start_all_checking<
     's,
     'a: 's,
@@ -100,7 +102,8 @@ pub(crate) fn start_all_checking<
     Ok(())
 }
 
-/// Starts the reading threads, in order. If one can't be started, the fault is its stream, from 1 on, and those before it have started.
+/// Starts the reading threads, in order. If one can't be started, the error is its stream, counted
+/// from 1, and the threads of the streams before it have started.
 pub(crate) fn start_all_reading<
     's,
     'a: 's,

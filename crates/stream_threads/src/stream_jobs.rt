@@ -1,4 +1,4 @@
-//! The jobs of a stream: before its threads start, after the first has started, and after both have.
+//! The jobs of a stream: before its threads start, after one has started, and after both have.
 ghost use Rattle.std.specs.Prelude.{◌≡◌, ◌≤◌, false, IfOk, length, vec_len};
 ghost use Rattle.std.specs.List.{AllByRecursion};
 ghost use Rattle.lrup_model.specs.Layout.{IsStream};
@@ -21,14 +21,14 @@ use stream_check::{Gate, RunParams};
 /// Why some stream has no result.
 #[derive(Drop)]
 pub enum ThreadFault<R: Source + Drop> {
-    /// A thread of this stream, from 1 on, couldn't be started. No reader was read.
+    /// A thread of this stream, counted from 1, couldn't be started. No reader was read.
     Spawn(u64),
-    /// All threads have ended, but a checking thread found its ring abandoned before a mark. These are the results of the streams before
-    /// the first such stream.
+    /// All threads have ended, but a checking thread found its ring abandoned before a mark. These
+    /// are the results of the streams before the first such stream.
     Ring(StreamResults<R>),
 }
 
-/// The two jobs of a stream, which have the two ends of one ring, and the stream's pass.
+/// The two jobs of a stream, which hold the two halves of one ring, and the stream's pass.
 #[derive(Drop)]
 pub struct StreamJobs<R: Source + Drop, G: Gate + Drop> {
     pub(crate) reading: ReadingJob<R>,
@@ -53,8 +53,8 @@ impl<R: Source + Drop, G: Gate + Drop> Model for StreamJobs<R, G> {
 }
 
 impl<R: Source + Drop, G: Gate + Drop> StreamJobs<R, G> {
-    /// Makes the jobs of stream `stream`, from 1 on, whose calls go through this pass. By the code all memory is taken here, except for the
-    /// identities that the stream drops.
+    /// Makes the jobs of stream `stream`, counted from 1, whose calls go through this pass. In the
+    /// code all memory is allocated here, except for the identities that the stream drops.
     pub fn new(
         alloc: Global,
         reader: R,
@@ -102,13 +102,15 @@ pub fn jobs_of<R: Source + Drop, G: Gate + Drop>(
     Ok(all)
 }
 
-/// What a checking thread gives back to whoever joins it: its result, or the token that shows that it was told to leave.
+/// What joining a checking thread returns: its result, or the token that proves that the signal was
+/// to leave.
 type CheckingResult<'a> = Result<CheckedPass, OnceToken<'a, bool>>;
 
-/// What a reading thread gives back: its result, or the token that shows that it was told to leave.
+/// What joining a reading thread returns: its result, or the token that proves that the signal was
+/// to leave.
 type ReadingResult<'a, R> = Result<Sent<R>, OnceToken<'a, bool>>;
 
-/// A stream whose checking thread has started, and whose reading thread is still to start.
+/// A stream whose checking thread has started, and whose reading thread hasn't.
 #[derive(Drop)]
 pub(crate) struct HalfStarted<'a, R: Source + Drop, G: Gate + Drop> {
     pub(crate) reading: ReadingJob<R>,

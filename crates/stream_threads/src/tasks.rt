@@ -1,5 +1,5 @@
-//! What the threads of a stream do and give back. A task says with what a thread was started, so that the contract of its join can say what
-//! the thread did; it takes no bytes.
+//! What the threads of a stream do and return. A task says what a thread was started with, so that
+//! the contract of its join can say what the thread did; it takes no bytes.
 ghost use Rattle.std.specs.Prelude.{◌≡◌, true, false, Ok, IfErr, IfNone, IfOk, IfSome, MatchResult};
 ghost use Rattle.clause_store.specs.Passes.{store_of};
 ghost use Rattle.lrup_model.specs.Pass.{pass_caller_view};
@@ -18,7 +18,7 @@ use std::sync::{OnceLock, OnceToken, Wait};
 use std::thread::Promise;
 use stream_check::Gate;
 
-/// What a checking thread gives back, if it was told to start: what it checked, and its pass.
+/// What a checking thread returns if the signal was to start: what it checked, and its pass.
 #[derive(Drop)]
 pub(crate) struct CheckedPass {
     pub(crate) checked: Checked,
@@ -57,7 +57,8 @@ impl<'a, G: Gate + Drop> Promise<Result<CheckedPass, OnceToken<'a, bool>>> for C
         (λ token. (token.of ≡ task.signal.value.id) × (token.value ≡ false)) };
 }
 
-/// The result of a thread that was told to start: `signalled` shows it, so the thread's own token can't say 'leave'.
+/// The result of a thread when the signal was to start: `signalled` proves this, so the thread's
+/// own token can't say 'leave'.
 pub(crate) fn result_after_start<'a, T>(
     end: Result<T, OnceToken<'a, bool>>,
     signalled: &OnceToken<'a, bool>,
@@ -75,7 +76,8 @@ pub(crate) fn result_after_start<'a, T>(
     }
 }
 
-/// Waits for the start signal, and then checks what is received, at a desk of the store. If the signal says to leave, its token comes back.
+/// Waits for the start signal, and then checks what is received, at a desk of the store. If the
+/// signal says to leave, its token is returned.
 pub(crate) fn check<'a, W: Wait, G: Gate + Drop>(
     wait: &W,
     store: &Store,

@@ -1,4 +1,5 @@
--- The worked example: four clauses over two variables, and one stream with one identity and room for two literals.
+-- The example: four clauses over two variables, and one stream with one identity and room for two
+-- literals.
 use Rattle.std.specs.Prelude.{pos, negsuc, [], ◌∷◌}
 use Rattle.lrup_model.specs.Clause.{Clause}
 use Rattle.lrup_model.specs.Formula.{Cnf}
@@ -23,14 +24,14 @@ fourth = negsuc 0 ∷ negsuc 1 ∷ []
 abbrev pub four : Cnf
 four = record { vars = 2; clauses = first ∷ second ∷ third ∷ fourth ∷ [] }
 
--- the unit clause that the first two show
+-- the unit clause that the first two clauses show
 abbrev pub unit : Clause
 unit = pos 2 ∷ []
 
 abbrev pub one_line : LayoutValue
 one_line = record { vars = 2; clauses = 4; literals = 8; streams = 1; lines = 1; room = 2 }
 
--- stream 1 publishes the unit clause under 5, retires it, and can do neither again
+-- stream 1 publishes the unit clause under 5, retires it, and can then do neither again
 abbrev pub calls : History
 calls =
     fetch 1 5 vacant

@@ -1,9 +1,9 @@
-//! A clock that nothing waits on.
+//! A clock whose sleeps return at once.
 use std::io;
 use std::sync::atomic::{AtomicU64, Ordering};
 use std::time::{Clock, Duration};
 
-/// A clock that stands still, and counts the sleeps.
+/// A clock that always shows 0, and counts the sleeps.
 #[derive(Drop)]
 pub struct Sleeps {
     micros: AtomicU64,
@@ -11,7 +11,7 @@ pub struct Sleeps {
 }
 
 impl Sleeps {
-    /// No sleep yet.
+    /// A clock without sleeps so far.
     pub fn new() -> Sleeps {
         Sleeps {
             micros: AtomicU64::new(0),
@@ -19,7 +19,7 @@ impl Sleeps {
         }
     }
 
-    /// The sleeps of one microsecond, and all others.
+    /// The number of sleeps of one microsecond, and that of all others.
     pub fn counts(&self) -> (u64, u64) {
         let micros = self.micros.load(Ordering::SeqCst);
         (micros, self.others.load(Ordering::SeqCst))

@@ -1,18 +1,19 @@
-//! A reader and a writer that take few bytes a call, and fail at one.
+//! A reader and a writer that take few bytes per call, and fail at one call.
 ghost use Rattle.std.specs.Prelude.{◌≡◌, [], Some, false};
 ghost use Rattle.lrup_text.specs.Reads.{GivesLeft};
 
 use lrup_text::{ReadFault, Sink, Source, WriteFault};
 use std::alloc::Global;
 
-/// A text of which a read gives at most `most` bytes, at least one, until read number `fails_at`, from 1 on, fails.
+/// A text of which a read delivers at most `most` bytes (1 if that is 0). Read number `fails_at`,
+/// counted from 1, fails.
 #[derive(Drop)]
 pub struct Pieces<'a> {
-    /// What no read has given yet.
+    /// The bytes that weren't read yet.
     pub left: &'a [u8],
-    /// The reads, the failed one among them.
+    /// The number of reads, including the failed one.
     pub reads: usize,
-    /// The most bytes that a read asked for.
+    /// The largest number of bytes that a read asked for.
     pub asked: usize,
     most: usize,
     fails_at: usize,
@@ -20,7 +21,7 @@ pub struct Pieces<'a> {
 }
 
 impl<'a> Pieces<'a> {
-    /// Reads of at most `most` bytes; number `fails_at` fails, and none if that is 0.
+    /// Reads deliver at most `most` bytes. Read number `fails_at` fails; if that is 0, none does.
     pub fn new(text: &'a str, most: usize, fails_at: usize) -> Pieces<'a>
         ensures left { result.left.now ≡ text.now }
         ensures most { result.most ≡ most }
@@ -66,12 +67,13 @@ impl Source for Pieces<'_> {
     }
 }
 
-/// A sink that takes at most `most` bytes a write, at least one, until write number `fails_at`, from 1 on, fails.
+/// A sink that takes at most `most` bytes per write (1 if that is 0). Write number `fails_at`,
+/// counted from 1, fails.
 #[derive(Drop)]
 pub struct Paper {
-    /// What was written.
+    /// The bytes that were written.
     pub bytes: Vec<u8>,
-    /// The writes, the failed one among them.
+    /// The number of writes, including the failed one.
     pub writes: usize,
     most: usize,
     fails_at: usize,
@@ -79,7 +81,7 @@ pub struct Paper {
 }
 
 impl Paper {
-    /// Writes of at most `most` bytes; number `fails_at` fails, and none if that is 0.
+    /// Writes take at most `most` bytes. Write number `fails_at` fails; if that is 0, none does.
     pub fn new(alloc: Global, most: usize, fails_at: usize) -> Paper
         ensures bytes { result.bytes.items ≡ [] }
         ensures most { result.most ≡ most }

@@ -1,4 +1,4 @@
-//! The worked formula.
+//! The example formula.
 ghost use Rattle.std.specs.Prelude.{◌≡◌, IfOk};
 ghost use Rattle.lrup_model.specs.Literal.{IsLiteral, max_variable};
 ghost use Rattle.test_support.specs.Worked.{four};
@@ -14,7 +14,8 @@ pub fn lit(value: i64) -> Lit
     Lit::new(value).unwrap()
 }
 
-/// 1 2 0 / -1 2 0 / 1 -2 0 / -1 -2 0: four clauses over two variables, which no assignment makes all true.
+/// 1 2 0 / -1 2 0 / 1 -2 0 / -1 -2 0: four clauses over two variables, which no assignment
+/// satisfies.
 pub fn four_clauses(alloc: Global) -> Result<Formula, AllocError>
     ensures { IfOk result (λ formula. formula ≡ four) }
 {

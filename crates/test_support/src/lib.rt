@@ -1,4 +1,5 @@
-//! What the tests of several crates use: the worked formula, a reader and a writer that fail at a call, and a clock.
+//! What the tests of several crates use: the example formula, a reader and a writer that fail at
+//! one call, and a clock.
 #![tactic(auto)]
 
 mod clock;

@@ -1,4 +1,4 @@
--- Checkers at a map that was just opened, and beside other streams' calls.
+-- Lemmas about checkers at a map that was just opened, and after calls of other streams.
 use Rattle.std.proofs.Common.{◌≡◌, ◌≢◌, ℕ, refl, sym, ap, subst, ◌∙◌}
 use Rattle.lrup_model.specs.Cube.{CubeValue}
 use Rattle.lrup_model.specs.Event.{History}
@@ -10,7 +10,7 @@ use Rattle.stream_check.specs.Checker.{IsNew, IsReadyAt}
 use Rattle.stream_check.specs.Laws.{ReadyNew, ReadyBeside}
 use Rattle.checker_support.specs.Opened.{IsPlainOpened}
 
--- a new checker at a map that was just opened
+-- a new checker is ready at a map that was just opened
 pub ready_opened : ReadyNew
     → (layout : LayoutValue) (cube : CubeValue) (stream tries : ℕ) (v : CheckerValue) (m : Plain)
     → IsPlainOpened m → layout ≡ m.layout → IsNew layout cube stream tries v
@@ -20,7 +20,7 @@ ready_opened law layout cube stream tries v m opened same new =
     (subst (λ (p : LayoutValue). IsNew p cube stream tries v) same new) opened.fits refl
     (λ id owns. ap (λ (s : State). s id) opened.state)
 
--- another stream's calls leave a checker ready
+-- a checker is still ready after calls of another stream
 pub ready_for : ReadyBeside → (v : CheckerValue) (old new : Plain) (s t : ℕ) (es : History)
     → IsReadyAt v (plain_caller_view old s) → PlainMoves old new t es → t ≢ s
     → IsReadyAt v (plain_caller_view new s)

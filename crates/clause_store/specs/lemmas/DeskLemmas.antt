@@ -1,4 +1,4 @@
--- What holds of desks at the store.
+-- Lemmas about desks at the store.
 use Rattle.std.specs.Prelude.{◌++◌, []}
 use Rattle.std.proofs.Common.{refl, ◌∙◌}
 use Rattle.lrup_model.specs.Event.{History}

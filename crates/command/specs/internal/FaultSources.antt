@@ -1,4 +1,4 @@
--- The causes that faults of lower crates become, and how a cause is spelt (this project's own).
+-- The causes that faults of lower crates become, and how a cause is spelled (this project's own).
 use Rattle.std.specs.Prelude.{ℕ, List, ◌++◌, Option}
 use Rattle.command_line.specs.declared.words.WordsFault.{WordsFault}
 use Rattle.command_line.specs.declared.words.WordsFault.TheVariants as words
@@ -14,7 +14,8 @@ use Rattle.command.specs.declared.files.OpenFault.TheVariants as opens
 use Rattle.command.specs.declared.fault.CommandFault.{CommandFault}
 use Rattle.command.specs.declared.fault.CommandFault.TheVariants as faults
 
--- the fault of the words, of the formula, of the assumed literals and of an opening; out of memory is one fault, wherever it comes
+-- the cause for a fault of the words, of the formula, of the assumed literals or of an opening; out
+-- of memory is the same cause everywhere
 abbrev pub of_words : WordsFault → CommandFault
 of_words (words.Usage text) = faults.Usage text
 of_words words.TwoCheckpoints = faults.TwoCheckpoints
@@ -32,12 +33,12 @@ abbrev pub of_open : OpenFault → CommandFault
 of_open opens.NotOpened = faults.Unread
 of_open opens.Memory = faults.Memory
 
--- the fault of a cube's file that wasn't read, by the one that the formula's file would have
+-- the fault of reading a cube's file, made from the one of reading the formula's file
 abbrev pub of_cube_file : CommandFault → CommandFault
 of_cube_file faults.Unread = faults.CubeUnread
 of_cube_file fault = fault
 
--- the fault of a run
+-- the cause for a fault of a run
 abbrev pub of_run : RunFault → CommandFault
 of_run (runs.Layout fault) = faults.Layout fault
 of_run runs.Memory = faults.Memory

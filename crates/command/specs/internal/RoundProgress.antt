@@ -1,4 +1,5 @@
--- How far the rounds have come: what private functions say of them (this project's own).
+-- How far the rounds have come: definitions for contracts of private functions (this project's
+-- own).
 use Rattle.std.specs.Prelude.{◌≡◌, ◌≤◌, ◌+◌, ◌++◌, ◌∷◌, ◌⊎◌, ℕ, List, Option, None, length, map}
 use Rattle.std.specs.Option.{ForSome}
 use Rattle.lrup_model.specs.Cube.{CubeValue}
@@ -17,8 +18,8 @@ use Rattle.command.specs.declared.fault.CommandFault.TheVariants as faults
 use Rattle.command.specs.declared.course.LastRound.{LastRound}
 use Rattle.command.specs.declared.course.RoundFault.{RoundFault}
 
--- The streams of a round of this formula, opened as these readers, were checked, and this was found of them; `leaves` says what became of the
--- clauses that they left.
+-- The streams of a round with this formula, opened as these readers, were checked, and `last` is
+-- what was found; `leaves` says what became of their clauses.
 pub record WasChecked (its : Deeds) (given : CommandLine) (cube : CubeValue) (formula : Cnf)
     (readers : List its.Reader) (opened : its.State) (last : LastRound) (next : Option Cnf)
     (after : its.State) : Type 0 where
@@ -31,7 +32,7 @@ pub record WasChecked (its : Deeds) (given : CommandLine) (cube : CubeValue) (fo
       checked.ran.run.history checked.dropped)
       last.verdict opened (created_path given.next last.number) last.unsaved next after
 
--- the round that was checked so, with the files after the opening of its streams and those after its check
+-- the round that was checked in this way
 abbrev pub round_of : {its : Deeds} {given : CommandLine} {cube : CubeValue} (formula : Cnf)
     (readers : List its.Reader) (opened : its.State) (last : LastRound) (next : Option Cnf)
     (after : its.State)
@@ -52,7 +53,8 @@ round_of formula readers opened last next after was = record {
   leaves = was.leaves;
 }
 
--- The round's streams were checked. It goes on with the next formula; or there is none, and it is barred.
+-- The round's streams were checked. The run continues with the next formula; or there is none, and
+-- the run doesn't continue.
 pub record WasFound (its : Deeds) (given : CommandLine) (cube : CubeValue) (formula : Cnf)
     (readers : List its.Reader) (opened : its.State) (last : LastRound) (next : Option Cnf)
     (after : its.State) : Type 0 where
@@ -62,7 +64,8 @@ pub record WasFound (its : Deeds) (given : CommandLine) (cube : CubeValue) (form
       (CarriesOn (round_of formula readers opened last saved after was))
   pub over : next ≡ None → IsBarred (round_of formula readers opened last saved after was)
 
--- The rounds up to this one were checked. It goes on or is barred, as the next formula says, and left these files.
+-- The rounds up to this one were checked and left these files. The run continues if there is a next
+-- formula, and else it doesn't.
 pub record RoundsStand (its : Deeds) (given : CommandLine) (cube : CubeValue) (formula : Cnf)
     (first : its.State) (last : LastRound) (next : Option Cnf) (after : its.State) : Type 0 where
   pub current : Cnf
@@ -73,14 +76,15 @@ pub record RoundsStand (its : Deeds) (given : CommandLine) (cube : CubeValue) (f
   pub rounds : AreRounds formula first
       (round_of current readers opened last is_found.saved after is_found.was ∷ before)
 
--- No round follows this one, which goes on in the folder: the sizes of the next were read, and there is no file of its stream 1.
+-- No round follows this one in the folder: the sizes of the next round were read, and there is no
+-- file for its stream 1.
 abbrev pub IsAlone : (its : Deeds) → Text → LastRound → its.State → its.State → Type 0
 IsAlone its folder last before after =
     (sizes : Sizes) × (sized : its.State)
     × AreSized its (sizes_path folder (last.number + 1)) last.sizes before sizes sized
     × its.lacks sized (stream_path folder (last.number + 1) 1) after
 
--- What the program keeps of its last round is of this round.
+-- What the program keeps of its last round comes from this round.
 pub record IsOfRound {its : Deeds} {given : CommandLine} {cube : CubeValue} (last : LastRound)
     (round : Round its given cube) : Type 0 where
   pub number : last.number ≡ round.number
@@ -97,7 +101,7 @@ pub record EndsAt (its : Deeds) (given : CommandLine) (cube : CubeValue) (formul
   pub is : IsOfRound last round
   pub over : RoundsEnd round after
 
--- The round after these has no report, for this cause, and left these files.
+-- The round after these has no report, for this cause, and the files are these.
 pub record FailsAfter (its : Deeds) (given : CommandLine) (cube : CubeValue) (formula : Cnf)
     (first : its.State) (failed : RoundFault) (after : its.State) : Type 0 where
   pub last : Round its given cube
@@ -106,7 +110,7 @@ pub record FailsAfter (its : Deeds) (given : CommandLine) (cube : CubeValue) (fo
   pub number : failed.round ≡ last.number + 1
   pub cause : IsNextCause last failed.fault after
 
--- The fault is one of round 1, after the opening of its streams; or one of a round after it.
+-- The fault is one of round 1, after its streams were opened; or one of a later round.
 abbrev pub FailsAt : (its : Deeds) → CommandLine → CubeValue → Cnf → its.State
     → List its.Reader → its.State → RoundFault → its.State → Type 0
 FailsAt its given cube formula first readers opened failed after =
@@ -124,13 +128,13 @@ pub record IsReported (files : FilesView) (given : CommandLine) (last : LastRoun
   pub is : IsOfRound last round
   pub over : RoundsEnd round after
 
--- Reads of a file gave these bytes, up to its end. Where the file's bytes are known, they are these.
+-- Reading a file up to its end gave these bytes. If its contents are known, they are these bytes.
 pub record GaveWhole {R : Type 0} (reading : SourceView R) (first : R)
     (bytes : List ℕ) : Type 0 where
   pub gave : GaveAll R reading.reads first bytes
   pub told : ForSome (reading.left first) (λ all. all ≡ bytes)
 
--- The bytes that the reads of a file gave are a text of these sizes.
+-- Reading the file gave a text of these sizes.
 abbrev pub ReadsSizes : {R : Type 0} → SourceView R → R → Sizes → Type 0
 ReadsSizes reading first sizes =
     (bytes : List ℕ) × GaveWhole reading first bytes × IsSizesText bytes sizes
@@ -146,7 +150,8 @@ IsUnsized {R = R} reading first faults.Sizes =
 IsUnsized reading first faults.Memory = Unit {0}
 IsUnsized reading first fault = ⊥
 
--- A run has begun: the assumed literals were read, and then the streams of the command line were opened.
+-- A run has begun: the assumed literals were read, and then the streams of the command line were
+-- opened.
 pub record HasBegun (files : FilesView) (given : CommandLine) (formula : Cnf) (cube : CubeValue)
     (next : files.its.State) (readers : List files.its.Reader) (last : files.its.State) : Type 0
   where

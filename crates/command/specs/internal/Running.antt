@@ -1,4 +1,5 @@
--- What the check of streams leaves: what private functions say of it (this project's own).
+-- What the check of streams leaves: definitions for contracts of private functions (this project's
+-- own).
 use Rattle.std.specs.Prelude.{◌≡◌, Bool, false, List}
 use Rattle.std.specs.Prelude.{ℕ}
 use Rattle.lrup_model.specs.Formula.{Cnf}
@@ -17,7 +18,8 @@ use Rattle.command.specs.declared.fault.CommandFault.{CommandFault}
 use Rattle.command.specs.declared.fault.CommandFault.TheVariants as faults
 use Rattle.command.specs.declared.running.Setup.{Setup}
 
--- The streams were checked, and these clauses were left by the run's history, with what its streams dropped.
+-- The streams were checked. The run's history left these clauses, and its streams dropped these
+-- identities.
 pub record StandsBehind {R : Type 0} (view : SourceView R) (serial : Bool) (formula : Cnf)
     (run_params : RunParamsValue) (firsts : List R) (reports : List Report) (verdict : Verdict)
     (clauses : Clauses) (dropped : List DroppedIdsValue) : Type 0 where
@@ -26,13 +28,14 @@ pub record StandsBehind {R : Type 0} (view : SourceView R) (serial : Bool) (form
   pub dropped_is : dropped ≡ checked.dropped
   pub has : WereLeftBy formula checked.ran.run.history clauses
 
--- why streams aren't checked: there is no layout
+-- why streams aren't checked: they have no layout
 abbrev pub IsLayoutCause : LayoutValue → CommandFault → Type 0
 IsLayoutCause layout (faults.Layout fault) = IsFault layout fault
 IsLayoutCause layout fault = ⊥
 
--- why the streams of a formula weren't checked: there is no layout; or there is one, and a thread wasn't started, or a ring lost the end of a
--- stream, which was read out, as the streams before it were, which were judged
+-- why the streams of a formula weren't checked: they have no layout; or they have one, and a thread
+-- wasn't started, or a ring lost the end of a stream that was read to its end, after the streams
+-- before it were judged; or memory ran out
 abbrev pub IsRunCause : {R : Type 0} → SourceView R → Bool → Cnf → RunParamsValue → List R
     → CommandFault → Type 0
 IsRunCause view serial formula run_params readers (faults.Layout fault) =
@@ -45,7 +48,7 @@ IsRunCause view serial formula run_params readers (faults.Ring stream) =
 IsRunCause view serial formula run_params readers faults.Memory = Unit {0}
 IsRunCause view serial formula run_params readers fault = ⊥
 
--- what this many streams of a formula are checked by, with this setup
+-- the parameters for checking this many streams of a formula with this setup
 abbrev pub run_params_on : Setup → Cnf → ℕ → RunParamsValue
 run_params_on setup formula streams = run_params_of setup.options setup.cube.now formula streams
 

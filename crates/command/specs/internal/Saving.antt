@@ -1,4 +1,5 @@
--- A checkpoint's file, from its creation to its end: what private functions say of it (this project's own).
+-- The checkpoint's file, from creating it to closing it: definitions for contracts of private
+-- functions (this project's own).
 use Rattle.std.specs.Prelude.{◌≡◌, [], Option, None, Some, Result}
 use Rattle.std.specs.Option.{ForSome}
 use Rattle.lrup_model.specs.Formula.{Cnf}
@@ -11,7 +12,7 @@ use Rattle.command.specs.declared.fault.CommandFault.{CommandFault}
 use Rattle.command.specs.declared.fault.CommandFault.TheVariants as faults
 use Rattle.command.specs.declared.files.OpenFault.TheVariants as open_faults
 
--- with a path a file was created there, with nothing in it; without one there is none
+-- with a path, an empty file was created there; without one, there is no file
 abbrev pub CreatesCheckpoint : (its : Deeds) → its.State → Option Text → Option its.Output
     → its.State → Type 0
 CreatesCheckpoint its before None None after = after ≡ before
@@ -33,8 +34,7 @@ abbrev pub DiscardsIt : (its : Deeds) → its.State → Option its.Output → it
 DiscardsIt its before None after = after ≡ before
 DiscardsIt its before (Some output) after = its.discards before output after
 
--- Something was saved to the file, and it was closed: what was saved was kept, or that failed; else the file was discarded. The next formula
--- is what was saved, if there is one.
+-- The file was saved to, and closed as `ClosesSink` says.
 pub record SavesAndCloses (its : Deeds)
     (Saves : Result (Option Cnf) SaveFault → its.Output → its.Output → Type 0) (before : its.State)
     (first : its.Output) (unsaved : Option SaveFault) (next : Option Cnf)
@@ -44,7 +44,8 @@ pub record SavesAndCloses (its : Deeds)
   pub saving : Saves result first last
   pub closed : ClosesSink its result before last unsaved next after
 
--- What became of the file, if there is one, by the verdict: with 'unsatisfiable' it was discarded.
+-- What became of the file, if there is one: with the verdict 'unsatisfiable' it was discarded, else
+-- it was saved to and closed.
 abbrev pub ClosesCheckpoint : (its : Deeds)
     → (Result (Option Cnf) SaveFault → its.Output → its.Output → Type 0) → Verdict → its.State
     → Option its.Output → Option SaveFault → Option Cnf → its.State → Type 0

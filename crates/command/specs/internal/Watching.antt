@@ -2,7 +2,7 @@
 use Rattle.std.specs.Prelude.{◌++◌, ℕ, List, codes}
 use Rattle.std.specs.Fmt.{decimal}
 
--- the line of a round that begins, with its clauses and literals, and the rest
+-- the line for a round that begins, with its counts of clauses and literals, and the rest
 abbrev pub begins_with : ℕ → ℕ → ℕ → List ℕ → List ℕ
 begins_with number clauses literals rest =
     codes "lrupd: round " ++ (decimal number ++ (codes ": " ++ (decimal clauses
@@ -11,7 +11,7 @@ begins_with number clauses literals rest =
 abbrev pub begin_line : ℕ → ℕ → ℕ → List ℕ
 begin_line number clauses literals = begins_with number clauses literals (codes " literals\n")
 
--- the same after a pause of so many milliseconds
+-- the same, with the pause in milliseconds
 abbrev pub paused_line : ℕ → ℕ → ℕ → ℕ → List ℕ
 paused_line number clauses literals pause =
     begins_with number clauses literals

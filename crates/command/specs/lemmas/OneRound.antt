@@ -9,7 +9,7 @@ use Rattle.command_line.specs.declared.words.Next.TheVariants.{Checkpoint, Nothi
 use Rattle.command.specs.Commands.{Deeds, FilesView, Text, created_path}
 use Rattle.command.specs.Rounds.{AreRounds, CarriesOn, Round, RoundsEnd, WereRounds}
 
--- the checkpoint that is asked for is the file that is created
+-- if the words ask for a checkpoint, it is the file that the round creates
 pub creates_checkpoint : (next : Next) (path : Text) (number : ℕ) → checkpoint_of next ≡ Some path
     → created_path next number ≡ Some path
 creates_checkpoint Nothing path number is = is
@@ -19,12 +19,12 @@ creates_checkpoint (Rounds folder) path number is =
 
 -- Words that ask for no rounds.
 module _ {given : CommandLine} (once : rounds_of given.next ≡ None) where
-  -- no round goes on
+  -- the run continues after no round
   pub never_on : {its : Deeds} {cube : CubeValue} (round : Round its given cube) (next : Cnf)
       → CarriesOn round next → ⊥
   never_on round next on = let no : None ≡ Some on.folder = sym once ∙ on.asked in cc
 
-  -- so there is one
+  -- so there is only one round
   is_alone : {its : Deeds} {cube : CubeValue} (formula : Cnf) (first : its.State)
       (last : Round its given cube) (before : List (Round its given cube))
       → AreRounds formula first (last ∷ before) → before ≡ []
@@ -44,7 +44,7 @@ module _ {given : CommandLine} (once : rounds_of given.next ≡ None) where
   were_one files cube last before were =
       subst (WereRounds files given cube last) (was_alone files cube last before were) were
 
-  -- and nothing is done to the files after it
+  -- and nothing is done to the files after the last round
   pub is_over : {its : Deeds} {cube : CubeValue} (last : Round its given cube) (after : its.State)
       → RoundsEnd last after → after ≡ last.after
   is_over last after (inl (barred, same)) = same

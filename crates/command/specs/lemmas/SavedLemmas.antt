@@ -21,7 +21,7 @@ use Rattle.command.specs.Commands.{run_params_by}
 use Rattle.command.specs.Paths.{formula_path}
 use Rattle.command.specs.Rounds.{CarriesOn, ClosesSink, LeavesBehind, LeavesFile, Round, SavesCheckpoint}
 
--- A checkpoint of the formula was saved at the path; it is that of the next formula, if there is one.
+-- A checkpoint of the formula was saved at the path; its formula is the next one, if there is one.
 pub record KeptAt (its : Deeds) (formula : Cnf) (before : its.State) (path : Text)
     (next : Option Cnf) (after : its.State) : Type 0 where
   pub bytes : List ℕ
@@ -33,7 +33,7 @@ module _ (its : Deeds) (f : Cnf) (layout : LayoutValue) (h : History) (dropped :
   abbrev Saves : Result (Option Cnf) SaveFault → its.Output → its.Output → Type 0
   Saves = SavesCheckpoint its f layout h dropped
 
-  -- what was closed without a fault was saved
+  -- if there was no fault when the file was closed, the checkpoint was saved
   closed_kept : (before opened after : its.State) (path : Text)
       (result : Result (Option Cnf) SaveFault) (first last : its.Output) (next : Option Cnf)
       → its.creates before path first opened → ForSome (its.written first) (λ all. all ≡ [])
@@ -73,7 +73,7 @@ module _ (its : Deeds) (f : Cnf) (layout : LayoutValue) (h : History) (dropped :
   leaves_kept UnsatisfiableUnder before after path next unrefuted leaves = file_kept before after path next leaves
   leaves_kept Unknown before after path next unrefuted leaves = file_kept before after path next leaves
 
--- a round creates the next one's formula
+-- a round saves to the file of the next round's formula
 pub created_in : (next : Next) (folder : Text) (number : ℕ) → rounds_of next ≡ Some folder
     → created_path next number ≡ Some (formula_path folder (number + 1))
 created_in Nothing folder number asked = absurd (let no : None ≡ Some folder = asked in cc)
@@ -81,7 +81,8 @@ created_in (Checkpoint path) folder number asked = absurd (let no : None ≡ Som
 created_in (Rounds other) folder number asked = ap (option_map (λ at. formula_path at (number + 1))) asked
 
 module _ {its : Deeds} {given : CommandLine} {cube : CubeValue} (round : Round its given cube) where
-  -- a round that isn't refuted, and whose checkpoint was saved, saved it at the path that it created
+  -- a round whose verdict isn't 'unsatisfiable' and whose checkpoint was saved, saved it at the
+  -- path of the file that it created
   pub kept : (path : Text) → created_path given.next round.number ≡ Some path
       → (round.verdict ≡ Unsatisfiable → ⊥)
       → round.unsaved ≡ None → KeptAt its round.formula round.opened path round.next round.after
@@ -94,7 +95,7 @@ module _ {its : Deeds} {given : CommandLine} {cube : CubeValue} (round : Round i
       leaves_kept its round.formula layout h dropped round.verdict round.opened round.after path round.next unrefuted
       (subst (Leaves (Some path)) saved (subst (λ (o : Option Text). Leaves o round.unsaved) at round.leaves))
 
-  -- so did one that goes on, and its checkpoint is that of the next formula
+  -- so did a round after which the run continues, and its checkpoint's formula is the next one
   pub carried : (next : Cnf) (on : CarriesOn round next)
       → KeptAt its round.formula round.opened (formula_path on.folder (round.number + 1))
       (Some next) round.after

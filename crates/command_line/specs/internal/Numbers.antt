@@ -1,9 +1,9 @@
--- How numbers are read of a text of sizes (this project's own).
+-- How numbers are read in a text of sizes (this project's own).
 use Rattle.std.specs.Prelude.{◌≡◌, ◌<◌, ◌^◌, ℕ, List, ◌∷◌, ◌++◌, length, slice_index}
 use Rattle.std.specs.Fmt.{decimal}
 use Rattle.std.specs.Int.{IsInRange}
 
--- the text begins with a digit, and with 0 only if it has nothing else
+-- the text begins with a digit, and has nothing after a leading 0
 pub record BeginsAsNumber (text : List ℕ) : Type 0 where
   pub some : 0 < length text
   pub digit : IsInRange 48 57 (slice_index text 0)

@@ -1,4 +1,4 @@
--- Lemmas on what the clauses are saved for.
+-- Lemmas about what the clauses are saved for.
 use Rattle.std.proofs.Common.{◌≡◌, ◌∙◌, List, None, Some, refl, sym}
 use Rattle.clap.specs.Words.{Text}
 use Rattle.command_line.specs.CommandLine.{AskForBoth, IsCommandLineOf, checkpoint_of, rounds_of}
@@ -6,14 +6,14 @@ use Rattle.command_line.specs.declared.words.CommandLine.{CommandLine}
 use Rattle.command_line.specs.declared.words.Next.{Next}
 use Rattle.command_line.specs.declared.words.Next.TheVariants.{Checkpoint, Nothing, Rounds}
 
--- a run with a checkpoint doesn't go on in rounds
+-- a run with a checkpoint has no rounds
 pub never_both : (next : Next) (path : Text) → checkpoint_of next ≡ Some path
     → rounds_of next ≡ None
 never_both Nothing path saved = refl
 never_both (Checkpoint at) path saved = refl
 never_both (Rounds folder) path saved = absurd (let no : None ≡ Some path = saved in cc)
 
--- words that give a command line don't ask for a checkpoint and for rounds
+-- words that give a command line don't ask both for a checkpoint and for rounds
 pub asks_for_one : (words : List Text) (given : CommandLine) → IsCommandLineOf words given
     → ¬ AskForBoth words
 asks_for_one words given line both =

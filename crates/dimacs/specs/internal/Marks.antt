@@ -1,4 +1,5 @@
--- A mark for each literal of a clause: a bit of a row of words, and its place is the code of the literal.
+-- A mark for each literal of a clause: a bit in an array of words, at the place that is the
+-- literal's code.
 use Rattle.std.specs.Prelude.{◌≡◌, ◌↔◌, ◌/◌, ◌%◌, ◌≤◌, ℕ, ℤ, Bool, true, false, List, [], length, slice_index}
 use Rattle.std.specs.Int.{bit_at}
 use Rattle.lrup_model.specs.Literal.{code_of}
@@ -8,15 +9,15 @@ use Rattle.lrup_model.specs.Clause.{Has}
 unfoldable pub IsBitSet : List ℕ → ℕ → Type 0
 IsBitSet words place = bit_at (slice_index words (place / 64)) (place % 64) ≡ 1
 
--- just the clause's literals are marked
+-- exactly the clause's literals are marked
 abbrev pub MarksAre : List ℕ → List ℤ → Type 0
 MarksAre words clause = (l : ℤ) → IsBitSet words (code_of l) ↔ Has clause l
 
--- the number of words that has a place for each literal
+-- the number of words that have a bit for each literal
 abbrev pub all_words : ℕ
 all_words = 524288
 
--- no mark is set, or each literal has a place and just the clause's are marked
+-- no mark is set; or each literal has a place, and exactly the clause's literals are marked
 abbrev pub MarksFit : Bool → List ℕ → List ℤ → Type 0
 MarksFit true words clause = MarksAre words clause × (all_words ≤ length words)
 MarksFit false words clause = MarksAre words []

@@ -1,4 +1,4 @@
--- What is left of a file at some place: the words of this crate's own functions.
+-- The rest of a file from some place on: definitions for this crate's own functions.
 use Rattle.std.specs.Prelude.{◌≡◌, ◌⊎◌, ◌↔◌, ◌+◌, ◌<◌, ◌≤◌, ℕ, ℤ, pos, nat_abs, true, false, Some, None, List, [], ◌∷◌, ◌++◌, length, if◌then◌else◌}
 use Rattle.std.specs.List.{slice_split}
 use Rattle.lrup_model.specs.Literal.{IsLiteral, max_variable}
@@ -12,11 +12,12 @@ use Rattle.dimacs.specs.declared.fault.DimacsFault.{DimacsFault}
 use Rattle.lrup_model.specs.Clause.{Has, EachOnce}
 use Rattle.lrup_model.specs.Formula.{Cnf, max_clauses}
 
--- the lines of what is left at the start of a line, which has this number
+-- the lines of the rest at the start of a line with this number
 unfoldable pub lines_at_start : ℕ → List ℕ → List Line
 lines_at_start number bytes = lines_from number (slice_split ends_line bytes)
 
--- the lines of what is left inside the line of this number, which is no comment, in which no token has begun
+-- the lines of the rest inside the line with this number, which isn't a comment, before its first
+-- token
 abbrev pub lines_inside : ℕ → List (List ℕ) → List Line
 lines_inside number [] = []
 lines_inside number (line ∷ lines) =
@@ -29,7 +30,7 @@ lines_at number bytes = lines_inside number (slice_split ends_line bytes)
 unfoldable pub tokens_at : ℕ → List ℕ → List Token
 tokens_at number bytes = all_tokens (lines_at number bytes)
 
--- the bytes up to the next separator, and those from it on
+-- the bytes up to the next separator
 unfoldable pub first_run : List ℕ → List ℕ
 first_run [] = []
 first_run (byte ∷ bytes) = if is_separator byte then [] else byte ∷ first_run bytes
@@ -38,23 +39,25 @@ unfoldable pub after_run : List ℕ → List ℕ
 after_run [] = []
 after_run (byte ∷ bytes) = if is_separator byte then byte ∷ bytes else after_run bytes
 
--- what a reader keeps of a number: the same, or with it above every variable
+-- what a reader keeps of a number: the same number, or one above every variable if the number is,
+-- too
 abbrev pub IsCapped : ℕ → ℕ → Type 0
 IsCapped kept number = (kept ≡ number) ⊎ ((max_variable < kept) × (max_variable < number))
 
--- the text begins with a numeral, up to the next separator: what is kept of its number, and what is left after it
+-- the text begins with a numeral, up to the next separator: what is kept of its number, and the
+-- rest after it
 pub record ReadsNumeral (text : List ℕ) (kept : ℕ) (rest : List ℕ) : Type 0 where
   pub numeral : is_numeral (first_run text) ≡ true
   pub number : IsCapped kept (value (first_run text))
   pub positive : 0 < kept
   pub rest_is : rest ≡ after_run text
 
--- the run and those after it, none if it is empty
+-- the run and those after it; no runs if it is empty
 abbrev pub with_run : List ℕ → List (List ℕ) → List (List ℕ)
 with_run [] later = []
 with_run (byte ∷ bytes) later = (byte ∷ bytes) ∷ later
 
--- what is kept of a count, if the token spells one
+-- the token spells a count, and this is kept of it
 pub record ReadsCount (text : List ℕ) (kept : ℕ) : Type 0 where
   pub count : is_count text ≡ true
   pub number : IsCapped kept (value text)
@@ -65,13 +68,13 @@ pub record IsSmallHeader (tokens : List (List ℕ)) (vars count : ℕ) : Type 0 
   pub few_variables : vars ≤ max_variable
   pub few_clauses : count ≤ max_clauses
 
--- the fault of a line that begins with its first token, whatever comes after it
+-- the fault of a line that begins with its first token, for any lines after it
 abbrev pub IsLineFault : List (List ℕ) → DimacsFault → Type 0
 IsLineFault tokens fault = (number : ℕ) (lines : List Line)
     → IsHeaderFault fault (record { number = number; tokens = tokens } ∷ lines)
 
--- What was made of these tokens, which have no fault: the formula's clauses, and the set and the count of the literals of
--- the clause begun.
+-- What was made from these tokens, which have no fault: the formula's clauses, and the set and the
+-- number of the literals of the clause being read.
 pub record IsBuilt (vars count : ℕ) (tokens : List Token) (formula : Cnf) (clause : List ℤ)
     (written : ℕ) : Type 0 where
   pub closed : List (List ℤ)
@@ -83,18 +86,18 @@ pub record IsBuilt (vars count : ℕ) (tokens : List Token) (formula : Cnf) (cla
   pub written_is : length begun ≡ written
   pub size : length clause ≤ written
 
--- The clause with one literal more: at its end, if it is new.
+-- The clause with one more literal: at its end, if it is new.
 pub record AddsLiteral (old new : List ℤ) (literal : ℤ) : Type 0 where
   pub members : (other : ℤ) → Has new other ↔ (Has old other ⊎ (literal ≡ other))
   pub each_once : EachOnce new
   pub size : length new ≤ length old + 1
   pub order : (Has old literal × (new ≡ old)) ⊎ ((¬ Has old literal) × (new ≡ old ++ literal ∷ []))
 
--- The formula with one clause more.
+-- The formula with one more clause.
 abbrev pub AddsClause : Cnf → Cnf → List ℤ → Type 0
 AddsClause old new clause = (new.vars ≡ old.vars) × (new.clauses ≡ old.clauses ++ clause ∷ [])
 
--- a token begins here, or the end is reached
+-- a token begins here, or this is the end
 abbrev pub IsAtToken : List ℕ → Type 0
 IsAtToken [] = Unit {0}
 IsAtToken (byte ∷ bytes) = is_separator byte ≡ false
@@ -103,7 +106,7 @@ IsAtToken (byte ∷ bytes) = is_separator byte ≡ false
 abbrev pub IsFirstToken : List ℕ → ℕ → List Token → List Token → Type 0
 IsFirstToken text line old new = old ≡ record { line = line; text = text } ∷ new
 
--- what stands next among the tokens, of a formula of so many variables, and which tokens are left after it
+-- the next token, for a formula of this many variables, and the tokens after it
 abbrev pub FindsNext : ℕ → ℕ → List Token → List Token → Next → Type 0
 FindsNext vars line old new End = old ≡ []
 FindsNext vars line old new Bad = (text : List ℕ) × (later : List Token)

@@ -6,7 +6,8 @@ use Rattle.lrup_model.specs.Layout.{LayoutValue, last_identity}
 use Rattle.idwords.specs.internal.RowWords.{identity_word, packed}
 use Rattle.idwords.specs.Words.{words_for}
 
--- the words of live clauses, whose literals lie one clause after the other, from this place on
+-- the words of the identities of live clauses, whose literals are stored one clause after the
+-- other, from this place on
 abbrev pub clause_words : ℕ → List Clause → List ℕ
 clause_words start [] = []
 clause_words start (clause ∷ clauses) =
@@ -16,8 +17,9 @@ abbrev pub literal_words : List Clause → List ℕ
 literal_words [] = []
 literal_words (clause ∷ clauses) = packed clause ++ literal_words clauses
 
--- 0, the formula's identities, the streams' vacant ones, the formula's literals, and zeros to the end of the row: the words that literals two in a
--- word leave, and the streams' rooms, in which nothing is written
+-- word 0, the formula's identities, the streams' vacant identities, the formula's literals, and
+-- zeros to the end of the row: words that aren't needed since each holds two literals, and the
+-- streams' rooms
 abbrev pub opening_words : Cnf → LayoutValue → List ℕ
 opening_words formula layout =
     0 ∷ clause_words (1 + last_identity layout) formula.clauses

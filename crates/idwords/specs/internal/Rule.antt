@@ -1,4 +1,4 @@
--- What the row keeps between any two steps (this project's own).
+-- The rule of the row, which holds between any two steps (this project's own).
 use Rattle.std.specs.Prelude.{◌≡◌, ◌+◌, ◌≤◌, ◌==◌, ◌++◌, ℕ, List, [], ◌∷◌, Some, length, slice_index, if◌then◌else◌, zero, suc}
 use Rattle.std.specs.List.{AllByRecursion}
 use Rattle.atomic_table.specs.Table.{State}
@@ -16,8 +16,10 @@ use Rattle.idwords.specs.Seats.{ThreadState, opening_thread}
 abbrev pub thread_stream : ThreadState → ℕ
 thread_stream thread = thread.view.caller.stream
 
--- the thread state's plan is the row's, the log begins with what it has seen, its calls are its stream's in both, its clauses are spelt where the log
--- has them, and its draft lies from its top on, inside its stream's room
+-- The thread state agrees with the log and the words: it has the run's formula and layout; it has
+-- seen a prefix of the log, and its calls are its stream's events there and in the whole log; its
+-- clauses are stored where that prefix puts them, its top is after its clauses, and the words from
+-- there on have its draft, which fits into its room.
 pub record Stands (run_formula : Cnf) (run_layout : LayoutValue) (log : History) (words : List ℕ)
     (thread : ThreadState) : Type 0 where
   pub formula : thread.view.caller.formula ≡ run_formula
@@ -43,13 +45,14 @@ abbrev pub times : ℕ → List (List ThreadState) → ℕ
 times s [] = 0
 times s (threads ∷ views) = count_in s threads + times s views
 
--- the formula and the layout are of one run
+-- the formula and the layout are within the limits, and fit each other
 pub record IsPlan (run_formula : Cnf) (run_layout : LayoutValue) : Type 0 where
   pub formula : IsCnf run_formula
   pub layout : IsLayout run_layout
   pub fits : Fits run_layout run_formula
 
--- with this history, in which each thread state stands: the words spell its map, and the literals of each clause
+-- The row fits this history: the words show what the history leaves at each identity, and have the
+-- literals of each clause; each thread state agrees with both, and no stream has two.
 pub record Keeps (formula : Cnf) (layout : LayoutValue) (log : History) (words : List ℕ)
     (views : List (List ThreadState)) : Type 0 where
   pub plan : IsPlan formula layout
@@ -65,13 +68,13 @@ pub record Keeps (formula : Cnf) (layout : LayoutValue) (log : History) (words :
   pub threads : AllThreads (Stands formula layout log words) views
   pub once : (s : ℕ) → times s views ≤ 1
 
--- there is such a history
+-- the row fits some history
 abbrev pub HoldsRowInvariant : {S : Type 0} → Cnf → LayoutValue
     → State S (List ThreadState) → Type 0
 HoldsRowInvariant formula layout row =
     (log : History) × Keeps formula layout log row.words row.views
 
--- the thread states of this many streams, from one on
+-- the thread states at the opening of this many streams, from stream s on
 abbrev pub opening_threads : Cnf → LayoutValue → ℕ → ℕ → List ThreadState
 opening_threads formula layout s zero = []
 opening_threads formula layout s (suc count) =

@@ -1,4 +1,4 @@
--- How a seat's value comes from its thread states, and what it keeps (this project's own).
+-- How a seat's value follows from its thread states, and what the seat keeps (this project's own).
 use Rattle.std.specs.Prelude.{◌≡◌, ◌+◌, ◌≤◌, ℕ, List, [], ◌∷◌, length}
 use Rattle.atomic_table.specs.Seated.{TableId}
 use Rattle.atomic_table.specs.Table.{Me}
@@ -9,7 +9,7 @@ use Rattle.idwords.specs.Spelling.{top_after}
 use Rattle.idwords.specs.Seats.{ThreadState, SeatValue}
 use Rattle.idwords.specs.internal.Rule.{thread_stream}
 
--- no stream's
+-- a thread state of no stream
 abbrev no_thread : ThreadState
 no_thread = record {
   view = record {
@@ -26,7 +26,7 @@ no_thread = record {
   draft = [];
 }
 
--- the thread state that comes first
+-- the first of the thread states
 abbrev pub first_thread : List ThreadState → ThreadState
 first_thread [] = no_thread
 first_thread (thread ∷ threads) = thread
@@ -43,7 +43,9 @@ others (thread ∷ threads) = threads
 abbrev pub thread_of : SeatValue → ThreadState
 thread_of seat = record { view = seat.view; top = seat.top; draft = seat.draft }
 
--- the seat has one thread state, fair and with a draft inside its room, and keeps the numbers of its top, its draft and the end of its room
+-- The token has one thread state, which is fair; the row has as many words as its layout says; the
+-- seat's numbers are its top, the length of its draft, and the room left, into which the draft
+-- fits.
 pub record IsSeated {S : Type 0} (table : TableId) (me : Me S (List ThreadState))
     (top drafted room : ℕ) : Type 0 where
   pub one : me ≡ (first_thread me.0 ∷ [], [])

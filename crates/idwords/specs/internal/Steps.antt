@@ -1,4 +1,4 @@
--- What each step tells the thread state that makes it (this project's own).
+-- What a thread state knows after each step that it makes (this project's own).
 use Rattle.std.specs.Prelude.{◌≡◌, ◌≢◌, ◌↔◌, ◌+◌, ◌==◌, ◌++◌, ℕ, ℤ, List, [], ◌∷◌, Option, IfSome, length, if◌then◌else◌}
 use Rattle.atomic_table.specs.Table.{Step, Me}
 use Rattle.lrup_model.specs.Event as events
@@ -16,7 +16,7 @@ use Rattle.idwords.specs.Seats.{ThreadState}
 use Rattle.idwords.specs.internal.Rule.{thread_stream}
 use Rattle.idwords.specs.RowCalls.{Calls, IsText}
 
--- a fetch: the word found shows the stored clause, and spells the reply
+-- A fetch: the word that was loaded shows the stored clause, and determines the reply.
 pub record Looks (id : ℕ) (old : ThreadState) (word : ℕ) (new : ThreadState) : Type 0 where
   pub shows : ShowsStored (stored_in new.view.spelt id) word
   pub calls : Calls old.view new.view
@@ -24,23 +24,23 @@ pub record Looks (id : ℕ) (old : ThreadState) (word : ℕ) (new : ThreadState)
   pub top : new.top ≡ old.top
   pub draft : new.draft ≡ old.draft
 
--- a load without an event
+-- A load that is no event.
 pub record Reads (place : ℕ) (old : ThreadState) (word : ℕ) (new : ThreadState) : Type 0 where
   pub same : new ≡ old
   pub text : IsText old.view.spelt place word
 
--- the literal or two whose word this is are added to the draft
+-- the literals of this word, one or two, are added to the draft
 abbrev pub Writes : ℕ → ThreadState → ThreadState → Type 0
 Writes word old new =
     (l : ℤ) (other : Option ℤ) → IsCode max_variable (code_of l)
     → IfSome other (λ k. IsCode max_variable (code_of k)) → word ≡ literal_word l other
     → new ≡ record old { draft = old.draft ++ pair_of l other }
 
--- the reply of a publish that found this word
+-- the reply of a publish whose compare-exchange found this word
 abbrev pub published_at : ℕ → Published
 published_at word = if word == 0 then publishing.Done else publishing.Taken
 
--- a publish of the draft, which is empty then
+-- A publish of the draft, which is empty afterwards.
 pub record Claims (id : ℕ) (old : ThreadState) (word : ℕ) (new : ThreadState) : Type 0 where
   pub calls : Calls old.view new.view
       (events.publish (thread_stream old) id old.draft (published_at word))
@@ -48,28 +48,29 @@ pub record Claims (id : ℕ) (old : ThreadState) (word : ℕ) (new : ThreadState
   pub top : new.top ≡ (if word == 0 then old.top + words_for (length old.draft) else old.top)
   pub draft : new.draft ≡ []
 
--- a retire that finds nothing live
+-- A retire that finds no live clause.
 pub record FindsNone (id : ℕ) (old new : ThreadState) : Type 0 where
   pub calls : Calls old.view new.view (events.retire (thread_stream old) id retiring.NotLive)
   pub none : ¬ IsLive (state old.view.caller.formula old.view.mine id)
   pub top : new.top ≡ old.top
   pub draft : new.draft ≡ old.draft
 
--- the look of a retire: a word that isn't live ends it, and at a live one nothing has happened yet
+-- The load of a retire: if the word isn't live, the retire ends with it; if it is live, nothing has
+-- happened yet.
 pub record Finds (id : ℕ) (old : ThreadState) (word : ℕ) (new : ThreadState) : Type 0 where
   pub own :
       word ≡ word_of (state old.view.caller.formula old.view.mine id) (stored_in old.view.spelt id)
   pub live : word_state word ≡ 1 → new ≡ old
   pub none : word_state word ≢ 1 → FindsNone id old new
 
--- a retire of a live clause
+-- A retire of a live clause.
 pub record Retires (id : ℕ) (old new : ThreadState) : Type 0 where
   pub calls : Calls old.view new.view (events.retire (thread_stream old) id retiring.Done)
   pub live : IsLive (state old.view.caller.formula old.view.mine id)
   pub top : new.top ≡ old.top
   pub draft : new.draft ≡ old.draft
 
--- two thread states were synced: both have seen the longer history
+-- Two thread states have met. Their tops and drafts are unchanged.
 pub record SyncThreads (old old' new new' : ThreadState) : Type 0 where
   pub meets : SyncViews old.view old'.view new.view new'.view
   pub within : LieWithin (row_words new.view.caller.layout) new.view.spelt
@@ -79,7 +80,7 @@ pub record SyncThreads (old old' new new' : ThreadState) : Type 0 where
   pub top' : new'.top ≡ old'.top
   pub draft' : new'.draft ≡ old'.draft
 
--- a seat of one thread state has one thread state afterwards
+-- a token of one thread state has one afterwards, and R relates the two
 module _ {S : Type 0} where
   abbrev pub Changes : (ℕ → ThreadState → ℕ → ThreadState → Type 0) → Step S
       → Me S (List ThreadState) → ℕ
@@ -88,14 +89,14 @@ module _ {S : Type 0} where
       (old : ThreadState) → before.0 ≡ old ∷ []
       → (new : ThreadState) × (after.0 ≡ new ∷ []) × (after.1 ≡ before.1) × R step.word old word new
 
-  -- one that stores
+  -- the same for a store
   abbrev pub Stores : Step S → Me S (List ThreadState) → ℕ → Me S (List ThreadState) → Type 0
   Stores step before word after =
       (old : ThreadState) → before.0 ≡ old ∷ []
       → (new : ThreadState) × (after.0 ≡ new ∷ []) × (after.1 ≡ before.1)
       × Writes step.first old new
 
-  -- a seat of two thread states
+  -- two thread states of one token meet
   abbrev pub Joined : Step S → Me S (List ThreadState) → ℕ → Me S (List ThreadState) → Type 0
   Joined step before word after =
       (old old' : ThreadState) → before.0 ≡ old ∷ old' ∷ []

@@ -1,14 +1,14 @@
--- How literals and cubes are kept: by codes (this project's own).
+-- How literals and cubes are stored: by codes (this project's own).
 use Rattle.std.specs.Prelude.{ℕ, ℤ, neg_ℤ, List, ◌/◌, ◌%◌, ◌==◌, pos, if◌then◌else◌}
 use Rattle.std.specs.List.{All}
 use Rattle.std.specs.List.Sorted.{IsNonDecreasingBy}
 use Rattle.lrup_model.specs.Literal.{IsCode, max_variable}
 
--- How a cube is kept: the codes of its literals, in order.
+-- How a cube is stored: the codes of its literals, sorted.
 pub record AreCubeCodes (codes : List ℕ) : Type 0 where
   pub each : All (IsCode max_variable) codes
   pub sorted : IsNonDecreasingBy (λ code. code) codes
 
--- the literal that has this code
+-- the literal of this code
 abbrev pub literal_of : ℕ → ℤ
 literal_of code = (if code % 2 == 0 then pos (code / 2) else neg_ℤ (pos (code / 2)))

@@ -1,4 +1,5 @@
--- How the clause map of one thread is kept: an entry an identity, and all literals in one list (this project's own).
+-- How the clause map of one thread is stored: an entry for each identity, and all literals in one
+-- list (this project's own).
 use Rattle.std.specs.Prelude.{◌≡◌, ◌+◌, ◌≤◌, ℕ, ℤ, List, [], ◌∷◌, ◌++◌, length, map, sum, slice_range}
 use Rattle.std.specs.List.{AllByRecursion}
 use Rattle.std.specs.Prelude.{◌≢◌, ◌-◌, ◌<◌, slice_index, slice_set}
@@ -20,7 +21,7 @@ use Rattle.lrup_model.specs.declared.clause_map.Retired.{Retired}
 use Rattle.lrup_model.specs.declared.clause_map.Retired.TheVariants as retiring
 use Rattle.lrup_model.specs.Plain.{vacant, live, retired, slot_of, plain_slot_at}
 
--- what an entry stands for
+-- the slot of this entry
 abbrev pub plain_slot_in : List ℤ → Entry → PlainSlot
 plain_slot_in literals entries.Vacant = plain.vacant
 plain_slot_in literals (entries.Live start len) =
@@ -32,25 +33,26 @@ abbrev pub plain_of : LayoutValue → List Entry → List ℤ → List ℕ → P
 plain_of layout entry_list literals free =
     record { layout = layout; plain_slots = map (plain_slot_in literals) entry_list; free = free }
 
--- the entry's literals lie in the list
+-- the entry's literals are inside the list
 abbrev pub LiesWithin : ℕ → Entry → Type 0
 LiesWithin count entries.Vacant = Unit {0}
 LiesWithin count (entries.Live start len) = start + len ≤ count
 LiesWithin count (entries.Retired start len) = start + len ≤ count
 
--- the formula's clauses are live, for good
+-- the formula's clauses are live
 abbrev pub IsFormulaLive : Plain → Type 0
 IsFormulaLive plain =
     (id : ℕ) → 0 < id → id ≤ plain.layout.clauses
     → (stored : StoredClause) × (plain_slot_at plain id ≡ live stored)
 
--- the clause of what is stored follows from the formula
+-- the clause that is stored, if any, follows from the formula
 abbrev pub StoresClause : Cnf → PlainSlot → Type 0
 StoresClause formula vacant = Unit {0}
 StoresClause formula (live stored) = IsDerived formula stored.literals
 StoresClause formula (retired stored) = IsDerived formula stored.literals
 
--- capacity is what the list of literals has memory for: no publish takes more
+-- The invariant of the map. The list of literals has memory for `capacity` literals, which is
+-- enough for all that streams may still publish.
 pub record IsPlainSound (layout : LayoutValue) (entry_list : List Entry) (literals : List ℤ)
     (free : List ℕ) (capacity : ℕ) : Type 0 where
   pub limits : IsLayout layout
@@ -69,20 +71,21 @@ abbrev pub flat : List Clause → List ℤ
 flat [] = []
 flat (clause ∷ clauses) = clause ++ flat clauses
 
--- live entries for these clauses, the first of which starts at from
+-- live entries for these clauses; the first of them starts at `from`
 abbrev pub entries_from : ℕ → List Clause → List Entry
 entries_from from [] = []
 entries_from from (clause ∷ clauses) =
     entries.Live from (length clause) ∷ entries_from (from + length clause) clauses
 
--- what a fetch of the identity answers if this is stored
+-- the result of a fetch of the identity if this is stored
 abbrev pub fetched_of : ℕ → PlainSlot → Fetched
 fetched_of id vacant = fetched.Vacant
 fetched_of id (live stored) =
     fetched.Live (record { id = id; len = length stored.literals; start = stored.start })
 fetched_of id (retired stored) = fetched.Retired
 
--- the map after a publish, and after a retire, by its answer; index is the stream's place in the list of rooms, from 0 on
+-- the map after a publish, by the result; index is the place of the stream's room in the list,
+-- counted from 0
 abbrev pub AfterPublish : Plain → Plain → ℕ → ℕ → Clause → Published → Type 0
 AfterPublish old new index id clause publishing.Done =
     (index < length old.free) × (id < length old.plain_slots) × (plain_slot_at old id ≡ vacant)

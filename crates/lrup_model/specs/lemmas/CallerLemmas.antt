@@ -1,10 +1,10 @@
--- Whose calls the events of a history are.
+-- Lemmas about which stream made the events of a history.
 use Rattle.std.specs.Prelude.{◌≡◌, ◌≢◌, ℕ, [], ◌∷◌}
 use Rattle.std.specs.List.{AllByRecursion}
 use Rattle.std.proofs.Common.{sym, ◌∙◌}
 use Rattle.lrup_model.specs.Event.{History, stream_of}
 
--- calls of one stream are none of another
+-- events of one stream are not events of another
 pub calls_differ : (s t : ℕ) (es : History) → t ≢ s → AllByRecursion (λ e. stream_of e ≡ t) es
     → AllByRecursion (λ e. stream_of e ≢ s) es
 calls_differ s t [] other all = tt

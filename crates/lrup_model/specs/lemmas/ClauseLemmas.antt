@@ -1,4 +1,4 @@
--- Lemmas on the literals of a clause.
+-- Lemmas about the literals of a clause.
 use Rattle.std.proofs.Common.{◌≡◌, ◌≢◌, ◌⊎◌, inl, inr, ℕ, zero, suc, ◌+◌, ◌<◌, ℤ, List, [], ◌∷◌, ◌++◌, length, get_or, take, Some, refl, sym, ap, subst, ◌∙◌, add-one}
 use Rattle.std.specs.Prelude.{slice_get}
 use Rattle.std.specs.List.{AllByRecursion}
@@ -46,13 +46,13 @@ Has-take (suc n) [] l h = absurd h
 Has-take (suc n) (x ∷ xs) l (inl e) = inl e
 Has-take (suc n) (x ∷ xs) l (inr h) = inr (Has-take n xs l h)
 
--- a literal at a place is one of the list's
+-- a literal at a place of the list is in the list
 pub Has-at : (xs : List ℤ) (k : ℕ) (x : ℤ) → slice_get xs k ≡ Some x → Has xs x
 Has-at [] k x e = cc
 Has-at (y ∷ xs) zero x e = inl (cc)
 Has-at (y ∷ xs) (suc k) x e = inr (Has-at xs k x e)
 
--- it isn't one of those before, where each stands once
+-- if each literal occurs once, it isn't among the literals before its place
 pub Has-before : (xs : List ℤ) (k : ℕ) (x : ℤ) → EachOnce xs → slice_get xs k ≡ Some x
     → ¬ Has (take k xs) x
 Has-before [] k x once e = cc
@@ -80,7 +80,7 @@ pub All-from_Has : (P : ℤ → Type 0) (xs : List ℤ) → ((l : ℤ) → Has x
 All-from_Has P [] f = tt
 All-from_Has P (x ∷ xs) f = (f x (inl refl), All-from_Has P xs (λ l h. f l (inr h)))
 
--- a list read by index, as a loop reads it
+-- what is true of all literals is true of one that a loop reads by index
 pub All-read : (P : ℤ → Type 0) (xs : List ℤ) (k : ℕ) (x : ℤ) → AllByRecursion P xs → k < length xs
     → x ≡ get_or xs k x → P x
 All-read P xs k x all lt e = All-Has P xs x all (Has-at xs k x (slice_get_read xs (length xs) k x refl lt e))

@@ -4,14 +4,14 @@ use Rattle.std.proofs.lemmas.Bool.{cond-true, cond-false, ne_eqb, cases_eq}
 use Rattle.lrup_model.specs.Literal.{IsLiteral, code_of, IsCode}
 use Rattle.lrup_model.specs.internal.Codes.{literal_of}
 
--- no two literals have one code
+-- different literals have different codes
 pub code_of-injective : (a b : ℤ) → code_of a ≡ code_of b → a ≡ b
 code_of-injective (pos m) (pos n) e = let s : m ≡ n = omega (arith, e) in ap pos s
 code_of-injective (pos m) (negsuc n) e = absurd (omega (arith, e))
 code_of-injective (negsuc m) (pos n) e = absurd (omega (arith, e))
 code_of-injective (negsuc m) (negsuc n) e = let s : m ≡ n = omega (arith, e) in ap negsuc s
 
--- which codes there are of literals over these variables
+-- the code of a literal over these variables is in their range
 pub IsCode-code_of : (vars : ℕ) (l : ℤ) → IsLiteral vars l → IsCode vars (code_of l)
 IsCode-code_of vars (pos n) h = (omega (arith, h.0), omega (arith, h.1))
 IsCode-code_of vars (negsuc n) h = (omega arith, omega (arith, h.1))

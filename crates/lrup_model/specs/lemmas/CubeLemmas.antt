@@ -1,4 +1,4 @@
--- Lemmas on cubes.
+-- Lemmas about cubes.
 use Rattle.std.proofs.Common.{◌≡◌, ◌↔◌, neg_ℤ, [], ◌∷◌, refl, sym, subst}
 use Rattle.lrup_model.specs.Literal.{IsLiteral}
 use Rattle.lrup_model.specs.Clause.{Clause, Has}
@@ -8,7 +8,8 @@ use Rattle.lrup_model.specs.lemmas.EntailmentLemmas.{not_both}
 use Rattle.lrup_model.specs.Cube.{Within, CubeValue, IsUnsatisfiableUnder}
 use Rattle.lrup_model.specs.Formula.{Cnf}
 
--- where a clause within a cube follows from the formula, no assignment makes every clause of the formula and every literal of the cube true
+-- if the cube refutes a clause that follows from the formula, no assignment satisfies both the
+-- formula and the cube
 pub within_refutes : (formula : Cnf) (clause : Clause) (cube : CubeValue)
     → IsDerived formula clause → Within clause cube → IsUnsatisfiableUnder formula cube
 within_refutes f c cube derived within a sat holds =

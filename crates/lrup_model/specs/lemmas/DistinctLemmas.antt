@@ -1,4 +1,4 @@
--- Lemmas on the list of distinct literals.
+-- Lemmas about the list of distinct literals.
 use Rattle.std.proofs.Common.{◌≡◌, ◌≢◌, ◌⊎◌, inl, inr, ℕ, ◌<◌, ◌≤◌, ℤ, neg_ℤ, arith, not, List, [], ◌∷◌, ◌++◌, length, get_or, take, refl, sym, ap, subst, ◌∙◌}
 use Rattle.std.specs.List.{AllByRecursion, filter}
 use Rattle.std.specs.Ordering.{int_eq}
@@ -14,7 +14,7 @@ use Rattle.lrup_model.specs.Literal.{IsLiteral}
 use Rattle.lrup_model.specs.Distinct.{distinct}
 use Rattle.lrup_model.specs.lemmas.ClauseLemmas.{int_cases, Has_cases, Has-push_cases, Has-at, Has-take, All-Has, All-from_Has}
 
--- all but one literal
+-- all literals but this one
 abbrev without : ℤ → List ℤ → List ℤ
 without x ls = filter (λ y. not (int_eq y x)) ls
 
@@ -83,7 +83,7 @@ IsTautology-distinct ls t = (t.0, Has-from_distinct ls t.0 t.1, Has-from_distinc
 pub IsTautology-in_distinct : (ls : List ℤ) → IsTautology ls → IsTautology (distinct ls)
 IsTautology-in_distinct ls t = (t.0, Has-distinct ls t.0 t.1, Has-distinct ls (neg_ℤ t.0) t.2)
 
--- a list without repeats is no longer
+-- the list of distinct literals isn't longer
 pub length-distinct : (ls : List ℤ) → length (distinct ls) ≤ length ls
 length-distinct [] = omega arith
 length-distinct (x ∷ ls) =
@@ -114,7 +114,7 @@ distinct-push_same (y ∷ ls) x h =
         let gone : without y (x ∷ []) ≡ [] = without-same y x [] (sym e) in
         ap (λ m. y ∷ m) (ap (without y) rest ∙ split ∙ ap (λ m. without y (distinct ls) ++ m) gone ∙ append-nil (without y (distinct ls)))
 
--- the literals taken from a list so far, none of which stands beside its complement
+-- n has the distinct literals of ls, and ls doesn't have a literal and its complement
 pub record IsTaken (ls n : List ℤ) : Type 0 where
   pub same : n ≡ distinct ls
   pub consistent : ¬ IsTautology ls
@@ -142,7 +142,7 @@ consistent-push ls x consistent not_neg not_zero t =
       ]
     ]
 
--- one more literal of the list
+-- one more literal of the list is taken
 pub IsTaken-push : (ls n : List ℤ) (x : ℤ) → IsTaken ls n → (¬ Has n (neg_ℤ x)) → (¬ Has n x)
     → (¬ (x ≡ neg_ℤ x)) → IsTaken (ls ++ x ∷ []) (n ++ x ∷ [])
 IsTaken-push ls n x t not_neg missing not_zero = record {
@@ -157,13 +157,13 @@ IsTaken-push_same ls n x t not_neg there not_zero = record {
   consistent = consistent-push ls x t.consistent (λ h. not_neg (Has-taken ls n (neg_ℤ x) t h)) not_zero;
 }
 
--- the complement of a literal that comes next was taken
+-- if the complement of the next literal was taken, the list has a literal and its complement
 pub IsTautology-next : (ls n : List ℤ) (k : ℕ) (x : ℤ) → IsTaken (take k ls) n → k < length ls
     → x ≡ get_or ls k x → Has n (neg_ℤ x) → IsTautology ls
 IsTautology-next ls n k x t lt at h =
     (x, Has-at ls k x (slice_get_read ls (length ls) k x refl lt at), Has-take k ls (neg_ℤ x) (Has-from_taken (take k ls) n (neg_ℤ x) t h))
 
--- all that was taken
+-- all literals were taken
 pub all_taken : (ls n : List ℤ) (count : ℕ) → count ≡ length n → n ≡ distinct ls
     → take count n ≡ distinct ls
 all_taken ls n count len same = let le : length n ≤ count = omega arith in take_all count n le ∙ same

@@ -1,4 +1,4 @@
--- Lemmas on assignments, what follows from a formula, and hinted propagation.
+-- Lemmas about assignments, entailment and hinted propagation.
 use Rattle.std.proofs.Common.{◌⊎◌, ℕ, zero, suc, ◌-◌, ◌<◌, ◌≤◌, ℤ, pos, negsuc, neg_ℤ, nat_abs, List, [], ◌∷◌, ◌++◌, length, refl, sym, subst, ◌∙◌, inl, inr, arith}
 use Rattle.std.specs.List.{AllByRecursion}
 use Rattle.std.proofs.lemmas.Bool.{cases_Bool, cases_eq, cases_lt, true≢false}
@@ -69,7 +69,8 @@ decide_clause a (x ∷ c) =
 
 -- Soundness of propagation
 
--- clauses that refute literals, and hold under an assignment, make one of the literals true
+-- if clauses refute that these literals are false, an assignment that satisfies the clauses makes
+-- one of the literals true
 pub refuted : (vars : ℕ) (a : Assignment) (n : List ℤ) (ds : List Clause)
     → AllByRecursion (λ d. IsClause vars d × Satisfies a d) ds → Refutes n ds → MakesNone a n → ⊥
 refuted vars a n [] hold refutes none = refutes
@@ -95,7 +96,7 @@ pub all_hold : (f : Cnf) (a : Assignment) (ds : List Clause) → SatisfiesAll a 
 all_hold f a [] sat follow = tt
 all_hold f a (d ∷ ds) sat follow = ((follow.0.0, follow.0.1.holds a sat), all_hold f a ds sat follow.1)
 
--- a clause that propagation shows by clauses that follow, follows too
+-- a clause that propagation shows from clauses that follow, follows too
 pub propagation_sound : (f : Cnf) (c : Clause) (ds : List Clause)
     → AllByRecursion (λ d. IsClause f.vars d × Follows f d) ds → Accepts c ds → Follows f c
 propagation_sound f c ds follow accepts = record {
@@ -105,19 +106,19 @@ propagation_sound f c ds follow accepts = record {
   ];
 }
 
--- where the empty clause follows, no assignment makes every clause of the formula true
+-- if the empty clause follows, no assignment satisfies all clauses of the formula
 pub empty_refutes : (f : Cnf) → Follows f [] → IsUnsatisfiable f
 empty_refutes f follows a sat = (follows.holds a sat).1
 
 -- Every clause of a legal state follows
 
--- the slot's clause, if any, is one that follows
+-- the slot's clause, if any, follows from the formula
 abbrev pub SlotFollows : Cnf → Slot → Type 0
 SlotFollows f absent = Unit {0}
 SlotFollows f (live c) = IsClause f.vars c × Follows f c
 SlotFollows f (retired c) = IsClause f.vars c × Follows f c
 
--- a clause of the formula
+-- a clause of the formula follows from it
 pub formula_sound : (f : Cnf) (id : ℕ) → IsCnf f → 0 < id → id ≤ length f.clauses
     → IsClause f.vars (clause_at f id) × Follows f (clause_at f id)
 formula_sound f id cnf positive within =
@@ -168,7 +169,7 @@ clause_of_sound f absent c sound has = absurd has
 clause_of_sound f (live d) c sound has = subst (λ (x : Clause). IsClause f.vars x × Follows f x) has sound
 clause_of_sound f (retired d) c sound has = subst (λ (x : Clause). IsClause f.vars x × Follows f x) has sound
 
--- every clause that a legal history leaves, live or retired, is a clause that follows from the formula
+-- every clause that a legal history leaves, live or retired, follows from the formula
 pub clauses_follow : (f : Cnf) (p : LayoutValue) (h : History) (id : ℕ) (c : Clause) → IsCnf f
     → LegalFrom f p (opening f) h → HasClause (state f h id) c → IsClause f.vars c × Follows f c
 clauses_follow f p h id c cnf legal has =

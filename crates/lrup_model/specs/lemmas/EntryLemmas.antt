@@ -1,4 +1,4 @@
--- Lemmas on what a legal history does to an entry.
+-- Lemmas about what a legal history does to an entry.
 use Rattle.std.proofs.Common.{ℕ, refl, sym, subst, ◌∙◌, inl, inr, [], ◌∷◌}
 use Rattle.std.specs.List.{AllByRecursion}
 use Rattle.std.proofs.lemmas.Bool.{cases_eq}
@@ -46,7 +46,7 @@ Advances-retired absent = tt
 Advances-retired (live c) = refl
 Advances-retired (retired c) = refl
 
--- another slot at an identity, where the entry advances to it
+-- if the slot of one identity is replaced by a later one, every slot stays or becomes a later one
 put-advances : (m : State) (j : ℕ) (slot : Slot) (id : ℕ) → Advances (m j) slot
     → Advances (m id) (put m j slot id)
 put-advances m j slot id advances =
@@ -69,7 +69,7 @@ run-advances f p m [] id legal = Advances-same (m id)
 run-advances f p m (e ∷ h) id legal =
     Advances-then (m id) (after m e id) (run (after m e) h id) (after-advances m e id legal.0) (run-advances f p (after m e) h id legal.2)
 
--- a clause stays where its slot advances
+-- a slot that advances keeps its clause
 pub has_stays : (old new : Slot) (c : Clause) → Advances old new → HasClause old c → HasClause new c
 has_stays absent new c advances has = absurd has
 has_stays (live d) absent c advances has = absurd advances
@@ -79,7 +79,7 @@ has_stays (retired d) absent c advances has = absurd advances
 has_stays (retired d) (live e) c advances has = absurd advances
 has_stays (retired d) (retired e) c advances has = advances ∙ has
 
--- each clause that a legal history published stands under its identity for good, live or retired
+-- after a legal history each clause that it published is under its identity, live or retired
 pub published_stay : (f : Cnf) (p : LayoutValue) (m : State) (h : History) → LegalFrom f p m h
     → AllByRecursion (λ x. HasClause (run m h x.0) x.1) (published h)
 published_stay f p m [] legal = tt

@@ -1,4 +1,4 @@
--- Lemmas on events, histories and the states that they leave.
+-- Lemmas about events, histories and the states that they leave.
 use Rattle.std.proofs.Common.{◌≡◌, ℕ, ◌+◌, ◌-◌, ◌%◌, ◌<◌, ◌≤◌, cond, eqb, ltb, leb, ◌&&◌, List, [], ◌∷◌, ◌++◌, length, get_or, refl, sym, ap, subst, ◌∙◌, inl, inr, arith, ne_eqb, eq-eqb, le-leb, lt-ltb, le-ltb}
 use Rattle.std.specs.Prelude.{◌==◌, if◌then◌else◌}
 use Rattle.std.specs.List.{sum_by, AllByRecursion}
@@ -29,7 +29,7 @@ pub legal-back : (f : Cnf) (p : LayoutValue) (m : State) (g h : History) → Leg
 legal-back f p m [] h legal = legal
 legal-back f p m (e ∷ g) h legal = legal-back f p (after m e) g h legal.2
 
--- each beginning of a legal history is legal
+-- each prefix of a legal history is legal
 pub IsLegal-front : (f : Cnf) (p : LayoutValue) (g h : History) → IsLegal f p (g ++ h)
     → IsLegal f p g
 IsLegal-front f p g h legal = record {
@@ -92,7 +92,7 @@ owned_above p s id owns =
       ]
     ]
 
--- an event that may be asked for changes no identity but those of its own stream
+-- an allowed event changes no identity that its stream doesn't own
 pub after-foreign : (f : Cnf) (p : LayoutValue) (m : State) (e : Event) (id : ℕ) → IsAllowed f p e
     → (Owns p (stream_of e) id → ⊥) → after m e id ≡ m id
 after-foreign f p m (events.fetch s j r) id allowed foreign = refl
@@ -103,7 +103,7 @@ after-foreign f p m (events.retire s j retiring.Done) id allowed foreign =
     put-other m j (retire_slot (m j)) id (λ same. foreign (subst (λ (k : ℕ). Owns p s k) (sym same) allowed))
 after-foreign f p m (events.retire s j retiring.NotLive) id allowed foreign = refl
 
--- what no stream owns stays
+-- an identity that no stream owns keeps what it has
 pub run-unowned : (f : Cnf) (p : LayoutValue) (m : State) (h : History) (id : ℕ) → LegalFrom f p m h
     → ((s : ℕ) → Owns p s id → ⊥) → run m h id ≡ m id
 run-unowned f p m [] id legal unowned = refl
@@ -120,7 +120,7 @@ pub opening-formula : (f : Cnf) (id : ℕ) → 0 < id → id ≤ length f.clause
 opening-formula f id positive within =
     cond-true (ltb 0 id && leb id (length f.clauses)) (live (clause_at f id)) absent (and_from (ltb 0 id) (leb id (length f.clauses)) (lt-ltb 0 id positive) (le-leb id (length f.clauses) within))
 
--- a formula's clause by its place
+-- clause i + 1 is at place i of the list of clauses
 pub clause_at-suc : (f : Cnf) (i : ℕ) → clause_at f (i + 1) ≡ get_or f.clauses i []
 clause_at-suc f i =
     let place : i + 1 - 1 ≡ i = omega arith in
@@ -149,7 +149,7 @@ formula_stays f p h id fits legal positive within =
 pub own-mine : (e : Event) (h : History) (s : ℕ) → stream_of e ≡ s → own (e ∷ h) s ≡ e ∷ own h s
 own-mine e h s mine = cond-true (eqb (stream_of e) s) (e ∷ own h s) (own h s) (eq-eqb (stream_of e) s mine)
 
--- a history of one stream's events is its own
+-- a history with events of one stream only is its own part
 pub own-all : (s : ℕ) (es : History) → AllByRecursion (λ e. stream_of e ≡ s) es → own es s ≡ es
 own-all s [] all = refl
 own-all s (e ∷ es) all = own-mine e es s all.0 ∙ ap (λ (g : History). e ∷ g) (own-all s es all.1)
@@ -168,12 +168,13 @@ own-own (e ∷ h) s =
 pub spent-own : (s : ℕ) (h : History) → spent s (own h s) ≡ spent s h
 spent-own s h = ap (λ (es : History). sum_by (λ p. length p.1) (published es)) (own-own h s)
 
--- a stream has no event among those of others
+-- a stream has no event in a history of other streams
 pub own-none : (h : History) (s : ℕ) → AllByRecursion (λ e. stream_of e ≡ s → ⊥) h → own h s ≡ []
 own-none [] s others = refl
 own-none (e ∷ h) s others = own-other e h s others.0 ∙ own-none h s others.1
 
--- states that agree at an own identity agree there after a legal history and its own part
+-- states that agree at an own identity agree there after a legal history and the stream's part of
+-- it
 pub run-own : (f : Cnf) (p : LayoutValue) (m n : State) (h : History) (s id : ℕ) → LegalFrom f p m h
     → Owns p s id → m id ≡ n id → run m h id ≡ run n (own h s) id
 run-own f p m n [] s id legal owns agree = agree
@@ -185,14 +186,15 @@ run-own f p m n (e ∷ h) s id legal owns agree =
           ∙ sym (ap (λ (g : History). run n g id) (own-other e h s other))
     ]
 
--- a stream's own identities stay through the legal events of others
+-- legal events of other streams don't change a stream's own identities
 pub run-others : (f : Cnf) (p : LayoutValue) (m : State) (h : History) (s id : ℕ)
     → LegalFrom f p m h → AllByRecursion (λ e. stream_of e ≡ s → ⊥) h → Owns p s id
     → run m h id ≡ m id
 run-others f p m h s id legal others owns =
     run-own f p m m h s id legal owns refl ∙ ap (λ (g : History). run m g id) (own-none h s others)
 
--- where a stream's own identities above some number have nothing, they have nothing after legal events of others
+-- if a stream's own identities above some number are vacant, they are still vacant after legal
+-- events of others
 pub vacant_above_stays : (f : Cnf) (p : LayoutValue) (m : State) (h : History) (s last : ℕ)
     → LegalFrom f p m h → AllByRecursion (λ e. stream_of e ≡ s → ⊥) h → AreVacantAbove p s m last
     → AreVacantAbove p s (run m h) last
@@ -210,7 +212,7 @@ published-append (events.publish s id c publishing.Done ∷ g) h = ap (λ (ps : 
 published-append (events.publish s id c publishing.Taken ∷ g) h = published-append g h
 published-append (events.retire s id r ∷ g) h = published-append g h
 
--- what a legal history has at a stream's own identity depends on that stream's calls alone
+-- what a legal history leaves at a stream's own identity depends only on the calls of this stream
 pub own_calls_decide : (f : Cnf) (p : LayoutValue) (h : History) (s id : ℕ)
     → LegalFrom f p (opening f) h → Owns p s id → state f h id ≡ state f (own h s) id
 own_calls_decide f p h s id legal owns = run-own f p (opening f) (opening f) h s id legal owns refl

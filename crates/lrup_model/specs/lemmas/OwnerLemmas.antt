@@ -1,4 +1,4 @@
--- What owning an identity says of it.
+-- Lemmas about who owns an identity.
 use Rattle.std.proofs.Common.{◌≡◌, ℕ, ◌+◌, ◌-◌, ◌%◌, ◌<◌, ◌≤◌, Bool, true, false, cond, eqb, leb, refl, arith}
 use Rattle.std.proofs.lemmas.Bool.{leb-true, leb-false}
 use Rattle.lrup_model.specs.Layout.{LayoutValue, last_identity, Owns}

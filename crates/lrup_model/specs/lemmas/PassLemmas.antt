@@ -1,4 +1,5 @@
--- Lemmas on passes: the laws of a caller's view at a clause map, what stays spelt, one call, and meeting.
+-- Lemmas about passes: the laws of a caller's view at a clause map, what stays stored, one call,
+-- and meetings.
 use Rattle.std.proofs.Common.{◌≡◌, ◌≢◌, ℕ, ◌+◌, ◌≤◌, List, [], ◌∷◌, ◌++◌, length, Option, Some, refl, sym, ap, ap₂, subst, ◌∙◌, arith, append_assoc, append-nil}
 use Rattle.std.specs.List.{AllByRecursion}
 use Rattle.std.proofs.lemmas.List.{append_cancel_right}
@@ -32,7 +33,7 @@ moves_none v = record {
   follow = λ all. all;
 }
 
--- the last of two moves that makes a call leaves the pass fair
+-- a pass is fair after two moves of which at least one has a call
 fair_append : (a b c : View) (es fs : History) → PassMoves a b es → PassMoves b c fs → es ++ fs ≢ []
     → IsFair c
 fair_append a b c es [] ab bc some = bc.fair (ab.fair_after (λ none. some (append-nil es ∙ none)))
@@ -71,7 +72,7 @@ moves_are_step a b es moves = record {
 abbrev stored_from : ℕ → Clause → Option StoredClause
 stored_from start c = Some (record { start = start; literals = c })
 
--- a clip stays known while what is stored for it stays
+-- a known clip stays known, since what is stored for it stays
 pub known_stays : (a b : CallerView) (es : History) (clip : ClipValue) → CallerStep a b es
     → IsKnown a clip
     → IsKnown b clip × (clip_clause b clip ≡ clip_clause a clip)
@@ -85,12 +86,12 @@ known_stays a b es clip step known =
       text,
     )
 
--- where all clauses of a place follow from the formula, the clause of a known clip does
+-- if all stored clauses follow from the formula, the clause of a known clip does
 pub known_follows : (p : CallerView) (clip : ClipValue) → AllFollow p → IsKnown p clip
     → IsDerived p.caller.formula (clip_clause p clip)
 known_follows p clip all known = all.each clip.id (record { start = clip.start; literals = clip_clause p clip }) known.stored
 
--- What is spelt
+-- What is stored
 
 spelt_has : (slot : Slot) (stored : StoredClause) → Spells slot (Some stored)
     → HasClause slot stored.literals
@@ -98,7 +99,7 @@ spelt_has absent stored spells = absurd spells
 spelt_has (live c) stored spells = sym spells
 spelt_has (retired c) stored spells = sym spells
 
--- the stored clause is the slot's
+-- the stored clause is the clause of the slot
 pub stored_has : (f : Cnf) (h : History) (xs : List Spelling) (id : ℕ) (stored : StoredClause)
     → IsSpelt f h xs
     → stored_in xs id ≡ Some stored → HasClause (state f h id) stored.literals
@@ -111,9 +112,9 @@ fair_follows v fair = record {
       (stored_has v.caller.formula v.seen v.spelt id stored fair.spelt there);
 }
 
--- One pass after another
+-- Moves of a pass
 
--- what a fair pass's own calls spent is within the room
+-- a fair pass's own calls spent at most the room of its stream
 pub spent_within : (v : View) → IsFair v → spent v.caller.stream v.mine ≤ v.caller.layout.room
 spent_within v fair =
     let all : spent v.caller.stream v.mine ≡ spent v.caller.stream v.seen =
@@ -153,7 +154,7 @@ pub own-others : (seen more : History) (s : ℕ) → AllByRecursion (λ d. strea
     → own (seen ++ more) s ≡ own seen s
 own-others seen more s others = own-append seen more s ∙ ap (λ (g : History). own seen s ++ g) (own-none more s others) ∙ append-nil (own seen s)
 
--- the pass when it has seen these events of others, with what is then stored
+-- the pass after it has seen these events of others, and what is stored then
 abbrev pub learned : View → History → List Spelling → View
 learned v more xs = record v {
   seen = v.seen ++ more;
@@ -185,7 +186,8 @@ own_stepped v between e fair others mine =
     own-append (v.seen ++ between) (e ∷ []) v.caller.stream
     ∙ ap₂ (λ (g h : History). g ++ h) (own-others v.seen between v.caller.stream others ∙ fair.mine) (own-mine e [] v.caller.stream mine)
 
--- the pass when it has seen these events of others, and then made this call, with what is then stored
+-- the pass after it has seen these events of others and then made this call, and what is stored
+-- then
 abbrev pub stepped : View → History → Event → List Spelling → View
 stepped v between e xs = record v {
   seen = v.seen ++ between ++ e ∷ [];
@@ -209,9 +211,9 @@ moves_step v between e xs fair others mine legal spelt keeps =
     } in
     (moves_on v (stepped v between e xs) (e ∷ []) fair after refl (mine, tt) refl (between ++ e ∷ [], append_assoc v.seen between (e ∷ [])) keeps, after)
 
--- A fetch answers
+-- Fetches
 
--- a fetch at the end of a legal history answers as the state before it
+-- the last event of a legal history has the reply of the state before it
 pub last_answers : (f : Cnf) (p : LayoutValue) (before : History) (e : Event)
     → IsLegal f p (before ++ e ∷ []) → Answers (state f before) e
 last_answers f p before e legal = (legal-back f p (opening f) before (e ∷ []) legal.events).0
@@ -261,9 +263,10 @@ pass_fetches old new before id r moves last =
           (last_answers old.caller.formula old.caller.layout before e legal),
     )
 
--- Meeting
+-- Meetings
 
--- what a pass has met begins the history that it has seen then
+-- a pass that has met others in turn has seen what it had seen before, and what each of the others
+-- has seen so far
 synced_once : (u v : View) (xs ys : List View) → SyncInTurn u xs v ys
     → ((more : History) × (v.seen ≡ u.seen ++ more))
     × AllByRecursion (λ y. (more : History) × (v.seen ≡ y.seen ++ more)) ys
@@ -278,7 +281,8 @@ synced_once u v (x ∷ xs) (y ∷ ys) meets =
       ((grown, rest.0.1 ∙ ap (λ (h : History). h ++ grown) (sym meets.1.one)), rest.1),
     )
 
--- a pass that has seen all that each of the others has leaves them at its own history
+-- if a pass has seen all that each of the others has seen, then after meeting it all have seen its
+-- history
 synced_again : (h : History) (v w : View) (ys zs : List View) → v.seen ≡ h
     → AllByRecursion (λ y. (more : History) × (h ≡ y.seen ++ more)) ys → SyncInTurn v ys w zs
     → (w.seen ≡ h) × AllSaw h zs
@@ -291,7 +295,7 @@ synced_again h v w (y ∷ ys) (z ∷ zs) here behind meets =
     let rest = synced_again h meets.0 w ys zs stays behind.1 meets.2 in
     (rest.0, (met.one ∙ stays, rest.1))
 
--- each of these passes went on to the one at its place by no call, and is fair
+-- passes that meet in turn make no call, and the others are fair afterwards
 pub synced_keep : (u v : View) (xs ys : List View) → SyncInTurn u xs v ys → PassMoves u v []
     × AreSynced xs ys × (IsFair u → IsFair v)
 synced_keep u v [] [] meets = (subst (λ (w : View). PassMoves u w []) (sym meets) (moves_none u), tt, λ fair. subst IsFair (sym meets) fair)
@@ -305,7 +309,7 @@ synced_keep u v (x ∷ xs) (y ∷ ys) meets =
 abbrev pub opened : Caller → List Spelling → View
 opened caller spellings = record { caller = caller; seen = []; mine = []; spelt = spellings }
 
--- the pass of a stream that has seen nothing
+-- the pass of a stream that has seen nothing is fair
 pub opening_fair : (c : Caller) (xs : List Spelling) → IsCaller c → IsSpelt c.formula [] xs
     → IsFair (opened c xs)
 opening_fair c xs caller spelt = record {

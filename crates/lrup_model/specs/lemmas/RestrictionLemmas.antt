@@ -1,4 +1,4 @@
--- Lemmas on a legal history restricted to the streams of a set.
+-- Lemmas about a legal history restricted to the streams of a set.
 use Rattle.std.proofs.Common.{◌≡◌, ◌⊎◌, ℕ, ◌+◌, ◌≤◌, Bool, true, false, cond, eqb, [], ◌∷◌, refl, sym, ap, subst, ◌∙◌, inl, inr, arith, length}
 use Rattle.std.specs.Prelude.{IsTrue}
 use Rattle.std.specs.List.{sum_by, AllByRecursion}
@@ -23,7 +23,8 @@ use Rattle.lrup_model.specs.lemmas.HistoryLemmas.{own-mine, own-other, one_owner
 abbrev pub IsInside : LayoutValue → (ℕ → Bool) → ℕ → Type 0
 IsInside p set id = (t : ℕ) → Owns p t id → IsTrue (set t)
 
--- The restricted state has what the whole one has at identities that no stream outside the set owns, and nothing at the others.
+-- The restricted state has the same as the whole state at identities that no stream outside the set
+-- owns, and nothing at the others.
 pub record Restricts (p : LayoutValue) (set : ℕ → Bool) (whole part : State) : Type 0 where
   pub inside : (id : ℕ) → IsInside p set id → part id ≡ whole id
   pub outside : (id t : ℕ) → Owns p t id → set t ≡ false → part id ≡ absent
@@ -46,7 +47,7 @@ Restricts-member f p set whole part e allowed member rel = record {
       after-foreign f p part e id allowed foreign ∙ rel.outside id t owns out;
 }
 
--- an event of another stream changes the whole state alone
+-- an event of another stream changes only the whole state
 Restricts-other : (f : Cnf) (p : LayoutValue) (set : ℕ → Bool) (whole part : State) (e : Event)
     → IsAllowed f p e → set (stream_of e) ≡ false → Restricts p set whole part
     → Restricts p set (after whole e) part
@@ -57,7 +58,7 @@ Restricts-other f p set whole part e allowed other rel = record {
   outside = rel.outside;
 }
 
--- an owned identity is inside the set, or else a stream outside it owns it
+-- an identity is inside the set, or a stream outside the set owns it
 inside_or_outside : (p : LayoutValue) (set : ℕ → Bool) (id : ℕ) (o : Owner) → owner p id ≡ o
     → IsInside p set id ⊎ ((t : ℕ) × Owns p t id × (set t ≡ false))
 inside_or_outside p set id owners.Formula is = inl (λ t owns. absurd (cc))
@@ -97,7 +98,7 @@ Restricts-answers f p set whole part (events.retire s id retiring.Done) allowed 
 Restricts-answers f p set whole part (events.retire s id retiring.NotLive) allowed member finds rel answers =
     λ is_live. answers (subst (λ (x : Slot). IsLive x) (rel.inside id (own_inside p set s id member allowed)) is_live)
 
--- the events of the streams of a set, given as a test, in order
+-- the events of the streams in the set, in order
 abbrev pub among : (ℕ → Bool) → History → History
 among set h = filter (λ e. set (stream_of e)) h
 
@@ -109,7 +110,7 @@ among-other : (set : ℕ → Bool) (e : Event) (h : History) → set (stream_of 
     → among set (e ∷ h) ≡ among set h
 among-other set e h other = cond-false (set (stream_of e)) (e ∷ among set h) (among set h) other
 
--- the events among those of a set of streams are of these streams alone
+-- these events are only of streams in the set
 pub among-members : (set : ℕ → Bool) (h : History)
     → AllByRecursion (λ e. IsTrue (set (stream_of e))) (among set h)
 among-members set [] = tt
@@ -122,7 +123,7 @@ among-members set (e ∷ h) =
 own-cons : (e : Event) (g h : History) (s : ℕ) → own g s ≡ own h s → own (e ∷ g) s ≡ own (e ∷ h) s
 own-cons e g h s same = ap (λ (k : History). cond (eqb (stream_of e) s) (e ∷ k) k) same
 
--- the events among those of a set of streams have all events of each of them
+-- these events are all events of each stream in the set
 pub own-among : (set : ℕ → Bool) (h : History) (s : ℕ) → IsTrue (set s)
     → own (among set h) s ≡ own h s
 own-among set [] s inside = refl
@@ -184,7 +185,8 @@ spent-among s set (e ∷ h) =
       | inr other ↦ subst (λ (g : History). spent s g ≤ spent s (e ∷ h)) (sym (among-other set e h other)) (omega (arith, spent-among s set h, spent-rest s e h))
     ]
 
--- the events of streams that find no clause of the others are a legal history by themselves
+-- if the streams of a set find no clause of other streams, the events of the set are a legal
+-- history
 pub restriction_legal : (f : Cnf) (p : LayoutValue) (set : ℕ → Bool) (h : History) → Fits p f
     → IsLegal f p h → AllByRecursion (FindsWithin p set) h → IsLegal f p (among set h)
 restriction_legal f p set h fits legal finds = record {

@@ -1,5 +1,6 @@
--- Running and legality of one history behind another, and what an event takes of the room. These lemmas stand beside the definitions since the laws of a caller's view at a clause map rest
--- on them.
+-- State and legality after one history and then another, and what an event takes of the room. The
+-- laws of a caller's view at a clause map rely on these lemmas, so they are next to the
+-- definitions.
 use Rattle.std.specs.Prelude.{◌≡◌, ◌+◌, ◌==◌, ◌++◌, ℕ, [], ◌∷◌, length}
 use Rattle.std.specs.List.{sum_by, AllByRecursion}
 use Rattle.std.proofs.Common.{refl, ap, arith}

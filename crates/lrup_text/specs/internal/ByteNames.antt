@@ -1,4 +1,4 @@
--- Names of bytes of a line, for the contracts of the functions that read and write lines.
+-- Names for bytes of a line, for the contracts of the functions that read and write lines.
 use Rattle.std.specs.Prelude.{ℕ}
 
 -- the byte LF

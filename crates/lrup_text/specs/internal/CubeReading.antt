@@ -1,4 +1,4 @@
--- The text of a cube as far as it was read: the words of this crate's own functions.
+-- The text of a cube as far as it was read: definitions for this crate's own functions.
 use Rattle.std.specs.Prelude.{◌≡◌, ℕ, ◌<◌, ℤ, List, [], ◌∷◌, ◌++◌}
 use Rattle.std.specs.Fmt.{decimal, signed_decimal}
 use Rattle.lrup_model.specs.Cube.{IsCubeOver}
@@ -10,11 +10,11 @@ use Rattle.lrup_text.specs.Lines.{IsStreamNumber, IsStreamLiteral}
 use Rattle.lrup_text.specs.internal.Rests.{Spot, Tracks}
 use Rattle.lrup_text.specs.Cubes.{IsCubeLine, IsTextFault}
 
--- What stands in front of a cube's text if it is the list of an import: the number 1 and the letter.
+-- The bytes before a cube's text if it is the list of an import: the number 1 and the letter.
 abbrev pub import_front : List ℕ
 import_front = 49 ∷ space ∷ letter_i ∷ space ∷ []
 
--- what was read of a cube's text ends at a spot of that line
+-- the part of a cube's text that was read ends at a spot of that line
 abbrev pub EndsAtSpot : List ℕ → Spot → Type 0
 EndsAtSpot read spot = Tracks (import_front ++ read) spot
 
@@ -24,17 +24,17 @@ IsRestFault spot_after rest fault =
     (read : List ℕ) (count : ℕ) → count < 65535 → EndsAtSpot read (spot_after count)
     → IsTextFault IsCubeLine (read ++ rest) fault
 
--- a number, and the space after it, stand in front of a rest
+-- the text begins with a number and the space after it
 pub record BeginsWithNumber (text : List ℕ) (number : ℕ) (rest : List ℕ) : Type 0 where
   pub fits : IsStreamNumber number
   pub is : text ≡ decimal number ++ space ∷ rest
 
--- a literal likewise
+-- the same for a literal
 pub record ReadsLiteral (text : List ℕ) (literal : ℤ) (rest : List ℕ) : Type 0 where
   pub fits : IsStreamLiteral literal
   pub is : text ≡ signed_decimal literal ++ space ∷ rest
 
--- literals that are kept; and why they aren't: one is out of range, or else memory ran out
+-- literals that are kept; and why they aren't kept: one is out of range, or memory ran out
 abbrev pub AreKept : ℕ → List ℤ → List ℤ → Type 0
 AreKept vars literals kept = (kept ≡ literals) × IsCubeOver vars literals
 

@@ -1,4 +1,4 @@
--- A whole line that stands in a slice, read without a stop.
+-- A whole line in a slice, read at once.
 use Rattle.std.specs.Prelude.{◌≡◌, ℕ, ◌-◌, ◌<◌, ◌≤◌, ℤ, List, [], ◌∷◌, ◌++◌, length, take, slice_index}
 use Rattle.std.specs.Fmt.{decimal}
 use Rattle.std.specs.List.{AllByRecursion, flat_map}
@@ -12,22 +12,23 @@ use Rattle.lrup_text.specs.internal.Reading.{literals_text, items_text, line_of_
 abbrev pub EndsLine : List ℕ → Type 0
 EndsLine line = (0 < length line) × (slice_index line (length line - 1) ≡ line_feed)
 
--- the last byte is a space or LF, and so no byte of a word
+-- the last byte is a space or LF, so it isn't a byte of a word
 abbrev pub EndsWord : List ℕ → Type 0
 EndsWord text = (0 < length text) × (slice_index text (length text - 1) ≤ space)
 
--- numbers, and the space after each
+-- numbers, with a space after each
 unfoldable pub numbers_text : List ℕ → List ℕ
 numbers_text numbers = flat_map (λ n. decimal n ++ space ∷ []) numbers
 
--- a number stands from one place up to another
+-- the text has a number from one place up to another
 pub record ReadsNumber (text : List ℕ) (start number end : ℕ) : Type 0 where
   pub positive : IsStreamNumber number
   pub after : start < end
   pub inside : end < length text
   pub is : take end text ≡ take start text ++ decimal number
 
--- Literals stand from one place up to another. They stand in the buffer too, after the first.
+-- The text has literals from one place up to another. The buffer has them, too, after the first
+-- ones.
 pub record ReadsLiterals (text : List ℕ) (start : ℕ) (old : List ℤ) (first : ℕ) (new : List ℤ)
     (count end : ℕ) : Type 0 where
   pub more : List ℤ
@@ -37,7 +38,7 @@ pub record ReadsLiterals (text : List ℕ) (start : ℕ) (old : List ℤ) (first
   pub inside : end ≤ length text
   pub is : take end text ≡ take start text ++ literals_text more
 
--- numbers likewise
+-- the same for numbers
 pub record ReadsItems (text : List ℕ) (start : ℕ) (old : List ℕ) (first : ℕ) (new : List ℕ)
     (count end : ℕ) : Type 0 where
   pub more : List ℕ
@@ -47,21 +48,21 @@ pub record ReadsItems (text : List ℕ) (start : ℕ) (old : List ℕ) (first : 
   pub inside : end ≤ length text
   pub is : take end text ≡ take start text ++ numbers_text more
 
--- so many items stand there, and the end of the line
+-- this many items are there, followed by the end of the line
 pub record ReadsList (line : List ℕ) (start : ℕ) (ids : List ℕ) (count : ℕ) : Type 0 where
   pub few : count ≤ length ids
   pub each : AllByRecursion IsStreamNumber (take count ids)
   pub text : line ≡ (take start line ++ items_text (take count ids))
       ++ space ∷ zero_digit ∷ line_feed ∷ []
 
--- so many literals stand there, and the end of an import
+-- this many literals are there, followed by the end of an import
 pub record ReadsClause (line : List ℕ) (start : ℕ) (lits : List ℤ) (count : ℕ) : Type 0 where
   pub few : count ≤ length lits
   pub each : AllByRecursion IsStreamLiteral (take count lits)
   pub text : line ≡ (take start line ++ space ∷ literals_text (take count lits))
       ++ zero_digit ∷ line_feed ∷ []
 
--- it is the text of the line with this first number, and these lists in front of the buffers
+-- the text is that of the line with this first number and with these lists in front of the buffers
 pub record IsWhole (line : List ℕ) (lits : List ℤ) (ids : List ℕ) (whole : Whole) : Type 0 where
   pub kept : CanStandInLine whole.lead lits whole.literal_count ids whole.identity_count
   pub text : LineText (line_of_parts whole.imports whole.deletes whole.lead

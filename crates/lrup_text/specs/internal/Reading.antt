@@ -1,4 +1,4 @@
--- A line as far as it was read: what was read, and what a byte does.
+-- A line as far as it was read, and the effect of a byte.
 use Rattle.std.specs.Prelude.{◌≡◌, ℕ, ◌<◌, ◌≤◌, ◌^◌, ℤ, Bool, true, false, List, [], ◌∷◌, ◌++◌, length, take}
 use Rattle.std.specs.Fmt.{decimal, signed_decimal}
 use Rattle.std.specs.List.{AllByRecursion, flat_map}
@@ -24,7 +24,7 @@ literals_read partial = take partial.literal_count partial.literals.items
 abbrev pub identities_read : PartialLine → List ℕ
 identities_read partial = take partial.identity_count partial.identities.items
 
--- a line by its parts
+-- a line from its parts
 abbrev pub line_of_parts : (imports deletes : Bool) → ℕ → List ℤ → List ℕ → StreamLine
 line_of_parts true deletes lead lits ids = Import lead lits
 line_of_parts false true lead lits ids = Deletion lead ids
@@ -36,7 +36,7 @@ line_so_far partial =
     line_of_parts partial.imports partial.deletes partial.lead (literals_read partial)
     (identities_read partial)
 
--- literals and the space after each; items and the space before each
+-- literals with a space after each; items with a space before each
 unfoldable pub literals_text : List ℤ → List ℕ
 literals_text lits = flat_map (λ z. signed_decimal z ++ space ∷ []) lits
 
@@ -89,7 +89,7 @@ pending_at states.LineEnd partial =
 abbrev pub pending : PartialLine → List ℕ
 pending partial = pending_at partial.state partial
 
--- where in a line that is
+-- the spot in the line in this state
 unfoldable pub spot_at : ParserState → PartialLine → Spot
 spot_at states.Start partial = AtStart
 spot_at states.Lead partial = InLead partial.digits
@@ -102,7 +102,7 @@ spot_at states.Item partial = BeforeItem partial.deletes partial.identity_count
 spot_at states.Number partial = InItem partial.deletes partial.digits partial.identity_count
 spot_at states.LineEnd partial = AtEnd
 
--- what a state asks of the counts, and of the line's kind
+-- what a state requires of the counts and of the line's kind
 unfoldable pub IsRoomy : ParserState → PartialLine → Type 0
 IsRoomy states.Import partial =
     (partial.identity_count ≡ 0) × (partial.literal_count ≡ 0) × (partial.imports ≡ true)
@@ -114,12 +114,12 @@ IsRoomy states.Item partial = partial.imports ≡ false
 IsRoomy states.Number partial = (partial.identity_count < 65536) × (partial.imports ≡ false)
 IsRoomy _ partial = Unit {0}
 
--- the buffers have room for all that a line may hold
+-- the buffers have room for all that a line may have
 pub record HasRoom (lits : List ℤ) (ids : List ℕ) : Type 0 where
   pub literals : length lits ≡ 65535
   pub identities : length ids ≡ 65536
 
--- the first number, and the literals and identities in front of the buffers, can stand in a line
+-- the first number, and the literals and identities in front of the buffers, can be those of a line
 pub record CanStandInLine (first : ℕ) (lits : List ℤ) (literal_count : ℕ) (ids : List ℕ)
     (identity_count : ℕ) : Type 0 where
   pub lead : IsStreamNumber first
@@ -128,7 +128,7 @@ pub record CanStandInLine (first : ℕ) (lits : List ℤ) (literal_count : ℕ) 
   pub literals : AllByRecursion IsStreamLiteral (take literal_count lits)
   pub identities : AllByRecursion IsStreamNumber (take identity_count ids)
 
--- a number of so many digits
+-- a number of this many digits
 pub record FitsDigits (number digits : ℕ) : Type 0 where
   pub low : 0 < number
   pub high : number < 10 ^ digits
@@ -143,21 +143,22 @@ pub record IsPartialLine (partial : PartialLine) : Type 0 where
   pub roomy : IsRoomy partial.state partial
   pub tracks : Tracks (pending partial) (spot_at partial.state partial)
 
--- What a byte does. The line goes on; or it is whole, and reading stands before the next; or no line begins so.
+-- The effect of a byte: the line continues; or it is complete, and the next may begin; or no line
+-- begins like this.
 abbrev pub ReadsByte : PartialLine → ℕ → ByteStep → PartialLine → Type 0
 ReadsByte old byte More new = IsPartialLine new × (pending new ≡ pending old ++ byte ∷ [])
 ReadsByte old byte Done new =
     IsPartialLine new × (pending new ≡ []) × LineText (line_so_far new) (pending old ++ byte ∷ [])
 ReadsByte old byte (Refused fault) new = IsRefused (pending old ++ byte ∷ []) fault
 
--- So many bytes of a piece were read, and the line goes on.
+-- This many bytes of a piece were read, and the line continues.
 pub record ReadsAhead (old : PartialLine) (piece : List ℕ) (used : ℕ)
     (new : PartialLine) : Type 0 where
   pub bound : used ≤ length piece
   pub reads : IsPartialLine new
   pub is : pending new ≡ pending old ++ take used piece
 
--- What the bytes of a piece do, of which so many were used.
+-- The effect of the bytes of a piece, of which this many were used.
 abbrev pub StepsThrough : PartialLine → List ℕ → ℕ → ByteStep → PartialLine → Type 0
 StepsThrough old piece used More new =
     (used ≡ length piece) × IsPartialLine new × (pending new ≡ pending old ++ piece)
@@ -167,7 +168,7 @@ StepsThrough old piece used Done new =
 StepsThrough old piece used (Refused fault) new =
     (0 < used) × (used ≤ length piece) × IsRefused (pending old ++ take used piece) fault
 
--- the state with this fault, if any, and this text
+-- the reader's state with this fault, if any, and this text
 abbrev pub reader_state : Option LineFault → List ℕ → ReaderState
 reader_state None read = Ok read
 reader_state (Some fault) read = Err fault

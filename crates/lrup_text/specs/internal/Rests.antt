@@ -1,5 +1,6 @@
--- What may still follow a beginning of a line, in the grammar's own words. A spot says where the beginning ends, with
--- the counts that the limits speak of: how many digits of a number, literals or items of a list stand there.
+-- What may still follow a prefix of a line, in terms of the grammar. A spot says where the prefix
+-- ends, with the counts that have limits: the digits of the current number, the literals, or the
+-- items of a list.
 use Rattle.std.specs.Prelude.{◌≡◌, ℕ, ◌+◌, ◌≤◌, ◌⊎◌, Bool, true, false, List, [], ◌∷◌, ◌++◌, length, MatchBool}
 use Rattle.std.specs.List.{AllByRecursion}
 use Rattle.lrup_text.specs.internal.ByteNames.{line_feed, letter_d, letter_i}
@@ -23,19 +24,19 @@ abbrev pub SpellsItem : Limits → Bool → List ℕ → Type 0
 SpellsItem limits deletes word =
     MatchBool deletes (SpellsNumber limits.digits word) (SpellsHint limits word)
 
--- the items after so many, and the end of the line
+-- the items after this many others, and the end of the line
 pub record ListFollows (limits : Limits) (deletes : Bool) (items : ℕ) (rest : List ℕ) : Type 0 where
   pub words : List (List ℕ)
   pub count : items + length words ≤ limits.identities
   pub each : AllByRecursion (SpellsItem limits deletes) words
   pub is : rest ≡ list_text words
 
--- what follows the 0 after the literals: the end of an import, or the hints
+-- what comes after the 0 after the literals: the end of an import, or the hints
 abbrev pub ClauseEnds : Limits → Bool → List ℕ → Type 0
 ClauseEnds limits true rest = rest ≡ line_feed ∷ []
 ClauseEnds limits false rest = ListFollows limits false 0 rest
 
--- the literals after so many, of an import or an addition, and what follows them
+-- the literals after this many others, of an import or an addition, and what comes after them
 pub record ClauseFollows (limits : Limits) (imports : Bool) (literals : ℕ)
     (rest : List ℕ) : Type 0 where
   pub words : List (List ℕ)
@@ -57,20 +58,21 @@ pub record LiteralsFollow (limits : Limits) (rest : List ℕ) : Type 0 where
   pub is : rest ≡ space ∷ after
   pub clause : ClauseFollows limits true 0 after
 
--- the letter i, and those literals
+-- the letter i and those literals
 pub record ImportFollows (limits : Limits) (rest : List ℕ) : Type 0 where
   pub after : List ℕ
   pub is : rest ≡ letter_i ∷ after
   pub lits : LiteralsFollow limits after
 
--- after so many literals: more of the clause, or, if nothing says yet what the line is, a deletion or an import
+-- after this many literals: more of the clause, or, if the kind of the line is still open, a
+-- deletion or an import
 abbrev pub BodyFollows : Limits → Bool → ℕ → List ℕ → Type 0
 BodyFollows limits imports literals rest =
     ClauseFollows limits imports literals rest
     ⊎ ((literals ≡ 0) × (imports ≡ false)
     × (DeletionFollows limits rest ⊎ ImportFollows limits rest))
 
--- the digits after so many, a space, and what may follow it
+-- the digits after this many others, a space, and what may come after it
 pub record DigitsFollow (limits : Limits) (digits : ℕ) (Next : List ℕ → Type 0)
     (rest : List ℕ) : Type 0 where
   pub more : List ℕ
@@ -80,7 +82,7 @@ pub record DigitsFollow (limits : Limits) (digits : ℕ) (Next : List ℕ → Ty
   pub is : rest ≡ more ++ space ∷ after
   pub next : Next after
 
--- a number, a space, and what may follow it
+-- a number, a space, and what may come after it
 pub record NumberFollows (limits : Limits) (Next : List ℕ → Type 0) (rest : List ℕ) : Type 0 where
   pub first : ℕ
   pub low : 49 ≤ first
@@ -89,7 +91,7 @@ pub record NumberFollows (limits : Limits) (Next : List ℕ → Type 0) (rest : 
   pub is : rest ≡ first ∷ after
   pub digits : DigitsFollow limits 1 Next after
 
--- the rests that may complete a line whose beginning ends at the spot
+-- the rests that may complete a line whose prefix ends at the spot
 abbrev pub MayComplete : Limits → Spot → List ℕ → Type 0
 MayComplete limits AtStart rest = NumberFollows limits (BodyFollows limits false 0) rest
 MayComplete limits (InLead digits) rest =
@@ -107,14 +109,14 @@ MayComplete limits (InItem deletes digits items) rest =
     rest
 MayComplete limits AtEnd rest = rest ≡ line_feed ∷ []
 
--- what was read ends at the spot: the same rests make a line of it, whatever the limits
+-- what was read ends at the spot: with any limits, the same rests complete it to a line
 pub record Tracks (read : List ℕ) (spot : Spot) : Type 0 where
   pub completes : (signed : Bool) (limits : Limits) → AreLifted signed limits → (rest : List ℕ)
       → IsLine limits (read ++ rest) → MayComplete limits spot rest
   pub line : (signed : Bool) (limits : Limits) → AreLifted signed limits → (rest : List ℕ)
       → MayComplete limits spot rest → IsLine limits (read ++ rest)
 
--- with the byte a spot becomes another
+-- the byte leads from one spot to the other
 pub record Moves (spot : Spot) (byte : ℕ) (next : Spot) : Type 0 where
   pub to : (signed : Bool) (limits : Limits) → AreLifted signed limits → (rest : List ℕ)
       → MayComplete limits spot (byte ∷ rest) → MayComplete limits next rest

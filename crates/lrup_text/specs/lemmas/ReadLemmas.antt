@@ -1,15 +1,15 @@
--- Lemmas on reads of a source, one after another.
+-- Lemmas about reads of a source, one after another.
 use Rattle.std.proofs.Common.{◌≡◌, ◌∙◌, ◌++◌, ◌<◌, ℕ, List, [], ◌∷◌, Some, ap, append-nil, length, refl, sym}
 use Rattle.std.proofs.lemmas.Fn.{FoldsTo-push}
 use Rattle.std.proofs.lemmas.List.Folds.{concat-append}
 use Rattle.std.specs.List.{concat}
 use Rattle.lrup_text.specs.Reads.{Gave, ReadsOf}
 
--- no read gave no bytes
+-- no reads gave no bytes
 pub gave_none : (S : Type 0) (reads : ReadsOf S) (first : S) → Gave S reads first [] first
 gave_none S reads first = record { pieces = []; calls = refl; whole = refl }
 
--- one more read gave what follows
+-- one more read gave the next bytes
 pub gave_more : (S : Type 0) (reads : ReadsOf S) (first mid last : S)
     (before piece after : List ℕ) (room : ℕ)
     → Gave S reads first before mid → reads mid room (Some piece) last → 0 < length piece

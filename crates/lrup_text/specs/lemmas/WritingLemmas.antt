@@ -1,4 +1,4 @@
--- Lemmas on what goes out, one call after another.
+-- Lemmas about what is written, one call after another.
 use Rattle.std.proofs.Common.{◌≡◌, ℕ, ◌+◌, ◌<◌, List, [], ◌∷◌, ◌++◌, length, take, drop, get_or, Option, Some, None, refl, sym, ◌∙◌, ap, subst}
 use Rattle.std.specs.Prelude.{Result, Ok, Err, IsErr, MatchResult}
 use Rattle.std.specs.Io.KnownBytes.{Appends, Keeps}
@@ -45,7 +45,7 @@ module _ {a b c : Option (List ℕ)} {h i : List ℕ} {x : List ℕ} (puts : Put
         ∙ ap (λ t. puts.went ++ t) next.is ∙ sym (append_assoc puts.went next.went next.rest);
   }
 
--- the text of two lists, one after the other
+-- the texts of two lists, one after the other
 flat_map_append : {X : Type 0} (f : X → List ℕ) (xs ys : List X)
     → flat_map f xs ++ flat_map f ys ≡ flat_map f (xs ++ ys)
 flat_map_append f [] ys = refl
@@ -60,25 +60,26 @@ breaks_more {a} {b} {h} {x} h' y = record {
   is = sym (append_assoc h x y) ∙ ap (λ t. t ++ y) h'.is ∙ append_assoc h'.went h'.rest y;
 }
 
--- a beginning of all that is held
+-- a prefix of all that is held
 pub breaks_held : {a b : Option (List ℕ)} {h : List ℕ} (went rest : List ℕ) → h ≡ went ++ rest
     → Appends a b went → Breaks a b h []
 breaks_held {a} {b} {h} went rest is appends = record { went = went; rest = rest; appends = appends; is = append-nil h ∙ is }
 
--- what holds of an error, at the exit of a `?`
+-- what holds for an error, at the exit of a `?`
 pub at_err : {T E : Type 0} (r : Result T E) (P Q : Type 0) → IsErr r → Q
     → MatchResult r (λ _. P) (λ _. Q)
 at_err (Ok x) P Q h q = cc
 at_err (Err e) P Q h q = q
 
--- a beginning of a text that went out, where nothing was held before
+-- a prefix of a text was written, if nothing was held before
 pub breaks_from_empty : {E : Type 0} (r : Result (Unit {0}) E) {a b : Option (List ℕ)}
     {h z : List ℕ} → h ≡ [] → IsErr r → Breaks a b h z → WritesText r a b z
 breaks_from_empty r {a} {b} {h} {z} empty err broken =
     let from : Breaks a b [] z = subst (λ (x : List ℕ). Breaks a b x z) empty broken in
     at_err r _ _ err (from.went, from.rest, from.is, from.appends)
 
--- the same, for a text that is equal to it; or to two parts; or that goes on after them
+-- the same for a text that is equal to it; for one that is two parts; and for one that continues
+-- after them
 pub breaks_as : {a b : Option (List ℕ)} {h x z : List ℕ} → Breaks a b h x → z ≡ x → Breaks a b h z
 breaks_as {a} {b} {h} broken is = subst (λ t. Breaks a b h t) (sym is) broken
 
@@ -90,7 +91,7 @@ pub breaks_next : {a b c : Option (List ℕ)} {h i x y z : List ℕ} → Puts a 
     → (rest : List ℕ) → z ≡ (x ++ y) ++ rest → Breaks a c h z
 breaks_next {a} {b} {c} {h} puts next rest is = subst (λ t. Breaks a c h t) (sym is) (breaks_more (breaks_then puts next) rest)
 
--- the texts of a list's elements, one more of them
+-- the texts of a list's elements, with one more element
 pub texts_more : {X : Type 0} (text : X → List ℕ) (xs : List X) (k : ℕ) (d : X) → k < length xs
     → flat_map text (take (k + 1) xs) ≡ flat_map text (take k xs) ++ text (get_or xs k d)
 texts_more text xs k d inside = ap (flat_map text) (take_more xs k d inside) ∙ sym (flat_map_more text [] (take k xs) (get_or xs k d))
@@ -106,14 +107,14 @@ pub breaks_first : {a b : Option (List ℕ)} {h x z : List ℕ} → Breaks a b h
     → z ≡ x ++ rest → Breaks a b h z
 breaks_first {a} {b} {h} broken rest is = subst (λ t. Breaks a b h t) (sym is) (breaks_more broken rest)
 
--- the last call, whose result is passed on
+-- the last call, whose result is returned
 pub puts_all_next : {E : Type 0} (r : Result (Unit {0}) E) {a b : Option (List ℕ)}
     (c : Option (List ℕ)) {h i : List ℕ} (j : List ℕ) {x : List ℕ} (y : List ℕ) {z : List ℕ}
     → Puts a b h i x → PutsAll r b c i j y → z ≡ x ++ y → PutsAll r a c h j z
 puts_all_next (Ok u) c j y puts next is = puts_next puts next is
 puts_all_next (Err e) {a} {b} c {h} j y puts next is = subst (λ t. Breaks a c h t) (sym is) (breaks_then puts next)
 
--- all that is held going out, or a beginning of it
+-- all that is held is written, or a prefix of it
 pub writes_all_next : {E : Type 0} (r : Result (Unit {0}) E) {a b : Option (List ℕ)}
     (c : Option (List ℕ)) {i z : List ℕ} → Puts a b [] i z → WritesText r b c i → WritesText r a c z
 writes_all_next (Ok u) {a} {b} c {i} {z} puts next = subst (λ t. Appends a c t) (sym puts.is) (appends_then a b c puts.went i puts.appends next)

@@ -1,11 +1,11 @@
--- What is left of a clause if some literals are false (this project's own).
+-- Which literals of a clause aren't false (this project's own).
 use Rattle.std.specs.Prelude.{ℤ, List}
 use Rattle.lrup_model.specs.Clause.{Clause}
 use Rattle.lrup_model.specs.Propagation.{IsConflict, IsUnit}
 use Rattle.propagate.specs.declared.marks.ClauseStatus.{ClauseStatus}
 use Rattle.propagate.specs.declared.marks.ClauseStatus.TheVariants.{Nothing, One, More}
 
--- nothing, one literal that is neither true nor false, or more than that
+-- no literal, one literal that isn't true either, or more than that
 abbrev pub HasStatus : List ℤ → Clause → ClauseStatus → Type 0
 HasStatus falses clause Nothing = IsConflict falses clause
 HasStatus falses clause (One literal) = IsUnit falses clause literal

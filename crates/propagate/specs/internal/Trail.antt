@@ -4,18 +4,18 @@ use Rattle.std.specs.List.{AllByRecursion}
 use Rattle.lrup_model.specs.Literal.{IsLiteral, code_of}
 use Rattle.lrup_model.specs.Clause.{Has}
 
--- literals over the variables 1 to vars that are false, newest last
+-- The literals that are false, newest last, over the variables 1 to vars.
 pub record FalseLiterals : Type 0 where
   pub vars : ℕ
   pub literals : List ℤ
 
--- no variable stands twice
+-- no variable occurs twice
 abbrev pub AreApart : List ℤ → Type 0
 AreApart [] = Unit {0}
 AreApart (literal ∷ literals) =
     (¬ Has literals literal) × (¬ Has literals (neg_ℤ literal)) × AreApart literals
 
--- each literal has a mark, whose place is its code
+-- each literal has a mark, at the place of its code
 abbrev pub HaveMarks : List Bool → List ℤ → Type 0
 HaveMarks marks literals = AllByRecursion (λ l. code_of l < length marks) literals
 
@@ -23,12 +23,13 @@ HaveMarks marks literals = AllByRecursion (λ l. code_of l < length marks) liter
 abbrev pub IsMarked : List Bool → ℤ → Type 0
 IsMarked marks l = slice_index_or marks (code_of l) false ≡ true
 
--- each of these literals was marked before, and after that all are marked that were, but for these
+-- Each of these literals was marked before, and exactly their marks were cleared.
 pub record AreTaken (before after : List Bool) (literals : List ℤ) : Type 0 where
   pub marked : (l : ℤ) → Has literals l → IsMarked before l
   pub left : (l : ℤ) → IsMarked after l ↔ (IsMarked before l × (¬ Has literals l))
 
--- a literal over the variables is marked exactly if it is in the list, and the list has room for one of each variable
+-- A literal over the variables is marked exactly if it is in the list, and the list has room for
+-- one literal of each variable.
 pub record AreMarks (vars : ℕ) (marks : List Bool) (literals : List ℤ) (capacity : ℕ) : Type 0 where
   pub count : length marks ≡ 2 * vars + 2
   pub room : vars < capacity

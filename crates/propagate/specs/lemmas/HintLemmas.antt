@@ -1,4 +1,4 @@
--- Lemmas on hinted unit propagation.
+-- Lemmas about hinted unit propagation.
 use Rattle.std.proofs.Common.{inl, inr, ℤ, neg_ℤ, List, [], ◌∷◌, ◌++◌, refl, sym, ap, subst, ◌∙◌}
 use Rattle.std.specs.Prelude.{◌≡◌}
 use Rattle.lrup_model.specs.Clause.{Clause}
@@ -6,7 +6,7 @@ use Rattle.lrup_model.specs.Propagation.{IsConflict, IsUnit, Refutes, Accepts}
 use Rattle.propagate.specs.Hints.{Leads}
 use Rattle.propagate.specs.Laws.{AcceptsExactly}
 
--- a clause is unit with one literal at most
+-- a clause is unit with at most one literal
 pub unit_is_unique : (n : List ℤ) (d : Clause) (l k : ℤ) → IsUnit n d l → IsUnit n d k → l ≡ k
 unit_is_unique n d l k a b =
     elim (b.others l a.here) [ inl same ↦ same | inr is_false ↦ absurd (a.not_false is_false) ]
@@ -15,7 +15,7 @@ unit_is_unique n d l k a b =
 pub unit_is_no_conflict : (n : List ℤ) (d : Clause) (l : ℤ) → IsUnit n d l → ¬ IsConflict n d
 unit_is_no_conflict n d l unit conflict = unit.not_false (conflict l unit.here)
 
--- where one more unit clause comes behind unit clauses, one more literal is false
+-- one more unit clause after unit clauses makes one more literal false
 pub leads_on : (n m : List ℤ) (ds : List Clause) (d : Clause) (l : ℤ) → Leads n ds m → IsUnit m d l
     → Leads n (ds ++ d ∷ []) (m ++ neg_ℤ l ∷ [])
 leads_on n m [] d l same unit =

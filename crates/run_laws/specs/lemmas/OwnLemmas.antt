@@ -15,7 +15,7 @@ use Rattle.stream_check.specs.SequentialConsistency.{AreJudgedIn}
 use Rattle.stream_check.specs.lemmas.StreamLemmas.{blocks-other, blocks-same}
 use Rattle.stream_check.specs.Streams.{AreJudged, Block, IsBlockWithin, Stream, RunParamsValue, blocks_of, events_in}
 
--- what holds of all events holds of a stream's
+-- what holds for all events holds for a stream's
 pub own_all : (P : Event → Type 0) (h : History) (s : ℕ) → AllByRecursion P h
     → AllByRecursion P (own h s)
 own_all P [] s all = tt
@@ -40,7 +40,7 @@ own-blocks p set s (b ∷ bs) all =
           ∙ own-blocks p set s bs all.1 ∙ sym (ap joined (blocks-other b bs s other))
     ]
 
--- streams that are judged by their blocks are judged by their own events of them all
+-- streams that are judged by their blocks are judged by their own events among all
 pub ordered_judged : (run_params : RunParamsValue) (all set : ℕ → Bool) (bs : List Block) (s : ℕ)
     (streams : List Stream) (reports : List Report)
     → AllByRecursion (IsBlockWithin run_params.layout all) bs

@@ -1,19 +1,19 @@
--- The lines that `--watch` shows (this project's own).
+-- The lines of `--watch` (this project's own).
 use Rattle.std.specs.Prelude.{◌++◌, ℕ, List, codes}
 use Rattle.std.specs.Fmt.{decimal}
 use Rattle.stream_check.specs.declared.report.Report.{Report}
 use Rattle.run_outcome.specs.ReportText.{line_after}
 
--- what is said when a stream is over
+-- the line for a finished stream
 abbrev pub over_line : ℕ → Report → List ℕ
 over_line s report = line_after (codes "lrupd: stream ") s report
 
--- what is said when a stream has waited for the clause of an identity
+-- the line for a stream that has waited for the clause of an identity
 abbrev pub wait_line : ℕ → ℕ → List ℕ
 wait_line s id =
     codes "lrupd: stream " ++ decimal s ++ codes ": waits for " ++ decimal id ++ codes "\n"
 
--- what is said of how many clauses a stream has added so far
+-- the line for how many clauses a stream has added so far
 abbrev pub count_line : ℕ → ℕ → List ℕ
 count_line s added =
     codes "lrupd: stream " ++ decimal s ++ codes ": " ++ decimal added ++ codes " added\n"

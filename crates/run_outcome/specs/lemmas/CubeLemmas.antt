@@ -1,4 +1,4 @@
--- Where a report says 'within', its stream published a clause within the cube, and the formula is unsatisfiable under it.
+-- If a report says 'within', its stream published a clause within the cube, and the formula is unsatisfiable under the cube.
 use Rattle.std.proofs.Common.{◌≡◌, ℕ, Bool, true, false, List, [], ◌∷◌, ◌+◌, inl, inr, refl, sym, ap, ◌∙◌}
 use Rattle.std.specs.Prelude.{◌||◌, IsTrue, if◌then◌else◌}
 use Rattle.std.specs.List.{list_any}
@@ -33,7 +33,7 @@ use Rattle.run_outcome.specs.lemmas.EmptyLemmas.{any_front, any_filtered, lines_
 
 -- ---- the lines of a stream
 
--- where the report says 'within', one of the events published a clause within the cube
+-- if the report says 'within', one of the events published a clause within the cube
 within_is_published : (c : StreamParams) (bytes : List ℕ) (end : StreamEnd) (blocks : List History) (report : Report)
     → JudgesBlocks c bytes end blocks report → IsTrue report.within → IsTrue (list_any (publishes_within c.cube) (joined blocks))
 within_is_published c bytes end blocks report judged is =
@@ -71,7 +71,7 @@ refuted_from f p cube m (events.publish s id c publishing.Done ∷ es) legal h =
     refutes_either f cube c (list_any (publishes_within cube) es) legal.1.1 h
     (refuted_from f p cube (after m (events.publish s id c publishing.Done)) es legal.2)
 
--- So where a stream's events are its own of a legal history, and its report says 'within', the formula is unsatisfiable under the cube.
+-- So if a stream's events are its own in a legal history, and its report says 'within', the formula is unsatisfiable under the cube.
 sound : (f : Cnf) (p : LayoutValue) (h : History) (c : StreamParams) (stream : Stream) (blocks : List History) (report : Report)
     → IsLegal f p h → own h c.stream ≡ joined blocks → JudgesStream c stream blocks report → IsTrue report.within
     → IsUnsatisfiableUnder f c.cube
@@ -105,13 +105,13 @@ some_within true b is = absurd (let no : Unsatisfiable ≡ UnsatisfiableUnder = 
 some_within false true is = refl
 some_within false false is = absurd (let no : Unknown ≡ UnsatisfiableUnder = is in cc)
 
--- the verdict 'unsatisfiable under assumptions' is that of a report
+-- with the verdict 'unsatisfiable under assumptions' some report says 'within'
 is_within_some : (reports : List Report) (verdict : Verdict) → verdict ≡ verdict_of reports → verdict ≡ UnsatisfiableUnder
     → list_any (λ report. report.within) reports ≡ true
 is_within_some reports verdict of is =
     some_within (list_any (λ (report : Report). report.empty) reports) (list_any (λ (report : Report). report.within) reports) (sym of ∙ is)
 
--- so it is true, with two threads for each stream
+-- so the verdict is true, with two threads for each stream
 pub sound_under_run : (f : Cnf) (run_params : RunParamsValue) (observed : List InputObservation) (reports : List Report) (verdict : Verdict)
     → IsRun f run_params observed reports → verdict ≡ verdict_of reports → verdict ≡ UnsatisfiableUnder
     → IsUnsatisfiableUnder f run_params.cube

@@ -1,4 +1,4 @@
--- What the streams of a run dropped, by what was found of each.
+-- What the streams of a run dropped, from what was found of each.
 use Rattle.std.proofs.Common.{◌≡◌, ◌∙◌, ◌+◌, inl, ℕ, List, [], ◌∷◌, Option, None, refl, sym, ap, subst}
 use Rattle.std.proofs.lemmas.List.{append-nil}
 use Rattle.lrup_model.specs.Event.{History}
@@ -19,13 +19,13 @@ use Rattle.stream_check.specs.lemmas.StoppingLemmas.{drops_none}
 use Rattle.stream_check.specs.Streams.{Stream, RunParamsValue}
 use Rattle.run_outcome.specs.Dropping.{AreDroppedBy, HasDropped, HaveDropped}
 
--- where a checker isn't over, all lines were good
+-- if a checker is unfinished, all lines were good
 good_drops : (c : StreamParams) (bytes : List ℕ) (blocks : List History) (now : GoingState) (ids : List ℕ) → ReachesGoing c bytes blocks now
     → ((id : ℕ) → is_among ids id ≡ now.context.is_dropped id) → AreDroppedBy c bytes blocks ids
 good_drops c bytes blocks now ids left same =
     record { lines = left.lines; rest = now.pending; cut = left.cut; good = left.good; are = λ id. same id ∙ left.context.is_dropped id }
 
--- so they were where the stream ended in the middle of a line, which dropped nothing
+-- the same if the stream ended in the middle of a line, which dropped nothing
 ended_by : (end : StreamEnd) (rest : List ℕ) (c : StreamParams) (bytes : List ℕ) (blocks : List History) (now : GoingState)
     (dropped : DroppedIdsValue)
     → ReachesGoing c bytes blocks now → ((id : ℕ) → is_among dropped.ids id ≡ now.context.is_dropped id)
@@ -48,7 +48,7 @@ ended_by stream_ends.Ended (byte ∷ rest) c bytes blocks now dropped left same 
 }
 ended_by stream_ends.Failed rest c bytes blocks now dropped left same = good_drops c bytes blocks now dropped.ids left same
 
--- what a checker dropped that isn't over, and takes this end
+-- what an unfinished checker dropped that takes this end
 pub going_drops : (c : StreamParams) (v : CheckerValue) (room : ℕ) (bytes : List ℕ) (blocks : List History) (end : StreamEnd)
     → v.ending ≡ None → ReachesState c bytes blocks (checker_state v room)
     → HasDropped c bytes blocks (report_of_tally v.tally (ending_at end v.pending v.line)) v.dropped
@@ -65,7 +65,7 @@ stopped_drops (endings.Bad line fault) c bytes blocks tally dropped drops full =
 stopped_drops (endings.ReadFailed line) c bytes blocks tally dropped drops full = absurd drops.number
 stopped_drops (endings.Memory line) c bytes blocks tally dropped drops full = (drops, full line refl)
 
--- it is so by blocks of which something follows
+-- the same by blocks for which a weaker fact holds
 pub dropped_more : (run_params : RunParamsValue) (P Q : ℕ → List History → Type 0)
     → ((t : ℕ) (blocks : List History) → P t blocks → Q t blocks)
     → (s : ℕ) (streams : List Stream) (reports : List Report) (all : List DroppedIdsValue)

@@ -1,4 +1,4 @@
--- Where a report says 'empty', its stream published the empty clause, and the formula is unsatisfiable.
+-- If a report says 'empty', its stream published the empty clause, and the formula is unsatisfiable.
 use Rattle.std.proofs.Common.{◌≡◌, ℕ, ℤ, Bool, true, false, List, [], ◌∷◌, ◌++◌, length, inl, inr, refl, sym, ap, subst, ◌∙◌, arith}
 use Rattle.std.specs.Prelude.{◌||◌, ◌==◌, IsTrue, if◌then◌else◌}
 use Rattle.std.specs.List.{list_any, filter}
@@ -47,7 +47,7 @@ module _ (p : Event → Bool) where
   any_more es fs gs rest e = list_any-append p es gs
       ∙ or_more (list_any p es) (list_any p fs) (list_any p gs) rest (sym (list_any-append p es fs) ∙ e)
 
-  -- one of those that pass a test is one of all
+  -- if an element of the filtered list passes the test, an element of the list does
   filtered_step : (x : Event) (es fs : History) (b : Bool) → (list_any p fs ≡ true → list_any p es ≡ true)
       → list_any p (if b then x ∷ fs else fs) ≡ true → list_any p (x ∷ es) ≡ true
   filtered_step x es fs true rest e = or_more (p x) (list_any p fs) (list_any p es) rest e
@@ -68,7 +68,7 @@ addition_publishes p c st id lits hints es good passes =
 
 -- ---- the lines of a stream
 
--- where one of the good additions passes, one of the publishes does
+-- if one of the good additions passes, one of the publishes does
 pub lines_publish : (p : Event → Bool) (adds : ℕ × Clause → Bool) (c : StreamParams)
     → ((id : ℕ) (lits : List ℤ) → p (published_by c id lits) ≡ adds (id, distinct lits))
     → (before lines : List StreamLine) (blocks : List History) → AreGood c before lines blocks → list_any adds (additions_of lines) ≡ true
@@ -87,7 +87,7 @@ lines_publish p adds c same before (Addition id lits hints ∷ lines) (block ∷
           (lines_publish p adds c same _ lines blocks good.1 (ap (λ b. b || list_any adds (additions_of lines)) (sym none) ∙ e))
     ]
 
--- Where the report says 'empty', one of the events published the empty clause.
+-- If the report says 'empty', one of the events published the empty clause.
 pub empty_is_published : (c : StreamParams) (bytes : List ℕ) (end : StreamEnd) (blocks : List History) (report : Report)
     → JudgesBlocks c bytes end blocks report → IsTrue report.empty → IsTrue (list_any publishes_empty (joined blocks))
 empty_is_published c bytes end blocks report judged is =
@@ -126,11 +126,11 @@ empty_follows f p m (events.publish s id c publishing.Done ∷ es) legal h =
     follows_either f c (list_any publishes_empty es) (length c == 0) refl legal.1.1.follows h
     (empty_follows f p (after m (events.publish s id c publishing.Done)) es legal.2)
 
--- a legal history that publishes the empty clause is one of an unsatisfiable formula
+-- if a legal history publishes the empty clause, its formula is unsatisfiable
 pub refuted : (f : Cnf) (p : LayoutValue) (h : History) → IsLegal f p h → IsTrue (list_any publishes_empty h) → IsUnsatisfiable f
 refuted f p h legal is = empty_refutes f (empty_follows f p (opening f) h legal.events is)
 
--- So where a stream's events are its own of a legal history, and its report says 'empty', the formula is unsatisfiable.
+-- So if a stream's events are its own in a legal history, and its report says 'empty', the formula is unsatisfiable.
 pub sound : (f : Cnf) (p : LayoutValue) (h : History) (c : StreamParams) (stream : Stream) (blocks : List History) (report : Report)
     → IsLegal f p h → own h c.stream ≡ joined blocks → JudgesStream c stream blocks report → IsTrue report.empty → IsUnsatisfiable f
 sound f p h c stream blocks report legal mine judged is =

@@ -1,8 +1,8 @@
--- Lemmas of results (this project's own).
+-- Lemmas about results (this project's own).
 use Rattle.std.specs.Prelude.{Result, Ok, Err}
 use Rattle.std.specs.Result.{IfOk}
 
--- two facts of a value that is there give a third
+-- two facts about an `Ok` value give a third one
 pub if_both : {T E : Type 0} {A B C : T → Type 0} (result : Result T E) → IfOk result A
     → IfOk result B → ((x : T) → A x → B x → C x) → IfOk result C
 if_both (Ok x) a b gives = gives x a b

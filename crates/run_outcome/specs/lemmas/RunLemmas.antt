@@ -25,7 +25,7 @@ use Rattle.run_outcome.specs.lemmas.EmptyLemmas.{sound}
 
 -- ---- the layout
 
--- the limits of a layout are kept, so none is broken
+-- a layout within its limits has no fault
 pub no_fault : (p : LayoutValue) (fault : LayoutFault) → IsLayout p → IsFault p fault → ⊥
 no_fault p faults.TooManyVariables is bad = omega (arith, is.vars, bad)
 no_fault p faults.TooManyClauses is bad = omega (arith, is.clauses, bad.1)
@@ -39,17 +39,17 @@ pub run_params_made : (options : OptionsValue) (cube : CubeValue) (f : Cnf) (p :
     → made ≡ run_params_of options cube f streams
 run_params_made options cube f p n streams tries made is same count often = cc
 
--- a run that was opened has no fault of its layout
+-- a run that was opened has no layout fault
 pub none_of_layout : (options : OptionsValue) (f : Cnf) (p : LayoutValue) (n streams : ℕ) → p ≡ layout_of options f n → n ≡ streams
     → IsLayout p → (fault : LayoutFault) → IsFault (layout_of options f streams) fault → ⊥
 none_of_layout options f p n streams same count is fault bad =
     no_fault p fault is (subst (λ (l : LayoutValue). IsFault l fault) (sym (same ∙ ap (layout_of options f) count)) bad)
 
--- what is there is no fault
+-- an `Ok` is no `Err`
 no_error : {T E : Type 0} {value : T} {e : E} → Ok value ≡ Err e → ⊥
 no_error is = cc
 
--- out of memory is no other fault
+-- out of memory is no layout fault
 pub not_layout : {T : Type 0} (result : Result T RunFault) (fault : LayoutFault) → IfErr result (λ e. e ≡ Memory)
     → result ≡ Err (Layout fault) → ⊥
 not_layout (Ok value) fault memory is = no_error is
@@ -60,14 +60,14 @@ pub no_threads : {T : Type 0} (result : Result T RunFault) → IfErr result (λ 
 no_threads (Ok value) memory stream = (no_error, no_error)
 no_threads (Err e) memory stream = ((λ is. cc), (λ is. cc))
 
--- what `?` hands on is out of memory, and so is whatever fault there is
+-- the fault that `?` returns is out of memory, and so is any fault
 pub is_memory : {T : Type 0} (result : Result T RunFault) → IsErrAnd result (λ e. e ≡ Memory) → IfErr result (λ e. e ≡ Memory)
 is_memory (Ok value) is = tt
 is_memory (Err e) is = is
 
 -- ---- 'unsatisfiable'
 
--- where one of the reports says 'empty', no assignment makes every clause of the formula true
+-- if one of the reports says 'empty', no assignment satisfies the formula
 sound_by : (f : Cnf) (run_params : RunParamsValue) (h : History) → IsLegal f run_params.layout h
     → (s : ℕ) (streams : List Stream) (reports : List Report)
     → AreJudgedIn run_params (λ t. true) h s streams reports → list_any (λ report. report.empty) reports ≡ true → IsUnsatisfiable f
@@ -86,13 +86,13 @@ some_empty true b is = refl
 some_empty false true is = absurd (let no : UnsatisfiableUnder ≡ Unsatisfiable = is in cc)
 some_empty false false is = absurd (let no : Unknown ≡ Unsatisfiable = is in cc)
 
--- the verdict 'unsatisfiable' is that of a report
+-- with the verdict 'unsatisfiable' some report says 'empty'
 is_empty : (reports : List Report) (verdict : Verdict) → verdict ≡ verdict_of reports → verdict ≡ Unsatisfiable
     → list_any (λ report. report.empty) reports ≡ true
 is_empty reports verdict of is =
     some_empty (list_any (λ (report : Report). report.empty) reports) (list_any (λ (report : Report). report.within) reports) (sym of ∙ is)
 
--- so it is true
+-- so the verdict is true
 pub sound_run : (f : Cnf) (run_params : RunParamsValue) (observed : List InputObservation) (reports : List Report) (verdict : Verdict)
     → IsRun f run_params observed reports → verdict ≡ verdict_of reports → verdict ≡ Unsatisfiable → IsUnsatisfiable f
 sound_run f run_params observed reports verdict run of is =

@@ -19,7 +19,7 @@ use Rattle.stream_check.specs.Turns.{IsByTurns, line_count}
 use Rattle.lrup_text.specs.ReadOut.{SourceView}
 use Rattle.serial_run.specs.internal.Working.{WorkerValue, WorkerInvariant, IsStarted}
 
--- the map is the one that the blocks' events leave, and they are legal
+-- the map is what the blocks' events leave, and the events are legal
 pub record HasRun (run_formula : Cnf) (run_layout : LayoutValue) (blocks : List Block)
     (map : Plain) : Type 0 where
   pub layout : map.layout ≡ run_layout
@@ -30,7 +30,7 @@ pub record HasRun (run_formula : Cnf) (run_layout : LayoutValue) (blocks : List 
   pub room : (s : ℕ) → IsStream run_layout s
       → free_at map s + spent s (events_in blocks) ≡ run_layout.room
 
--- the worker is stream s's, has come to this by the stream's blocks, and can go on at the map
+-- the worker is stream s's, has reached its state by the stream's blocks, and can be fed at the map
 pub record IsWorking {S : Type 0} (view : SourceView S) (run_params : RunParamsValue)
     (blocks : List Block)
     (map : Plain) (s : ℕ) (first : S) (worker : WorkerValue S) : Type 0 where
@@ -38,15 +38,16 @@ pub record IsWorking {S : Type 0} (view : SourceView S) (run_params : RunParamsV
   pub holds : WorkerInvariant view first worker (free_at map s) (blocks_of s blocks)
   pub ready : IsReadyAt worker.checker (plain_caller_view map s)
 
--- so it is with each worker, counted on from s
+-- the same for each worker, counted from s
 abbrev pub AreWorking : {S : Type 0} → SourceView S → RunParamsValue → List Block → Plain
     → ℕ → List S
     → List (WorkerValue S) → Type 0
 AreWorking view run_params blocks map s firsts workers =
     Each (IsWorking view run_params blocks map) s firsts workers
 
--- An order of lines after so many whole rounds and the turns of so many streams more. No stream has more lines than it has had turns,
--- one that isn't over has as many, and the order is by turns.
+-- An order of lines after this many whole rounds and the turns of the first `taken` streams. No
+-- stream has more lines than turns, an unfinished stream has as many, and the order takes the
+-- streams in turn.
 pub record IsInRound {S : Type 0} (rounds taken : ℕ) (order : List ℕ)
     (workers : List (WorkerValue S)) : Type 0 where
   pub before : (s : ℕ) → s ≤ taken → line_count s order ≤ rounds + 1
@@ -57,8 +58,8 @@ pub record IsInRound {S : Type 0} (rounds taken : ℕ) (order : List ℕ)
       → worker.checker.ending ≡ None → taken < s → line_count s order ≡ rounds
   pub turns : IsByTurns order
 
--- A run between two turns, where so many streams have had theirs in this round: its map is that of the blocks so far, and each
--- worker has come to what its own blocks say.
+-- A run between two turns, when the first `taken` streams have had theirs in this round: its map is
+-- what the blocks so far leave, and each worker is where its own blocks led.
 pub record SerialInvariant {S : Type 0} (view : SourceView S) (formula : Cnf)
     (run_params : RunParamsValue)
     (firsts : List S) (taken : ℕ) (clauses : Plain)
@@ -70,13 +71,13 @@ pub record SerialInvariant {S : Type 0} (view : SourceView S) (formula : Cnf)
   pub rounds : ℕ
   pub in_round : IsInRound rounds taken (map (λ block. block.stream) blocks) workers
 
--- the run of some formula, layout and readers stands here
+-- these are the map and the workers of a run of some formula, parameters and readers
 abbrev pub IsInSerialRun : {S : Type 0} → SourceView S → ℕ → Plain → List (WorkerValue S) → Type 0
 IsInSerialRun {S} view taken map workers =
     (formula : Cnf) × (run_params : RunParamsValue) × (firsts : List S)
     × SerialInvariant view formula run_params firsts taken map workers
 
--- whatever run stood at the one moment stands at the other
+-- if these were the map and the workers of a run, the later ones are those of the same run
 abbrev pub SerialStep : {S : Type 0} → SourceView S → ℕ → Plain → List (WorkerValue S) → ℕ → Plain
     → List (WorkerValue S) → Type 0
 SerialStep {S} view taken map workers next later after =
@@ -90,24 +91,24 @@ IsOver worker = IsSome worker.checker.ending
 abbrev pub AreOver : {S : Type 0} → List (WorkerValue S) → Type 0
 AreOver workers = AllByRecursion IsOver workers
 
--- the worker at this place in the list is over
+-- the worker at this place in the list is finished
 abbrev pub IsOverAt : {S : Type 0} → List (WorkerValue S) → ℕ → Type 0
 IsOverAt workers place = IfSome (slice_get workers place) IsOver
 
--- the workers of the streams counted on from s, before their first bytes
+-- the workers of the streams, counted from s, before their first bytes
 abbrev pub AreStarted : {S : Type 0} → SourceView S → RunParamsValue → ℕ → List S
     → List (WorkerValue S)
     → Type 0
 AreStarted view run_params s firsts workers = Each (IsStarted view run_params) s firsts workers
 
--- the reports of workers that are over
+-- the reports of finished workers
 abbrev pub HaveReports : {S : Type 0} → List (WorkerValue S) → List Report → Type 0
 HaveReports workers reports = AllZip (λ worker report. (ending : Ending)
     × (worker.checker.ending ≡ Some ending)
     × (report ≡ report_of_tally worker.checker.tally ending)) workers reports
 
--- What a run that stood at the one map with these workers came to at the other: all its streams are over, and these are their
--- reports, their readers, and the identities that they dropped.
+-- What a run with this map and these workers came to: all its streams are finished, and these are
+-- its map, their reports, their readers and the identities that they dropped.
 pub record SerialEnd {S : Type 0} (view : SourceView S) (opened : Plain)
     (workers : List (WorkerValue S)) (later : Plain) (reports : List Report) (readers : List S)
     (dropped : List DroppedIdsValue) : Type 0 where

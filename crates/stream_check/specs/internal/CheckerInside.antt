@@ -1,4 +1,4 @@
--- How a checker's value comes from its fields, and what these keep (this project's own).
+-- How a checker's value comes from its fields, and their invariants (this project's own).
 use Rattle.std.specs.Prelude.{◌≡◌, ◌≤◌, ◌<◌, ◌^◌, ◌+◌, ℕ, ℤ, nat_abs, Bool, true, false, List, [], length, Option, None, IfSome, Result, Ok, Err}
 use Rattle.std.specs.List.{AllByRecursion}
 use Rattle.lrup_model.specs.Clause.{IsClause, IsTautology}
@@ -17,8 +17,9 @@ use Rattle.stream_check.specs.CheckerValue.{Tally, CheckerValue}
 use Rattle.stream_check.specs.declared.params.Ownership.{Ownership}
 use Rattle.stream_check.specs.declared.params.Ownership.TheVariants as ownerships
 
--- whose lines they are; the last identity added, or the formula's last one; the dropped ones, and how many were retired; how many
--- clauses were added, whether one is empty, and whether one is within the cube; and the next line's number
+-- the parameters; the last identity added, or the formula's last one; the dropped ones, and how
+-- many were retired; how many clauses were added, whether one is empty, and whether one is within
+-- the cube; and the next line's number
 pub record StreamStateValue : Type 0 where
   pub params : StreamParams
   pub last : ℕ
@@ -29,7 +30,7 @@ pub record StreamStateValue : Type 0 where
   pub within : Bool
   pub line : ℕ
 
--- the state before the first line, if these identities count as dropped
+-- the state before the first line, with these identities as dropped
 abbrev pub fresh_state : StreamParams → DroppedIdsValue → StreamStateValue
 fresh_state params dropped = record {
   params = params;
@@ -42,7 +43,7 @@ fresh_state params dropped = record {
   line = 1;
 }
 
--- what the good lines so far leave, if so much room is left
+-- what the good lines so far leave, if this much room is left
 abbrev pub context_at : StreamStateValue → ℕ → StreamContext
 context_at state free =
     record { last = state.last; free = free; is_dropped = is_among state.dropped.ids }
@@ -59,11 +60,11 @@ tally_at state = record {
   within = state.within;
 }
 
--- what only a good line changes
+-- this changes only for good lines
 abbrev pub KeepsLines : StreamStateValue → StreamStateValue → Type 0
 KeepsLines old new = new ≡ record old { dropped = new.dropped; retired = new.retired }
 
--- The conditions before those of the hints hold, and the addition's clause is taken up.
+-- The conditions before those of the hints hold, and the marks have taken the addition's clause.
 pub record Admits (params : StreamParams) (context : StreamContext) (id : ℕ) (lits : List ℤ)
     (marks : Propagation) : Type 0 where
   pub owns : Owns params.layout params.stream id
@@ -80,7 +81,7 @@ pub record Admits (params : StreamParams) (context : StreamContext) (id : ℕ) (
         ready = true;
       }
 
--- the conditions before those of the hints: they hold, or the addition violates one
+-- the conditions before those of the hints hold, or the addition violates one
 abbrev pub AdmitsBy : StreamParams → StreamContext → ℕ → List ℤ → Propagation
     → Result (Unit {0}) Fault
     → Type 0
@@ -88,12 +89,12 @@ AdmitsBy params context id lits marks (Ok _) = Admits params context id lits mar
 AdmitsBy params context id lits marks (Err fault) =
     BeforeHints params context id lits [] fault ⊥
 
--- the text that a reader has read of a line
+-- the text of a line that a reader has read
 abbrev pub read_of : ReaderState → List ℕ
 read_of (Ok read) = read
 read_of (Err fault) = []
 
--- a checker of these parts
+-- a checker with these parts
 abbrev pub value_of : StreamStateValue → List ℕ → Option Ending → CheckerValue
 value_of state pending ending = record {
   params = state.params;
@@ -106,8 +107,8 @@ value_of state pending ending = record {
   ending = ending;
 }
 
--- A checker that isn't over reads on, one that ran out of memory has no room for a dropped identity, and its parts have one stream's
--- parameters.
+-- An unfinished checker can read on, one that ran out of memory has no room for a dropped identity,
+-- and its parts have one stream's parameters.
 pub record IsSound (params : StreamParams) (dropped : DroppedIdsValue) (vars : ℕ)
     (reader : ReaderState) (ending : Option Ending) : Type 0 where
   pub reads : ending ≡ None → reader ≡ Ok (read_of reader)
@@ -115,7 +116,8 @@ pub record IsSound (params : StreamParams) (dropped : DroppedIdsValue) (vars : �
   pub tries : params.tries < 2 ^ 63
   pub full : IfSome ending (λ stopped. IsFullAtMemory stopped dropped)
 
--- how often a hint of this ownership is fetched again at most, if another stream's is fetched again so often
+-- how often a hint of this ownership is fetched again at most, with this many tries for another
+-- stream's
 abbrev pub tries_on : Ownership → ℕ → ℕ
 tries_on ownerships.Formula tries = 0
 tries_on ownerships.Own tries = 0

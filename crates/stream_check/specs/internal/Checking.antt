@@ -1,4 +1,5 @@
--- What the parts of a checker do: a lookup, the hints of an addition, an addition, the identities of a deletion (this project's own).
+-- What the parts of a checker do: a lookup, the hints of an addition, an addition, the identities
+-- of a deletion (this project's own).
 use Rattle.std.specs.Prelude.{◌≡◌, ◌==◌, ◌++◌, ◌||◌, ◌&&◌, ℕ, Bool, true, false, List, [], ◌∷◌, length, Result, Ok, Err}
 use Rattle.std.specs.List.{AllByRecursion}
 use Rattle.lrup_model.specs.Clause.{Clause}
@@ -25,7 +26,8 @@ use Rattle.stream_check.specs.Lookup.{AreFound}
 use Rattle.stream_check.specs.Additions.{FailsHints}
 use Rattle.stream_check.specs.Deletions.{JudgesDeletion, StopsDeletion}
 
--- a live clause that a fetch gave is known in the view, every clause there follows, and the layout has the formula's variables
+-- a live clause that a fetch gave is known in the view, every clause of the view follows, and the
+-- layout has the formula's variables
 abbrev pub Gives : CallerView → Fetched → Type 0
 Gives view fetched.Vacant = Unit {0}
 Gives view (fetched.Live clip) =
@@ -40,7 +42,7 @@ IsFetch (events.retire s id reply) = ⊥
 
 -- Additions
 
--- hints leave the clause that was taken up
+-- hints don't change the clause of the marks
 abbrev pub KeepsClause : Propagation → Propagation → Type 0
 KeepsClause old new = (new.vars ≡ old.vars) × (new.clause ≡ old.clause)
 
@@ -49,7 +51,7 @@ abbrev pub found_by : CallerView → Result ClipValue Fault → Result Clause Fa
 found_by view (Ok clip) = Ok (clip_clause view clip)
 found_by view (Err fault) = Err fault
 
--- what the hints of an addition come to: they show its clause, or there is a fault
+-- the result of an addition's hints: they show its clause, or there is a fault
 abbrev pub Shows : StreamParams → (ℕ → Bool) → Cnf → Clause → List ℕ → History
     → Result (Unit {0}) Fault
     → Type 0
@@ -71,7 +73,7 @@ line_verdict (Err fault) = Bad 0 fault
 
 -- Deletions
 
--- An identity to delete that is an own one: the reply to one retire decides. No other has an event.
+-- Deleting an own identity: the reply to one retire decides. Only this has an event.
 abbrev pub DeletesOwn : StreamParams → ℕ → List ℕ → List ℕ → History → Result (Unit {0}) LineStop
     → Type 0
 DeletesOwn params id old new history (Ok _) =
@@ -81,7 +83,8 @@ DeletesOwn params id old new history (Err (stops.Bad fault)) =
     × (new ≡ old)
 DeletesOwn params id old new history (Err stops.Memory) = ⊥
 
--- one of the formula's or of another stream's: it is kept among the dropped ones, if it isn't yet
+-- deleting one of the formula's or of another stream's: it joins the dropped ones, unless it is one
+-- already
 abbrev pub DropsShared : ℕ → List ℕ → List ℕ → Result (Unit {0}) LineStop → Type 0
 DropsShared id old new (Ok _) =
     (is_among old id ≡ false) × ((j : ℕ) → is_among new j ≡ (is_among old j || id == j))
@@ -100,27 +103,28 @@ DeletesByOwnership ownerships.Foreign params id old new history result =
 DeletesByOwnership ownerships.Outside params id old new history result =
     (history ≡ []) × (result ≡ Err (stops.Bad (faults.NotLive id))) × (new ≡ old)
 
--- what became of one identity to delete, if these were dropped before, and these are afterwards
+-- deleting one identity, with these dropped before, and these afterwards
 abbrev pub DeletesOne : StreamParams → ℕ → List ℕ → List ℕ → History → Result (Unit {0}) LineStop
     → Type 0
 DeletesOne params id old new history result =
     DeletesByOwnership (ownership_of params id) params id old new history result
 
--- so many identities more were deleted with this one
+-- how many more identities are deleted after this one
 abbrev pub counted : Result (Unit {0}) LineStop → ℕ
 counted (Ok _) = 1
 counted (Err stop) = 0
 
--- of these identities those of the formula and of other streams were dropped, too
+-- the formula's and other streams' among these identities were dropped, too
 abbrev pub DropsMore : StreamParams → (ℕ → Bool) → List ℕ → (ℕ → Bool) → Type 0
 DropsMore params old ids new =
     (id : ℕ) → new id ≡ (old id || is_shared (ownership_of params id) && is_among ids id)
 
--- The dropped ones are those of before, and the shared ones of these identities.
+-- The dropped identities are those from before, and the shared ones among these.
 abbrev pub AreDropped : StreamParams → List ℕ → List ℕ → List ℕ → Type 0
 AreDropped params old ids new = DropsMore params (is_among old) ids (is_among new)
 
--- What a deletion came to: it is good, or bad, or out of memory, after so many identities; the shared ones of these were dropped.
+-- The result of a deletion: it is good, or bad, or out of memory, after this many identities; the
+-- shared ones among these were dropped.
 abbrev pub Deletes : StreamParams → List ℕ → List ℕ → List ℕ → History → ℕ
     → Result (Unit {0}) LineStop
     → Type 0

@@ -1,4 +1,4 @@
--- What a checker's line leaves of it (this project's own).
+-- What a checker is after a line (this project's own).
 use Rattle.std.specs.Prelude.{◌≡◌, ◌+◌, ◌++◌, ℕ, List, [], length, None, Result, Ok, Err}
 use Rattle.lrup_model.specs.Event.{History}
 use Rattle.lrup_model.specs.CallerView.{CallerView, IsVacantAbove}
@@ -16,7 +16,7 @@ use Rattle.stream_check.specs.Checker.{IsViewOf, going_of}
 use Rattle.stream_check.specs.internal.Checking.{AreDropped}
 use Rattle.stream_check.specs.internal.CheckerInside.{StreamStateValue, context_at, deleted_at, KeepsLines, value_of}
 
--- what is held, with this text read of the next line, if so much room is left
+-- what is held, with this text read of the next line and this much room left
 abbrev pub hold : StreamStateValue → List ℕ → ℕ → GoingState
 hold state pending free = going_of (value_of state pending None) free
 
@@ -25,13 +25,14 @@ pub record IsReady (state : StreamStateValue) (view : CallerView) : Type 0 where
   pub at : IsViewOf state.params view
   pub vacant : IsVacantAbove view state.last
 
--- these identities more were deleted, and of them the shared ones dropped, and nothing else was counted
+-- these further identities were deleted, the shared ones among them were dropped, and nothing else
+-- was counted
 pub record DeletesMore (old new : StreamStateValue) (ids : List ℕ) : Type 0 where
   pub kept : KeepsLines old new
   pub deleted : deleted_at new ≡ capped (deleted_at old + length ids)
   pub dropped : AreDropped old.params old.dropped.ids ids new.dropped.ids
 
--- what the events of one line came to
+-- the result of the events of one line
 abbrev pub TakesBy : StreamStateValue → ℕ → StreamStateValue → ℕ → StreamLine → History
     → Result (Unit {0}) LineStop → Type 0
 TakesBy old free new left line history (Ok _) =
@@ -46,7 +47,7 @@ TakesBy old free new left line history (Err stops.Memory) =
     × StopsDeletion old.params (is_among old.dropped.ids) ids history earlier
     × DeletesMore old new earlier
 
--- a line that stopped ends the reading so
+-- the ending, if this line stopped the stream
 abbrev pub ending_of : ℕ → LineStop → Ending
 ending_of line (stops.Bad fault) = endings.Bad line fault
 ending_of line stops.Memory = endings.Memory line

@@ -1,4 +1,4 @@
--- Lemmas on additions: their literals, their conditions and their hints; and on what fetches change.
+-- Lemmas about additions, their literals, conditions and hints; and about what fetches change.
 use Rattle.std.proofs.Common.{◌≡◌, ◌≤◌, ◌++◌, ℕ, ℤ, neg_ℤ, nat_abs, Bool, false, List, [], ◌∷◌, Ok, inl, inr, refl, sym, ap, subst, ◌∙◌}
 use Rattle.std.proofs.Common.{append-nil}
 use Rattle.std.specs.List.{AllByRecursion}
@@ -31,7 +31,7 @@ run-fetches m (events.fetch s id r ∷ es) h = run-fetches m es h.1
 run-fetches m (events.publish s id c r ∷ es) h = absurd h.0
 run-fetches m (events.retire s id r ∷ es) h = absurd h.0
 
--- a violated condition has no events, and so it is of other events, where these are none then
+-- a violated condition has no events, so it is also violated with other events if these are none
 pub violates_maps : (Holds : Type 0) (its : Fault) (es fs : History) (fault : Fault) (A B : Type 0)
     → (es ≡ [] → fs ≡ []) → (A → B) → Violates Holds its es fault A → Violates Holds its fs fault B
 violates_maps Holds its es fs fault A B none next (inl bad) = inl (bad.0, none bad.1, bad.2)
@@ -59,7 +59,7 @@ valid_passes c st fetches id lits hints es fault A valid (inr (a, inr (b, inl ba
 valid_passes c st fetches id lits hints es fault A valid (inr (a, inr (b, inr (d, inl bad)))) = absurd (bad.0 valid.room)
 valid_passes c st fetches id lits hints es fault A valid (inr (a, inr (b, inr (d, inr (e, next))))) = next
 
--- a look-up that came to a clause fetched it
+-- a look-up that gave a clause fetched it
 pub found_live : (c : StreamParams) (is_dropped : ℕ → Bool) (h : ℕ) (es : History) (d : Clause)
     → LooksUp c is_dropped h es (Ok d) → (is_dropped h ≡ false) × FetchesHint c h es (events.live d)
 found_live c is_dropped h es d (inl dropped) = absurd (let e = dropped.2 in cc)
@@ -72,7 +72,7 @@ found_live c is_dropped h es d (inr (kept, events.live e, asks, is)) =
     )
 found_live c is_dropped h es d (inr (kept, events.retired, asks, is)) = absurd (cc)
 
--- one identity is looked up by all events
+-- one identity is looked up with all events
 pub one_found : (c : StreamParams) (is_dropped : ℕ → Bool) (id : ℕ) (d : Clause) (es : History)
     → LooksUp c is_dropped id es (Ok d) → AreFound c is_dropped (id ∷ []) (d ∷ []) es
 one_found c is_dropped id d es looks = (es, [], sym (append-nil es), looks, refl)
@@ -87,7 +87,7 @@ pub no_hints_left : (c : StreamParams) (is_dropped : ℕ → Bool) (hints : List
 no_hints_left c is_dropped [] es found = refl
 no_hints_left c is_dropped (h ∷ hints) es found = absurd found
 
--- a clause that is needed is of help
+-- a clause that is needed helps
 pub no_help : (n : List ℤ) (d : Clause) (ds : List Clause) (c : StreamParams)
     (is_dropped : ℕ → Bool) (h : ℕ)
     (hints : List ℕ) (es : History) (fault : Fault)
@@ -100,7 +100,7 @@ no_help n d (e ∷ ds) c is_dropped h hints es fault refutes found (inl neither)
 no_help n d (e ∷ ds) c is_dropped h hints es fault refutes found (inr excess) =
     refutes.1.not_false (excess.0 refutes.0 refutes.1.here)
 
--- behind a clause that is unit the others refute
+-- after a unit clause the other clauses refute
 pub refutes_on : (n : List ℤ) (d : Clause) (ds : List Clause) (l : ℤ) → Refutes n (d ∷ ds)
     → IsUnit n d l → Refutes (n ++ neg_ℤ l ∷ []) ds
 refutes_on n d [] l refutes unit = absurd (unit.not_false (refutes l unit.here))

@@ -1,4 +1,4 @@
--- What one good line more leaves.
+-- What one more good line leaves.
 use Rattle.std.proofs.Common.{◌≡◌, ◌<◌, ◌+◌, ◌&&◌, ◌||◌, ℕ, ℤ, Bool, true, false, max, List, [], ◌∷◌, ◌++◌, length, length-append, refl, sym, ap, ◌∙◌, arith}
 use mathlib.Core.Path.{fun_ext}
 use Rattle.std.specs.Prelude.{◌==◌, map}
@@ -20,7 +20,7 @@ use Rattle.stream_check.specs.Judging.{JudgesLine, report_of}
 use Rattle.stream_check.specs.lemmas.ReportLemmas.{additions-append}
 use Rattle.stream_check.specs.Reaching.{SameContext, context_after, tally_after, last_after}
 
--- the last identity after one line more
+-- the last identity after one more line
 last-snoc : (c : StreamParams) (lines : List StreamLine) (line : StreamLine)
     → (context_of c (lines ++ line ∷ [])).last
     ≡ fold max (context_of c lines).last (map (λ a. a.0) (additions_of (line ∷ [])))
@@ -29,7 +29,7 @@ last-snoc c lines line =
     ap (fold max c.layout.clauses) (ap ids (additions-append lines (line ∷ [])) ∙ map-append (λ a. a.0) (additions_of lines) (additions_of (line ∷ [])))
     ∙ fold-append max c.layout.clauses (ids (additions_of lines)) (ids (additions_of (line ∷ [])))
 
--- a good addition has an identity above those before it
+-- a good addition has a larger identity than those before it
 pub last_below : (c : StreamParams) (st : StreamContext) (id : ℕ) (lits : List ℤ) (hints : List ℕ)
     (es : History) → JudgesLine c st (Addition id lits hints) es Good → st.last < id
 last_below c st id lits hints es j = j.1.above
@@ -43,7 +43,7 @@ same_last c lines (Addition id lits hints) es j =
 same_last c lines (Deletion lead ids) es j = last-snoc c lines (Deletion lead ids)
 same_last c lines (Import id lits) es j = last-snoc c lines (Import id lits)
 
--- the additions after one line more
+-- the additions after one more line
 pub added-snoc : (lines : List StreamLine) (line : StreamLine)
     → length (additions_of (lines ++ line ∷ []))
     ≡ length (additions_of lines) + length (additions_of (line ∷ []))
@@ -68,7 +68,7 @@ and_or true false true = refl
 and_or true false false = refl
 and_or false a b = refl
 
--- the context after one good line more
+-- the context after one more good line
 pub context_of-snoc : (c : StreamParams) (lines : List StreamLine) (line : StreamLine)
     (es : History)
     → JudgesLine c (context_of c lines) line es Good
@@ -96,7 +96,7 @@ counts_of c lines =
     let r : Report = report_of c lines 0 endings.Ended in
     record { added = r.added; deleted = r.deleted; empty = r.empty; within = r.within }
 
--- a checker has them exactly if its reports are those of the lines
+-- a checker has these counts exactly if its reports are those of the lines
 pub tally_is : (c : StreamParams) (lines : List StreamLine) (t : Tally)
     → ((ending : Ending) → report_of_tally t ending ≡ report_of c lines 0 ending)
     → t ≡ counts_of c lines
@@ -108,7 +108,7 @@ pub tally_says : (c : StreamParams) (lines : List StreamLine) (t : Tally) → t 
     → (ending : Ending) → report_of_tally t ending ≡ report_of c lines 0 ending
 tally_says c lines t same ending = ap (λ (s : Tally). report_of_tally s ending) same
 
--- the counts after one good line more
+-- the counts after one more good line
 pub counts_of-snoc : (c : StreamParams) (lines : List StreamLine) (line : StreamLine)
     → tally_after c (counts_of c lines) line ≡ counts_of c (lines ++ line ∷ [])
 counts_of-snoc c lines line = same_tally (tally_after c (counts_of c lines) line) (counts_of c (lines ++ line ∷ []))
@@ -117,7 +117,7 @@ counts_of-snoc c lines line = same_tally (tally_after c (counts_of c lines) line
     (some-snoc (λ a. length a.1 == 0) lines line)
     (some-snoc (λ a. is_within c.cube a.1) lines line)
 
--- contexts that are the same are equal
+-- contexts with the same parts are equal
 pub same_context : (a b : StreamContext) → SameContext a b → a ≡ b
 same_context a b s =
     let made : ℕ → ℕ → (ℕ → Bool)

@@ -1,4 +1,4 @@
--- Lemmas on clauses within a cube.
+-- Lemmas about clauses within a cube.
 use Rattle.std.proofs.Common.{◌≡◌, ◌⊎◌, ℤ, neg_ℤ, Bool, true, false, [], ◌∷◌, inl, inr, refl}
 use Rattle.std.specs.Prelude.{◌↔◌, ◌||◌, ◌&&◌, IsTrue}
 use Rattle.std.specs.Ordering.{int_eq}
@@ -33,7 +33,7 @@ two : (a b : Bool) (A B : Type 0) → (IsTrue a ↔ A) → (IsTrue b ↔ B) → 
 two true b A B first rest all = rest.1 all.1
 two false b A B first rest all = absurd (let e : false ≡ true = first.1 all.0 in cc)
 
--- the test of a clause says whether it is within the cube
+-- the test of a clause decides whether it is within the cube
 pub is_within-decides : (cube : CubeValue) (c : Clause) → IsTrue (is_within cube c) ↔ Within c cube
 is_within-decides cube [] = ((λ is. tt), (λ all. refl))
 is_within-decides cube (l ∷ c) = (
@@ -41,7 +41,7 @@ is_within-decides cube (l ∷ c) = (
   two (list_any (λ k. int_eq k (neg_ℤ l)) cube) (is_within cube c) (Has cube (neg_ℤ l)) (Within c cube) (has cube (neg_ℤ l)) (is_within-decides cube c),
 )
 
--- two tests that say the same are the same
+-- two tests that decide the same are equal
 pub same_test : (a b : Bool) (A : Type 0) → (IsTrue a ↔ A) → (IsTrue b ↔ A) → a ≡ b
 same_test true true A first rest = refl
 same_test true false A first rest = absurd (let e : false ≡ true = rest.1 (first.0 refl) in cc)

@@ -1,4 +1,4 @@
--- Lemmas on lists that have an element for each stream.
+-- Lemmas about lists that have an element for each stream.
 use Rattle.std.proofs.Common.{◌≡◌, ◌≢◌, ◌∙◌, ◌+◌, ◌++◌, ◌-◌, ◌≤◌, ℕ, zero, suc, List, [], ◌∷◌, Some, length, map, set, take, ap, refl, sym, subst, arith}
 use Rattle.std.specs.List.{AllZip}
 use Rattle.std.specs.Prelude.{slice_get}
@@ -6,7 +6,7 @@ use Rattle.stream_check.specs.Closed.{IsOfStream}
 use Rattle.stream_check.specs.Each.{Each}
 
 module _ {X Y : Type 0} (Holds : ℕ → X → Y → Type 0) where
-  -- there are as many of the one as of the other
+  -- both lists have the same length
   pub each_count : (s : ℕ) (xs : List X) (ys : List Y) → Each Holds s xs ys
       → length ys ≡ length xs
   each_count s [] [] each = refl
@@ -14,7 +14,7 @@ module _ {X Y : Type 0} (Holds : ℕ → X → Y → Type 0) where
   each_count s (x ∷ xs) [] each = absurd each
   each_count s (x ∷ xs) (y ∷ ys) each = ap suc (each_count (s + 1) xs ys each.1)
 
-  -- what stands at one place
+  -- the elements at one place
   pub each_from : (s : ℕ) (xs : List X) (ys : List Y) → Each Holds s xs ys
       → (k : ℕ) (x : X) (y : Y) → slice_get xs k ≡ Some x → slice_get ys k ≡ Some y
       → Holds (s + k) x y
@@ -31,7 +31,7 @@ module _ {X Y : Type 0} (Holds : ℕ → X → Y → Type 0) where
       let next : s + 1 + k ≡ s + suc k = omega arith in
       subst (λ n. Holds n x y) next (each_from (s + 1) xs ys each.1 k x y at there)
 
-  -- what stands at one place of the second list has its like in the first
+  -- an element of the second list has a counterpart in the first
   pub each_second : (s : ℕ) (xs : List X) (ys : List Y) → Each Holds s xs ys → (k : ℕ) (y : Y)
       → slice_get ys k ≡ Some y → (x : X) × Holds (s + k) x y
   each_second s [] [] each k y there = absurd (cc)
@@ -46,7 +46,7 @@ module _ {X Y : Type 0} (Holds : ℕ → X → Y → Type 0) where
       let later = each_second (s + 1) xs ys each.1 k y there in
       (later.0, subst (λ n. Holds n later.0 y) next later.1)
 
-  -- what the lists have of stream s
+  -- the elements for stream s
   pub each_at : (xs : List X) (ys : List Y) → Each Holds 1 xs ys → (s : ℕ) (x : X) (y : Y)
       → IsOfStream xs s x → IsOfStream ys s y → Holds s x y
   each_at xs ys each s x y at there =
@@ -54,7 +54,7 @@ module _ {X Y : Type 0} (Holds : ℕ → X → Y → Type 0) where
       let here : 1 + (s - 1) ≡ s = omega (arith, first) in
       subst (λ n. Holds n x y) here (each_from 1 xs ys each (s - 1) x y at.1 there.1)
 
-  -- those of one stream more
+  -- with the elements for one more stream
   pub each_push : (s : ℕ) (xs : List X) (ys : List Y) (x : X) (y : Y) → Each Holds s xs ys
       → Holds (s + length ys) x y → Each Holds s (xs ++ x ∷ []) (ys ++ y ∷ [])
   each_push s [] [] x y each last =
@@ -65,7 +65,7 @@ module _ {X Y : Type 0} (Holds : ℕ → X → Y → Type 0) where
       let next : s + suc (length ys) ≡ s + 1 + length ys = omega arith in
       (each.0, each_push (s + 1) xs ys x y each.1 (subst (λ n. Holds n x y) next last))
 
-  -- those of the first streams, so many
+  -- the elements for the first n streams
   pub each_take : (n s : ℕ) (xs : List X) (ys : List Y) → Each Holds s xs ys
       → Each Holds s (take n xs) (take n ys)
   each_take zero s [] [] each = tt
@@ -75,7 +75,7 @@ module _ {X Y : Type 0} (Holds : ℕ → X → Y → Type 0) where
   each_take zero s (x ∷ xs) (y ∷ ys) each = tt
   each_take (suc n) s (x ∷ xs) (y ∷ ys) each = (each.0, each_take n (s + 1) xs ys each.1)
 
--- what follows of one stream's follows of each
+-- what follows for one stream follows for each
 pub each_more : {X Y : Type 0} {Holds Also : ℕ → X → Y → Type 0} (s : ℕ) (xs : List X)
     (ys : List Y) → Each Holds s xs ys
     → ((t : ℕ) (x : X) (y : Y) → Holds t x y → Also t x y) → Each Also s xs ys
@@ -85,7 +85,7 @@ each_more s (x ∷ xs) [] each follows = absurd each
 each_more s (x ∷ xs) (y ∷ ys) each follows =
     (follows s x y each.0, each_more (s + 1) xs ys each.1 follows)
 
--- so of another list that is made of the second
+-- the same for a list made from the second one
 pub each_map : {X Y Z : Type 0} {Holds : ℕ → X → Y → Type 0} (Also : ℕ → X → Z → Type 0)
     (f : Y → Z) (s : ℕ) (xs : List X) (ys : List Y) → Each Holds s xs ys
     → ((t : ℕ) (x : X) (y : Y) → Holds t x y → Also t x (f y)) → Each Also s xs (map f ys)
@@ -95,7 +95,7 @@ each_map Also f s (x ∷ xs) [] each follows = absurd each
 each_map Also f s (x ∷ xs) (y ∷ ys) each follows =
     (follows s x y each.0, each_map Also f (s + 1) xs ys each.1 follows)
 
--- what follows of a stream's from s on, up to the last, follows of each of so many
+-- what follows for a stream from s up to the last one follows for each of these
 pub each_within : {X Y : Type 0} {Holds Also : ℕ → X → Y → Type 0} (last s : ℕ) (xs : List X)
     (ys : List Y) → s + length xs ≤ last + 1 → Each Holds s xs ys
     → ((t : ℕ) (x : X) (y : Y) → s ≤ t → t ≤ last → Holds t x y → Also t x y) → Each Also s xs ys
@@ -108,8 +108,8 @@ each_within last s (x ∷ xs) (y ∷ ys) within each follows = (
       (λ t a b after. follows t a b (omega (arith, after))),
 )
 
--- where another thing comes into the second list at place i, it follows there of what was there, and of each other
--- stream's
+-- if another element is put into the second list at place i, what follows there from the old
+-- element, and for each other stream, follows for each
 pub each_set : {X Y : Type 0} {Holds Also : ℕ → X → Y → Type 0} (s i : ℕ) (xs : List X)
     (ys : List Y) (v : Y) → Each Holds s xs ys
     → ((t : ℕ) (x : X) (y : Y) → s ≤ t → t ≢ s + i → Holds t x y → Also t x y)
@@ -133,7 +133,7 @@ each_set {Holds = Holds} {Also = Also} s (suc i) (x ∷ xs) (y ∷ ys) v each ot
           (here a b at (subst (λ n. Holds n a b) next was))),
     )
 
--- two lists of which something holds at each place have one length
+-- two lists for which this holds at each place have the same length
 pub zip_count : {X Y : Type 0} (Holds : X → Y → Type 0) (xs : List X) (ys : List Y)
     → AllZip Holds xs ys → length ys ≡ length xs
 zip_count Holds [] [] all = refl

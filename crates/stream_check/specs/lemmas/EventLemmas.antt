@@ -1,4 +1,4 @@
--- What holds of the events of a line.
+-- What holds for the events of a line.
 use Rattle.std.proofs.Common.{◌≡◌, ◌∙◌, ℕ, zero, suc, ℤ, Bool, List, [], ◌∷◌, ◌++◌, replicate, Result, Ok, Err, inl, inr, refl, sym, ap, subst}
 use Rattle.std.proofs.Common.{append_assoc, append-nil}
 use Rattle.std.specs.List.{AllByRecursion}
@@ -27,7 +27,7 @@ module _ (c : StreamParams) (P : History → Type 0) (none : P []) where
   violates_holds Holds its es fault A next (inl bad) = none_holds es bad.1
   violates_holds Holds its es fault A next (inr good) = next good.1
 
-  -- of the events of an addition or an import, those of a look-up before those behind them
+  -- for the events of a look-up, in front of the other events of an addition or an import
   module _ (IsHint : ℕ → Type 0)
       (looked : (h : ℕ) (asked rest : History) (r : Reply) → IsHint h → FetchesHint c h asked r
       → (r ≡ events.vacant → rest ≡ []) → P rest → P (asked ++ rest)) where
@@ -41,7 +41,7 @@ module _ (c : StreamParams) (P : History → Type 0) (none : P []) where
         looked h asked rest found.1 is found.2
         (λ vacant. ends (found.3 ∙ ap (answer_of h) vacant)) holds
 
-    -- the same where there are no more events
+    -- the same if there are no more events
     looks_last : (is_dropped : ℕ → Bool) (h : ℕ) (asked : History) (answer : Result Clause Fault)
         → IsHint h → LooksUp c is_dropped h asked answer → P asked
     looks_last is_dropped h asked answer is looks =
@@ -106,7 +106,7 @@ module _ (c : StreamParams) (P : History → Type 0) (none : P []) where
           | inr differs ↦ looks_last st.is_dropped id es (Ok differs.0) is differs.1
         ]) a) bad.1
 
-  -- of the events of a deletion
+  -- for the events of a deletion
   module _ (IsDeleted : ℕ → Type 0)
       (done : (id : ℕ) (rest : History) → IsDeleted id → P rest
       → P (events.retire c.stream id retiring.Done ∷ rest))
@@ -149,7 +149,7 @@ pub all_any : (hints : List ℕ) → AllByRecursion IsAny hints
 all_any [] = tt
 all_any (h ∷ hints) = (tt, all_any hints)
 
--- What holds of each fetch of a hint
+-- What holds for each fetch of a hint
 
 vacants_are : (P : Event → Type 0) (s id k : ℕ) (r : Reply)
     → ((x : Reply) → P (events.fetch s id x))
@@ -176,7 +176,7 @@ pub asked_more : (P : Event → Type 0) (c : StreamParams) (h : ℕ) (asked rest
     → AllByRecursion P (asked ++ rest)
 asked_more P c h asked rest r each asks all = All-append P asked rest (asked_are P c h asked r each asks) all
 
--- What holds of each fetch, and of the publish of a good addition
+-- What holds for each fetch, and for the publish of a good addition
 
 module _ (c : StreamParams) (P : Event → Type 0)
     (fetches : (id : ℕ) (r : Reply) → P (events.fetch c.stream id r)) where

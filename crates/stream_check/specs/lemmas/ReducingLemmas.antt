@@ -1,4 +1,4 @@
--- Lemmas on histories without the vacant fetches that were vain.
+-- Lemmas about histories without the vacant fetches of what was found later.
 use Rattle.std.proofs.Common.{◌≡◌, ◌∙◌, ◌&&◌, true, false, not, [], ◌∷◌, refl, sym, ap}
 use Rattle.std.specs.List.{list_all}
 use Rattle.std.proofs.lemmas.Bool.{cond-true, cond-false, true≢false}
@@ -14,7 +14,7 @@ pub reduced_left_out : (e : Event) (es : History)
     → (is_vacant e && not (list_all is_vacant es)) ≡ true → reduced (e ∷ es) ≡ reduced es
 reduced_left_out e es test = cond-true (is_vacant e && not (list_all is_vacant es)) (reduced es) (e ∷ reduced es) test
 
--- vacant fetches alone stay
+-- a history of vacant fetches alone is unchanged
 pub all_vacant_stay : (es : History) → list_all is_vacant es ≡ true → reduced es ≡ es
 all_vacant_stay [] all = refl
 all_vacant_stay (events.fetch s id events.vacant ∷ es) all =

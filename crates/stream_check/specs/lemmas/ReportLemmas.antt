@@ -1,4 +1,4 @@
--- Lemmas on a stream's lines and blocks, and on what a report says of them.
+-- Lemmas about a stream's lines and blocks, and about what a report says of them.
 use Rattle.std.proofs.Common.{◌≡◌, ℕ, List, [], ◌∷◌, ◌++◌, refl, sym, ap, ap₂, subst, append_assoc, append-nil}
 use Rattle.std.specs.Prelude.{◌||◌, ◌==◌, length}
 use Rattle.std.specs.List.{flat_map, list_any}
@@ -24,7 +24,7 @@ pub split_first : (line : StreamLine) (lines : List StreamLine) (rest : List ℕ
     ++ (flat_map line_text lines ++ rest)
 split_first line lines rest = append_assoc (line_text line) (flat_map line_text lines) rest
 
--- the additions of some lines, and then those of others
+-- the additions of some lines followed by others
 pub additions-append : (a b : List StreamLine)
     → additions_of (a ++ b) ≡ additions_of a ++ additions_of b
 additions-append [] b = refl
@@ -37,7 +37,7 @@ pub reaches_still : (c : StreamParams) (s : CheckerState) → Extends c s [] [] 
 reaches_still c s bytes before reaches =
     subst (λ (b : List ℕ). ReachesState c b (before ++ []) s) (sym (append-nil bytes)) (subst (λ (blocks : List History). ReachesState c bytes blocks s) (sym (append-nil before)) reaches)
 
--- the report tells of the good lines alone
+-- the report counts only the good lines
 pub said_within : (c : StreamParams) (lines : List StreamLine) (rest : List ℕ) (end : StreamEnd)
     (back : List History) (report : Report) → EndsAfter c lines rest end back report
     → report.within ≡ list_any (λ addition. is_within c.cube addition.1) (additions_of lines)
@@ -54,7 +54,7 @@ said_empty c lines rest end back report (at_bad_text _ _ _ says) = ap (λ (r : R
 said_empty c lines rest end back report (at_memory _ _ _ _ _ _ _ _ _ says) = ap (λ (r : Report). r.empty) says
 said_empty c lines rest end back report (at_end _ _ says) = ap (λ (r : Report). r.empty) says
 
--- within the empty cube is the empty clause alone
+-- only the empty clause is within the empty cube
 only_empty : (d : Clause) → is_within [] d ≡ (length d == 0)
 only_empty [] = refl
 only_empty (l ∷ d) = sym (eqb-suc-zero (length d))

@@ -1,4 +1,4 @@
--- Lemmas on what a stream dropped that a line of it stopped.
+-- Lemmas about what a stream dropped that one of its lines stopped.
 use Rattle.std.proofs.Common.{◌≡◌, ◌⊎◌, ◌||◌, ◌&&◌, ◌∙◌, ℕ, Bool, true, false, List, [], ◌++◌, inl, inr, refl, sym, ap, append_assoc}
 use Rattle.std.specs.List.{flat_map}
 use Rattle.lrup_model.specs.Event.{History}
@@ -14,11 +14,11 @@ or_none true shared = refl
 or_none false true = refl
 or_none false false = refl
 
--- no identities drop nothing
+-- without identities nothing is dropped
 pub drops_none : (c : StreamParams) (is_dropped : ℕ → Bool) → DropsMore c is_dropped [] is_dropped
 drops_none c is_dropped id = sym (or_none (is_dropped id) (is_shared (ownership_of c id)))
 
--- The identities are none, or the first ones of a deletion with which the bytes begin.
+-- There are no identities, or they are the first ones of a deletion with which the bytes begin.
 abbrev pub AreDeletedFirst : List ℕ → List ℕ → Type 0
 AreDeletedFirst ids bytes =
     (ids ≡ [])
@@ -31,7 +31,7 @@ first_longer ids bytes more (inl none) = inl none
 first_longer ids bytes more (inr (line, fits, later, rest, text, deletes)) =
     inr (line, fits, later, rest ++ more, ap (λ (b : List ℕ). b ++ more) text ∙ append_assoc (line_text line) rest more, deletes)
 
--- whatever follows
+-- the same for more bytes
 pub drops_longer : (c : StreamParams) (bytes more : List ℕ) (blocks : List History)
     (report : Report) (is_dropped : ℕ → Bool)
     → DropsUntilStop c bytes blocks report is_dropped

@@ -1,4 +1,5 @@
--- Lemmas on the streams of a run, on places in lists of them, and on the blocks of one stream.
+-- Lemmas about the streams of a run, about places in lists of them, and about the blocks of one
+-- stream.
 use Rattle.std.proofs.Common.{◌≡◌, ◌∙◌, ◌++◌, ℕ, ◌+◌, zero, suc, Bool, List, [], ◌∷◌, Option, Some, None, length, map, eqb, refl, sym, ap, subst, append_assoc, eq-eqb, ne_eqb}
 use Rattle.std.specs.Prelude.{IfSome, slice_get}
 use Rattle.std.specs.List.{AllZip}
@@ -17,7 +18,7 @@ use Rattle.stream_check.specs.SequentialConsistency.{AreJudgedIn}
 use Rattle.stream_check.specs.Readings.{AreRead}
 use Rattle.stream_check.specs.Streams.{RunParamsValue, Stream, InputObservation, observation_of, observations, MatchesInput, JudgesStream, Block, blocks_of}
 
--- at one place stands one thing
+-- there is one element at a place
 pub same_at : {X : Type 0} (xs : List X) (s : ℕ) (x y : X)
     → IsOfStream xs s x → IsOfStream xs s y → x ≡ y
 same_at xs s x y a b = let e : Some x ≡ Some y = sym a.1 ∙ b.1 in cc
@@ -27,7 +28,7 @@ pub observed_count : (observed : List InputObservation) (streams : List Stream)
     → length streams ≡ length observed
 observed_count observed streams match_inputs = zip_count MatchesInput observed streams match_inputs
 
--- of readers whose reads gave streams, something is observed of each
+-- if reads of readers gave streams, something is observed of each reader
 pub observed_as_many : {S : Type 0} (view : SourceView S) (firsts lasts : List S)
     (streams : List Stream) → AreRead S view.reads firsts lasts streams
     → length (observations view firsts lasts) ≡ length firsts
@@ -36,7 +37,7 @@ observed_as_many view (first ∷ firsts) (last ∷ lasts) (stream ∷ streams) r
     ap suc (observed_as_many view firsts lasts streams read.1)
 observed_as_many view _ _ _ read = absurd read
 
--- and what is observed of the bytes that it has left at first is what is known of its reader
+-- and the bytes observed at first are those known of its reader
 pub observation_at : {S : Type 0} (view : SourceView S) (firsts lasts : List S)
     (streams : List Stream)
     → AreRead S view.reads firsts lasts streams
@@ -81,7 +82,7 @@ begins None whole bytes unneeded consumes = absurd consumes
 begins (Some left) whole bytes unneeded consumes =
     (unneeded ++ left, consumes ∙ append_assoc bytes unneeded left)
 
--- the bytes that were needed begin those that were left at first
+-- the bytes that were left at first begin with those that were needed
 pub observed_begins : (observation : InputObservation) (whole : List ℕ) (stream : Stream)
     → MatchesInput observation stream → observation.entry ≡ Some whole
     → (rest : List ℕ) × (whole ≡ stream.bytes ++ rest)
@@ -94,19 +95,19 @@ its_end : (its : Option StreamEnd) → (end : StreamEnd) × IfSome its (λ e. e 
 its_end None = (stream_ends.Ended, tt)
 its_end (Some end) = (end, refl)
 
--- some end for which the stream is judged by these blocks
+-- some end for which these blocks judge the stream
 pub some_end : (c : StreamParams) (stream : Stream) (blocks : List History) (report : Report)
     → JudgesStream c stream blocks report
     → (end : StreamEnd) × JudgesBlocks c stream.bytes end blocks report
 some_end c stream blocks report judged =
     let end = its_end stream.end in (end.0, judged end.0 end.1)
 
--- a stream is judged by these events
+-- these events judge a stream
 abbrev pub IsJudgedBy : StreamParams → Stream → History → Report → Type 0
 IsJudgedBy c stream es report =
     (blocks : List History) × (es ≡ joined blocks) × JudgesStream c stream blocks report
 
--- a stream that was read to this end is judged so
+-- a stream that was read to this end has this judgement
 pub judged_out : (c : StreamParams) (bytes unneeded : List ℕ) (end : StreamEnd)
     (blocks : List History)
     (report : Report)

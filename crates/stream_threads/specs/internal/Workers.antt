@@ -1,4 +1,4 @@
--- What is known of workers that were started, and of those that have ended (this project's own).
+-- What is known of threads that were started, and of those that have ended (this project's own).
 use Rattle.std.specs.Prelude.{◌≡◌, ◌++◌, ◌-◌, ℕ, List, [], ◌∷◌, Option, Some, None}
 use Rattle.lrup_text.specs.ReadOut.{SourceView}
 use Rattle.stream_threads.specs.Jobs.{StreamResultValue, StreamResultsValue, StreamJobsValue, MissesMark, Finishes}
@@ -11,11 +11,11 @@ use Rattle.stream_check.specs.DroppedIdsValue.{DroppedIdsValue}
 use Rattle.stream_check.specs.Judging.{joined}
 use Rattle.stream_threads.specs.Judged.{JudgesAtMark}
 
--- the results of no streams, with room for so many
+-- the results of no streams, with this much room
 abbrev pub no_results : {S : Type 0} → ℕ → StreamResultsValue S
 no_results room = record { reports = []; readers = []; passes = []; dropped = []; room = room }
 
--- the results with that of one stream more
+-- the results with one more stream's
 abbrev pub more_results : {S : Type 0} → StreamResultsValue S → StreamResultValue S
     → StreamResultsValue S
 more_results found one =
@@ -27,17 +27,17 @@ more_results found one =
       room = found.room - 1;
     }
 
--- what they were started with: the jobs, and the signal for which they wait
+-- what the threads of a stream were started with: the jobs, and the signal for which they wait
 pub record StartedValue (S : Type 0) : Type 0 where
   pub jobs : StreamJobsValue S
   pub signal : ℕ
 
--- threads that were started with these
+-- threads that were started with these jobs and this signal
 abbrev pub started_with : {S : Type 0} → ℕ → StreamJobsValue S → StartedValue S
 started_with signal jobs = record { jobs = jobs; signal = signal }
 
--- The report judges the bytes received up to a mark by the calls that the pass made since, and these identities are dropped by
--- them.
+-- The report judges the bytes received up to a mark, by the calls that the pass made in between,
+-- and the lines drop these identities.
 pub record JudgesAtPass (checker : CheckerValue) (old new : PassValue) (items : List ℕ)
     (dropped : DroppedIdsValue) (report : Report) : Type 0 where
   pub store : store_of new ≡ store_of old
@@ -45,7 +45,7 @@ pub record JudgesAtPass (checker : CheckerValue) (old new : PassValue) (items : 
   pub moves : PassMoves old.view new.view (joined blocks)
   pub judged : JudgesAtMark checker (pass_caller_view old.view).room items blocks dropped report
 
--- what came of a stream: what was found of it, or that its mark was missed
+-- the result of a stream, or that its mark was missed
 abbrev pub IsEndOf : {S : Type 0} → SourceView S → StreamJobsValue S → Option (StreamResultValue S)
     → Type 0
 IsEndOf view jobs (Some found) = Finishes view jobs found

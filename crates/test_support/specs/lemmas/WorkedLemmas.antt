@@ -1,4 +1,4 @@
--- Hints of the worked formula.
+-- Lemmas about hints of the example formula.
 use Rattle.std.specs.Prelude.{◌↔◌, ◌≡◌, ℕ, ℤ, pos, negsuc, neg_ℤ, nat_abs, [], ◌∷◌}
 use Rattle.std.proofs.Common.{refl, sym, ap, ◌∙◌, inl, inr, arith}
 use Rattle.lrup_model.specs.Clause.{Has, IsTautology}
@@ -25,14 +25,14 @@ first_is_unit = record {
   others = λ k h. elim h [ inl e ↦ inl (sym e) | inr there ↦ inr there ];
 }
 
--- the two literals in the other order
+-- the order of two literals doesn't matter
 pub swapped : (x y l : ℤ) → Has (x ∷ y ∷ []) l → Has (y ∷ x ∷ []) l
 swapped x y l h = elim h [ inl e ↦ inr (inl e) | inr there ↦ elim there [ inl e ↦ inl e | inr none ↦ absurd none ] ]
 
 pub second_is_conflict : IsConflict (pos 2 ∷ negsuc 0 ∷ []) second
 second_is_conflict = swapped (negsuc 0) (pos 2)
 
--- the first clause in another way
+-- the first clause with its literals in another order, one of them twice
 pub same_first : (l : ℤ) → Has first l ↔ Has (pos 2 ∷ pos 1 ∷ pos 2 ∷ []) l
 same_first l = (
   λ h. elim h [ inl one ↦ inr (inl one) | inr more ↦ elim more [ inl two ↦ inl two | inr none ↦ absurd none ] ],

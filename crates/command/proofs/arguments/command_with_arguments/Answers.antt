@@ -38,7 +38,7 @@ same_words g c =
     read_all texts (map string_bytes) c.deref-2.result.now c.in-Ok-words_of.words.items c.deref.result.now
     c.in-Ok-after_name.arguments.items _ c.deref-2.ensures.value c.in-Ok-words_of.ensures c.deref.ensures.value c.in-Ok-after_name.ensures
 
--- what holds of them and of the status of `command` holds of the arguments and of the exit status
+-- what holds for the words and for the status of `command` holds for the arguments and for the exit status
 carried : (g : Given.Over) (c : goal.After-drop-arguments-2 g) (P : List Text → ℕ → Type 0)
     → P (texts c.deref-2.result.now) c.command-status.result
     → IfOk c.args.arguments (λ given. P (words_after_name given) (exit_status c.from-2.result))

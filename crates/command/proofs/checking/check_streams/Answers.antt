@@ -13,7 +13,7 @@ use Rattle.command.proofs.RoundLemmas.{barred_by, folder_of, run_params_same, so
 use Rattle.command.proofs.SavingLemmas.{RanAndLeft, creates_some, leaves_behind, left_moved, left_unused}
 use Rattle.command.proofs.checking.check_streams.Goals as goal
 
--- the cause of a fault is the round's, by what the streams were to be checked by
+-- the cause is one of the round's, with the parameters of the check
 pub returns-in_err-find_layout-clause-cause : goal.returns-in_err-find_layout-clause-cause
 returns-in_err-find_layout-clause-cause g c =
     let its = deeds_of g.F.Files g.F.Machine g.F.Input.Source g.F.Output.Sink in

@@ -40,7 +40,7 @@ returns-in-Err-NotOpened-clause-cause g c =
           c.loop-path-test.true now.invariant.opened (rw c.in-Err-NotOpened.field-0-is at c.in-Err-NotOpened.ensures.refuses),
     )
 
--- memory ran out at the opening of one
+-- memory ran out while a file was opened
 pub returns-in-Err-Memory-clause-cause : goal.returns-in-Err-Memory-clause-cause
 returns-in-Err-Memory-clause-cause g c =
     let now = c.loop-path in

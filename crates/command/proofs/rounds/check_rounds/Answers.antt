@@ -9,7 +9,7 @@ use Rattle.command.proofs.RoundLemmas.{ends_sound, ends_sound_under, opened_coun
 use Rattle.command.proofs.rounds.check_rounds.Given as given
 use Rattle.command.proofs.rounds.check_rounds.Goals as goal
 
--- a fault of what the rounds begin with is one of round 1
+-- a fault before the first round's check is one of round 1
 pub returns-in-Err-clause-cause : goal.returns-in-Err-clause-cause
 returns-in-Err-clause-cause g c words first good at =
     let Cause : CommandFault → Type 0 = λ fault. IsCause (from_first (files_view g.F.Files g.F.Machine g.F.Input.Source g.F.Output.Sink

@@ -39,7 +39,7 @@ loop-number-init g c =
       number = omega (arith, of.number, c.requires.one);
     }
 
--- the last round doesn't go on
+-- the run doesn't continue after the last round
 pub returns-in-None-clause-over : goal.returns-in-None-clause-over
 returns-in-None-clause-over g c first opened =
     let its = deeds_of g.F.Files g.F.Machine g.F.Input.Source g.F.Output.Sink in
@@ -51,7 +51,7 @@ returns-in-None-clause-over g c first opened =
     (subst (λ (n : Option Cnf). RoundsStand its line cube formula first now.last n now.files) c.in-None.is
     (now.invariant.stands first opened))
 
--- there is no next one
+-- there is no next round
 pub returns-in-Ok-None-clause-over : goal.returns-in-Ok-None-clause-over
 returns-in-Ok-None-clause-over g c first opened =
     let its = deeds_of g.F.Files g.F.Machine g.F.Input.Source g.F.Output.Sink in
@@ -65,7 +65,7 @@ returns-in-Ok-None-clause-over g c first opened =
     (now.invariant.stands first opened))
     (c.next_round.ensures.over (c.in-Ok-None.is ∙ ap Ok c.in-Ok-None.field-0-is))
 
--- it has no report
+-- the next round has no report
 pub returns-in-Err-next_round-clause-cause : goal.returns-in-Err-next_round-clause-cause
 returns-in-Err-next_round-clause-cause g c first opened =
     let its = deeds_of g.F.Files g.F.Machine g.F.Input.Source g.F.Output.Sink in
@@ -79,7 +79,7 @@ returns-in-Err-next_round-clause-cause g c first opened =
     (now.invariant.stands first opened))
     c.in-Err-next_round.ensures.cause now.invariant.number)
 
--- its number would be too high
+-- the next round's number would be too high
 pub returns-clause-over : goal.returns-clause-over
 returns-clause-over g c first opened =
     let its = deeds_of g.F.Files g.F.Machine g.F.Input.Source g.F.Output.Sink in
@@ -100,7 +100,7 @@ returns-in-Err-clause-cause g c first opened =
     let cause : Cause round.number round.sizes = c.in-Err.ensures.cause in
     inl (refl, subst (Cause 1) c.requires.sizes (subst (λ (n : ℕ). Cause n round.sizes) c.requires.one cause))
 
--- a round after another
+-- one round after another
 pub loop-number-preserved : goal.loop-number-preserved
 loop-number-preserved g c =
     let its = deeds_of g.F.Files g.F.Machine g.F.Input.Source g.F.Output.Sink in

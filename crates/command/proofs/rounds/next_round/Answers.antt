@@ -29,7 +29,7 @@ returns-in-Ok-clause-stands g c formula first stands =
     (subst (λ (n : ℕ). Opened n found.last.sizes) (sym of.number) (subst (Opened c.args.number) (sym of.sizes) are))
     of.found)
 
--- the streams of the round were opened, and then came the fault
+-- the fault came after the streams of the round were opened
 pub returns-in-Err-check_round-clause-cause : goal.returns-in-Err-check_round-clause-cause
 returns-in-Err-check_round-clause-cause g c =
     let its = deeds_of g.F.Files g.F.Machine g.F.Input.Source g.F.Output.Sink in
@@ -41,7 +41,7 @@ returns-in-Err-check_round-clause-cause g c =
     rw c.in-Ok-Some.field-0-is at c.in-Ok-Some.ensures.opened in
     inr (sizes, sized, c.in_ok-sizes.ensures.sized, inr (readers, opened, are, c.in-Err-check_round.ensures.cause))
 
--- the streams of the round weren't all opened
+-- not all streams of the round were opened
 pub returns-in-Err-clause-cause : goal.returns-in-Err-clause-cause
 returns-in-Err-clause-cause g c =
     inr (c.in_ok-sizes.sizes, c.sizes_of_round.new.files, c.in_ok-sizes.ensures.sized, inl c.in-Err.ensures.cause)

@@ -8,11 +8,11 @@ use Rattle.command_line.proofs.arguments.bare.Goals as goal
 abbrev nameless : App → App
 nameless = on_top (λ (s : Shape). record s { no_binary_name = true })
 
--- and that has a version
+-- and one that has a version
 abbrev versioned : App → App
 versioned = on_top (λ (s : Shape). record s { has_version = true })
 
--- the texts of help are no part of what a parse reads
+-- a parse doesn't read the help texts
 pub returns : goal.returns
 returns c =
     let none : app_of c.version.result ≡ without_arguments =

@@ -17,7 +17,7 @@ use Rattle.portfolio.proofs.threads.run.Given as given
 use Rattle.portfolio.proofs.threads.run.Goals as goal
 use Rattle.portfolio.proofs.threads.run.Goals.{In_ok-jobs, In_ok-layout}
 
--- they have a layout, and so the fault isn't that they have none
+-- the numbers have a layout, so the fault isn't a layout fault
 no_layout : (g : given.Over) (c : In_ok-layout g) {A : Type 0} (result : Result A RunFault)
     → ((fault : LayoutFault) → result ≡ Err (Layout fault) → ⊥) → (fault : LayoutFault)
     → (result ≡ Err (Layout fault)) ↔ IsFault (layout_of c.args.options c.args.formula.now (length c.args.readers.items)) fault
@@ -27,7 +27,7 @@ no_layout g c result other fault = (
       c.in_ok-layout.ensures.layout.0 (c.len.ensures ∙ c.args.readers.ok.0) c.in_ok-layout.ensures.layout.1 fault bad)),
 )
 
--- the run was begun by their parameters
+-- the run was begun with their parameters
 begun : (g : given.Over) (c : In_ok-jobs g) → IsBegun c.args.formula.now
     (run_params_of c.args.options c.args.cube.now c.args.formula.now (length c.args.readers.items)) c.in_ok-store.store
     c.args.readers.items c.in_ok-jobs.jobs.items
@@ -99,7 +99,7 @@ returns-in-Err-Spawn-clause-spawn g c = λ stream e.
     let here : c.in-Err-Spawn.stream ≡ stream = cc in
     stream_within (readers_view g.R.Source) begun stream (subst (λ s. (0 < s) × (s ≤ length c.in_ok-jobs.jobs.items)) here fault)
 
--- of the streams before the one that a ring's fault names
+-- for the streams before the one that a ring's fault names
 pub outcome_of-before-requires : goal.outcome_of-before-requires
 outcome_of-before-requires g c =
     let begun = begun g (goal.at.outcome_of-before-requires g c).In_ok-jobs in

@@ -12,7 +12,7 @@ use Rattle.run_outcome.specs.Saving.{is_wanted}
 use Rattle.run_outcome.proofs.SavingLemmas.{SavesFound, fetched_so, last_at, other_last}
 use Rattle.run_outcome.proofs.saving.save_live.Goals as goal
 
--- the last of the passes is at the history's formula
+-- the last of the passes has the history's formula
 pub returns-clause-checkpoint : goal.returns-clause-checkpoint
 returns-clause-checkpoint g c = λ f h history.
     let rest : List PassValue = c.pop.new.self.items in
@@ -41,7 +41,7 @@ meet_all-requires g c =
     ap store_of c.into_pass.ensures ∙ c.save-saved.ensures.saves.1.store ∙ ap store_of c.new-desk.ensures in
     subst (AreOf store) (sym (c.deref_mut.ensures.value ∙ c.push_reserved.ensures.items)) (other_last store rest old new before stays)
 
--- what the last pass fetched is what the history left, as the meeting shows
+-- the last pass fetched what the history left, as the meeting shows
 pub returns-clause-saves : goal.returns-clause-saves
 returns-clause-saves g c = λ f h history.
     let p : LayoutValue = c.args.store.now.layout in

@@ -17,7 +17,7 @@ use Rattle.serial_run.proofs.serial.run_serial.Given as given
 use Rattle.serial_run.proofs.serial.run_serial.Goals as goal
 use Rattle.serial_run.proofs.serial.run_serial.Goals.{In_ok-layout, In_ok-workers}
 
--- the run was opened by the parameters of its formula, options and streams
+-- the run was opened with the parameters of its formula, options and streams
 runs : (g : given.Over) (c : In_ok-workers g) → SerialInvariant (readers_view g.R.Source) c.args.formula.now
     (run_params_of c.args.options c.args.cube.now c.args.formula.now (length c.args.readers.items)) c.args.readers.items 0 c.in_ok-map.map
     c.in_ok-workers.workers.items

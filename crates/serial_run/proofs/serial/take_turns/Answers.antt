@@ -9,6 +9,6 @@ take_round-requires g c = record {
       c.loop.workers c.requires.running c.loop.invariant;
 }
 
--- the loop has no end but its return
+-- the loop ends only by its return
 pub returns-clause-over : goal.returns-clause-over
 returns-clause-over g c = let never : false ≡ true = c.in-None.ensures.steps in absurd (cc)

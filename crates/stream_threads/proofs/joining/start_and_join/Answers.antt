@@ -8,7 +8,7 @@ use Rattle.stream_threads.specs.internal.Workers.{StartedValue}
 use Rattle.stream_threads.proofs.ThreadLemmas.{jobs_started, none_found, one_signal, started_count}
 use Rattle.stream_threads.proofs.joining.start_and_join.Goals as goal
 
--- all threads wait for the signal that is told
+-- all threads wait for the signal that is set
 pub start_all_reading-requires-clause-signal : goal.start_all_reading-requires-clause-signal
 start_all_reading-requires-clause-signal g c κs lives =
     one_signal c.lists.inside.signal.now.id c.args.all.items _ c.in_default.ensures.started
@@ -23,7 +23,7 @@ join_all-requires-clause-signal g c =
 pub join_all-requires-clause-none : goal.join_all-requires-clause-none
 join_all-requires-clause-none g c = none_found (readers_view g.R.Source) [] _ c.lists.inside.found refl c.lists.invariant.3
 
--- they are of as many streams
+-- there is room for all of them
 pub join_all-requires-clause-room : goal.join_all-requires-clause-room
 join_all-requires-clause-room g c =
     let started = c.in_default-start_all_reading.ensures.started ∙ c.in_default.ensures.started in

@@ -6,7 +6,7 @@ use Rattle.stream_check.specs.lemmas.StreamLemmas.{judged_out}
 use Rattle.stream_threads.specs.Judged.{DropsBy}
 use Rattle.stream_threads.proofs.pair.jobs_agree.Goals as goal
 
--- what was sent is what the reader told, and its reads gave
+-- what was sent is what the reader delivered and its reads gave
 pub returns-clause-read : goal.returns-clause-read
 returns-clause-read g c first sent = (
   record { bytes = sent.bytes; unneeded = []; end = Some sent.end },

@@ -7,7 +7,7 @@ use Rattle.lrup_model.specs.declared.plain_map.Entry.TheVariants.{Vacant}
 use Rattle.lrup_model.proofs.OpeningLemmas.{opened, IsOpened}
 use Rattle.lrup_model.proofs.plain_map.PlainMap.open.Goals as goal
 
--- the map that the call made is the opened one
+-- the new map is an opened map
 made : (c : goal.After-result-1) → IsOpened c.args.formula.now c.args.layout.now
     (vec_capacity c.keep_clauses.new.literals) c.keep_vacant.new.entries.items c.keep_clauses.new.literals.items c.in_ok-free.free.items
 made c =

@@ -4,11 +4,11 @@ use Rattle.std.proofs.lemmas.Fmt.{decimal_digit, decimal_step, decimal_nonempty,
 use Rattle.std.proofs.lemmas.List.{append_assoc}
 use Rattle.lrup_text.proofs.writer.Word.push_number.Goals as goal
 
--- a text of 20 digits at most, and of what follows it
+-- the text of a number has at most 20 digits
 number_room : (n : ℕ) (old : List ℕ) → n < 2 ^ 64 → length (decimal n ++ old) ≤ length old + 20
 number_room n old fits = omega (arith, length-append (decimal n) old, length-decimal-le 20 n (omega arith) (omega arith) fits)
 
--- what is left to put in front has a digit, so there is room for it
+-- the rest of the number has at least one digit, so there is room for it
 digit_room : (n rest : ℕ) (held old : List ℕ) → n < 2 ^ 64 → rest < 2 ^ 64 → length old ≤ 4 → decimal rest ++ held ≡ decimal n ++ old
     → length held < 24
 digit_room n rest held old fits small few same =

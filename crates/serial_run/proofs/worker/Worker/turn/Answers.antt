@@ -78,6 +78,6 @@ loop-preserved g c =
       );
     }
 
--- the loop has no end but its returns
+-- the loop ends only by its returns
 pub returns : goal.returns
 returns g c = let never : false ≡ true = c.in-None.ensures.steps in absurd (cc)

@@ -37,7 +37,7 @@ returns-then-not-make_literals-clause-admitted g c =
     (literals_within s.layout.vars c.args.lits.now c.requires.nonzero all)))) in
     inr ((owns, above), inl (no, refl, refl))
 
--- what a result that is no error promises
+-- what a result that isn't an error promises
 on_ok : {T E : Type 0} (r : Result T E) (P : Type 0) → false ≡ is_err r → OnOk r P → P
 on_ok (Ok x) P is p = p
 on_ok (Err e) P is p = absurd (cc)

@@ -5,7 +5,7 @@ use Rattle.stream_threads.specs.Jobs.{StreamJobsValue}
 use Rattle.stream_threads.proofs.ThreadLemmas.{if_stayed}
 use Rattle.stream_threads.proofs.stream_jobs.Started.join.Goals as goal
 
--- what each thread was started with is what it promised of
+-- each thread's promise is about the jobs with which it was started
 pub returns : goal.returns
 returns g c =
     let view = readers_view g.R.Source in
