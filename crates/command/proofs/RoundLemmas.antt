@@ -1,5 +1,5 @@
 -- Rounds, one after the other.
-use Rattle.std.proofs.Common.{arith, ◌≡◌, ◌<◌, ◌^◌, ◌∙◌, ◌+◌, ◌++◌, add-one, inl, inr, length, length-append, suc, zero, ℕ}
+use Rattle.std.proofs.Common.{Bool, arith, ◌≡◌, ◌<◌, ◌^◌, ◌∙◌, ◌+◌, ◌++◌, add-one, inl, inr, length, length-append, suc, zero, ℕ}
 use Rattle.std.proofs.Common.{List, [], ◌∷◌}
 use Rattle.std.proofs.Common.{ap₂, Option, None, Some, refl, sym, ap, subst, ◌⊎◌, drop, map, take}
 use Rattle.std.proofs.Common.{◌-◌, false, get_or, is_some, true}
@@ -29,7 +29,7 @@ use Rattle.command.specs.Commands.{AreOpened, Deeds, Text, options_by, run_param
 use Rattle.command.specs.Paths.{sizes_path, stream_path, stream_paths}
 use Rattle.command.specs.Rounds.{AreRounds, AreSized, IsRoundCause, IsSizesCause, Round, RoundsEnd, StreamsOpened}
 use Rattle.command.specs.internal.RoundProgress.{EndsAt, FailsAfter, IsAlone, IsUnsized, RoundsStand, WasFound, round_of}
-use Rattle.command.specs.declared.course.LastRound.{LastRound}
+use Rattle.command.specs.declared.course.CheckedRound.{CheckedRound}
 use Rattle.command.specs.declared.course.RoundFault.{RoundFault}
 use Rattle.command.specs.declared.fault.CommandFault.{CommandFault}
 use Rattle.command.specs.declared.fault.CommandFault.TheVariants as faults
@@ -95,11 +95,11 @@ some_streams layout none = elim (cases_lt 0 layout.streams) [
 
 module _ (its : Deeds) (given : CommandLine) (cube : CubeValue) (formula : Cnf) (first : its.State) where
   -- the rounds so far
-  abbrev Stand : LastRound → Option Cnf → its.State → Type 0
+  abbrev Stand : CheckedRound → Option Cnf → its.State → Type 0
   Stand last next after = RoundsStand its given cube formula first last next after
 
   -- after round 1
-  pub stands_first : (last : LastRound) (next : Option Cnf) (opened after : its.State) (readers : List its.Reader) → last.number ≡ 1
+  pub stands_first : (last : CheckedRound) (next : Option Cnf) (opened after : its.State) (readers : List its.Reader) → last.number ≡ 1
       → StreamsOpened its first given.streams readers opened → WasFound its given cube formula readers opened last next after
       → last.sizes ≡ sizes_of given → Stand last next after
   stands_first last next opened after readers one are found sizes_are = record {
@@ -112,12 +112,12 @@ module _ (its : Deeds) (given : CommandLine) (cube : CubeValue) (formula : Cnf) 
   }
 
   -- the last of the rounds
-  abbrev now : {last : LastRound} {next : Option Cnf} {after : its.State} → Stand last next after → Round its given cube
+  abbrev now : {last : CheckedRound} {next : Option Cnf} {after : its.State} → Stand last next after → Round its given cube
   now {last} {next} {after} stands =
-      round_of stands.current stands.readers stands.opened last stands.is_found.saved after stands.is_found.was
+      round_of stands.current stands.readers stands.opened last next after stands.is_found.was
 
   -- after a later round
-  pub stands_next : (last found : LastRound) (formula_now : Cnf) (next : Option Cnf) (before sized opened after : its.State)
+  pub stands_next : (last found : CheckedRound) (formula_now : Cnf) (next : Option Cnf) (before sized opened after : its.State)
       (readers : List its.Reader) (folder : Text) → rounds_of given.next ≡ Some folder
       → found.number ≡ last.number + 1 → Stand last (Some formula_now) before
       → AreSized its (sizes_path folder found.number) last.sizes before found.sizes sized
@@ -147,7 +147,7 @@ module _ (its : Deeds) (given : CommandLine) (cube : CubeValue) (formula : Cnf) 
       }
 
   -- The rounds end:
-  ends_so : (last : LastRound) (next : Option Cnf) (before after : its.State) → (stands : Stand last next before)
+  ends_so : (last : CheckedRound) (next : Option Cnf) (before after : its.State) → (stands : Stand last next before)
       → RoundsEnd (now stands) after → EndsAt its given cube formula first last after
   ends_so last next before after stands over = record {
     round = now stands;
@@ -158,16 +158,16 @@ module _ (its : Deeds) (given : CommandLine) (cube : CubeValue) (formula : Cnf) 
   }
 
   -- the words ask for no others;
-  pub ends_alone : (last : LastRound) (next : Option Cnf) (after : its.State) → rounds_of given.next ≡ None → Stand last next after
+  pub ends_alone : (last : CheckedRound) (next : Option Cnf) (after : its.State) → rounds_of given.next ≡ None → Stand last next after
       → EndsAt its given cube formula first last after
   ends_alone last next after once stands = ends_so last next after after stands (inl (inl once, refl))
 
   -- the run doesn't continue after the last one;
-  pub ends_barred : (last : LastRound) (after : its.State) → Stand last None after → EndsAt its given cube formula first last after
+  pub ends_barred : (last : CheckedRound) (after : its.State) → Stand last None after → EndsAt its given cube formula first last after
   ends_barred last after stands = ends_so last None after after stands (inl (stands.is_found.over refl, refl))
 
   -- there is no stream 1;
-  pub ends_without : (last : LastRound) (next : Cnf) (before after : its.State) (folder : Text) → rounds_of given.next ≡ Some folder
+  pub ends_without : (last : CheckedRound) (next : Cnf) (before after : its.State) (folder : Text) → rounds_of given.next ≡ Some folder
       → Stand last (Some next) before → IsAlone its folder last before after → EndsAt its given cube formula first last after
   ends_without last next before after folder asked stands alone =
       let on = stands.is_found.goes_on next refl in
@@ -177,14 +177,14 @@ module _ (its : Deeds) (given : CommandLine) (cube : CubeValue) (formula : Cnf) 
       (inr (next, on, inl (subst (λ (f : Text). IsAlone its f last before after) same alone)))
 
   -- the number of the next one would be too high.
-  pub ends_high : (last : LastRound) (next : Option Cnf) (after : its.State) → Stand last next after
+  pub ends_high : (last : CheckedRound) (next : Option Cnf) (after : its.State) → Stand last next after
       → 2 ^ 64 < last.number + 3 → EndsAt its given cube formula first last after
   ends_high last None after stands high = ends_barred last after stands
   ends_high last (Some next) after stands high =
       ends_so last (Some next) after after stands (inr (next, stands.is_found.goes_on next refl, inr (high, refl)))
 
   -- The next one has no report.
-  pub fails_after : (last : LastRound) (next : Cnf) (before after : its.State) (failed : RoundFault) (folder : Text)
+  pub fails_after : (last : CheckedRound) (next : Cnf) (before after : its.State) (failed : RoundFault) (folder : Text)
       → rounds_of given.next ≡ Some folder → Stand last (Some next) before
       → IsRoundCause its given cube folder failed.round last.sizes next before failed.fault after → failed.round ≡ last.number + 1
       → FailsAfter its given cube formula first failed after
@@ -216,12 +216,12 @@ module _ (its : Deeds) (given : CommandLine) (cube : CubeValue) (formula : Cnf) 
       rounds_refute_under law b more rounds.1
       (law b.formula round.formula cube (carried_entails b round.formula rounds.0.goes_on) refuted)
 
-  pub ends_sound : RefutesBack → (last : LastRound) (after : its.State) → EndsAt its given cube formula first last after
+  pub ends_sound : RefutesBack → (last : CheckedRound) (after : its.State) → EndsAt its given cube formula first last after
       → last.verdict ≡ Unsatisfiable → IsUnsatisfiable formula
   ends_sound law last after ends is =
       rounds_refute law ends.round ends.before ends.rounds (ends.round.checked.sound (sym ends.is.verdict ∙ is))
 
-  pub ends_sound_under : RefutesBackUnder → (last : LastRound) (after : its.State) → EndsAt its given cube formula first last after
+  pub ends_sound_under : RefutesBackUnder → (last : CheckedRound) (after : its.State) → EndsAt its given cube formula first last after
       → last.verdict ≡ UnsatisfiableUnder → IsUnsatisfiableUnder formula cube
   ends_sound_under law last after ends is =
       rounds_refute_under law ends.round ends.before ends.rounds (ends.round.checked.sound_under (sym ends.is.verdict ∙ is))
@@ -285,19 +285,23 @@ sizes_cause its before path reader after opened left faults.Sizes (inr (bytes, l
 sizes_cause its before path reader after opened left faults.Memory cause = inr (inr (reader, opened))
 sizes_cause its before path reader after opened left fault cause = absurd cause
 
--- why the run doesn't continue after a round that has no next formula
-pub barred_by : (next : Next) (verdict : Verdict) (unsaved : Option SaveFault) (Ended : Type 0)
-    → ((folder : Text) → rounds_of next ≡ Some folder
+-- the run doesn't continue, as the words, the verdict, the save or the reports say
+pub barred_by : (next : Next) (verdict : Verdict) (unsaved : Option SaveFault) (Ended : Type 0) (goes_on : Bool)
+    → (IsTrue goes_on ↔ (IsTrue (is_some (rounds_of next)) × ((verdict ≡ Unknown) × Ended)))
+    → ((folder : Text) → rounds_of next ≡ Some folder → goes_on ≡ true
     → (verdict ≡ Unsatisfiable) ⊎ ((fault : SaveFault) × (unsaved ≡ Some fault)))
-    ⊎ ((¬ (verdict ≡ Unknown)) ⊎ (((fault : SaveFault) × (unsaved ≡ Some fault)) ⊎ (¬ Ended)))
     → (rounds_of next ≡ None) ⊎ ((¬ (verdict ≡ Unknown)) ⊎ (((fault : SaveFault) × (unsaved ≡ Some fault)) ⊎ (¬ Ended)))
-barred_by Nothing verdict unsaved Ended why = inl refl
-barred_by (Checkpoint path) verdict unsaved Ended why = inl refl
-barred_by (Rounds folder) verdict unsaved Ended (inl unless) = elim (unless folder.now refl) [
-  | inl refuted ↦ inr (inl (λ is. let no : Unsatisfiable ≡ Unknown = sym refuted ∙ is in cc))
+barred_by Nothing verdict unsaved Ended goes_on may unless = inl refl
+barred_by (Checkpoint path) verdict unsaved Ended goes_on may unless = inl refl
+barred_by (Rounds folder) Unsatisfiable unsaved Ended goes_on may unless = inr (inl (λ is. let no : Unsatisfiable ≡ Unknown = is in cc))
+barred_by (Rounds folder) UnsatisfiableUnder unsaved Ended goes_on may unless =
+    inr (inl (λ is. let no : UnsatisfiableUnder ≡ Unknown = is in cc))
+barred_by (Rounds folder) Unknown unsaved Ended true may unless = elim (unless folder.now refl refl) [
+  | inl refuted ↦ inr (inl (λ is. let no : Unknown ≡ Unsatisfiable = refuted in cc))
   | inr failed ↦ inr (inr (inl failed))
 ]
-barred_by (Rounds folder) verdict unsaved Ended (inr why) = inr why
+barred_by (Rounds folder) Unknown unsaved Ended false may unless =
+    inr (inr (inr (λ ended. let yes : false ≡ true = may.1 (refl, (refl, ended)) in cc)))
 
 -- the folder of the rounds that the words ask for
 pub folder_of : (next : Next) → is_some (rounds_of next) ≡ true → (folder : Text) × (rounds_of next ≡ Some folder)

@@ -102,6 +102,7 @@ pub(crate) fn close_checkpoint<F: Machine>(
         → ClosesCheckpoint its (SavesCheckpoint its f (layout_left clauses) h dropped.now)
         verdict files.old output result.unsaved result.next files.new }
     ensures asked { IfSome result.next (λ _. goes_on ≡ true) }
+    ensures saved { IfSome result.next (λ _. result.unsaved ≡ None) }
     ensures none { is_some output ≡ true → goes_on ≡ true → result.next ≡ None
         → (verdict ≡ Verdict.Unsatisfiable)
         ⊎ ((fault : SaveFault) × (result.unsaved ≡ Some fault)) }
@@ -136,6 +137,7 @@ fn save_and_close<F: Machine>(
         → SavesAndCloses its (SavesCheckpoint its f (layout_left clauses) h dropped.now)
         files.old output result.unsaved result.next files.new }
     ensures asked { IfSome result.next (λ _. goes_on ≡ true) }
+    ensures saved { IfSome result.next (λ _. result.unsaved ≡ None) }
     ensures none { goes_on ≡ true → result.next ≡ None
         → (fault : SaveFault) × (result.unsaved ≡ Some fault) }
 {

@@ -4,7 +4,6 @@ ghost use Rattle.stream_check.specs.StreamParams.{max_tries};
 ghost use Rattle.command.specs.Commands.{options_by};
 
 use crate::fault::CommandFault;
-use crate::running::Setup;
 use checkpoint::SaveFault;
 use command_line::{CommandLine, Sizes};
 use lrup_model::{Cube, Formula};
@@ -12,7 +11,7 @@ use portfolio::{Options, Verdict};
 use std::time::Instant;
 use stream_check::Report;
 
-/// What is the same in all rounds.
+/// What is the same in all rounds: the command line, and the assumed literals.
 #[derive(Clone, Copy)]
 pub(crate) struct Course<'a> {
     pub(crate) line: &'a CommandLine<'a>,
@@ -20,19 +19,13 @@ pub(crate) struct Course<'a> {
     ghost few: { line.now.tries ≤ max_tries },
 }
 
-impl<'a> Course<'a> {
-    /// How the streams of a round of these sizes are checked.
-    pub(crate) fn setup(&self, sizes: Sizes) -> Setup<'a>
-        ensures cube { result.cube.now ≡ self.now.cube.now }
-        ensures options { result.options ≡ options_by self.now.line.now.tries sizes }
-        ensures serial { result.serial ≡ self.now.line.now.serial }
+impl Course<'_> {
+    /// The options of a round of these sizes. There are such options, since the words allow no more
+    /// tries than `few` says.
+    pub(crate) fn options(&self, sizes: Sizes) -> Options
+        ensures { result ≡ options_by self.now.line.now.tries sizes }
     {
-        Setup {
-            cube: self.cube,
-            options: Options::new(self.line.tries, sizes.lines, sizes.room).unwrap(),
-            serial: self.line.serial,
-            watch: self.line.watch,
-        }
+        Options::new(self.line.tries, sizes.lines, sizes.room).unwrap()
     }
 }
 
@@ -49,7 +42,7 @@ pub(crate) struct OpenRound<R: Drop> {
 
 /// A round that was checked.
 #[derive(Drop)]
-pub(crate) struct LastRound {
+pub(crate) struct CheckedRound {
     /// The round's number, counted from 1.
     pub(crate) number: u64,
     pub(crate) sizes: Sizes,
@@ -61,14 +54,14 @@ pub(crate) struct LastRound {
     pub(crate) unsaved: Option<SaveFault>,
     /// When its streams finished, if rounds and `--watch` were asked for and the clock gave the
     /// time.
-    pub(crate) ended: Option<Instant>,
+    pub(crate) ended_at: Option<Instant>,
     ghost some: { 0 < sizes.streams },
 }
 
 /// A round that was checked, and the next round's formula, if the run continues.
 #[derive(Drop)]
-pub(crate) struct CheckedRound {
-    pub(crate) last: LastRound,
+pub(crate) struct RoundResult {
+    pub(crate) last: CheckedRound,
     pub(crate) next: Option<Formula>,
 }
 

@@ -129,6 +129,16 @@ impl From<CubeFault> for CommandFault {
     }
 }
 
+impl From<LayoutFault> for CommandFault {
+    ghost use Rattle.command.specs.declared.fault.CommandFault.TheVariants.{Layout};
+
+    ghost from_gives = { λ layout fault. fault ≡ Layout layout };
+
+    fn from(fault: LayoutFault) -> CommandFault {
+        CommandFault::Layout(fault)
+    }
+}
+
 impl From<RunFault> for CommandFault {
     ghost use Rattle.command.specs.internal.FaultSources.{of_run};
 

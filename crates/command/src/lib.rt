@@ -2,18 +2,19 @@
 #![tactic(auto)]
 
 mod arguments;
-mod checking;
 mod closing;
 mod course;
 mod fault;
 mod files;
+mod opening;
 mod program;
+mod round;
 mod rounds;
 mod running;
 mod sizing;
 mod watching;
 
 pub use arguments::command_with_arguments;
-pub use checking::Asked;
 pub use files::{Files, Machine, OpenFault, Viewed};
+pub use opening::Asked;
 pub use program::{check_formula, command};

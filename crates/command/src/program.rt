@@ -11,11 +11,11 @@ ghost use Rattle.command.specs.Commands.{assumed_at, change, from_first, report_
 ghost use Rattle.command.specs.Faults.{error_text, round_error_text, status_of};
 ghost use Rattle.stream_check.specs.StreamParams.{max_tries};
 
-use crate::checking::{Asked, read_asked};
-use crate::course::LastRound;
+use crate::opening::{Asked, read_asked};
+use crate::course::CheckedRound;
 use crate::fault::CommandFault;
 use crate::files::{Machine, Viewed};
-use crate::rounds::check_rounds;
+use crate::rounds::begin_and_check;
 use checkpoint::SaveFault;
 use checkpoint::laws::{entails_itself, entails_onward};
 use lrup_text::{Sink, WriteBuffer, WriteFault};
@@ -146,7 +146,7 @@ pub fn check_formula<T: Threads + Wait + Sync, C: Clock + Sync, F: Machine, O: S
         → ProgramEnds view words files.new (change O.Sink out.old out.new)
         (change E.Sink err.old err.new) result }
 {
-    match check_rounds(threads, clock, alloc, asked, files) {
+    match begin_and_check(threads, clock, alloc, asked, files) {
         Ok(last) => report(&last, out, err),
         Err(failed) => say_of_round(failed.round, &failed.fault, err),
     }
@@ -154,7 +154,7 @@ pub fn check_formula<T: Threads + Wait + Sync, C: Clock + Sync, F: Machine, O: S
 
 /// Reports why the checkpoint wasn't saved, if it wasn't, writes the report of the last round, and
 /// returns the status.
-fn report<O: Sink, E: Sink>(last: &LastRound, out: &mut O, err: &mut E) -> u8
+fn report<O: Sink, E: Sink>(last: &CheckedRound, out: &mut O, err: &mut E) -> u8
     requires out { O.has_failed out.old ≡ false }
     requires err { E.has_failed err.old ≡ false }
     ensures printed { SinkTook (change O.Sink out.old out.new)
@@ -172,7 +172,7 @@ fn report<O: Sink, E: Sink>(last: &LastRound, out: &mut O, err: &mut E) -> u8
 }
 
 /// Writes the report of the last round, after the round's number if that isn't 1.
-fn write_last<O: Sink>(last: &LastRound, out: &mut O) -> Result<(), WriteFault>
+fn write_last<O: Sink>(last: &CheckedRound, out: &mut O) -> Result<(), WriteFault>
     requires running { O.has_failed out.old ≡ false }
     ensures text { WritesText result (O.written out.old) (O.written out.new)
         (last_text last.now.number last.now.reports.items last.now.verdict) }
@@ -211,7 +211,7 @@ fn say_unsaved<E: Sink>(round: u64, unsaved: Option<SaveFault>, err: &mut E)
 }
 
 /// The status once the report was written.
-fn written_status(last: &LastRound) -> u8
+fn written_status(last: &CheckedRound) -> u8
     ensures { result ≡ report_status false last.now.unsaved last.now.verdict }
 {
     match last.unsaved {

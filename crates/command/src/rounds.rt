@@ -17,10 +17,11 @@ ghost use Rattle.command.specs.internal.RoundProgress.{WasFound};
 ghost use Rattle.stream_check.specs.StreamParams.{max_tries};
 
 use crate::arguments::words_of;
-use crate::checking::{Asked, Beginning, begin, check_streams, open_streams};
-use crate::course::{CheckedRound, Course, LastRound, OpenRound, RoundFault};
+use crate::course::{CheckedRound, Course, OpenRound, RoundFault, RoundResult};
 use crate::fault::CommandFault;
 use crate::files::{Machine, OpenFault, Viewed};
+use crate::opening::{Asked, Beginning, begin, open_streams};
+use crate::round::check_round;
 use crate::sizing::sizes_of_round;
 use crate::watching::report_begin;
 use checkpoint::laws::{refutes_back, refutes_back_under};
@@ -28,74 +29,9 @@ use command_line::{Next, Sizes};
 use lrup_model::Formula;
 use portfolio::Verdict;
 use std::alloc::{AllocError, Global};
-use std::borrow::CowStr;
 use std::sync::Wait;
 use std::thread::Threads;
 use std::time::Clock;
-
-/// Checks the streams of a round, and saves their clauses if the words ask for that. If the run
-/// continues, it frees the round's formula, makes the next one, and returns it.
-fn check_round<T: Threads + Wait + Sync, C: Clock + Sync, F: Machine>(
-    threads: &T,
-    clock: &C,
-    alloc: Global,
-    course: &Course<'_>,
-    round: OpenRound<F::Input>,
-    files: &mut F,
-) -> Result<CheckedRound, CommandFault>
-    requires running { AllByRecursion (λ r. F.Input.Source.has_failed r ≡ false)
-        round.readers.items }
-    requires count { length round.readers.items ≡ round.sizes.streams }
-    requires number { round.number < u64.MAX }
-    ensures found { IfOk result (λ found. WasFound ⟦<F as Viewed>⟧.deeds course.now.line.now
-        course.now.cube.now round.formula round.readers.items files.old found.last found.next
-        files.new) }
-    ensures number { IfOk result (λ found. found.last.number ≡ round.number) }
-    ensures sizes { IfOk result (λ found. found.last.sizes ≡ round.sizes) }
-    ensures cause { IfErr result (λ fault. IsRoundStartCause ⟦<F as Viewed>⟧.deeds
-        course.now.line.now course.now.cube.now round.number round.formula round.sizes
-        round.readers.items files.old fault files.new) }
-{
-    let path = created_path(alloc, course.line.next, round.number)?;
-    check_streams(threads, clock, alloc, course, round, lent(&path), files)
-}
-
-/// The path of the file to which the round with this number saves its clauses, if there is one.
-fn created_path<'a>(
-    alloc: Global,
-    next: Next<'a>,
-    number: u64,
-) -> Result<Option<CowStr<'a>>, AllocError>
-    requires number { number < u64.MAX }
-    ensures { IfOk result (λ path.
-        option_map cow_str_bytes path ≡ created_path next.entry number) }
-{
-    match next {
-        Next::Nothing => Ok(None),
-        Next::Checkpoint(path) => Ok(Some(CowStr::Borrowed(path))),
-        Next::Rounds(folder) => {
-            let path = formula_path(alloc, folder, number + 1)?;
-            Ok(Some(CowStr::Owned(path)))
-        }
-    }
-}
-
-/// Borrows the path.
-fn lent<'a>(path: &'a Option<CowStr<'_>>) -> Option<&'a str>
-    ensures { path_of result ≡ option_map cow_str_bytes path.now }
-{
-    match path {
-        None => None,
-        Some(path) => Some(path.as_str()),
-    }
-}
-
-/// The path of a round's formula.
-fn formula_path(alloc: Global, folder: &str, number: u64) -> Result<String, AllocError>
-    ensures { IfOk result (λ path. string_bytes path ≡ formula_path folder.now number) }
-{
-    format!(in alloc; "{folder}/round-{number}.cnf")
-}
 
 /// The paths of a round's streams.
 fn stream_paths(
@@ -191,11 +127,11 @@ fn next_round<T: Threads + Wait + Sync, C: Clock + Sync, F: Machine>(
     alloc: Global,
     course: &Course<'_>,
     folder: &str,
-    last: &LastRound,
+    last: &CheckedRound,
     number: u64,
     formula: Formula,
     files: &mut F,
-) -> Result<Option<CheckedRound>, CommandFault>
+) -> Result<Option<RoundResult>, CommandFault>
     requires folder { rounds_of course.now.line.now.next ≡ Some folder.now }
     requires after { number ≡ last.now.number + 1 }
     requires number { number < u64.MAX }
@@ -218,7 +154,7 @@ fn next_round<T: Threads + Wait + Sync, C: Clock + Sync, F: Machine>(
         Err(fault) => return Err(fault),
     };
     if course.line.watch {
-        report_begin(clock, alloc, files, number, &formula, last.ended);
+        report_begin(clock, alloc, files, number, &formula, last.ended_at);
     }
     let round = OpenRound {
         number,
@@ -233,14 +169,14 @@ fn next_round<T: Threads + Wait + Sync, C: Clock + Sync, F: Machine>(
 }
 
 /// Checks round 1, whose streams are open, and then the later rounds, if the words ask for rounds.
-fn go_on<T: Threads + Wait + Sync, C: Clock + Sync, F: Machine>(
+fn check_rounds<T: Threads + Wait + Sync, C: Clock + Sync, F: Machine>(
     threads: &T,
     clock: &C,
     alloc: Global,
     course: &Course<'_>,
     round: OpenRound<F::Input>,
     files: &mut F,
-) -> Result<LastRound, RoundFault>
+) -> Result<CheckedRound, RoundFault>
     requires running { AllByRecursion (λ r. F.Input.Source.has_failed r ≡ false)
         round.readers.items }
     requires count { length round.readers.items ≡ round.sizes.streams }
@@ -261,7 +197,7 @@ fn go_on<T: Threads + Wait + Sync, C: Clock + Sync, F: Machine>(
         Ok(checked) => checked,
         Err(fault) => return Err(RoundFault { round: 1, fault }),
     };
-    let CheckedRound { mut last, mut next } = checked;
+    let RoundResult { mut last, mut next } = checked;
     let Next::Rounds(folder) = course.line.next else {
         return Ok(last);
     };
@@ -291,13 +227,13 @@ fn go_on<T: Threads + Wait + Sync, C: Clock + Sync, F: Machine>(
 
 /// Parses the formula, reads the assumed literals, opens the streams of round 1, and checks the
 /// rounds. It blocks while a file does.
-pub(crate) fn check_rounds<T: Threads + Wait + Sync, C: Clock + Sync, F: Machine>(
+pub(crate) fn begin_and_check<T: Threads + Wait + Sync, C: Clock + Sync, F: Machine>(
     threads: &T,
     clock: &C,
     alloc: Global,
     asked: Asked<'_>,
     files: &mut F,
-) -> Result<LastRound, RoundFault>
+) -> Result<CheckedRound, RoundFault>
     requires tries { asked.line.tries ≤ max_tries }
     ensures reported { (words : List Text) (first : F) →
         let view = from_first (⟦<F as Viewed>⟧.view files.old) first in
@@ -326,7 +262,7 @@ pub(crate) fn check_rounds<T: Threads + Wait + Sync, C: Clock + Sync, F: Machine
     refutes_back_under();
     let begun = match begin(threads, alloc, &line, bytes, files) {
         Ok(begun) => begun,
-        Err(fault) => return Err(of_first(fault)),
+        Err(fault) => return Err(RoundFault { round: 1, fault }),
     };
     let Beginning {
         formula,
@@ -348,13 +284,5 @@ pub(crate) fn check_rounds<T: Threads + Wait + Sync, C: Clock + Sync, F: Machine
         formula,
         readers,
     };
-    go_on(threads, clock, alloc, &course, round, files)
-}
-
-/// A fault of round 1.
-fn of_first(fault: CommandFault) -> RoundFault
-    ensures round { result.round ≡ 1 }
-    ensures fault { result.fault ≡ fault }
-{
-    RoundFault { round: 1, fault }
+    check_rounds(threads, clock, alloc, &course, round, files)
 }

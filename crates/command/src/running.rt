@@ -2,12 +2,14 @@
 ghost use Rattle.std.specs.Prelude.{◌≡◌, true, false, IfErr, IfOk, length, vec_len};
 ghost use Rattle.std.specs.List.{AllByRecursion};
 ghost use Rattle.run_outcome.specs.Saving.{CanBeSaved};
-ghost use Rattle.command.specs.internal.Running.{run_params_on, IsRunCause, StandsBehind};
+ghost use Rattle.command.specs.internal.Running.{IsRunCause, StandsBehind};
+ghost use Rattle.run_outcome.specs.Outcomes.{run_params_of};
 ghost use Rattle.stream_check.specs.Readings.{readers_view};
 
+use crate::course::Course;
 use crate::fault::CommandFault;
 use crate::files::Machine;
-use lrup_model::{Cube, Formula};
+use lrup_model::Formula;
 use portfolio::{
     Clauses, Options, Outcome, Pause, SerialOutcome, TurnWatch, Verdict, Watch, run, run_serial,
 };
@@ -16,17 +18,6 @@ use std::sync::Wait;
 use std::thread::Threads;
 use std::time::Clock;
 use stream_check::{DroppedIds, Report};
-
-/// How streams are checked.
-#[derive(Clone, Copy)]
-pub(crate) struct Setup<'a> {
-    pub(crate) cube: &'a Cube,
-    pub(crate) options: Options,
-    /// Whether one thread checks all streams.
-    pub(crate) serial: bool,
-    /// Whether their progress is reported.
-    pub(crate) watch: bool,
-}
 
 /// What the check of the streams found, and what it left.
 #[derive(Drop)]
@@ -37,31 +28,34 @@ pub(crate) struct EndedRun {
     pub(crate) dropped: Vec<DroppedIds>,
 }
 
-/// Checks the streams, round-robin on this thread or each in two threads of its own. If `watched`
+/// Checks the streams, round-robin on this thread or each in two threads of its own. If `report_on`
 /// is given, its watchers report the progress.
 pub(crate) fn run_streams<T: Threads + Wait + Sync, C: Clock + Sync, F: Machine>(
     threads: &T,
     clock: &C,
     alloc: Global,
-    setup: &Setup<'_>,
+    course: &Course<'_>,
+    options: Options,
     formula: &Formula,
-    watched: Option<&F>,
+    report_on: Option<&F>,
     readers: Vec<F::Input>,
 ) -> Result<EndedRun, CommandFault>
     requires running { AllByRecursion (λ r. F.Input.Source.has_failed r ≡ false) readers.items }
-    ensures stands { let run_params = run_params_on setup.now formula.now (length readers.items) in
-        IfOk result (λ run. StandsBehind (readers_view F.Input.Source) setup.now.serial
+    ensures stands { let run_params = run_params_of options course.now.cube.now
+        formula.now (length readers.items) in
+        IfOk result (λ run. StandsBehind (readers_view F.Input.Source) course.now.line.now.serial
         formula.now run_params readers.items run.reports.items run.verdict run.clauses
         run.dropped.items) }
     ensures ready { IfOk result (λ run. CanBeSaved run.clauses) }
-    ensures cause { let run_params = run_params_on setup.now formula.now (length readers.items) in
-        IfErr result (IsRunCause (readers_view F.Input.Source) setup.now.serial formula.now
+    ensures cause { let run_params = run_params_of options course.now.cube.now
+        formula.now (length readers.items) in
+        IfErr result (IsRunCause (readers_view F.Input.Source) course.now.line.now.serial formula.now
         run_params readers.items) }
 {
-    if setup.serial {
-        run_by_turns(threads, clock, alloc, setup, formula, watched, readers)
+    if course.line.serial {
+        run_by_turns(threads, clock, alloc, course, options, formula, report_on, readers)
     } else {
-        run_in_threads(threads, clock, alloc, setup, formula, watched, readers)
+        run_in_threads(threads, clock, alloc, course, options, formula, report_on, readers)
     }
 }
 
@@ -70,27 +64,30 @@ fn run_by_turns<W: Wait, C: Clock + Sync, F: Machine>(
     wait: &W,
     clock: &C,
     alloc: Global,
-    setup: &Setup<'_>,
+    course: &Course<'_>,
+    options: Options,
     formula: &Formula,
-    watched: Option<&F>,
+    report_on: Option<&F>,
     readers: Vec<F::Input>,
 ) -> Result<EndedRun, CommandFault>
     requires running { AllByRecursion (λ r. F.Input.Source.has_failed r ≡ false) readers.items }
-    ensures stands { let run_params = run_params_on setup.now formula.now (length readers.items) in
+    ensures stands { let run_params = run_params_of options course.now.cube.now
+        formula.now (length readers.items) in
         IfOk result (λ run. StandsBehind (readers_view F.Input.Source) true formula.now
         run_params readers.items run.reports.items run.verdict run.clauses run.dropped.items) }
     ensures ready { IfOk result (λ run. CanBeSaved run.clauses) }
-    ensures cause { let run_params = run_params_on setup.now formula.now (length readers.items) in
+    ensures cause { let run_params = run_params_of options course.now.cube.now
+        formula.now (length readers.items) in
         IfErr result (IsRunCause (readers_view F.Input.Source) true formula.now run_params
         readers.items) }
 {
-    let gates = turn_gates(alloc, clock, watched, readers.len())?;
+    let gates = turn_gates(alloc, clock, report_on, readers.len())?;
     let outcome = run_serial(
         wait,
         alloc,
         formula,
-        setup.cube,
-        setup.options,
+        course.cube,
+        options,
         readers,
         gates,
     )?;
@@ -114,27 +111,30 @@ fn run_in_threads<T: Threads + Wait + Sync, C: Clock + Sync, F: Machine>(
     threads: &T,
     clock: &C,
     alloc: Global,
-    setup: &Setup<'_>,
+    course: &Course<'_>,
+    options: Options,
     formula: &Formula,
-    watched: Option<&F>,
+    report_on: Option<&F>,
     readers: Vec<F::Input>,
 ) -> Result<EndedRun, CommandFault>
     requires running { AllByRecursion (λ r. F.Input.Source.has_failed r ≡ false) readers.items }
-    ensures stands { let run_params = run_params_on setup.now formula.now (length readers.items) in
+    ensures stands { let run_params = run_params_of options course.now.cube.now
+        formula.now (length readers.items) in
         IfOk result (λ run. StandsBehind (readers_view F.Input.Source) false formula.now
         run_params readers.items run.reports.items run.verdict run.clauses run.dropped.items) }
     ensures ready { IfOk result (λ run. CanBeSaved run.clauses) }
-    ensures cause { let run_params = run_params_on setup.now formula.now (length readers.items) in
+    ensures cause { let run_params = run_params_of options course.now.cube.now
+        formula.now (length readers.items) in
         IfErr result (IsRunCause (readers_view F.Input.Source) false formula.now run_params
         readers.items) }
 {
-    let gates = thread_gates(alloc, clock, watched, readers.len())?;
+    let gates = thread_gates(alloc, clock, report_on, readers.len())?;
     let outcome = run(
         threads,
         alloc,
         formula,
-        setup.cube,
-        setup.options,
+        course.cube,
+        options,
         readers,
         gates,
     )?;
@@ -154,12 +154,12 @@ fn run_in_threads<T: Threads + Wait + Sync, C: Clock + Sync, F: Machine>(
     })
 }
 
-/// A gate for each of `count` streams that are checked in threads. If `watched` is given, each gate
+/// A gate for each of `count` streams that are checked in threads. If `report_on` is given, each gate
 /// reports on a watcher of its own.
 fn thread_gates<'a, C: Clock + Sync, F: Machine>(
     alloc: Global,
     clock: &'a C,
-    watched: Option<&F>,
+    report_on: Option<&F>,
     count: usize,
 ) -> Result<Vec<Watch<Pause<&'a C>, &'a C, F::Watcher>>, AllocError>
     ensures { IfOk result (λ gates. vec_len gates ≡ count) }
@@ -167,31 +167,31 @@ fn thread_gates<'a, C: Clock + Sync, F: Machine>(
     let mut gates = Vec::with_capacity(alloc, count)?;
     for _gate in 0..count {
         let pause = Pause::new(clock);
-        gates.push_reserved(Watch::new(pause, clock, watcher_of(watched)));
+        gates.push_reserved(Watch::new(pause, clock, watcher_of(report_on)));
     }
     Ok(gates)
 }
 
-/// A gate for each of `count` streams that are checked on one thread. If `watched` is given, each
+/// A gate for each of `count` streams that are checked on one thread. If `report_on` is given, each
 /// gate reports on a watcher of its own.
 fn turn_gates<'a, C: Clock + Sync, F: Machine>(
     alloc: Global,
     clock: &'a C,
-    watched: Option<&F>,
+    report_on: Option<&F>,
     count: usize,
 ) -> Result<Vec<TurnWatch<&'a C, F::Watcher>>, AllocError>
     ensures { IfOk result (λ gates. vec_len gates ≡ count) }
 {
     let mut gates = Vec::with_capacity(alloc, count)?;
     for _gate in 0..count {
-        gates.push_reserved(TurnWatch::new(clock, watcher_of(watched)));
+        gates.push_reserved(TurnWatch::new(clock, watcher_of(report_on)));
     }
     Ok(gates)
 }
 
-/// A new watcher, if `watched` is given.
-fn watcher_of<F: Machine>(watched: Option<&F>) -> Option<F::Watcher> {
-    match watched {
+/// A new watcher, if `report_on` is given.
+fn watcher_of<F: Machine>(report_on: Option<&F>) -> Option<F::Watcher> {
+    match report_on {
         None => None,
         Some(files) => Some(files.watcher()),
     }

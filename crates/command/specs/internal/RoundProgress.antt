@@ -15,13 +15,13 @@ use Rattle.command.specs.Paths.{sizes_path, stream_path}
 use Rattle.command.specs.Rounds.{AreRounds, AreSized, CarriesOn, IsBarred, IsNextCause, LeavesBehind, Round, RoundsEnd, SavesCheckpoint, WereRounds}
 use Rattle.command.specs.declared.fault.CommandFault.{CommandFault}
 use Rattle.command.specs.declared.fault.CommandFault.TheVariants as faults
-use Rattle.command.specs.declared.course.LastRound.{LastRound}
+use Rattle.command.specs.declared.course.CheckedRound.{CheckedRound}
 use Rattle.command.specs.declared.course.RoundFault.{RoundFault}
 
 -- The streams of a round with this formula, opened as these readers, were checked, and `last` is
 -- what was found; `leaves` says what became of their clauses.
 pub record WasChecked (its : Deeds) (given : CommandLine) (cube : CubeValue) (formula : Cnf)
-    (readers : List its.Reader) (opened : its.State) (last : LastRound) (next : Option Cnf)
+    (readers : List its.Reader) (opened : its.State) (last : CheckedRound) (next : Option Cnf)
     (after : its.State) : Type 0 where
   pub count : length readers ≡ last.sizes.streams
   pub checked : AreChecked its.reading given.serial formula
@@ -34,7 +34,7 @@ pub record WasChecked (its : Deeds) (given : CommandLine) (cube : CubeValue) (fo
 
 -- the round that was checked in this way
 abbrev pub round_of : {its : Deeds} {given : CommandLine} {cube : CubeValue} (formula : Cnf)
-    (readers : List its.Reader) (opened : its.State) (last : LastRound) (next : Option Cnf)
+    (readers : List its.Reader) (opened : its.State) (last : CheckedRound) (next : Option Cnf)
     (after : its.State)
     → WasChecked its given cube formula readers opened last next after → Round its given cube
 round_of formula readers opened last next after was = record {
@@ -56,36 +56,35 @@ round_of formula readers opened last next after was = record {
 -- The round's streams were checked. The run continues with the next formula; or there is none, and
 -- the run doesn't continue.
 pub record WasFound (its : Deeds) (given : CommandLine) (cube : CubeValue) (formula : Cnf)
-    (readers : List its.Reader) (opened : its.State) (last : LastRound) (next : Option Cnf)
+    (readers : List its.Reader) (opened : its.State) (last : CheckedRound) (next : Option Cnf)
     (after : its.State) : Type 0 where
-  pub saved : Option Cnf
-  pub was : WasChecked its given cube formula readers opened last saved after
+  pub was : WasChecked its given cube formula readers opened last next after
   pub goes_on : ForSome next
-      (CarriesOn (round_of formula readers opened last saved after was))
-  pub over : next ≡ None → IsBarred (round_of formula readers opened last saved after was)
+      (CarriesOn (round_of formula readers opened last next after was))
+  pub over : next ≡ None → IsBarred (round_of formula readers opened last next after was)
 
 -- The rounds up to this one were checked and left these files. The run continues if there is a next
 -- formula, and else it doesn't.
 pub record RoundsStand (its : Deeds) (given : CommandLine) (cube : CubeValue) (formula : Cnf)
-    (first : its.State) (last : LastRound) (next : Option Cnf) (after : its.State) : Type 0 where
+    (first : its.State) (last : CheckedRound) (next : Option Cnf) (after : its.State) : Type 0 where
   pub current : Cnf
   pub readers : List its.Reader
   pub opened : its.State
   pub is_found : WasFound its given cube current readers opened last next after
   pub before : List (Round its given cube)
   pub rounds : AreRounds formula first
-      (round_of current readers opened last is_found.saved after is_found.was ∷ before)
+      (round_of current readers opened last next after is_found.was ∷ before)
 
 -- No round follows this one in the folder: the sizes of the next round were read, and there is no
 -- file for its stream 1.
-abbrev pub IsAlone : (its : Deeds) → Text → LastRound → its.State → its.State → Type 0
+abbrev pub IsAlone : (its : Deeds) → Text → CheckedRound → its.State → its.State → Type 0
 IsAlone its folder last before after =
     (sizes : Sizes) × (sized : its.State)
     × AreSized its (sizes_path folder (last.number + 1)) last.sizes before sizes sized
     × its.lacks sized (stream_path folder (last.number + 1) 1) after
 
 -- What the program keeps of its last round comes from this round.
-pub record IsOfRound {its : Deeds} {given : CommandLine} {cube : CubeValue} (last : LastRound)
+pub record IsOfRound {its : Deeds} {given : CommandLine} {cube : CubeValue} (last : CheckedRound)
     (round : Round its given cube) : Type 0 where
   pub number : last.number ≡ round.number
   pub reports : last.reports.items ≡ round.reports
@@ -94,7 +93,7 @@ pub record IsOfRound {its : Deeds} {given : CommandLine} {cube : CubeValue} (las
 
 -- The rounds ended with this one and left these files.
 pub record EndsAt (its : Deeds) (given : CommandLine) (cube : CubeValue) (formula : Cnf)
-    (first : its.State) (last : LastRound) (after : its.State) : Type 0 where
+    (first : its.State) (last : CheckedRound) (after : its.State) : Type 0 where
   pub round : Round its given cube
   pub before : List (Round its given cube)
   pub rounds : AreRounds formula first (round ∷ before)
@@ -119,7 +118,7 @@ FailsAt its given cube formula first readers opened failed after =
     ⊎ FailsAfter its given cube formula first failed after
 
 -- The rounds of a command line ended with this one and left these files.
-pub record IsReported (files : FilesView) (given : CommandLine) (last : LastRound)
+pub record IsReported (files : FilesView) (given : CommandLine) (last : CheckedRound)
     (after : files.its.State) : Type 0 where
   pub cube : CubeValue
   pub round : Round files.its given cube

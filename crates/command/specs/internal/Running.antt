@@ -1,14 +1,12 @@
 -- What the check of streams leaves: definitions for contracts of private functions (this project's
 -- own).
 use Rattle.std.specs.Prelude.{◌≡◌, Bool, false, List}
-use Rattle.std.specs.Prelude.{ℕ}
 use Rattle.lrup_model.specs.Formula.{Cnf}
 use Rattle.lrup_model.specs.Layout.{IsFault, IsStream, LayoutValue}
 use Rattle.lrup_text.specs.ReadOut.{SourceView}
 use Rattle.stream_check.specs.Streams.{RunParamsValue}
 use Rattle.stream_check.specs.DroppedIdsValue.{DroppedIdsValue}
 use Rattle.stream_check.specs.declared.report.Report.{Report}
-use Rattle.run_outcome.specs.Outcomes.{run_params_of}
 use Rattle.portfolio.specs.RingStops.{StopsAtRing}
 use Rattle.run_outcome.specs.Saving.{WereLeftBy, layout_left}
 use Rattle.run_outcome.specs.declared.saving.Clauses.{Clauses}
@@ -16,7 +14,6 @@ use Rattle.run_outcome.specs.declared.outcome.Verdict.{Verdict}
 use Rattle.command.specs.Commands.{AreChecked, HasBrokenOff, HasNoFault}
 use Rattle.command.specs.declared.fault.CommandFault.{CommandFault}
 use Rattle.command.specs.declared.fault.CommandFault.TheVariants as faults
-use Rattle.command.specs.declared.running.Setup.{Setup}
 
 -- The streams were checked. The run's history left these clauses, and its streams dropped these
 -- identities.
@@ -47,10 +44,6 @@ IsRunCause view serial formula run_params readers (faults.Ring stream) =
     × StopsAtRing view formula run_params readers stream
 IsRunCause view serial formula run_params readers faults.Memory = Unit {0}
 IsRunCause view serial formula run_params readers fault = ⊥
-
--- the parameters for checking this many streams of a formula with this setup
-abbrev pub run_params_on : Setup → Cnf → ℕ → RunParamsValue
-run_params_on setup formula streams = run_params_of setup.options setup.cube.now formula streams
 
 -- why a file that was opened wasn't read to its end
 abbrev pub IsFailedRead : {R : Type 0} → SourceView R → R → CommandFault → Type 0

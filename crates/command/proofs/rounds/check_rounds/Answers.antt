@@ -1,127 +1,117 @@
-use Rattle.std.proofs.Common.{◌∙◌, ℕ, ap, inl, inr, map, subst, sym}
+use Rattle.std.proofs.Common.{◌+◌, ◌∙◌, ℕ, arith, Ok, Option, ap, inl, inr, refl, subst, sym}
+use Rattle.lrup_model.specs.Formula.{Cnf}
+use Rattle.command_line.specs.CommandLine.{rounds_of}
 use Rattle.command_line.specs.declared.sizes.Sizes.{Sizes}
-use Rattle.command.specs.Commands.{IsCause, IsFormulaAt, deeds_of, files_view, from_first}
-use Rattle.command.specs.Rounds.{IsCauseIn, StreamsOpened}
-use Rattle.command.specs.internal.RoundProgress.{IsReported}
-use Rattle.command.specs.declared.fault.CommandFault.{CommandFault}
-use Rattle.command.proofs.CheckingLemmas.{if_err, if_ok, start_cause}
-use Rattle.command.proofs.RoundLemmas.{ends_sound, ends_sound_under, opened_count}
-use Rattle.command.proofs.rounds.check_rounds.Given as given
+use Rattle.command.specs.Commands.{IsRoundStartCause, deeds_of}
+use Rattle.command.specs.internal.RoundProgress.{RoundsStand}
+use Rattle.command.proofs.RoundLemmas.{ends_alone, ends_barred, ends_high, ends_without, fails_after, once_of, stands_first}
 use Rattle.command.proofs.rounds.check_rounds.Goals as goal
 
--- a fault before the first round's check is one of round 1
+-- the words ask for no rounds
+pub returns-in_default : goal.returns-in_default
+returns-in_default g c =
+    let its = deeds_of g.F.Files g.F.Machine g.F.Input.Source g.F.Output.Sink in
+    let of = c.in-Ok.ensures in
+    let checked = c.in-Ok.checked in
+    let round = c.args.round in
+    let line = c.args.course.now.line.now in
+    let cube = c.args.course.now.cube.now in
+    record {
+      over = λ first opened.
+          ends_alone its line cube round.formula first checked.last checked.next c.check_round.new.files
+          (once_of line.next c.in_default.not-Rounds)
+          (stands_first its line cube round.formula first checked.last checked.next c.args.files.now c.check_round.new.files
+          round.readers.items (of.number ∙ c.requires.one) opened of.found (of.sizes ∙ c.requires.sizes));
+      cause = λ first opened. tt;
+    }
+
+pub loop-number-init : goal.loop-number-init
+loop-number-init g c =
+    let its = deeds_of g.F.Files g.F.Machine g.F.Input.Source g.F.Output.Sink in
+    let of = c.in-Ok.ensures in
+    let checked = c.in-Ok.checked in
+    let round = c.args.round in
+    record {
+      stands = λ first opened.
+          stands_first its c.args.course.now.line.now c.args.course.now.cube.now round.formula first checked.last checked.next
+          c.args.files.now c.check_round.new.files round.readers.items (of.number ∙ c.requires.one) opened of.found
+          (of.sizes ∙ c.requires.sizes);
+      number = omega (arith, of.number, c.requires.one);
+    }
+
+-- the run doesn't continue after the last round
+pub returns-in-None-clause-over : goal.returns-in-None-clause-over
+returns-in-None-clause-over g c first opened =
+    let its = deeds_of g.F.Files g.F.Machine g.F.Input.Source g.F.Output.Sink in
+    let line = c.args.course.now.line.now in
+    let cube = c.args.course.now.cube.now in
+    let now = c.loop-number in
+    let formula = c.args.round.formula in
+    ends_barred its line cube formula first now.last now.files
+    (subst (λ (n : Option Cnf). RoundsStand its line cube formula first now.last n now.files) c.in-None.is
+    (now.invariant.stands first opened))
+
+-- there is no next round
+pub returns-in-Ok-None-clause-over : goal.returns-in-Ok-None-clause-over
+returns-in-Ok-None-clause-over g c first opened =
+    let its = deeds_of g.F.Files g.F.Machine g.F.Input.Source g.F.Output.Sink in
+    let line = c.args.course.now.line.now in
+    let cube = c.args.course.now.cube.now in
+    let now = c.loop-number in
+    let formula = c.args.round.formula in
+    ends_without its line cube formula first now.last c.in-Some.formula now.files c.next_round.new.files c.in-Rounds.folder.now
+    (ap rounds_of c.in-Rounds.is)
+    (subst (λ (n : Option Cnf). RoundsStand its line cube formula first now.last n now.files) c.in-Some.is
+    (now.invariant.stands first opened))
+    (c.next_round.ensures.over (c.in-Ok-None.is ∙ ap Ok c.in-Ok-None.field-0-is))
+
+-- the next round has no report
+pub returns-in-Err-next_round-clause-cause : goal.returns-in-Err-next_round-clause-cause
+returns-in-Err-next_round-clause-cause g c first opened =
+    let its = deeds_of g.F.Files g.F.Machine g.F.Input.Source g.F.Output.Sink in
+    let line = c.args.course.now.line.now in
+    let cube = c.args.course.now.cube.now in
+    let now = c.loop-number in
+    let formula = c.args.round.formula in
+    inr (fails_after its line cube formula first now.last c.in-Some.formula now.files
+    c.next_round.new.files _ c.in-Rounds.folder.now (ap rounds_of c.in-Rounds.is)
+    (subst (λ (n : Option Cnf). RoundsStand its line cube formula first now.last n now.files) c.in-Some.is
+    (now.invariant.stands first opened))
+    c.in-Err-next_round.ensures.cause now.invariant.number)
+
+-- the next round's number would be too high
+pub returns-clause-over : goal.returns-clause-over
+returns-clause-over g c first opened =
+    let its = deeds_of g.F.Files g.F.Machine g.F.Input.Source g.F.Output.Sink in
+    let now = c.loop-number in
+    ends_high its c.args.course.now.line.now c.args.course.now.cube.now c.args.round.formula first now.last now.next now.files
+    (now.invariant.stands first opened)
+    (omega (arith, now.invariant.number, c.loop-number-test.false))
+
+-- round 1 has no report
 pub returns-in-Err-clause-cause : goal.returns-in-Err-clause-cause
-returns-in-Err-clause-cause g c words first good at =
-    let Cause : CommandFault → Type 0 = λ fault. IsCause (from_first (files_view g.F.Files g.F.Machine g.F.Input.Source g.F.Output.Sink
-    c.args.files.now) first) words fault
-    c.begin.new.files in
-    let cause : Cause c.in-Err.fault = c.in-Err.ensures.cause words first good at in
-    let of = c.of_first.ensures in
-    inl (of.round, subst Cause (sym of.fault) cause)
-
--- the sizes of round 1 are those of the command line
-pub go_on-requires-clause-sizes : goal.go_on-requires-clause-sizes
-go_on-requires-clause-sizes g c κs lives =
-    let line = c.args.asked.line in
-    let readers = c.in-Ok.begun.readers in
-    let count = c.len.ensures ∙ readers.ok.0
-    ∙ opened_count g.F.Files.opens c.in-Ok.ensures.begun.later line.streams readers.items c.begin.new.files c.in-Ok.ensures.begun.opened in
-    let make : ℕ → Sizes = λ n. record { streams = n; lines = line.lines; room = line.room } in
-    ap make count
-
--- the streams of round 1 were opened
-opened : (g : given.Over) (c : goal.After-drop-line-2 g) → StreamsOpened (deeds_of g.F.Files g.F.Machine g.F.Input.Source g.F.Output.Sink)
-    c.in-Ok.ensures.begun.later c.args.asked.line.streams c.in-Ok.begun.readers.items c.begin.new.files
-opened g c =
-    let of = c.in-Ok.ensures.begun in
-    record { opened = of.opened; left = of.left ∙ ap (λ t. map t c.args.asked.line.streams) (sym of.told) }
-
-pub returns-clause-reported : goal.returns-clause-reported
-returns-clause-reported g c words first good at =
-    let files = from_first (files_view g.F.Files g.F.Machine g.F.Input.Source g.F.Output.Sink c.args.files.now) first in
-    let line = c.args.asked.line in
-    let begun = c.in-Ok.begun in
-    let of = c.in-Ok.ensures.begun in
-    let is_formula : IsFormulaAt files line.formula.now begun.formula c.args.files.now =
-    (c.args.asked.formula.items, at, c.in-Ok.ensures.formula) in
-    if_ok c.go_on.result _ (λ last. IsReported files line last c.go_on.new.files)
-    (λ last ends. record {
-      cube = begun.cube;
-      round = ends.round;
-      before = ends.before;
-      were = record {
-        formula = begun.formula;
-        next = c.args.files.now;
-        is_formula = is_formula;
-        later = of.later;
-        assumed = of.assumed;
-        told = of.told;
-        rounds = ends.rounds;
-      };
-      is = ends.is;
-      over = ends.over;
-    })
-    (c.go_on.ensures.over of.later (opened g c))
-
-pub returns-clause-sound : goal.returns-clause-sound
-returns-clause-sound g c =
+returns-in-Err-clause-cause g c first opened =
     let its = deeds_of g.F.Files g.F.Machine g.F.Input.Source g.F.Output.Sink in
-    let begun = c.in-Ok.begun in
-    let later = c.in-Ok.ensures.begun.later in
-    if_ok c.go_on.result _ _
-    (λ last ends is. (
-      begun.formula,
-      c.in-Ok.ensures.formula,
-      ends_sound its c.args.asked.line begun.cube begun.formula later c.refutes_back.ensures last c.go_on.new.files ends is,
-    )) (c.go_on.ensures.over later (opened g c))
+    let line = c.args.course.now.line.now in
+    let cube = c.args.course.now.cube.now in
+    let round = c.args.round in
+    let Cause : ℕ → Sizes → Type 0 = λ n s. IsRoundStartCause its line cube n round.formula s round.readers.items c.args.files.now
+    c.in-Err.fault c.check_round.new.files in
+    let cause : Cause round.number round.sizes = c.in-Err.ensures.cause in
+    inl (refl, subst (Cause 1) c.requires.sizes (subst (λ (n : ℕ). Cause n round.sizes) c.requires.one cause))
 
-pub returns-clause-sound_under : goal.returns-clause-sound_under
-returns-clause-sound_under g c =
+-- one round after another
+pub loop-number-preserved : goal.loop-number-preserved
+loop-number-preserved g c =
     let its = deeds_of g.F.Files g.F.Machine g.F.Input.Source g.F.Output.Sink in
-    let begun = c.in-Ok.begun in
-    let of = c.in-Ok.ensures.begun in
-    if_ok c.go_on.result _ _
-    (λ last ends is. (
-      begun.formula,
-      begun.cube,
-      of.later,
-      c.in-Ok.ensures.formula,
-      of.assumed,
-      ends_sound_under its c.args.asked.line begun.cube begun.formula of.later c.refutes_back_under.ensures last c.go_on.new.files
-          ends is,
-    )) (c.go_on.ensures.over of.later (opened g c))
-
-pub returns-clause-cause : goal.returns-clause-cause
-returns-clause-cause g c words first good at =
-    let files = from_first (files_view g.F.Files g.F.Machine g.F.Input.Source g.F.Output.Sink c.args.files.now) first in
-    let line = c.args.asked.line in
-    let begun = c.in-Ok.begun in
-    let of = c.in-Ok.ensures.begun in
-    let is_formula : IsFormulaAt files line.formula.now begun.formula c.args.files.now =
-    (c.args.asked.formula.items, at, c.in-Ok.ensures.formula) in
-    if_err c.go_on.result _ (λ failed. IsCauseIn files words failed.round failed.fault c.go_on.new.files)
-    (λ failed fails. elim fails [
-      | inl one ↦ inl (
-        one.0,
-        start_cause files words line good begun.formula c.args.files.now is_formula begun.cube of.later of.assumed
-            begun.readers.items c.begin.new.files of.opened of.left failed.fault c.go_on.new.files one.1,
-      )
-      | inr later ↦ inr (record {
-        given = line;
-        command_line = good;
-        cube = begun.cube;
-        last = later.last;
-        before = later.before;
-        were = record {
-          formula = begun.formula;
-          next = c.args.files.now;
-          is_formula = is_formula;
-          later = of.later;
-          assumed = of.assumed;
-          told = of.told;
-          rounds = later.rounds;
-        };
-        number_is = later.number;
-        cause = later.cause;
-      })
-    ]) (c.go_on.ensures.cause of.later (opened g c))
+    let line = c.args.course.now.line.now in
+    let cube = c.args.course.now.cube.now in
+    let now = c.loop-number in
+    let formula = c.args.round.formula in
+    let next = c.in-Ok-Some in
+    record {
+      stands = λ first opened. next.ensures.stands formula first
+          (subst (λ (n : Option Cnf). RoundsStand its line cube formula first now.last n now.files) c.in-Some.is
+          (now.invariant.stands first opened)) next.found next.field-0-is;
+      number = ap (λ (n : ℕ). n + 1) (sym (next.ensures.number next.found next.field-0-is));
+    }

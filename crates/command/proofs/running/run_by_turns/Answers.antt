@@ -1,12 +1,13 @@
 use Rattle.std.proofs.Common.{length, refl, subst, sym, true}
 use Rattle.stream_check.specs.Readings.{readers_view}
-use Rattle.command.specs.internal.Running.{run_params_on, IsRunCause}
+use Rattle.run_outcome.specs.Outcomes.{run_params_of}
+use Rattle.command.specs.internal.Running.{IsRunCause}
 use Rattle.command.proofs.CheckingLemmas.{err_given, has_layout, run_cause}
 use Rattle.command.proofs.running.run_by_turns.Goals as goal
 
 pub returns-clause-stands : goal.returns-clause-stands
 returns-clause-stands g c =
-    let p = (run_params_on c.args.setup.now c.args.formula.now (length c.args.readers.items)).layout in
+    let p = (run_params_of c.args.options c.args.course.now.cube.now c.args.formula.now (length c.args.readers.items)).layout in
     let found = c.in_ok-outcome.ensures in
     record {
       checked = record {
@@ -26,7 +27,7 @@ returns-clause-stands g c =
 pub returns-in_err-outcome-clause-cause : goal.returns-in_err-outcome-clause-cause
 returns-in_err-outcome-clause-cause g c =
     let readers = c.args.readers.items in
-    let p = run_params_on c.args.setup.now c.args.formula.now (length readers) in
+    let p = run_params_of c.args.options c.args.course.now.cube.now c.args.formula.now (length readers) in
     let view = readers_view g.F.Input.Source in
     let f = c.args.formula.now in
     err_given c.from_residual-in_err-outcome.result _ _ (λ fault same. subst (IsRunCause view true f p readers) (sym same)

@@ -4,7 +4,8 @@ use Rattle.lrup_model.specs.Event.{History}
 use Rattle.lrup_model.specs.Layout.{LayoutValue}
 use Rattle.stream_check.specs.Readings.{readers_view}
 use Rattle.stream_check.specs.SequentialConsistency.{HaveOneHistory, seen_by}
-use Rattle.command.specs.internal.Running.{run_params_on, IsRunCause}
+use Rattle.run_outcome.specs.Outcomes.{run_params_of}
+use Rattle.command.specs.internal.Running.{IsRunCause}
 use Rattle.command.proofs.CheckingLemmas.{err_given, has_layout, run_cause}
 use Rattle.command.proofs.running.run_in_threads.Goals as goal
 
@@ -13,7 +14,7 @@ returns-clause-stands g c =
     let outcome = c.in_ok-outcome.outcome in
     let found = c.in_ok-outcome.ensures in
     let f = c.args.formula.now in
-    let p = (run_params_on c.args.setup.now c.args.formula.now (length c.args.readers.items)).layout in
+    let p = (run_params_of c.args.options c.args.course.now.cube.now c.args.formula.now (length c.args.readers.items)).layout in
     let passes = views outcome.passes.items in
     record {
       checked = record {
@@ -34,7 +35,7 @@ returns-clause-stands g c =
 pub returns-in_err-outcome-clause-cause : goal.returns-in_err-outcome-clause-cause
 returns-in_err-outcome-clause-cause g c =
     let readers = c.args.readers.items in
-    let p = run_params_on c.args.setup.now c.args.formula.now (length readers) in
+    let p = run_params_of c.args.options c.args.course.now.cube.now c.args.formula.now (length readers) in
     let view = readers_view g.F.Input.Source in
     let f = c.args.formula.now in
     err_given c.from_residual-in_err-outcome.result _ _ (λ fault same. subst (IsRunCause view false f p readers) (sym same)

@@ -2,7 +2,7 @@ use Rattle.std.proofs.Common.{◌≡◌, ◌+◌}
 use Rattle.command.specs.Commands.{deeds_of}
 use Rattle.command.specs.Rounds.{StreamsOpened}
 use Rattle.command.specs.internal.RoundProgress.{RoundsStand}
-use Rattle.command.proofs.rounds.go_on.Given as goal
+use Rattle.command.proofs.rounds.check_rounds.Given as goal
 
 abbrev pub invariant-loop-number : goal.invariant-loop-number
 invariant-loop-number g l =

@@ -1,7 +1,7 @@
 use Rattle.std.proofs.Common.{◌≡◌, ◌<◌, false, length}
 use Rattle.std.specs.Io.KnownBytes.{Consumes}
 use Rattle.lrup_text.specs.Reads.{Gave}
-use Rattle.command.proofs.checking.read_all.Given as goal
+use Rattle.command.proofs.opening.read_all.Given as goal
 
 abbrev pub invariant-loop : goal.invariant-loop
 invariant-loop g l =

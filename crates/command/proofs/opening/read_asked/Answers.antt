@@ -3,7 +3,7 @@ use Rattle.clap.specs.Walk.{texts}
 use Rattle.command.specs.Commands.{IsCause, files_view}
 use Rattle.command.proofs.CheckingLemmas.{err_given, read_cause}
 use Rattle.command.proofs.FileLemmas.{formula_file_cause}
-use Rattle.command.proofs.checking.read_asked.Goals as goal
+use Rattle.command.proofs.opening.read_asked.Goals as goal
 
 pub returns-in_err-formula-clause-cause : goal.returns-in_err-formula-clause-cause
 returns-in_err-formula-clause-cause g c =

@@ -2,7 +2,7 @@ use Rattle.std.proofs.Common.{◌≡◌, ◌≤◌, false, length, map, take, ve
 use Rattle.std.specs.List.{AllByRecursion}
 use Rattle.clap.specs.Walk.{texts}
 use Rattle.command.specs.Commands.{AreOpened}
-use Rattle.command.proofs.checking.open_streams.Given as goal
+use Rattle.command.proofs.opening.open_streams.Given as goal
 
 abbrev pub invariant-loop-path : goal.invariant-loop-path
 invariant-loop-path g l =

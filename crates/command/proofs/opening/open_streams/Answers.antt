@@ -7,7 +7,7 @@ use Rattle.command.specs.declared.fault.CommandFault.{CommandFault}
 use Rattle.command.specs.declared.fault.CommandFault.TheVariants as faults
 use Rattle.command.proofs.CheckingLemmas.{err_given}
 use Rattle.command.proofs.OpeningLemmas.{all_opened_more, opened_more, refused_at}
-use Rattle.command.proofs.checking.open_streams.Goals as goal
+use Rattle.command.proofs.opening.open_streams.Goals as goal
 
 pub loop-path-preserved : goal.loop-path-preserved
 loop-path-preserved g c =

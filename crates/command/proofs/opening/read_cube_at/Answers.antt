@@ -4,7 +4,7 @@ use Rattle.command.specs.Commands.{IsAssumeCause, files_view}
 use Rattle.command.specs.declared.fault.CommandFault.{CommandFault}
 use Rattle.command.proofs.CheckingLemmas.{err_given}
 use Rattle.command.proofs.FileLemmas.{cube_file_cause, cube_text_cause}
-use Rattle.command.proofs.checking.read_cube_at.Goals as goal
+use Rattle.command.proofs.opening.read_cube_at.Goals as goal
 
 pub returns-in_err-read_cube-in-Ok-clause-cause : goal.returns-in_err-read_cube-in-Ok-clause-cause
 returns-in_err-read_cube-in-Ok-clause-cause g c =

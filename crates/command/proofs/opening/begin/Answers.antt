@@ -3,7 +3,7 @@ use Rattle.clap.specs.Walk.{texts}
 use Rattle.command.specs.Commands.{AreOpened, IsCause, IsFormulaAt, IsOpenCause, Text, assumed_at, files_view, from_first}
 use Rattle.command.proofs.CheckingLemmas.{assumed_cause, err_given, open_cause, read_cause}
 use Rattle.command.proofs.FileLemmas.{moved_cause, text_cause}
-use Rattle.command.proofs.checking.begin.Goals as goal
+use Rattle.command.proofs.opening.begin.Goals as goal
 
 pub returns-in_err-formula-clause-cause : goal.returns-in_err-formula-clause-cause
 returns-in_err-formula-clause-cause g c words first good at =

@@ -11,7 +11,7 @@ use Rattle.command.specs.declared.fault.CommandFault.{CommandFault}
 use Rattle.command.specs.declared.fault.CommandFault.TheVariants as faults
 use Rattle.command.proofs.CheckingLemmas.{err_given}
 use Rattle.command.proofs.ReadingLemmas.{consumed_begins, consumed_more}
-use Rattle.command.proofs.checking.read_all.Goals as goal
+use Rattle.command.proofs.opening.read_all.Goals as goal
 
 pub loop-preserved : goal.loop-preserved
 loop-preserved g c =

@@ -1,5 +1,5 @@
-//! Reads what the words ask for, opens the streams, and checks them.
-ghost use Rattle.std.specs.Prelude.{◌≡◌, ◌≢◌, ◌↔◌, ◌⊎◌, ◌<◌, ◌≤◌, List, None, false, IfErr, IfOk, IfSome, IsTrue, Some, length, map};
+//! Reads what the words ask for, and opens the streams.
+ghost use Rattle.std.specs.Prelude.{◌≡◌, ◌≢◌, ◌<◌, false, IfErr, IfOk, Some, map};
 ghost use Rattle.std.specs.List.{AllByRecursion};
 ghost use Rattle.std.specs.Option.{ForSome};
 ghost use Rattle.clap.specs.Walk.{texts};
@@ -7,31 +7,21 @@ ghost use Rattle.command_line.specs.CommandLine.{IsCommandLineOf};
 ghost use Rattle.dimacs.specs.FormulaFault.{IsFormulaFault};
 ghost use Rattle.dimacs.specs.FormulaText.{IsFormulaText};
 ghost use Rattle.lrup_text.specs.Reads.{GaveAll};
-ghost use Rattle.command.specs.Commands.{AreAssumed, AreOpened, IsAssumeCause, IsCause, IsFileCause, IsOpenCause, HasNoFault, IsRoundStartCause};
-ghost use Rattle.command.specs.internal.Running.{IsFailedRead, run_params_on, IsLayoutCause};
-ghost use Rattle.command.specs.Commands.{Text, WasReadIn, created_path, from_first, path_of};
-ghost use Rattle.command.specs.Rounds.{HaveEnded};
+ghost use Rattle.command.specs.Commands.{AreAssumed, AreOpened, IsAssumeCause, IsCause, IsFileCause, IsOpenCause};
+ghost use Rattle.command.specs.internal.Running.{IsFailedRead};
+ghost use Rattle.command.specs.Commands.{Text, WasReadIn, from_first, path_of};
 ghost use Rattle.stream_check.specs.Readings.{readers_view};
-ghost use Rattle.command.specs.internal.RoundProgress.{HasBegun, WasFound};
+ghost use Rattle.command.specs.internal.RoundProgress.{HasBegun};
 ghost use Rattle.command.specs.internal.FaultSources.{of_cube_file};
 
-use crate::closing::{close_checkpoint, create_checkpoint, discard_it};
-use crate::course::{CheckedRound, Course, LastRound, OpenRound};
 use crate::fault::CommandFault;
 use crate::files::{Machine, OpenFault, Viewed};
-use crate::running::{EndedRun, Setup, run_streams};
-use crate::watching::now_if;
-use checkpoint::SaveFault;
 use command_line::{CommandLine, read_words};
 use dimacs::DimacsFault;
 use lrup_model::{Cube, Formula};
 use lrup_text::{PIECE, Source, read_cube};
-use portfolio::Verdict;
 use std::alloc::Global;
 use std::sync::Wait;
-use std::thread::Threads;
-use std::time::Clock;
-use stream_check::{Ending, Report};
 
 /// A command line, and the bytes of its formula's file.
 #[derive(Drop)]
@@ -59,102 +49,6 @@ pub fn read_asked<'a, W: Wait, F: Machine>(
     let line = read_words(alloc, words)?;
     let formula = read_file(wait, alloc, files, line.formula)?;
     Ok(Asked { line, formula })
-}
-
-/// Checks the open streams of a round. Before the check, it finds their layout, and creates the
-/// file at `path` if there is one. After the check, it saves their clauses, unless the verdict is
-/// 'unsatisfiable'. If the run continues, it frees the round's formula, makes the next one, and
-/// returns it.
-pub(crate) fn check_streams<T: Threads + Wait + Sync, C: Clock + Sync, F: Machine>(
-    threads: &T,
-    clock: &C,
-    alloc: Global,
-    course: &Course<'_>,
-    round: OpenRound<F::Input>,
-    path: Option<&str>,
-    files: &mut F,
-) -> Result<CheckedRound, CommandFault>
-    requires running { AllByRecursion (λ r. F.Input.Source.has_failed r ≡ false)
-        round.readers.items }
-    requires count { length round.readers.items ≡ round.sizes.streams }
-    requires path { path_of path ≡ created_path course.now.line.now.next round.number }
-    ensures found { IfOk result (λ found. WasFound ⟦<F as Viewed>⟧.deeds course.now.line.now
-        course.now.cube.now round.formula round.readers.items files.old found.last found.next
-        files.new) }
-    ensures number { IfOk result (λ found. found.last.number ≡ round.number) }
-    ensures sizes { IfOk result (λ found. found.last.sizes ≡ round.sizes) }
-    ensures cause { IfErr result (λ fault. IsRoundStartCause ⟦<F as Viewed>⟧.deeds
-        course.now.line.now course.now.cube.now round.number round.formula round.sizes
-        round.readers.items files.old fault files.new) }
-{
-    let OpenRound {
-        number,
-        sizes,
-        formula,
-        readers,
-    } = round;
-    let setup = course.setup(sizes);
-    find_layout(&setup, &formula, readers.len())?;
-    let output = create_checkpoint(files, path)?;
-    let watched = setup.watch.then_some(&*files);
-    let run = match run_streams(threads, clock, alloc, &setup, &formula, watched, readers) {
-        Ok(run) => run,
-        Err(fault) => {
-            discard_it(files, output);
-            return Err(fault);
-        }
-    };
-    drop(formula);
-    let goes_on = course.line.next.asks_for_rounds();
-    let ended = now_if(clock, goes_on && setup.watch);
-    let EndedRun {
-        reports,
-        verdict,
-        clauses,
-        dropped,
-    } = run;
-    let closed = close_checkpoint(alloc, files, verdict, clauses, &dropped, goes_on, output);
-    let unsaved = closed.unsaved;
-    let next = next_of(&reports, verdict, unsaved, closed.next);
-    let last = LastRound {
-        number,
-        sizes,
-        reports,
-        verdict,
-        unsaved,
-        ended,
-    };
-    Ok(CheckedRound { last, next })
-}
-
-/// The next round's formula: `next`, if the verdict is 'unknown', the checkpoint was saved and all
-/// streams ended; else `None`.
-fn next_of(
-    reports: &[Report],
-    verdict: Verdict,
-    unsaved: Option<SaveFault>,
-    next: Option<Formula>,
-) -> Option<Formula>
-    ensures verdict { IfSome result (λ f. verdict ≡ Verdict.Unknown) }
-    ensures ended { IfSome result (λ f. HaveEnded reports.now) }
-    ensures saved { IfSome result (λ f. unsaved ≡ None) }
-    ensures next { IfSome result (λ f. next ≡ Some f) }
-    ensures none { result ≡ None → (next ≡ None) ⊎ ((¬ (verdict ≡ Verdict.Unknown))
-        ⊎ (((fault : SaveFault) × (unsaved ≡ Some fault)) ⊎ (¬ HaveEnded reports.now))) }
-{
-    match (verdict, unsaved) {
-        (Verdict::Unknown, None) => { if have_ended(reports) { next } else { None } }
-        (_, _) => None,
-    }
-}
-
-/// Whether all streams ended.
-fn have_ended(reports: &[Report]) -> bool
-    ensures { IsTrue result ↔ HaveEnded reports.now }
-{
-    reports
-        .iter()
-        .all(|report| matches!(report.ending, Ending::Ended))
 }
 
 /// What a run begins with.
@@ -326,18 +220,4 @@ pub(crate) fn open_streams<F: Machine>(
         }
     }
     Ok(readers)
-}
-
-/// Refuses streams that have no layout. It runs before the checkpoint's file is created, since a
-/// later refusal would leave that file empty.
-fn find_layout(setup: &Setup<'_>, formula: &Formula, streams: usize) -> Result<(), CommandFault>
-    ensures found { let run_params = run_params_on setup.now formula.now streams in
-        IfOk result (λ _. HasNoFault run_params.layout) }
-    ensures cause { let run_params = run_params_on setup.now formula.now streams in
-        IfErr result (IsLayoutCause run_params.layout) }
-{
-    match setup.options.layout(formula, streams) {
-        Ok(_) => Ok(()),
-        Err(fault) => Err(CommandFault::Layout(fault)),
-    }
 }

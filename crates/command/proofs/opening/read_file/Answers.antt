@@ -3,7 +3,7 @@ use Rattle.command.specs.Commands.{IsFileCause, files_view}
 use Rattle.command.specs.declared.fault.CommandFault.{CommandFault}
 use Rattle.command.proofs.CheckingLemmas.{err_given, if_err}
 use Rattle.command.proofs.FileLemmas.{opening_cause, reading_cause, was_read}
-use Rattle.command.proofs.checking.read_file.Goals as goal
+use Rattle.command.proofs.opening.read_file.Goals as goal
 
 pub returns-clause-bytes : goal.returns-clause-bytes
 returns-clause-bytes g c =

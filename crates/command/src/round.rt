@@ -1,0 +1,184 @@
+//! One round: the check of its streams, and what it saves of their clauses.
+ghost use Rattle.std.specs.Prelude.{◌≡◌, ◌↔◌, ◌<◌, ◌+◌, false, IfErr, IfOk, IsTrue, is_some, length, option_map, string_bytes};
+ghost use Rattle.std.specs.Cow.{cow_str_bytes};
+ghost use Rattle.std.specs.List.{AllByRecursion};
+ghost use Rattle.std.specs.Option.{ForSome};
+ghost use Rattle.command_line.specs.CommandLine.{rounds_of};
+ghost use Rattle.command.specs.Commands.{HasNoFault, IsRoundStartCause, created_path, options_by, path_of, run_params_by};
+ghost use Rattle.command.specs.Paths.{formula_path};
+ghost use Rattle.command.specs.Rounds.{HaveEnded};
+ghost use Rattle.command.specs.internal.RoundProgress.{WasFound};
+ghost use Rattle.command.specs.internal.Saving.{CreatesCheckpoint};
+
+use crate::closing::{close_checkpoint, create_checkpoint, discard_it};
+use crate::course::{CheckedRound, Course, OpenRound, RoundResult};
+use crate::fault::CommandFault;
+use crate::files::{Machine, Viewed};
+use crate::running::{EndedRun, run_streams};
+use crate::watching::now_if;
+use command_line::Next;
+use portfolio::{Options, Verdict};
+use std::alloc::{AllocError, Global};
+use std::borrow::CowStr;
+use std::sync::Wait;
+use std::thread::Threads;
+use std::time::Clock;
+use stream_check::{Ending, Report};
+
+/// Checks a round whose streams are open, and saves their clauses if the words ask for that. Streams
+/// that have no layout are refused before the file is created that the clauses are saved to.
+pub(crate) fn check_round<T: Threads + Wait + Sync, C: Clock + Sync, F: Machine>(
+    threads: &T,
+    clock: &C,
+    alloc: Global,
+    course: &Course<'_>,
+    round: OpenRound<F::Input>,
+    files: &mut F,
+) -> Result<RoundResult, CommandFault>
+    requires running { AllByRecursion (λ r. F.Input.Source.has_failed r ≡ false)
+        round.readers.items }
+    requires count { length round.readers.items ≡ round.sizes.streams }
+    requires number { round.number < u64.MAX }
+    ensures found { IfOk result (λ found. WasFound ⟦<F as Viewed>⟧.deeds course.now.line.now
+        course.now.cube.now round.formula round.readers.items files.old found.last found.next
+        files.new) }
+    ensures number { IfOk result (λ found. found.last.number ≡ round.number) }
+    ensures sizes { IfOk result (λ found. found.last.sizes ≡ round.sizes) }
+    ensures cause { IfErr result (λ fault. IsRoundStartCause ⟦<F as Viewed>⟧.deeds
+        course.now.line.now course.now.cube.now round.number round.formula round.sizes
+        round.readers.items files.old fault files.new) }
+{
+    let path = created_path(alloc, course.line.next, round.number)?;
+    let options = course.options(round.sizes);
+    options.layout(&round.formula, round.readers.len())?;
+    let output = create_checkpoint(files, lent(&path))?;
+    run_round(threads, clock, alloc, course, options, round, output, files)
+}
+
+/// Checks the streams of a round, which have a layout. Then it closes the round's file, if there is
+/// one: it saves the clauses that the streams left, unless the verdict is 'unsatisfiable'. If the run
+/// continues, it frees the round's formula, makes the next one, and returns it.
+fn run_round<T: Threads + Wait + Sync, C: Clock + Sync, F: Machine>(
+    threads: &T,
+    clock: &C,
+    alloc: Global,
+    course: &Course<'_>,
+    options: Options,
+    round: OpenRound<F::Input>,
+    output: Option<F::Output>,
+    files: &mut F,
+) -> Result<RoundResult, CommandFault>
+    requires running { AllByRecursion (λ r. F.Input.Source.has_failed r ≡ false)
+        round.readers.items }
+    requires count { length round.readers.items ≡ round.sizes.streams }
+    requires options { options ≡ options_by course.now.line.now.tries round.sizes }
+    requires output { ForSome output (λ sink. F.Output.Sink.has_failed sink ≡ false) }
+    requires layout { HasNoFault
+        (run_params_by course.now.line.now course.now.cube.now round.formula round.sizes).layout }
+    ensures found { let its = ⟦<F as Viewed>⟧.deeds in
+        let path = created_path course.now.line.now.next round.number in
+        (before : F) → CreatesCheckpoint its before path output files.old
+        → IfOk result (λ found. WasFound its course.now.line.now course.now.cube.now round.formula
+        round.readers.items before found.last found.next files.new) }
+    ensures number { IfOk result (λ found. found.last.number ≡ round.number) }
+    ensures sizes { IfOk result (λ found. found.last.sizes ≡ round.sizes) }
+    ensures cause { let its = ⟦<F as Viewed>⟧.deeds in
+        let path = created_path course.now.line.now.next round.number in
+        (before : F) → CreatesCheckpoint its before path output files.old
+        → IfErr result (λ fault. IsRoundStartCause its course.now.line.now course.now.cube.now
+        round.number round.formula round.sizes round.readers.items before fault files.new) }
+{
+    let OpenRound {
+        number,
+        sizes,
+        formula,
+        readers,
+    } = round;
+    let report_on = course.line.watch.then_some(&*files);
+    let run = match run_streams(
+        threads, clock, alloc, course, options, &formula, report_on, readers,
+    ) {
+        Ok(run) => run,
+        Err(fault) => {
+            discard_it(files, output);
+            return Err(fault);
+        }
+    };
+    drop(formula);
+    let EndedRun {
+        reports,
+        verdict,
+        clauses,
+        dropped,
+    } = run;
+    let ended_at = now_if(clock, course.line.next.asks_for_rounds() && course.line.watch);
+    let goes_on = may_continue(course.line.next, verdict, &reports);
+    let closed = close_checkpoint(alloc, files, verdict, clauses, &dropped, goes_on, output);
+    let last = CheckedRound {
+        number,
+        sizes,
+        reports,
+        verdict,
+        unsaved: closed.unsaved,
+        ended_at,
+    };
+    Ok(RoundResult {
+        last,
+        next: closed.next,
+    })
+}
+
+/// Whether the run continues after a round, if its clauses are saved: the words ask for rounds, the
+/// verdict is 'unknown', and all streams ended.
+fn may_continue(next: Next<'_>, verdict: Verdict, reports: &[Report]) -> bool
+    ensures { IsTrue result ↔ ((IsTrue (is_some (rounds_of next.entry)))
+        × ((verdict ≡ Verdict.Unknown) × HaveEnded reports.now)) }
+{
+    next.asks_for_rounds() && verdict == Verdict::Unknown && have_ended(reports)
+}
+
+/// Whether all streams ended.
+fn have_ended(reports: &[Report]) -> bool
+    ensures { IsTrue result ↔ HaveEnded reports.now }
+{
+    reports
+        .iter()
+        .all(|report| matches!(report.ending, Ending::Ended))
+}
+
+/// The path of the file to which the round with this number saves its clauses, if there is one.
+fn created_path<'a>(
+    alloc: Global,
+    next: Next<'a>,
+    number: u64,
+) -> Result<Option<CowStr<'a>>, AllocError>
+    requires number { number < u64.MAX }
+    ensures { IfOk result (λ path.
+        option_map cow_str_bytes path ≡ created_path next.entry number) }
+{
+    match next {
+        Next::Nothing => Ok(None),
+        Next::Checkpoint(path) => Ok(Some(CowStr::Borrowed(path))),
+        Next::Rounds(folder) => {
+            let path = formula_path(alloc, folder, number + 1)?;
+            Ok(Some(CowStr::Owned(path)))
+        }
+    }
+}
+
+/// Borrows the path.
+fn lent<'a>(path: &'a Option<CowStr<'_>>) -> Option<&'a str>
+    ensures { path_of result ≡ option_map cow_str_bytes path.now }
+{
+    match path {
+        None => None,
+        Some(path) => Some(path.as_str()),
+    }
+}
+
+/// The path of a round's formula.
+fn formula_path(alloc: Global, folder: &str, number: u64) -> Result<String, AllocError>
+    ensures { IfOk result (λ path. string_bytes path ≡ formula_path folder.now number) }
+{
+    format!(in alloc; "{folder}/round-{number}.cnf")
+}
