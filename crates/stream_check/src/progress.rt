@@ -12,7 +12,7 @@ pub struct Progress {
 /// The result for the bytes that a call of `Checker::feed` used.
 #[derive(Clone, Copy, Debug, PartialEq, Eq)]
 pub enum CheckStatus {
-    /// They end a good line. The rest of the piece is still to be fed.
+    /// The bytes end a good line. The rest of the piece is still to be fed.
     Line,
     /// All bytes of the piece were used, and none of them ended a line.
     More,
