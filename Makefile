@@ -32,7 +32,7 @@ STREAMS ?= $(addprefix examples/bmc-four.,1 2 3 4)
 OPTIONS ?= --tries 1000000
 
 .PHONY: run build install built install-solve no-solve uninstall examples live checkpoints rounds demo solver exact trim explain solve solver-test filter-test trim-test
-.PHONY: peers hol explain-test solve-test neighbours sweep leaks instructions audit definitions promises tables pages test toolchain c-and-python
+.PHONY: peers hol explain-test solve-test neighbours sweep leaks instructions quotes promises tables pages test toolchain c-and-python
 .PHONY: libcadical beside-it mpicxx help try deb dist quick edits packages warnings builds shown
 
 help:
@@ -247,13 +247,9 @@ peers: $(BUILT) solve ## measure: ACL2's verified checkers beside lrupd, in abou
 hol: $(BUILT) solve ## check: HOL Light proves 61 tautologies by lrup-solve, in some minutes; wants HOL Light
 	@PATH="$(abspath $(dir $(SOLVE))):$$PATH" examples/hol/taut.sh
 
-# These pages have what you must read to believe status 0 and 8, and the theorems on whole runs.
-audit: ## check: write docs/AUDIT.md and docs/THEOREMS.md anew from the sources
-	@python3 gate/audit.py
-
-# For looking up; no page of the repository.
-definitions: ## check: write out/definitions.md, all contracts and definitions under the theorems
-	@python3 gate/audit.py --definitions
+# On AUDIT, THEOREMS, STORE_CALLS and PROOFS_AND_ROUNDS, of which make pages says what else is wrong.
+quotes: ## check: put changed definitions onto the pages that quote them
+	@python3 gate/quotes.py --write
 
 # A list that docs/PROMISES.md has in words.
 promises: ## check: list what each function of CRATE=name, or of all crates, promises, and the edits that turn it
@@ -263,13 +259,13 @@ promises: ## check: list what each function of CRATE=name, or of all crates, pro
 tables: ## check: write the tables of USING and lrupd.1 anew
 	@python3 gate/tables.py
 
-# Fails unless the two pages and the tables are what the sources give, and TRUST has their count; docs/interface.txt has the
-# faults and causes of the definitions; names in backticks and links in the documents lead somewhere; clauses and definitions are
-# within 100 columns, proofs within 140, each lemma stands once, and each name of specs/ in its room; contracts have what PROMISES names.
+# Fails unless quotes of contracts and definitions are the sources', all that theorems reach are there, and the tables are what the
+# sources give; docs/interface.txt has the faults and causes of the definitions; names in backticks and links in the documents lead
+# somewhere; clauses and definitions are within 100 columns, proofs within 140, and each lemma stands once; contracts have what PROMISES
+# names.
 pages: c-and-python ## check: the documents, against the sources and each other; needs no prover
-	@python3 gate/audit.py --check
+	@python3 gate/quotes.py
 	@python3 gate/tables.py --check
-	@python3 gate/rooms.py
 	@python3 gate/style.py
 	@python3 gate/prose.py
 	@python3 gate/promises.py > /dev/null

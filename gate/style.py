@@ -25,7 +25,7 @@ from pathlib import Path
 
 sys.dont_write_bytecode = True
 import antt
-from audit import slug_of
+from quotes import PAGES
 
 ROOT = Path(__file__).resolve().parent.parent
 COLUMNS = 100  # of clauses and definitions
@@ -44,6 +44,11 @@ group1 group2 my_lemma run_ serial_ worker_ XValue OPTIONS=--serial LIMIT=900
 
 def shown(path):
     return str(path.relative_to(ROOT))
+
+
+def slug_of(title):
+    """The anchor that GitHub gives a heading, but for the number of one that comes again."""
+    return re.sub(r"[^\w\- ]", "", title.lower()).replace(" ", "-")
 
 
 def files(pattern):
@@ -341,7 +346,7 @@ def names_of(span):
 def unknown_names():
     sources = Sources()
     targets = re.findall(r"^([a-z-]+):", (ROOT / "Makefile").read_text(), re.M)
-    pages = [path for path in files(r".*\.md") if path.name not in ("AUDIT.md", "THEOREMS.md")]   # made of the sources
+    pages = [path for path in files(r".*\.md") if path.stem not in PAGES]      # gate/quotes.py checks these
     for path, number, span in ((path, *found) for path in pages for found in spans(path)):
         words = names_of(span) if span not in FOREIGN and not span.startswith("rt ") else []
         unknown = [word for word in words if word not in FOREIGN and not sources.has(word)]
