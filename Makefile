@@ -32,7 +32,7 @@ STREAMS ?= $(addprefix examples/bmc-four.,1 2 3 4)
 OPTIONS ?= --tries 1000000
 
 .PHONY: run build install built install-solve no-solve uninstall examples live checkpoints rounds demo solver exact trim explain solve solver-test filter-test trim-test
-.PHONY: peers hol explain-test solve-test neighbours sweep leaks instructions quotes promises tables pages test toolchain c-and-python
+.PHONY: peers hol explain-test solve-test neighbours sweep leaks instructions quotes promises pages test toolchain c-and-python
 .PHONY: libcadical beside-it mpicxx help try deb dist quick edits packages warnings builds shown
 
 help:
@@ -255,19 +255,11 @@ quotes: ## check: put changed definitions onto the pages that quote them
 promises: ## check: list what each function of CRATE=name, or of all crates, promises, and the edits that turn it
 	@python3 gate/promises.py $(CRATE)
 
-# Of docs/interface.txt, and of what --help says.
-tables: ## check: write the tables of USING and lrupd.1 anew
-	@python3 gate/tables.py
-
-# Fails unless quotes of contracts and definitions are the sources', all that theorems reach are there, and the tables are what the
-# sources give; docs/interface.txt has the faults and causes of the definitions; names in backticks and links in the documents lead
-# somewhere; clauses and definitions are within 100 columns, proofs within 140, and each lemma stands once; contracts have what PROMISES
-# names.
+# Each script says at its top what it looks for.
 pages: c-and-python ## check: the documents, against the sources and each other; needs no prover
 	@python3 gate/quotes.py
-	@python3 gate/tables.py --check
+	@python3 gate/interface.py
 	@python3 gate/style.py
-	@python3 gate/prose.py
 	@python3 gate/promises.py > /dev/null
 	@python3 gate/promises.py --check
 
