@@ -33,7 +33,7 @@ OPTIONS ?= --tries 1000000
 
 .PHONY: run build install built install-solve no-solve uninstall examples live checkpoints rounds demo solver exact trim explain solve solver-test filter-test trim-test
 .PHONY: peers hol explain-test solve-test neighbours sweep leaks instructions quotes promises pages test toolchain c-and-python
-.PHONY: libcadical beside-it mpicxx help try deb dist quick edits packages warnings builds shown
+.PHONY: libcadical beside-it mpicxx help try deb dist quick edits packages warnings builds shown quotes-test
 
 help:
 	@awk -f gate/help.awk $(firstword $(MAKEFILE_LIST))
@@ -194,6 +194,9 @@ warnings: c-and-python ## check: that C compiles without a warning, and each hea
 	$$compiler $(STRICT) $(C_SOURCES) || exit 1; \
 	for file in $(C_HEADERS); do $$compiler $(STRICT) -D_POSIX_C_SOURCE=200809L -include $$file /dev/null || exit 1; done; done
 
+quotes-test: c-and-python ## check: that wrong quotes on the pages are refused
+	@python3 tests/quotes.py
+
 builds: c-and-python ## check: that C and C++ are compiled with the flags that are said, and again what has changed
 	@python3 tests/builds.py
 
@@ -247,7 +250,7 @@ peers: $(BUILT) solve ## measure: ACL2's verified checkers beside lrupd, in abou
 hol: $(BUILT) solve ## check: HOL Light proves 61 tautologies by lrup-solve, in some minutes; wants HOL Light
 	@PATH="$(abspath $(dir $(SOLVE))):$$PATH" examples/hol/taut.sh
 
-# On AUDIT, THEOREMS, STORE_CALLS and PROOFS_AND_ROUNDS, of which make pages says what else is wrong.
+# On AUDIT, THEOREMS, STORE_CALLS and PROOFS_AND_ROUNDS; make pages names what else is wrong there.
 quotes: ## check: put changed definitions onto the pages that quote them
 	@python3 gate/quotes.py --write
 
@@ -295,7 +298,7 @@ packages: ## check: install, as root, Debian's packages that the tests want
 TESTS := lrup_solve_rounds sweep filter_mutants lrup_solve lrup_solve_solvers lrup_solve_cubes filter_rounds lrup_solve_resume explain-test \
 	trim-test lrup_solve_front \
 	lrup_solve_hostile lrup_solve_mpi lrup_solve_inputs lrup_solve_kept lrup_solve_kills lrup_solve_trusted lrup_check leaks filter_chains \
-	filter_streams filter_solvers checkpoints rounds examples solver-test instructions neighbours live warnings builds shown
+	filter_streams filter_solvers checkpoints rounds examples solver-test instructions neighbours live warnings builds shown quotes-test
 SIDE_BY_SIDE := --output-sync=target -j $(shell expr $$(nproc) + 2)
 test: SHELL := /bin/bash
 test: toolchain pages solver exact trim explain ## check: the gate, 25 to 100 minutes: every proof, edit and test; has to pass before a push

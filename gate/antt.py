@@ -1,5 +1,5 @@
-"""The reader of sources: what a file of definitions, lemmas and proofs (.antt) declares, what the names in it and in contracts (.rt) mean,
-and which definitions a text stands on."""
+"""The reader of sources: what a file of definitions, lemmas and proofs (.antt) declares, what the names in it and in contracts
+(.rt) mean, and which definitions a text reaches."""
 from __future__ import annotations
 
 import functools
@@ -16,6 +16,13 @@ WORD = re.compile(r"(?<![\w.'-])([^\s(){}⟦⟧\[\];,.:λ→×⊎≡≢¬↔↦�
 
 def shown(path: Path) -> str:
     return str(path.relative_to(ROOT))
+
+
+@functools.lru_cache(maxsize=None)
+def crates() -> Dict[str, List[str]]:
+    """The crates of crates.txt, each with what it uses; that may be a library of the toolchain."""
+    lines = [line.split(":") for line in (ROOT / "crates.txt").read_text().splitlines() if ":" in line]
+    return {crate: uses.split() for crate, uses in lines}
 
 
 def in_one_line(lines: Sequence[str]) -> str:
@@ -176,7 +183,7 @@ def meaning(word: str, member: str, path: Path) -> Set[Thing]:
         return set()
     module, name = scope_at(path)[word]
     crate, _, rest = module.partition(".specs.")
-    if not (ROOT / "crates" / crate / "src").is_dir() or rest.startswith("contracts."):
+    if crate not in crates() or rest.startswith("contracts."):
         return {Thing(module, name or member)}
     if rest.startswith("declared."):
         return {Thing(f"crates/{crate}/src", [part for part in rest.split(".") if part != "TheVariants"][-1])}
@@ -200,7 +207,7 @@ def uses(thing: Thing) -> Set[Thing]:
 
 
 def closure(roots: Iterable[Thing]) -> Dict[Thing, Thing]:
-    """These things and all that they stand on, each with one that names it; a root has itself."""
+    """These things and all that they reach, each with one that names it; a root has itself."""
     found = {thing: thing for thing in roots}
     todo = sorted(found)
     while todo:

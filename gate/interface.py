@@ -8,10 +8,12 @@ FIGURES names for a figure has to have it.
 """
 import re
 import sys
-from pathlib import Path
 from typing import Iterator, List, Set
 
-ROOT = Path(__file__).resolve().parent.parent
+sys.dont_write_bytecode = True
+import antt
+from antt import ROOT
+
 FAULTS = "crates/stream_check/specs/Faults.antt"
 CAUSES = ["crates/command/specs/Faults.antt", "crates/lrup_model/specs/Layout.antt"]
 HELP, WORDS, ARGUMENTS = (f"crates/command_line/src/{name}.rt" for name in ("help", "words", "arguments"))
@@ -60,7 +62,8 @@ def part(name: str, what: str) -> str:
 
 def texts_of(name: str, identity: str) -> Set[str]:
     """The texts in a file's definitions `.._text`, with this letter for a number in decimal."""
-    found = re.findall(r'^\w+_text .* =\s+(codes "[^"]*"(?: \+\+ (?:codes "[^"]*"|decimal \w+))*)$', text_of(name), re.M)
+    lines = "\n".join(line for declared in antt.read(ROOT / name).declarations for line in declared.lines)
+    found = re.findall(r'^\w+_text .* =\s+(codes "[^"]*"(?: \+\+ (?:codes "[^"]*"|decimal \w+))*)$', lines, re.M)
     return {re.sub(r'codes "([^"]*)"', r"\1", re.sub(r"decimal \w+", identity, text).replace(" ++ ", "")) for text in found}
 
 

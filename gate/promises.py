@@ -15,7 +15,10 @@ import sys
 from pathlib import Path
 from typing import Iterator, List, NamedTuple, Set
 
-ROOT = Path(__file__).resolve().parent.parent
+sys.dont_write_bytecode = True
+import antt
+from antt import ROOT
+
 PAGE = ROOT / "docs" / "PROMISES.md"
 UNPROVED = "## Only tested"     # from here on the page speaks of tests
 
@@ -59,7 +62,8 @@ def list_promises(crate: str) -> None:
             edits = [edit for edit in edits if edit not in mine]
             if function.clauses or mine:
                 nameless = [f"{function.clauses.count('')} without a name"] * ("" in function.clauses)
-                print(f"  {function.name} ({path.relative_to(ROOT)}:{function.first + 1}): {', '.join([*filter(None, function.clauses), *nameless])}")
+                clauses = ", ".join([*filter(None, function.clauses), *nameless])
+                print(f"  {function.name} ({antt.shown(path)}:{function.first + 1}): {clauses}")
             if mine or function.clauses and function.is_public:
                 print("      " + (", ".join(edit[0] for edit in mine) or "no edit"))
     print("".join(f"  outside of functions: {edit[0]}\n" for edit in edits), end="")
@@ -74,7 +78,7 @@ def names_of(crate: str) -> Set[str]:
 
 def unknown_names() -> Iterator[str]:
     """What the page gives as proved, and no contract has. Words with a capital are types, and those with a hyphen options."""
-    uses = {line.split(":")[0]: line.split(":")[1].split() for line in (ROOT / "crates.txt").read_text().splitlines() if ":" in line}
+    uses = antt.crates()
     libraries = {*uses, *(name for names in uses.values() for name in names)}
     known: Set[str] = set()
     crates: List[str] = []
@@ -94,9 +98,8 @@ def main(words: List[str]) -> None:
         found = list(unknown_names())
         print("\n".join([*found, f"promises: {len(found)} names that no contract has"]))
         sys.exit(bool(found))
-    listed = [line.split(":")[0] for line in (ROOT / "crates.txt").read_text().splitlines() if ":" in line]
-    for crate in words or [name for name in listed if not name.endswith(("_tests", "_support"))]:
-        list_promises(crate if crate in listed else sys.exit(f"promises: crates.txt has no '{crate}'"))
+    for crate in words or [name for name in antt.crates() if not name.endswith(("_tests", "_support"))]:
+        list_promises(crate if crate in antt.crates() else sys.exit(f"promises: crates.txt has no '{crate}'"))
 
 
 if __name__ == "__main__":

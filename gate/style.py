@@ -4,9 +4,9 @@
     python3 gate/style.py            lists what is wrong, and counts it; the status is 1 if there is something
     python3 gate/style.py --words    shows how many words each page has
 
-In the pages: names in backticks that are nowhere, links that lead nowhere, quotations that TRUST and README don't have, pages that are too
-long, and misspelt words. In the sources: lines that are too wide, lemmas that are stated twice, names with two meanings, definitions in the wrong folder, and
-edits that don't fit. Besides, the picture of the crates, and the numbers of versions.
+In the pages: names in backticks that are nowhere, links that lead nowhere, quotations that TRUST and README don't have, pages that
+are too long, and misspelt words. In the sources: lines that are too wide, lemmas that are stated twice, names with two meanings,
+definitions in the wrong folder, and edits that don't fit. Besides, the picture of the crates, and the numbers of versions.
 """
 from __future__ import annotations
 
@@ -28,21 +28,19 @@ from antt import ROOT, shown
 MOST_WORDS: Dict[str, int] = {
     "README.md": 700, "CONTRIBUTING.md": 1200, "CHANGELOG.md": 1800, "bench/RESULTS.md": 900, "bench/solve/README.md": 220,
     **{f"bench/{name}/README.md": 160 for name in ("checkpoint", "filter", "peers", "program", "readers", "ring", "row")},
-    **{f"docs/{name}.md": most for name, most in (
-        ("USING", 2500), ("FORMAT", 600), ("EMITTING", 1500), ("TRUST", 1200), ("SECURITY", 520), ("DECISIONS", 4500), ("RELATED", 1000),
-        ("ARCHITECTURE", 3500), ("PROVING", 2000), ("PROMISES", 2200), ("AUDIT", 2000), ("THEOREMS", 2700), ("STORE_CALLS", 600),
-        ("PROOFS_AND_ROUNDS", 2500))},
-    **{f"docs/{name}.1": most for name, most in (
-        ("lrupd", 630), ("lrup-chain", 295), ("lrup-check", 260), ("lrup-exact", 965), ("lrup-explain", 515), ("lrup-solve", 1720),
-        ("lrup-trim", 550))},
-    "examples/README.md": 600,
-    **{f"examples/{name}/README.md": most for name, most in (
-        ("solver", 250), ("planning", 300), ("lemma", 300), ("smt", 200), ("hol", 200), ("cubes", 250), ("resume", 300), ("fifo", 300))},
+    **{f"docs/{name}": most for name, most in (
+        ("USING.md", 2500), ("FORMAT.md", 600), ("EMITTING.md", 1500), ("TRUST.md", 1200), ("SECURITY.md", 520), ("DECISIONS.md", 4500),
+        ("RELATED.md", 1000), ("ARCHITECTURE.md", 3500), ("PROVING.md", 2000), ("PROMISES.md", 2200), ("AUDIT.md", 2000),
+        ("THEOREMS.md", 2700), ("STORE_CALLS.md", 600), ("PROOFS_AND_ROUNDS.md", 2500), ("lrupd.1", 630), ("lrup-chain.1", 295),
+        ("lrup-check.1", 260), ("lrup-exact.1", 965), ("lrup-explain.1", 515), ("lrup-solve.1", 1720), ("lrup-trim.1", 550))},
+    **{f"examples/{name}README.md": most for name, most in (
+        ("", 600), ("solver/", 250), ("planning/", 300), ("lemma/", 300), ("smt/", 200), ("hol/", 200), ("cubes/", 250),
+        ("resume/", 300), ("fifo/", 300))},
     **{shown(path): 700 for path in sorted(ROOT.glob("crates/*/specs/*.md"))},
 }
 # In backticks, and of the toolchain, the system, or other programs; or what a page makes up.
-FOREIGN = set("""ANTT.md CONTRACTS.md SHORTER_PROOFS.md BUILD.bazel start_lib start_io --only -j -v -q --plain --no-binary --host plm_rsh_agent
-    libcadical-dev %formula %proof :init :goal formula.cnf ten.cnf proof.lrat core.cnf kept/command group1 group2 my_lemma XValue
+FOREIGN = set("""ANTT.md CONTRACTS.md SHORTER_PROOFS.md BUILD.bazel start_lib start_io --only -j -v -q --plain --no-binary --host
+    plm_rsh_agent libcadical-dev %formula %proof :init :goal formula.cnf ten.cnf proof.lrat core.cnf kept/command group1 group2 my_lemma XValue
     GLIBC_TUNABLES=glibc.malloc.hugetlb=1 sha256sum socat veth""".split())
 SPELLINGS = ("anothers", "bu", "crate", "grat", "lits", "nd", "somes")      # words that codespell doesn't know
 
@@ -133,20 +131,21 @@ def known_names() -> Set[str]:
 
 def unknown_names() -> Iterator[str]:
     """Of a span of several words those count that have an underscore, a capital within, `::` or a slash, and options."""
+    targets = re.findall(r"^([a-z-]+):", (ROOT / "Makefile").read_text(), re.M)
     for path in files(r".*\.md"):
         text = prose(path)
         for match in re.finditer(r"`([^`]+)`", text):
-            words = match[1].split() if match[1] not in FOREIGN and not match[1].startswith("rt ") else []
-            if len(words) > 1 and not match[1].startswith("make "):
+            place, words = f"{shown(path)}:{text.count(chr(10), 0, match.start()) + 1}", match[1].split()
+            if re.fullmatch(r"make [a-z-]+", match[1]) and words[1] not in targets:
+                yield f"{place}: the Makefile has no target of `{match[1]}`"
+            if len(words) > 1:
                 words = [word for word in words if re.search(r"[^\W\d]_|[a-z][A-Z]|::|[a-z]/|^--[a-z]", word)]
-            if re.fullmatch(r"make [a-z-]+", match[1]) and not re.search(rf"^{match[1][5:]}:", (ROOT / "Makefile").read_text(), re.M):
-                yield f"{shown(path)}:{text.count(chr(10), 0, match.start()) + 1}: the Makefile has no target of `{match[1]}`"
-            for word in words if not FOREIGN.intersection(words) else []:
-                parts = re.findall(r"[^\W\d][\w'-]*", re.sub(r"/(dev|sys|proc)/.*|\d+[A-Za-z]+", "", word))
+            for word in words if not FOREIGN.intersection([*words, match[1]]) and not match[1].startswith("rt ") else []:
+                parts = re.findall(r"[^\W\d][\w'-]*", re.sub(r"/(dev|sys|proc)/.*|\d+[A-Za-z]+|.*out/.*", "", word))
                 unknown = [part for part in parts if not re.fullmatch(r"[A-Z_]+(_tests)?|[a-z]|\w+_", part)
                            and not known_names() & {part, part.strip("-'"), re.sub(r"\d+$", "", part)}]
-                if unknown and "out/" not in word:
-                    yield f"{shown(path)}:{text.count(chr(10), 0, match.start()) + 1}: nothing is called `{unknown[0]}`, of `{match[1]}`"
+                if unknown:
+                    yield f"{place}: nothing is called `{unknown[0]}`, of `{match[1]}`"
 
 
 def misspelt() -> Iterator[str]:
@@ -154,7 +153,8 @@ def misspelt() -> Iterator[str]:
     if shutil.which("codespell"):
         names = map(str, files(r".*\.(md|1|rt|antt|py|sh|awk|c|cpp|h)|Makefile|tools/[^.]*"))
         words = ["codespell", "-q", "3", "-L", ",".join(SPELLINGS), *names]
-        yield from subprocess.run(words, cwd=ROOT, capture_output=True, text=True, check=False).stdout.replace(f"{ROOT}/", "").splitlines()
+        says = subprocess.run(words, cwd=ROOT, capture_output=True, text=True, check=False).stdout
+        yield from says.replace(f"{ROOT}/", "").splitlines()
     elif os.environ.get("CI"):
         yield "codespell isn't installed: run make packages"
 
@@ -178,17 +178,14 @@ def wide_lines() -> Iterator[str]:
                     limited.append(at)
                     depth += line.count("{") - line.count("}")
         most = 140 if "/proofs/" in shown(path) else 100
-        yield from (f"{shown(path)}:{at + 1}: it has {len(lines[at])} columns, and may have {most}" for at in limited if len(lines[at]) > most)
+        yield from (f"{shown(path)}:{at + 1}: it has {len(lines[at])} columns, and may have {most}"
+                    for at in limited if len(lines[at]) > most)
 
 
-def crates_below() -> Dict[str, List[str]]:
-    """Of each crate those of the repository that it uses."""
-    listed = dict(line.split(":") for line in (ROOT / "crates.txt").read_text().splitlines() if ":" in line)
-    return {crate: [name for name in uses.split() if name in listed] for crate, uses in listed.items()}
-
-
+@functools.lru_cache(maxsize=None)
 def all_below(crate: str) -> Set[str]:
-    return {crate}.union(*map(all_below, crates_below()[crate]))
+    """The crate, and those of the repository that it uses, directly or by others."""
+    return {crate}.union(*(all_below(name) for name in antt.crates()[crate] if name in antt.crates()))
 
 
 def normal(statement: str) -> Optional[str]:
@@ -220,7 +217,7 @@ def repeated() -> Iterator[str]:
 
 
 def misplaced() -> Iterator[str]:
-    """In specs/ itself are definitions for contracts of public functions; those of private ones are in internal/, and lemmas in lemmas/."""
+    """In specs/ itself are definitions for contracts of public functions, in internal/ those for private ones, in lemmas/ lemmas."""
     for path in files(r"crates/\w+/(specs|src)/.*\.(antt|rt)"):
         crate, folder = shown(path).split("/")[1].removesuffix("_tests"), shown(path).split("/")[3]
         for module, name in antt.scope_at(path).values():
@@ -251,19 +248,20 @@ def misfits() -> Iterator[str]:
 
 def wrong_arrows() -> Iterator[str]:
     """The picture in ARCHITECTURE has an arrow from each crate but those of tests to each that it uses directly, and by no other."""
-    uses = {crate: names for crate, names in crates_below().items() if not crate.endswith(("_tests", "_support"))}
-    wanted = {(crate, name) for crate, names in uses.items() for name in names
-              if not any(name in all_below(other) for other in names if other != name)}
+    below = {crate: all_below(crate) - {crate} for crate in antt.crates() if not crate.endswith(("_tests", "_support"))}
+    wanted = {(crate, name) for crate, names in below.items() for name in names
+              if not any(name in all_below(other) for other in names - {name})}
     drawn = set(re.findall(r"^ *(\w+) --> (\w+)$", (ROOT / "docs/ARCHITECTURE.md").read_text(), re.M))
-    for crate, name in sorted(wanted ^ drawn):
-        yield f"docs/ARCHITECTURE.md: the picture {'lacks' if (crate, name) in wanted else 'has, and crates.txt does not,'} {crate} --> {name}"
+    yield from (f"docs/ARCHITECTURE.md: the picture lacks {crate} --> {name}" for crate, name in sorted(wanted - drawn))
+    yield from (f"docs/ARCHITECTURE.md: crates.txt has no {crate} --> {name}" for crate, name in sorted(drawn - wanted))
 
 
 def wrong_versions() -> Iterator[str]:
     """README has the logic of the rt on the PATH, and the program the version of the file VERSION."""
     if shutil.which("rt"):
         says = subprocess.run(["rt", "version"], capture_output=True, text=True, check=True).stdout.strip()
-        if not any(says.endswith(logic) for logic in re.findall(r"`rattle-kit-\w+ (logic \w+)`", (ROOT / "README.md").read_text())):
+        logic = re.search(r"`rattle-kit-\w+ (logic \w+)`", (ROOT / "README.md").read_text())
+        if not logic or not says.endswith(logic[1]):
             yield f"README.md: rt version says '{says}'"
     version = (ROOT / "VERSION").read_text().strip()
     if f'const VERSION: &str = "{version}";' not in (ROOT / "crates/command_line/src/help.rt").read_text():
@@ -274,11 +272,11 @@ def main(words: List[str]) -> None:
     if words == ["--words"]:
         print("\n".join(f"{name}: {words_of(name)} of {most} words" for name, most in MOST_WORDS.items()))
         return
-    checks = (unknown_names, dead_links, false_quotations, long_pages, misspelt, wide_lines, repeated, misplaced, misfits, wrong_arrows,
-              wrong_versions)
+    checks = (unknown_names, dead_links, false_quotations, long_pages, misspelt, wide_lines, repeated, misplaced, misfits,
+              wrong_arrows, wrong_versions)
     found = {check.__name__.replace("_", " "): list(check()) for check in checks}
-    print("\n".join(line for lines in found.values() for line in lines))
-    print("style: " + ", ".join(f"{len(lines)} {name}" for name, lines in found.items()))
+    counts = ", ".join(f"{len(lines)} {name}" for name, lines in found.items())
+    print("\n".join([*(line for lines in found.values() for line in lines), f"style: {counts}"]))
     sys.exit(any(found.values()))
 
 
