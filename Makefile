@@ -32,8 +32,8 @@ STREAMS ?= $(addprefix examples/bmc-four.,1 2 3 4)
 OPTIONS ?= --tries 1000000
 
 .PHONY: run build install built install-solve no-solve uninstall examples live checkpoints rounds demo solver exact trim explain solve solver-test filter-test trim-test
-.PHONY: peers hol explain-test solve-test neighbours sweep leaks instructions audit definitions promises tables pages test toolchain c-and-python
-.PHONY: libcadical beside-it mpicxx help try deb dist quick edits packages warnings builds shown
+.PHONY: peers hol explain-test solve-test neighbours sweep leaks instructions quotes promises pages test toolchain c-and-python
+.PHONY: libcadical beside-it mpicxx help try deb dist quick edits packages warnings builds shown quotes-test
 
 help:
 	@awk -f gate/help.awk $(firstword $(MAKEFILE_LIST))
@@ -194,6 +194,9 @@ warnings: c-and-python ## check: that C compiles without a warning, and each hea
 	$$compiler $(STRICT) $(C_SOURCES) || exit 1; \
 	for file in $(C_HEADERS); do $$compiler $(STRICT) -D_POSIX_C_SOURCE=200809L -include $$file /dev/null || exit 1; done; done
 
+quotes-test: c-and-python ## check: that wrong quotes on the pages are refused
+	@python3 tests/quotes.py
+
 builds: c-and-python ## check: that C and C++ are compiled with the flags that are said, and again what has changed
 	@python3 tests/builds.py
 
@@ -247,31 +250,19 @@ peers: $(BUILT) solve ## measure: ACL2's verified checkers beside lrupd, in abou
 hol: $(BUILT) solve ## check: HOL Light proves 61 tautologies by lrup-solve, in some minutes; wants HOL Light
 	@PATH="$(abspath $(dir $(SOLVE))):$$PATH" examples/hol/taut.sh
 
-# These pages have what you must read to believe status 0 and 8, and the theorems on whole runs.
-audit: ## check: write docs/AUDIT.md and docs/THEOREMS.md anew from the sources
-	@python3 gate/audit.py
-
-# For looking up; no page of the repository.
-definitions: ## check: write out/definitions.md, all contracts and definitions under the theorems
-	@python3 gate/audit.py --definitions
+# On AUDIT, THEOREMS, STORE_CALLS and PROOFS_AND_ROUNDS; make pages names what else is wrong there.
+quotes: ## check: put changed definitions onto the pages that quote them
+	@python3 gate/quotes.py --write
 
 # A list that docs/PROMISES.md has in words.
 promises: ## check: list what each function of CRATE=name, or of all crates, promises, and the edits that turn it
 	@python3 gate/promises.py $(CRATE)
 
-# Of docs/interface.txt, and of what --help says.
-tables: ## check: write the tables of USING and lrupd.1 anew
-	@python3 gate/tables.py
-
-# Fails unless the two pages and the tables are what the sources give, and TRUST has their count; docs/interface.txt has the
-# faults and causes of the definitions; names in backticks and links in the documents lead somewhere; clauses and definitions are
-# within 100 columns, proofs within 140, each lemma stands once, and each name of specs/ in its room; contracts have what PROMISES names.
+# Each script says at its top what it looks for.
 pages: c-and-python ## check: the documents, against the sources and each other; needs no prover
-	@python3 gate/audit.py --check
-	@python3 gate/tables.py --check
-	@python3 gate/rooms.py
+	@python3 gate/quotes.py
+	@python3 gate/interface.py
 	@python3 gate/style.py
-	@python3 gate/prose.py
 	@python3 gate/promises.py > /dev/null
 	@python3 gate/promises.py --check
 
@@ -307,7 +298,7 @@ packages: ## check: install, as root, Debian's packages that the tests want
 TESTS := lrup_solve_rounds sweep filter_mutants lrup_solve lrup_solve_solvers lrup_solve_cubes filter_rounds lrup_solve_resume explain-test \
 	trim-test lrup_solve_front \
 	lrup_solve_hostile lrup_solve_mpi lrup_solve_inputs lrup_solve_kept lrup_solve_kills lrup_solve_trusted lrup_check leaks filter_chains \
-	filter_streams filter_solvers checkpoints rounds examples solver-test instructions neighbours live warnings builds shown
+	filter_streams filter_solvers checkpoints rounds examples solver-test instructions neighbours live warnings builds shown quotes-test
 SIDE_BY_SIDE := --output-sync=target -j $(shell expr $$(nproc) + 2)
 test: SHELL := /bin/bash
 test: toolchain pages solver exact trim explain ## check: the gate, 25 to 100 minutes: every proof, edit and test; has to pass before a push

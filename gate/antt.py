@@ -1,14 +1,28 @@
-"""The reader of files of definitions, lemmas and proofs (.antt): what each declares, and what it brings in."""
+"""The reader of sources: what a file of definitions, lemmas and proofs (.antt) declares, what the names in it and in contracts
+(.rt) mean, and which definitions a text reaches."""
 from __future__ import annotations
 
 import functools
 import re
 import sys
 from pathlib import Path
-from typing import Iterator, List, NamedTuple, Sequence
+from typing import Dict, Iterable, Iterator, List, NamedTuple, Sequence, Set, Tuple
 
+ROOT = Path(__file__).resolve().parent.parent
 HEAD = re.compile(r"(?P<marks>(?:(?:abbrev|unfoldable|pub|record|data) )*)(?P<name>[^\s:({]+)(?P<rest>[\s:({].*)?$")
 TYPES = {"record", "data"}
+WORD = re.compile(r"(?<![\w.'-])([^\s(){}⟦⟧\[\];,.:λ→×⊎≡≢¬↔↦≤<>+*/%^∷&|=]+)(?:\.([A-Za-z_][\w'-]*))?")
+
+
+def shown(path: Path) -> str:
+    return str(path.relative_to(ROOT))
+
+
+@functools.lru_cache(maxsize=None)
+def crates() -> Dict[str, List[str]]:
+    """The crates of crates.txt, each with what it uses; that may be a library of the toolchain."""
+    lines = [line.split(":") for line in (ROOT / "crates.txt").read_text().splitlines() if ":" in line]
+    return {crate: uses.split() for crate, uses in lines}
 
 
 def in_one_line(lines: Sequence[str]) -> str:
@@ -45,6 +59,11 @@ class Declaration(NamedTuple):
         """All of it in one line, without comments."""
         return in_one_line(self.lines)
 
+    def shown(self) -> List[str]:
+        """As pages quote it: with its comment, without the prover's marks."""
+        marks = r"^( *)(?:(?:abbrev|unfoldable|pub) )+"
+        return [line.rstrip() for line in self.comment] + [re.sub(marks, r"\1", line).rstrip() for line in self.lines]
+
     def members(self) -> Iterator[str]:
         """The fields of a record, and the constructors of a `data`."""
         for line in self.lines if self.is_type() else []:
@@ -53,17 +72,18 @@ class Declaration(NamedTuple):
 
 
 class Source:
-    """A file: its first comment, the lines by which it brings names in, the modules below it, and what it declares."""
+    """Lines of a file: its first comment, the lines by which it brings names in, and what it declares."""
 
-    def __init__(self, path: Path) -> None:
+    def __init__(self, lines: Iterable[str], path: Path) -> None:
         self.path = path
         self.title: List[str] = []
         self.uses: List[str] = []
-        self.modules: List[str] = []
         self.declarations: List[Declaration] = []
-        self.read(path.read_text().split("\n"))
+        self.read(lines)
+        self.owners = {name: declared for declared in self.declarations if "data" in declared.marks for name in declared.members()}
+        self.owners.update((declared.name, declared) for declared in self.declarations)
 
-    def read(self, lines: Sequence[str]) -> None:
+    def read(self, lines: Iterable[str]) -> None:
         comment: List[str] = []
         at_title, indent, opens = True, 0, False  # the indent of what stands in a block; whether one's first line goes on
         for place, line in enumerate(lines):
@@ -73,10 +93,13 @@ class Source:
             if inner.startswith("--"):
                 comment.append(inner)
                 continue
-            if at_title:
-                at_title, self.title, comment = False, comment, []
+            if at_title and comment and not self.begins(inner):
+                self.title, comment = comment, []
+            at_title = at_title and not line.strip() and not self.title
             if not line.strip():
                 comment = []
+            elif inner.startswith(("mod ", "pub mod ")):
+                continue
             elif opens or inner.startswith("module "):
                 opens = not line.endswith(" where")
                 indent += 0 if opens else 2
@@ -84,8 +107,6 @@ class Source:
                 self.uses.append(inner.removeprefix("pub "))
             elif self.uses and self.uses[-1].count("{") > self.uses[-1].count("}"):
                 self.uses[-1] += line.strip()
-            elif inner.startswith(("mod ", "pub mod ")):
-                self.modules.append(inner.split()[-1])
             elif self.begins(inner):
                 head = HEAD.match(inner)
                 self.declarations.append(Declaration(head["name"], head["marks"].split(), comment, place, [line], indent))
@@ -93,7 +114,7 @@ class Source:
             elif self.declarations:
                 self.declarations[-1].lines.append(line)
             else:
-                sys.exit(f"{self.path}:{place + 1}: a line that belongs to no declaration")
+                sys.exit(f"{shown(self.path)}:{place + 1}: a line that belongs to no declaration")
 
     @staticmethod
     def begins(line: str) -> bool:
@@ -104,4 +125,94 @@ class Source:
 
 @functools.lru_cache(maxsize=None)
 def read(path: Path) -> Source:
-    return Source(path)
+    return Source(path.read_text().split("\n"), path)
+
+
+# What names mean. Each name that a text uses is declared in its file, or a line `use` brings it in, or the text binds it itself.
+
+
+class Thing(NamedTuple):
+    """A definition in a file; a type or a trait of the code below a crate's `src`; or, with the name of a module as its place, what a
+    library has."""
+
+    place: str
+    name: str
+
+    def is_definition(self) -> bool:
+        return self.place.endswith(".antt")
+
+    def is_of_code(self) -> bool:
+        return self.place.endswith("/src")
+
+    def declaration(self) -> Declaration:
+        return read(ROOT / self.place).owners[self.name]
+
+
+Scope = Dict[str, Tuple[str, str]]
+
+
+def scope_of(uses: Iterable[str]) -> Scope:
+    """The words that lines `use` bring in, each with its module and its name there; a module itself has no such name."""
+    scope: Scope = {}
+    for line in uses:
+        match = re.match(r"use (?:Rattle\.)?([\w.]+?)(?:\.\{ ?(.*?),? ?\})?(?: as ([\w-]+))?;?$", line)
+        if not match:
+            sys.exit(f"a line that isn't read: {line}")
+        for item in match[2].split(",") if match[2] else []:
+            name, _, other = item.strip().partition(" as ")
+            scope[other or name] = (match[1], name)
+        if not match[2]:
+            scope[match[3] or match[1].split(".")[-1]] = (match[1], "")
+    return scope
+
+
+@functools.lru_cache(maxsize=None)
+def scope_at(path: Path) -> Scope:
+    """Of a file of definitions, or of the contracts of a file of code."""
+    if path.suffix == ".antt":
+        return scope_of(read(path).uses)
+    return scope_of(" ".join(line.split()) for line in re.findall(r"^ *ghost (use [^;]*;)", path.read_text(), re.M))
+
+
+def meaning(word: str, member: str, path: Path) -> Set[Thing]:
+    """What a word stands for in a file, alone or with the word after its dot; nothing if the text itself binds it."""
+    owners = read(path).owners if path.suffix == ".antt" else {}
+    if word in owners:
+        return {Thing(shown(path), owners[word].name)}
+    if word not in scope_at(path):
+        return set()
+    module, name = scope_at(path)[word]
+    crate, _, rest = module.partition(".specs.")
+    if crate not in crates() or rest.startswith("contracts."):
+        return {Thing(module, name or member)}
+    if rest.startswith("declared."):
+        return {Thing(f"crates/{crate}/src", [part for part in rest.split(".") if part != "TheVariants"][-1])}
+    return meaning(name or member, "", ROOT / "crates" / crate / "specs" / (rest.replace(".", "/") + ".antt"))
+
+
+def things_in(text: str, path: Path) -> Set[Thing]:
+    """What the names in a text of a file stand for; the fields that get a value are no names, and operators only a library has."""
+    text = re.sub(r'--.*|//.*|"(?:[^"\\]|\\.)*"', "", text)
+    operators = {word for word in scope_at(path) if "◌" in word and all(part in text for part in word.split("◌"))}
+    words = {*WORD.findall(re.sub(r"([{;]\s*)\w+ =", r"\1", text)), *((word, "") for word in operators)}
+    return {thing for word, member in words for thing in meaning(word, member, path)}
+
+
+@functools.lru_cache(maxsize=None)
+def uses(thing: Thing) -> Set[Thing]:
+    """What a definition names, but for itself."""
+    if not thing.is_definition():
+        return set()
+    return things_in("\n".join(thing.declaration().lines), ROOT / thing.place) - {thing}
+
+
+def closure(roots: Iterable[Thing]) -> Dict[Thing, Thing]:
+    """These things and all that they reach, each with one that names it; a root has itself."""
+    found = {thing: thing for thing in roots}
+    todo = sorted(found)
+    while todo:
+        user = todo.pop()
+        new = sorted(thing for thing in uses(user) if thing not in found)
+        found.update((thing, user) for thing in new)
+        todo += new
+    return found

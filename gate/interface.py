@@ -1,0 +1,141 @@
+#!/usr/bin/env python3
+"""Checks what pages say of the program's options, faults, causes, limits and defaults: it has to be what code and definitions have.
+
+    python3 gate/interface.py
+
+A part of USING and of the manual page lrupd.1 that is compared as a whole begins and ends with a comment that has its name. Each page that
+FIGURES names for a figure has to have it.
+"""
+import re
+import sys
+from typing import Iterator, List, Set
+
+sys.dont_write_bytecode = True
+import antt
+from antt import ROOT
+
+FAULTS = "crates/stream_check/specs/Faults.antt"
+CAUSES = ["crates/command/specs/Faults.antt", "crates/lrup_model/specs/Layout.antt"]
+HELP, WORDS, ARGUMENTS = (f"crates/command_line/src/{name}.rt" for name in ("help", "words", "arguments"))
+USING, EMITTING, FORMAT, MANUAL = "docs/USING.md", "docs/EMITTING.md", "docs/FORMAT.md", "docs/lrupd.1"
+SOLVE, EXACT, EXPLAIN = "docs/lrup-solve.1", "docs/lrup-exact.1", "docs/lrup-explain.1"
+NUMBER = r"(UINT64_C\(1\) << \d+|[\d_]+)"
+# What the figure is, as the table of limits calls it; the files that have it in the place of the question mark; and the pages that give it.
+FIGURES = [
+    ("Variables of the formula", ["crates/lrup_model/src/lit.rt MAX_VARIABLE: u32 = ?"], f"README.md {USING}"),
+    ("Clauses of the formula", ["crates/lrup_model/src/formula.rt MAX_CLAUSES: u32 = ?"], f"README.md {USING}"),
+    ("Literals written in one clause of the formula", ["crates/lrup_model/src/formula.rt MAX_CLAUSE_LITERALS: u32 = ?",
+                                             "tools/exact/formula.c MOST_LITERALS = ?"], USING),
+    ("Streams", ["crates/lrup_model/src/layout.rt MAX_STREAMS: u64 = ?", "crates/command_line/src/sizes.rt MAX_STREAMS: u64 = ?",
+                 "tools/solve/shared.h MOST_ENGINES = ?", "tools/solve/front/front.c MOST_STREAMS = ?"],
+     f"README.md {USING} {FORMAT} {MANUAL} {HELP} {SOLVE} {EXPLAIN} docs/lrup-trim.1"),
+    ("Literals written in one line", ["crates/lrup_text/src/machine.rt MAX_LITERALS: usize = ?",
+                                      "tools/exact/stream.h LITERALS_OF_A_LINE = ?"], f"{USING} {FORMAT} {EXACT}"),
+    ("Hints, or deleted ids, in one line", ["crates/lrup_text/src/machine.rt MAX_IDENTITIES: usize = ?",
+                                            "tools/exact/stream.h IDENTITIES_OF_A_LINE ?"], f"{USING} {FORMAT} {EMITTING} {EXACT}"),
+    ("Digits of a number in a stream", ["crates/lrup_text/src/machine.rt MAX_DIGITS: usize = ?", "tools/exact/stream.h DIGITS = ?"], USING),
+    ("Words of 8 bytes in a row", ["crates/lrup_model/src/layout.rt MAX_ROW_WORDS: u64 = ?", f"{ARGUMENTS} MAX_LINES: u64 = ?",
+                                   f"{ARGUMENTS} MAX_ROOM: u64 = ?", "tools/exact/row.h MOST_WORDS (?)"], f"{USING} {MANUAL} {HELP}"),
+    ("--lines", [f'{WORDS} "lines", ?)', "tools/explain/main.c USUAL_LINES = ?", "tools/exact/chain.c USUAL_LINES = ?"],
+     f"{USING} {EMITTING} {MANUAL} {EXPLAIN} {HELP} tools/explain/main.c"),
+    ("--room", [f'{WORDS} "room", ?)', "tools/explain/main.c USUAL_ROOM = ?"],
+     f"{USING} {EMITTING} {MANUAL} {EXPLAIN} {HELP} tools/explain/main.c"),
+    ("--tries", [f'{WORDS} "tries", ?)'], f"{USING} {MANUAL} {HELP}"),
+    ("the most --tries", [f"{ARGUMENTS} MAX_TRIES: u64 = ?", "tools/solve/front/front.c MOST_TRIES = ?",
+                          "tools/explain/main.c MOST_TRIES = ?"], f"{USING} {EMITTING} {MANUAL} {HELP}"),
+    ("the least --memory", ["tools/exact/row.c LEAST_MEMORY (?)"], f"{USING} {SOLVE} {EXACT}"),
+    ("the usual --memory", ["tools/exact/row.c USUAL_MEMORY (?)"], f"{USING} {SOLVE} {EXACT} tools/solve/options.cpp"),
+    ("the most --memory", ["tools/exact/main.c more than ? bytes:"], f"{SOLVE} {EXACT} tools/solve/options.cpp"),
+    ("bytes of a formula from a pipe", ["tools/solve/front/front.c more than ? bytes, which"], SOLVE),
+]
+
+
+def text_of(name: str) -> str:
+    return (ROOT / name).read_text()
+
+
+def part(name: str, what: str) -> str:
+    """What stands between the two comments of a part."""
+    found = re.findall(rf"^.*\b{what}: gate/interface.py.*\n([\s\S]*?)^.*\bend of {what}\b", text_of(name), re.M)
+    return found[0] if len(found) == 1 else sys.exit(f"{name}: no comments '{what}: gate/interface.py compares' and 'end of {what}'")
+
+
+def texts_of(name: str, identity: str) -> Set[str]:
+    """The texts in a file's definitions `.._text`, with this letter for a number in decimal."""
+    lines = "\n".join(line for declared in antt.read(ROOT / name).declarations for line in declared.lines)
+    found = re.findall(r'^\w+_text .* =\s+(codes "[^"]*"(?: \+\+ (?:codes "[^"]*"|decimal \w+))*)$', lines, re.M)
+    return {re.sub(r'codes "([^"]*)"', r"\1", re.sub(r"decimal \w+", identity, text).replace(" ++ ", "")) for text in found}
+
+
+def wrong_faults() -> Iterator[str]:
+    section = text_of(FORMAT).partition("## Faults\n")[2].partition("\n## ")[0]
+    named = {USING: set(re.findall(r"^\| `([^`]+)`", part(USING, "faults"), re.M)),
+             MANUAL: {head.replace(" Ar ", " ") for head in re.findall(r"^\.It (.*)$", part(MANUAL, "faults"), re.M)},
+             FORMAT: {span for span in re.findall("`([^`]+)`", section) if not re.fullmatch(r"H|--\w+|lrup[\w-]+", span)}}
+    for page, faults in named.items():
+        for fault in sorted(faults ^ texts_of(FAULTS, "H")):
+            yield f"{page}: the fault `{fault}` is " + (f"not in {FAULTS}: remove it" if fault in faults else "missing: add it")
+
+
+def is_cause(span: str, text: str) -> bool:
+    """Whether what stands in backticks is the text, its end after a colon, or with two dots what it begins with."""
+    return text == span or text.endswith(f": {span}") or span.endswith(" ..") and text.startswith(span[:-2])
+
+
+def wrong_causes() -> Iterator[str]:
+    said = set(re.findall("`([^`]+)`", part(USING, "causes")))
+    defined = {text for name in CAUSES for text in texts_of(name, "S")}
+    missing = [text for text in sorted(defined) if not any(is_cause(one, text) for one in said)]
+    made_up = [one for one in sorted(said) if not any(is_cause(one, text) for text in defined)]
+    yield from (f"{USING}: the cause `{text}` is missing: add it" for text in missing)
+    yield from (f"{USING}: no definition has the cause `{one}`: remove it" for one in made_up)
+
+
+def words_in(text: str) -> List[str]:
+    """The words, without macros of the manual page."""
+    return re.findall(r"\w+", re.sub(r"^\.\w+", "", text, flags=re.M).lower())
+
+
+def wrong_options() -> Iterator[str]:
+    texts = dict(re.findall(r'^pub const (\w+): &str = "\\?\n?((?:[^"\\]|\\.)*)";$', text_of(HELP), re.M))
+    texts["EXAMPLE"] = texts["EXAMPLE"].partition("\n\n")[0]
+    items = {name.upper(): text for name, text in re.findall(r"^\.It Fl -(\w+).*\n((?:(?!\.It).*\n)*)", part(MANUAL, "options"), re.M)}
+    items["EXAMPLE"] = part(MANUAL, "sizes")
+    synopsis = {name.upper() for name in re.findall(r"^\.Op Fl -(\w+)", part(MANUAL, "synopsis"), re.M)}
+    for name in sorted((texts.keys() | items.keys() | synopsis) - {"VERSION", "PROGRAM", "FORMULA", "STREAM"}):
+        if words_in(texts.get(name, "")) != words_in(items.get(name, "")) or name != "EXAMPLE" and name not in synopsis:
+            yield f"{MANUAL}: {HELP} has other words for {name}: use the same in both, and name the option in the synopsis"
+
+
+def number_at(place: str) -> int:
+    name, _, text = place.partition(" ")
+    found = re.findall(rf"(?<!\w){re.escape(text)}".replace(r"\?", NUMBER), text_of(name))
+    if len(found) != 1:
+        sys.exit(f"{name}: FIGURES of gate/interface.py says that it has '{text}' once")
+    power = found[0].partition("<< ")[2]
+    return 1 << int(power) if power else int(found[0].replace("_", ""))
+
+
+def wrong_figures() -> Iterator[str]:
+    rows = dict(re.findall(r"^\| ([^|]+) \| ([\d,]+) \|", part(USING, "limits"), re.M))
+    yield from (f"{USING}: FIGURES of gate/interface.py lacks '{row}': add it" for row in rows.keys() - {what for what, _, _ in FIGURES})
+    for what, places, pages in FIGURES:
+        numbers = sorted({number_at(place) for place in places})
+        if len(numbers) > 1:
+            yield f"{places[0].split()[0]}: not one number of '{what}': {numbers}"
+        if what in rows and rows[what] != f"{numbers[0]:,}":
+            yield f"{USING}: the limit '{what}' is {numbers[0]:,}"
+        units = [f"{numbers[0] >> power} {unit}" for power, unit in ((20, "MiB"), (30, "GiB")) if numbers[0] % (1 << power) == 0]
+        spelt = "|".join(rf"(?<![\d,.]){spelling}(?!,?\d)" for spelling in [f"{numbers[0]:,}", str(numbers[0]), *units])
+        yield from (f"{page}: it lacks the figure of '{what}', {numbers[0]:,}" for page in pages.split()
+                    if not re.search(spelt, " ".join(text_of(page).split())))
+
+
+def main() -> None:
+    wrong = [*wrong_faults(), *wrong_causes(), *wrong_options(), *wrong_figures()]
+    print("\n".join([*wrong, f"interface: {len(wrong)} faults"]))
+    sys.exit(bool(wrong))
+
+
+if __name__ == "__main__":
+    main()
