@@ -1,7 +1,8 @@
-// Unverified, as all of this filter. --rounds: a stream for each round of lrupd --rounds, through FIFOs. That of the next round is
-// there before a stream ends, since lrupd looks for it then. Once lrupd has opened it, nothing looks for its name or its sizes again,
-// and both are removed, as is what lrupd has saved once it is read. So the folder has files of a round that isn't over only while
-// lrupd is awaited.
+// Unverified, like the whole filter. Option --rounds: writes a stream for each round of lrupd
+// --rounds, through FIFOs. A FIFO exists before the stream of the round before it ends, since lrupd
+// then looks for it. Once lrupd has opened it, the FIFO and the file of sizes are removed, and so
+// is a checkpoint once it is read. So the folder has files of an unfinished round only while this
+// program waits for lrupd.
 #define _XOPEN_SOURCE 700
 #include <dirent.h>
 #include <errno.h>
@@ -22,23 +23,23 @@
 #include "write.h"
 
 enum { LONGEST_PATH = 4096, LONGEST_NAME = 64, PAUSE = 5 };     // milliseconds
-enum { USUAL_LINES = 65536 };       // lrupd's without words; a first row's room is never above lrupd's
+enum { USUAL_LINES = 65536 };  // lrupd's default in round 1; the room never exceeds lrupd's default
 #define OF_A_ROUND "round-"
 #define ANOTHER_FILE "somebody has put another file in the place of"
 
 static const char *folder;
-static int held;                            // the folder, whatever has its name by now
+static int held;                            // the open folder, even if it is renamed
 static Filter *filter;
 static Rows rows;
-static Row used;                            // of this round's row
+static Row used;                            // of the round's row
 static uint64_t round_number;               // from 1
 static char sizes[LONGEST_PATH], stream[LONGEST_PATH];      // paths
-static volatile sig_atomic_t is_awaited;    // lrupd, at the FIFO
+static volatile sig_atomic_t is_awaited;    // whether the program waits for lrupd
 static int file;
 static struct stat made;                    // the FIFO
 
-// No other run has the folder until this process ends, however it does; where the system has no locks nobody is told. Others may
-// not remove files there and make new ones.
+// Locks the folder until this process ends; a file system without locks is used unlocked. Other
+// users must not be able to replace files in it.
 static void lock_folder(void) {
     held = open(folder, O_RDONLY | O_DIRECTORY | O_CLOEXEC);
     if (held < 0) fail("cannot read the folder", folder);
@@ -46,7 +47,8 @@ static void lock_folder(void) {
     if (flock(held, LOCK_EX | LOCK_NB) != 0 && errno == EWOULDBLOCK) fail("another run that goes on has its files in", folder);
 }
 
-// The folder. Any file of a round is in the way: lrupd would take it, or not write over it.
+// Opens the folder. It must have no file of a round: lrupd would read it, or refuse to overwrite
+// it.
 void chain_open(const char *path) {
     folder = path;
     if (strlen(folder) > LONGEST_PATH - LONGEST_NAME) fail("too long a name:", folder);
@@ -63,14 +65,14 @@ void chain_open(const char *path) {
     closedir(list);
 }
 
-// Of the folder.
+// The file's name in the folder.
 static const char *name_in(const char *path) { return strrchr(path, '/') + 1; }
 
 static void name_file(char path[LONGEST_PATH], const char *what) {
     snprintf(path, LONGEST_PATH, "%s/" OF_A_ROUND "%llu.%s", folder, (unsigned long long)round_number, what);
 }
 
-// The sizes come first: lrupd takes them as soon as there is a stream.
+// The sizes come first: lrupd reads them as soon as the stream exists.
 static void make_files(void) {
     char text[LONGEST_NAME];
     int length = snprintf(text, sizeof text, "1 %llu %llu\n", (unsigned long long)rows.row.lines, (unsigned long long)rows.row.room);
@@ -92,10 +94,10 @@ static void remove_files(void) {
     is_awaited = 0;
 }
 
-// Where lrupd waits at the FIFO, or is about to, it gets an empty stream, or none.
+// If lrupd waits at the FIFO, or is about to, it gets an empty stream, or finds none.
 static void end_by_signal(int number) {
     if (is_awaited) {
-        openat(held, name_in(stream), O_RDWR | O_NONBLOCK | O_NOFOLLOW);    // until this process has ended
+        openat(held, name_in(stream), O_RDWR | O_NONBLOCK | O_NOFOLLOW);  // until this process ends
         remove_files();
     }
     signal(number, SIG_DFL);
@@ -108,7 +110,8 @@ static void take_signals(void) {
         if (signal(numbers[k], end_by_signal) == SIG_IGN) signal(numbers[k], SIG_IGN);
 }
 
-// Waits until lrupd opens it, too. Where standard output is a pipe whose reader, which runs lrupd, has ended, it never will.
+// Waits until lrupd opens the FIFO, too. lrupd never will if standard output is a pipe and its
+// reader, which runs lrupd, has ended.
 static void open_stream(void) {
     struct pollfd reader = { .fd = STDOUT_FILENO };
     struct stat found;
@@ -177,7 +180,7 @@ static void derived(const Filter *one) {
 
 static bool never_ends(void) { return false; }
 
-// After the formula is read. Standard output says when lrupd may begin.
+// Call after the formula is read. Prints the path of the first stream once lrupd may start.
 void chain_begin(Filter *one, uint64_t memory) {
     static const Hooks hooks = { .ends = never_ends, .derives = derives, .derived = derived };
     filter = one;

@@ -1,5 +1,5 @@
-// Unverified, as all of this filter. Reads what a run of lrupd has saved. A comment before a clause has the identity that it had, unless
-// that was its place.
+// Unverified, like the whole filter. Reads a checkpoint of lrupd. A comment before a clause has its
+// previous identity, unless that was its place.
 #include "checkpoint.h"
 #include "errors.h"
 #include "input.h"

@@ -1,4 +1,5 @@
-// Unverified, as all of this filter. FRAT text. Its identities are its own: the stream gives new ones.
+// Unverified, like the whole filter. Reads FRAT text. Clauses get new identities in the stream,
+// since FRAT numbers them in its own way.
 //
 //     o id literals 0                 a clause of the formula
 //     a id literals 0 [l hints 0]     an addition
@@ -9,7 +10,7 @@
 #include "readers.h"
 #include "words.h"
 
-// The place after the list that begins there, which ends with 0.
+// The place after the list that begins at `start` and ends with 0.
 static size_t end_of(const Words *words, size_t start) {
     size_t end = start;
     while (end < words->numbers.length && words->numbers.items[end] != 0) end++;
