@@ -1,5 +1,5 @@
-// Unverified, and nothing here is trusted: lrupd alone judges lines. Replays the streams of a run, or of a record of rounds, and says why
-// a line is bad, and what would be right.
+// Unverified and untrusted: only lrupd's verdict counts. Replays the streams of a run, or of a
+// record of rounds, and says why a line is bad, and what would be right.
 //
 //     lrup-explain [--lines N] [--room N] [--tries N] [--serial] [--all] FORMULA DIR|STREAM...
 #define _POSIX_C_SOURCE 200809L
@@ -11,7 +11,7 @@
 #include "../exact/errors.h"
 #include "explain.h"
 
-// The end.
+// Errors.
 
 static void end(const char *cause) {
     fflush(stdout);

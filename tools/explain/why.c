@@ -1,4 +1,5 @@
-// Unverified, as all of this tool. Why a line is bad, for each fault of lrupd, and what would be right.
+// Unverified, like the whole tool. Says for each fault of lrupd why the line is bad, and what would
+// be right.
 #include <stdio.h>
 #include <stdlib.h>
 #include <string.h>
@@ -18,7 +19,7 @@ static int tell_byte(unsigned char byte) {
     return byte == '\n' ? printf("\\n") : byte == '\r' ? printf("\\r") : byte == '\t' ? printf("\\t") : printf("\\x%02x", byte);
 }
 
-// Those around the one that decides, with a caret below that.
+// The bytes around the one that decides, with a caret below it.
 static void tell_bytes(Line line, bool is_whole, size_t place) {
     size_t length = (size_t)(line.end - line.start), first = place > BYTES_BEFORE ? place - BYTES_BEFORE : 0;
     size_t behind = place + BYTES_BEHIND < length ? place + BYTES_BEHIND : length;
@@ -39,7 +40,7 @@ static const char *name_of(unsigned char byte) {
     return byte == '\r' ? "a carriage return" : byte == '\t' ? "a tab" : byte == ' ' ? "a space" : text;
 }
 
-// What it mostly comes of.
+// The usual cause.
 static const char *guess_of(const Stream *stream, Line line, size_t place, unsigned char byte) {
     static char text[32];
     const char *program = stream->lines == 0 ? unpacked_by(line.start[0], line.start[1]) : NULL;
@@ -80,7 +81,7 @@ static void why_form(const Stream *stream) {
 
 // Identities, literals and room.
 
-// How many lines reach it.
+// How many lines per stream the identity needs.
 static uint64_t lines_for(const Replay *replay, uint64_t identity) {
     return (identity - replay->clauses + replay->count - 1) / replay->count;
 }
@@ -93,7 +94,7 @@ static uint32_t number_of_owner(const Replay *replay, uint64_t identity) {
     return (uint32_t)((identity - replay->clauses - 1) % replay->count) + 1;
 }
 
-// The next line from there on that can be read and derives a clause. False at the end.
+// Reads the next line from there on that is well-formed and derives a clause. False at the end.
 static bool next_addition(const Stream *stream, unsigned char **at, Reading *reading) {
     for (unsigned char *end; (end = memchr(*at, '\n', (size_t)(stream->end - *at))) != NULL;) {
         Line line = { *at, end, true };
@@ -103,7 +104,8 @@ static bool next_addition(const Stream *stream, unsigned char **at, Reading *rea
     return false;
 }
 
-// The greatest number of which all differences of its identities are multiples; 0 where it has less than three, and chance decides.
+// The greatest common divisor of the differences between the stream's identities; 0 if it has fewer
+// than three, since that may be chance.
 static uint64_t step_of(const Stream *stream) {
     uint64_t step = 0, last = 0, count = 0;
     Reading reading;
@@ -118,7 +120,7 @@ static uint64_t step_of(const Stream *stream) {
     return count < 3 ? 0 : step;
 }
 
-// Identities are numbered by how many streams there are.
+// How identities are numbered depends on the number of streams.
 static void tell_left_out(const Replay *replay, const Stream *stream) {
     uint64_t step = step_of(stream);
     if (step > replay->count && step <= STREAMS)
@@ -137,7 +139,7 @@ static void tell_right_identity(const Replay *replay, const Stream *stream) {
     }
 }
 
-// For the line's identity, and for the greatest one of the stream, of those that are its own.
+// Prints the --lines for the line's identity, and for the greatest of the stream's own identities.
 static void tell_lines_of(const Replay *replay, const Stream *stream, uint64_t identity) {
     uint64_t greatest = identity;
     Reading reading;
@@ -201,7 +203,7 @@ static void why_tautology(const Replay *replay) {
     }
 }
 
-// As they are written, of all lines that can be read.
+// How many literals its well-formed lines derive, as written.
 static uint64_t literals_of_stream(const Stream *stream) {
     uint64_t literals = 0;
     Reading reading;
@@ -265,7 +267,7 @@ static void why_deleted(const Replay *replay, const Stream *stream, uint64_t hin
         printf("       threads may come to that line sooner or later than here: a clause that others cite isn't to be deleted\n");
 }
 
-// The first clause that is unit with the literal here, or the conflict; or 0.
+// The first clause that is unit with this literal now, or the conflict; or 0.
 static uint64_t clause_with_unit(const Replay *replay, const Stream *stream, Literal literal) {
     uint64_t last = last_derived(replay);
     for (uint64_t identity = 1; identity <= last; identity++)
@@ -273,7 +275,7 @@ static uint64_t clause_with_unit(const Replay *replay, const Stream *stream, Lit
     return 0;
 }
 
-// The same among the hints that come later; how many hints there are where none is.
+// The place of the first later hint that is; the number of hints if none is.
 static size_t later_with_unit(const Replay *replay, const Stream *stream, Literal literal) {
     const Reading *line = &replay->line;
     size_t place = stream->fault.place + 1;
