@@ -1,4 +1,4 @@
-// Unverified, as all of this solver. The command line.
+// Unverified, like the whole solver. The command line.
 #include <algorithm>
 #include <cerrno>
 #include <cmath>
@@ -117,7 +117,7 @@ uint64_t number(const char *name, const char *value, uint64_t least, uint64_t mo
     return found;
 }
 
-// The front ends the run some seconds behind it.
+// The front ends the run some seconds after this limit.
 double seconds(const char *name, const char *value) {
     char *end;
     errno = 0;
@@ -165,7 +165,7 @@ const char *solver_of(const char *value) {
     return value;
 }
 
-// Those that lrup-check refuses, since it starts no engine and no solver.
+// Options that lrup-check refuses, since it starts no engine and no solver.
 bool read_of_engines(Options &options, Words &words, const char *word) {
     const char *value, *name;
     if (strcmp(word, name = "--no-share") == 0) options.share = false;
@@ -200,14 +200,14 @@ bool read_valued(Options &options, Words &words, const char *word) {
 // -v, -q, -qv
 bool is_of_letters(const char *word) { return word[0] == '-' && word[1] != 0 && word[1 + strspn(word + 1, "qv")] == 0; }
 
-// The formula comes first.
+// The first word is the formula.
 void take_file(Options &options, const char *word) {
     if (!options.formula) options.formula = word;
     else if (options.check) options.solvers.push_back(word);
     else refuse("one word too many: " + quoted(word));
 }
 
-// It comes first, since words after the formula are proofs then.
+// --check has to come first, since with it the words after the formula are proofs.
 void begin_check(Options &options) {
     if (options.formula || !options.solvers.empty()) refuse("--check after other words");
     options.check = true;
@@ -221,7 +221,7 @@ void check_proofs(const Options &options) {
     if (count + is_standard_input(options.formula) > 1) refuse("standard input is read once");
 }
 
-// Its record is that of --proofs, and goes on.
+// --resume continues a record, which takes the place of --proofs.
 void check_resumed(Options &options) {
     if (options.proofs) refuse("--resume and --proofs: a run that goes on keeps its streams where the one before did");
     if (options.replace) refuse("--resume and --replace: nothing is replaced");
