@@ -18,7 +18,7 @@ MOST_IN_SENTENCE, MOST_IN_PARAGRAPH = 30, 90
 # The most words of each page.
 PAGES: Dict[str, int] = {
     "README.md": 700,
-    "CONTRIBUTING.md": 1200,
+    "CONTRIBUTING.md": 700,
     "docs/USING.md": 2500,
     "docs/FORMAT.md": 600,
     "docs/EMITTING.md": 1500,
