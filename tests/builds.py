@@ -122,7 +122,7 @@ def installed(work: Path) -> None:
     want((done.err, done.status), (f"lrup-chain {(ROOT / 'VERSION').read_text().strip()}\n", 2), "what lrup-chain --version says")
     want((make("uninstall").err, [path for path in (work / "a place").rglob("*") if path.is_file()]), ("", []), "what is left")
     done = make("install", f"PROGRAM={work}/none")
-    want((done.status, f"there is no {work}/none, which make build leaves there" in done.out), (2, True), f"what is said: {done.out}")
+    want((done.status, f"{work}/none isn't built" in done.out), (2, True), f"what is said: {done.out}")
 
 
 def packaged(work: Path) -> None:

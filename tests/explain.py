@@ -336,7 +336,7 @@ FAULTS = [
      + row(3, "BAD", "1T -2T", of_formula(3))
      + "        4  unread\n  why: hint 2, 2, is the conflict, and none may follow: 2 too many\n" + RIGHT),
     ("no conflict", ["5 2 0 1 0\n"], "", "stream 1 (f1), line 1: no conflict\n" + ONE_FALSE
-     + UNENDED + "       all literals are false here of 2 (clause 2 of the formula), which is no hint of the line\n" + RIGHT),
+     + UNENDED + "       all literals are false in 2 (clause 2 of the formula), which isn't a hint of the line\n" + RIGHT),
     ("no hints", ["5 2 0 0\n"], "", "stream 1 (f1), line 1: no conflict\n  derives  2    so at first -2 is true\n"
      "  why: the line has no hints\n" + RIGHT),
     ("a wrong sign", ["5 2 0 1 3 0\n"], "", "stream 1 (f1), line 1: not unit 3\n" + ONE_FALSE + row(3, "BAD", "1T -2T", of_formula(3))
@@ -351,7 +351,7 @@ FAULTS = [
      "       2 would follow here from 5 (stream 1, line 1), hint 2 of the line, which comes too late\n  a right chain: 5 3 4\n"),
     ("one left out", [FIRST + "6 0 3 4 0\n"], "", "stream 1 (f1), line 2: not unit 3\n" + EMPTY
      + row(3, "BAD", "1? -2?", of_formula(3)) + "        4  unread\n  why: 2 literals are neither true nor false: 1 -2\n"
-     "       2 would follow here from 5 (stream 1, line 1), which is no hint of the line\n  a right chain: 5 3 4\n"),
+     "       2 would follow here from 5 (stream 1, line 1), which isn't a hint of the line\n  a right chain: 5 3 4\n"),
     ("a clause that doesn't follow", ["5 0 1 2 0\n"], "", "stream 1 (f1), line 1: not unit 1\n" + EMPTY
      + row(1, "BAD", "1? 2?", of_formula(1)) + "        2  unread\n  why: 2 literals are neither true nor false: 1 2\n"
      + NO_CHAIN.format(0, 4)),
@@ -364,10 +364,10 @@ FAULTS = [
     ("retired by another", [FIRST + "5 d 5 0\n", "2 i -1 2 0\n2 i 2 -1 0\n6 0 5 3 4 0\n"], "--serial",
      "stream 2 (f2), line 3: retired 5\n" + EMPTY
      + row(5, "BAD", "2?", "stream 1, line 1") + "        3  unread   .. 1 more\n  why: its owner deleted 5 in stream 1, line 2, for all\n"
-     "       threads may come to that line sooner or later than here: a clause that others cite isn't to be deleted\n"
+     "       threads may reach that line earlier or later: don't delete a clause that others cite\n"
      "  a right chain: 5 3 4    (if 5 isn't deleted)\n"),
     ("missing, never derived", ["5 2 0 1 9 0\n"], "", "stream 1 (f1), line 1: missing 9\n" + ONE_FALSE
-     + row(9, "BAD", "-", "stream 1, no such line so far") + "  why: 9 is of stream 1, this one, and no line of it derives it\n" + RIGHT),
+     + row(9, "BAD", "-", "stream 1, no such line so far") + "  why: 9 is of stream 1, this one, and none of its lines derives it\n" + RIGHT),
     ("missing, the line's own", ["5 2 0 1 5 0\n"], "", "stream 1 (f1), line 1: missing 5\n" + ONE_FALSE
      + row(5, "BAD", "-", "stream 1, no such line so far") + "  why: 5 is what this line derives: no line cites itself\n" + RIGHT),
     ("missing, derived later", ["5 2 0 1 7 0\n7 2 0 1 2 0\n"], "", "stream 1 (f1), line 1: missing 7\n" + ONE_FALSE
@@ -375,9 +375,9 @@ FAULTS = [
      + "  why: 7 is of stream 1, this one, which derives it later, in its line 2\n" + RIGHT),
     ("missing, beyond the last", ["5 2 0 1 9 0\n"], "--lines 3", "stream 1 (f1), line 1: missing 9\n" + ONE_FALSE
      + row(9, "BAD", "-", "above the last identity, 7") + "  why: 9 is above 7, the last identity with --lines 3\n"
-     "       --lines 5 would do for it\n" + RIGHT),
+     "       --lines 5 would be enough\n" + RIGHT),
     ("missing, of another one", ["5 2 0 1 8 0\n", "6 2 0 1 2 0\n"], "", "stream 1 (f1), line 1: missing 8\n" + ONE_FALSE
-     + row(8, "BAD", "-", "stream 2, no such line so far") + "  why: 8 is of stream 2, and no line of it derives it\n" + RIGHT),
+     + row(8, "BAD", "-", "stream 2, no such line so far") + "  why: 8 is of stream 2, and none of its lines derives it\n" + RIGHT),
     ("missing by turns", ["5 2 0 1 6 0\n", "6 2 0 1 2 0\n"], "--serial", "stream 1 (f1), line 1: missing 6\n" + ONE_FALSE
      + row(6, "BAD", "-", "stream 2, no such line so far")
      + "  why: 6 is of stream 2, which derives it in its line 1, and with --serial only later: threads wait for it\n" + RIGHT),
@@ -389,63 +389,63 @@ FAULTS = [
      "stream 3 (f3), line 1: missing 6, of stream 2, whose line 1 is bad\n"),
     ("what comes of another fault", ["5 0 6 8 0\n", "6 2 0 1 0\n8 -2 0 3 4 0\n", "7 x\n"], "",
      "stream 2 (f2), line 1: no conflict\n" + ONE_FALSE + UNENDED
-     + "       all literals are false here of 2 (clause 2 of the formula), which is no hint of the line\n" + RIGHT
-     + "stream 1 (f1), line 1: missing 6, of stream 2, whose line 1 is bad\nstream 3 (f3), line 1: spelling, by itself: --all tells why\n"),
+     + "       all literals are false in 2 (clause 2 of the formula), which isn't a hint of the line\n" + RIGHT
+     + "stream 1 (f1), line 1: missing 6, of stream 2, whose line 1 is bad\nstream 3 (f3), line 1: spelling, by itself: --all says why\n"),
     ("a stream that is cut", ["5 0 6 0\n", "6 2 0 1"], "", "stream 2 (f2), line 1: truncated\n"
-     "  why: the stream ends within this line, after 7 bytes: there has to be a digit or a space\n      6 2 0 1\n             ^ byte 8\n"
-     "       the solver was ended, or didn't write out its buffer?\nstream 1 (f1), line 1: missing 6, of stream 2, whose line 1 is bad\n"),
+     "  why: the stream ends within this line, after 7 bytes: expected a digit or a space\n      6 2 0 1\n             ^ byte 8\n"
+     "       was the solver killed, or its buffer not flushed?\nstream 1 (f1), line 1: missing 6, of stream 2, whose line 1 is bad\n"),
     ("each by itself", ["5 0 6 8 0\n", "6 2 0 1 0\n8 -2 0 3 4 0\n", "7 x\n"], "--all",
      "stream 2 (f2), line 1: no conflict\n" + ONE_FALSE + UNENDED
-     + "       all literals are false here of 2 (clause 2 of the formula), which is no hint of the line\n" + RIGHT
-     + "stream 3 (f3), line 1: spelling\n  why: 'x' stands where there has to be a literal, 0, d or i\n      7 x\n        ^ byte 3\n"
+     + "       all literals are false in 2 (clause 2 of the formula), which isn't a hint of the line\n" + RIGHT
+     + "stream 3 (f3), line 1: spelling\n  why: expected a literal, 0, d or i, found 'x'\n      7 x\n        ^ byte 3\n"
      + "stream 1 (f1), line 1: missing 6, of stream 2, whose line 1 is bad\n"),
     ("identity of the formula", ["4 2 0 1 2 0\n"], "", "stream 1 (f1), line 1: identity\n  derives  2\n"
      "  why: 4 is of the formula, whose clauses are 1 to 4\n       right here: 5, or after a gap 6, 7 and so on\n"),
     ("identity of another stream", [FIRST + "8 2 0 1 2 0\n", ""], "", "stream 1 (f1), line 2: identity\n  derives  2\n"
-     "  why: 8 is of stream 2, of 2 that take turns above 4\n       right here: 7, or after a gap 9, 11 and so on\n"),
+     "  why: 8 belongs to stream 2: 2 streams take turns above 4\n       right here: 7, or after a gap 9, 11 and so on\n"),
     ("identity below the last", ["9 2 0 1 2 0\n7 2 0 1 2 0\n", ""], "", "stream 1 (f1), line 2: identity\n  derives  2\n"
-     "  why: 7 isn't above 9, which line 1 took: identities go up\n       right here: 11, or after a gap 13, 15 and so on\n"),
+     "  why: 7 isn't above 9, the identity of line 1\n       right here: 11, or after a gap 13, 15 and so on\n"),
     ("identity beyond the last", ["5 2 0 1 2 0\n7 2 0 1 2 0\n", ""], "--lines 1", "stream 1 (f1), line 2: identity\n  derives  2\n"
-     "  why: 7 is above 6, the last identity with --lines 1\n       --lines 2 would do for it\n"),
+     "  why: 7 is above 6, the last identity with --lines 1\n       --lines 2 would be enough\n"),
     ("identity beyond the last, and more", ["5 2 0 1 2 0\n7 2 0 1 2 0\nx\n13 2 0 1 2 0\n14 2 0 1 2 0\n9 2 0 1 2 0\n", ""], "--lines 1",
      "stream 1 (f1), line 2: identity\n  derives  2\n  why: 7 is above 6, the last identity with --lines 1\n"
-     "       --lines 2 does for this line, and 5 for all lines of the stream\n"),
+     "       --lines 2 is enough for this line, and 5 for all lines of the stream\n"),
     ("identity, and none is left", [FIRST + "6 2 0 1 2 0\n", ""], "--lines 1", "stream 1 (f1), line 2: identity\n  derives  2\n"
-     "  why: 6 is of stream 2, of 2 that take turns above 4\n       stream 1 has no identity left: its next one would be 7\n"
-     "       --lines 2 would do for it\n"),
+     "  why: 6 belongs to stream 2: 2 streams take turns above 4\n       stream 1 has no identity left: its next one would be 7\n"
+     "       --lines 2 would be enough\n"),
     ("an import of an own clause", [FIRST + "5 i 2 0\n"], "", "stream 1 (f1), line 2: identity\n  states   2\n"
      "  why: 5 is this stream's own: an import names a clause of another stream, or of the formula\n"),
     ("an import beyond the last", ["9 i 2 0\n"], "--lines 3", "stream 1 (f1), line 1: identity\n  states   2\n"
-     "  why: 9 is above 7, the last identity\n       --lines 5 would do for it\n"),
+     "  why: 9 is above 7, the last identity\n       --lines 5 would be enough\n"),
     ("literal", ["5 3 -4 0 1 0\n"], "", "stream 1 (f1), line 1: literal\n  derives  3 -4\n"
      "  why: 2 literals are above 2, the variables of the formula's header: the first is 3\n"),
     ("tautology", ["5 1 2 -1 0 1 0\n"], "", "stream 1 (f1), line 1: tautology\n  derives  1 2 -1\n"
-     "  why: both 1 and -1 stand there, so the clause is true always: leave the line out\n"),
+     "  why: the clause has 1 and -1, so it is always true: leave the line out\n"),
     ("no room", [FIRST + "6 1 2 1 0 1 0\n7 1 0 3 5 0\n"], "--room 2", "stream 1 (f1), line 2: no room\n  derives  1 2 1\n"
      "  why: the clause has 2 different literals, and 1 of --room 2 is left: 1 too few\n"
-     "       --room 3 does for this line, and 5 for all lines of the stream\n"),
+     "       --room 3 is enough for this line, and 5 for all lines of the stream\n"),
     ("not live, deleted before", ["1 d 2 0\n1 d 1 2 0\n"], "", "stream 1 (f1), line 2: not live 2\n"
      "  why: this stream has deleted 2 before, in its line 1\n"),
-    ("not live, twice", ["1 d 2 1 2 0\n"], "", "stream 1 (f1), line 1: not live 2\n  why: 2 stands twice in this line\n"),
+    ("not live, twice", ["1 d 2 1 2 0\n"], "", "stream 1 (f1), line 1: not live 2\n  why: 2 is in this line twice\n"),
     ("not live, never derived", ["1 d 5 0\n" + FIRST], "", "stream 1 (f1), line 1: not live 5\n"
      "  why: no line of this stream has derived 5; line 2 does, which comes later\n"),
     ("not live, never at all", ["1 d 5 0\n"], "", "stream 1 (f1), line 1: not live 5\n  why: no line of this stream has derived 5\n"),
     ("not live, beyond the last", ["1 d 9 0\n"], "--lines 3", "stream 1 (f1), line 1: not live 9\n"
-     "  why: 9 is above 7, the last identity\n       --lines 5 would do for it\n"),
+     "  why: 9 is above 7, the last identity\n       --lines 5 would be enough\n"),
     ("differs", ["2 i -1 -2 0\n"], "", "stream 1 (f1), line 1: differs 2\n  states   -1 -2\n"
-     "  why: 2 is -1 2 (clause 2 of the formula)\n       the import leaves out 2\n       the import has, and the clause hasn't, -2\n"),
+     "  why: 2 is -1 2 (clause 2 of the formula)\n       the import leaves out 2\n       only the import has -2\n"),
     ("an import that is missing", ["6 i 2 0\n", "8 2 0 1 2 0\n"], "", "stream 1 (f1), line 1: missing 6\n  states   2\n"
-     "  why: 6 is of stream 2, and no line of it derives it\n"),
+     "  why: 6 is of stream 2, and none of its lines derives it\n"),
     ("an import of a stream without lines", ["6 i 2 0\n", ""], "", "stream 1 (f1), line 1: missing 6\n  states   2\n"
-     "  why: 6 is of stream 2, and no line of it derives it\n       stream 2 has no lines: was it left out?\n"),
+     "  why: 6 is of stream 2, and none of its lines derives it\n       stream 2 has no lines: was it left out?\n"),
     ("one of four streams", ["5 2 0 1 6 0\n9 2 0 1 2 0\n13 2 0 1 2 0\n"], "", "stream 1 (f1), line 1: missing 6\n" + ONE_FALSE
-     + row(6, "BAD", "-", "stream 1, no such line so far") + "  why: 6 is of stream 1, this one, and no line of it derives it\n"
-     "       the identities of stream 1 go up by 4, as of 4 streams, and 1 is given: was one left out?\n" + RIGHT),
+     + row(6, "BAD", "-", "stream 1, no such line so far") + "  why: 6 is of stream 1, this one, and none of its lines derives it\n"
+     "       the identities of stream 1 go up by 4, as with 4 streams, but 1 is given: was one left out?\n" + RIGHT),
     ("one stream with a gap", ["5 2 0 1 7 0\n6 2 0 1 2 0\n9 2 0 1 2 0\n"], "", "stream 1 (f1), line 1: missing 7\n" + ONE_FALSE
-     + row(7, "BAD", "-", "stream 1, no such line so far") + "  why: 7 is of stream 1, this one, and no line of it derives it\n" + RIGHT),
+     + row(7, "BAD", "-", "stream 1, no such line so far") + "  why: 7 is of stream 1, this one, and none of its lines derives it\n" + RIGHT),
     ("two of three streams", [FIRST, "7 2 0 1 2 0\n10 2 0 1 2 0\n16 2 0 1 2 0\n"], "", "stream 2 (f2), line 1: identity\n  derives  2\n"
-     "  why: 7 is of stream 1, of 2 that take turns above 4\n"
-     "       the identities of stream 2 go up by 3, as of 3 streams, and 2 are given: was one left out?\n"
+     "  why: 7 belongs to stream 1: 2 streams take turns above 4\n"
+     "       the identities of stream 2 go up by 3, as with 3 streams, but 2 are given: was one left out?\n"
      "       right here: 6, or after a gap 8, 10 and so on\n"),
     ("an import that was dropped", ["1 d 2 0\n2 i -1 2 0\n"], "", "stream 1 (f1), line 2: dropped 2\n  states   -1 2\n"
      "  why: this stream deleted 2 in its line 1, for itself\n"),
@@ -462,7 +462,7 @@ def form(text: str, words: str, why: str, shown: str, place: int, work: Path) ->
     want(reported(run([PROGRAM, written(FOUR, work), stream])), {1: (1, words)}, "what lrupd says")
 
 
-PLACE = "{} stands where there has to be {}"
+PLACE = "expected {1}, found {0}"
 # The line, the fault, why, the bytes with ^ before the one that decides, its place.
 FORMS = [
     ("5  2 0 1 2 0\n", "spelling", PLACE.format("a space", "a literal, 0, d or i"), "5 ^ 2 0 1 2 0", 3),
@@ -482,9 +482,9 @@ FORMS = [
     ("2 i 1 d 0\n", "spelling", PLACE.format("'d'", "a literal or 0"), "2 i 1 ^d 0", 7),
     ("a\x0c\x04\0\n", "spelling", PLACE.format("'a'", "an identity"), "^a\\x0c\\x04\\x00", 1),
     ("5 \xff\n", "spelling", PLACE.format("byte 0xff", "a literal, 0, d or i"), "5 ^\\xff", 3),
-    ("5 2 0 -2 3 0\n", "rat hint", "a hint with a minus, of a RAT step, which lrupd doesn't check: switch off what makes them",
+    ("5 2 0 -2 3 0\n", "rat hint", "a negative hint, of a RAT step, which lrupd doesn't check: switch off what makes such steps",
      "5 2 0 ^-2 3 0", 7),
-    ("5 2 0 1 2", "truncated", "the stream ends within this line, after 9 bytes: there has to be a digit or a space", "5 2 0 1 2^", 10),
+    ("5 2 0 1 2", "truncated", "the stream ends within this line, after 9 bytes: expected a digit or a space", "5 2 0 1 2^", 10),
     ("12345678901234567890 2 0 1 0\n", "too long", "20 digits of a number, 2 too many: a number may have 18",
      "123456789012345678^90 2 0 1 0", 19),
     ("5 " + "1 " * 65600 + "0 0\n", "too long", "65600 literals, 65 too many: a line may have 65535",
@@ -539,9 +539,9 @@ CARRIED = {"round-1.stream-1": FIRST + "4 d 1 2 0\n", "round-2.sizes": "2 5 5\n"
            "round-2.stream-2": "5 0 3 2 0\n"}
 SAID_OF_CARRIED = ("round 2, stream 2 (d/round-2.stream-2), line 1: no conflict\n" + EMPTY
                    + row(3, "-> 2", "2!", "stream 1, line 1 of round 1") + row(2, "-> -1", "-1! -2F", of_formula(4))
-                   + UNENDED + "       all literals are false here of 1 (clause 3 of the formula), which is no hint of the line\n"
+                   + UNENDED + "       all literals are false in 1 (clause 3 of the formula), which isn't a hint of the line\n"
                    "  a right chain: 3 2 1\n"
-                   "round 2, stream 1 (d/round-2.stream-1), line 2: no conflict, by itself: --all tells why\n")
+                   "round 2, stream 1 (d/round-2.stream-1), line 2: no conflict, by itself: --all says why\n")
 
 
 def carried(work: Path) -> None:
@@ -554,7 +554,7 @@ def carried(work: Path) -> None:
 # The example solver, with one hint left out: of the unit clauses at level 0 the last one.
 
 RIGHT_LINE = "for (size_t k = 0; k < level_zero.length; k++) PUSH(hints, level_zero.items[k]);"
-LEFT_OUT = r"^       (-?\d+ would follow here from|all literals are false here of) \d+ \(.*\), which is no hint of the line$"
+LEFT_OUT = r"^       (-?\d+ would follow here from|all literals are false here of) \d+ \(.*\), which isn't a hint of the line$"
 WRONG_LINE = "for (size_t k = 1; k < level_zero.length; k++) PUSH(hints, level_zero.items[k]);"
 
 
@@ -617,12 +617,12 @@ def refuses(words: str, status: int, said: str, work: Path) -> None:
 
 REFUSED = [("", 2, "error: no FORMULA"), ("f", 2, "error: no DIR or STREAM"), ("--line 1 f s", 2, "error: no such option: --line"),
            ("--lines", 2, "error: no value after --lines"), ("--room 1 --room 2 f s", 2, "error: given twice: --room"),
-           ("--lines x f s", 2, "error: no number: x"), ("--lines= f s", 2, "error: no number"),
+           ("--lines x f s", 2, "error: not a number: x"), ("--lines= f s", 2, "error: no number"),
            ("--tries 1000001 f s", 2, "error: too large: 1000001"), ("--room 268435457 f s", 2, "error: too large: 268435457"),
-           ("f" + " s" * 65, 2, "error: more than 64 streams, from s"), ("f d s", 1, "d is a folder, and goes alone"),
-           ("f d", 1, "d/round-1.stream-1 isn't there"), ("f p", 1, "p: it is read more than once, so it has to be a file"),
-           ("f none", 1, "cannot open none: No such file or directory"), ("none s", 1, "none: No such file or directory"),
-           ("z s", 1, "z: compressed: zcat it"),
+           ("f" + " s" * 65, 2, "error: more than 64 streams, from s"), ("f d s", 1, "d: a folder has to be the only input"),
+           ("f d", 1, "d/round-1.stream-1: No such file or directory"), ("f p", 1, "p: not a regular file, but it is read more than once"),
+           ("f none", 1, "none: No such file or directory"), ("none s", 1, "none: No such file or directory"),
+           ("z s", 1, "z: compressed: unpack it with zcat"),
            ("--lines 268435456 f s", 1, "row too long: 269484045 words, and lrupd takes at most 268435456: smaller --lines or --room")]
 
 
@@ -630,7 +630,7 @@ def compressed(program: str, work: Path) -> None:
     """A stream: lrupd says that its first byte is misspelled."""
     stream = written(COMPRESSED[program], work, "f1")
     done = explain([written(FOUR, work), "f1"], work)
-    want((told(done), done.out.splitlines()[-1]), ({1: (1, "spelling")}, f"       compressed: {program} it"), "what is said")
+    want((told(done), done.out.splitlines()[-1]), ({1: (1, "spelling")}, f"       compressed: unpack it with {program}"), "what is said")
 
 
 def help_of(work: Path) -> None:

@@ -35,7 +35,7 @@ from solving import in_place_of_lrupd, of_process
 PROGRAM, = words_given(__doc__)
 Text = Union[str, bytes]
 LARGEST, WORDS = FILTER.parent / "exact-largest-row", 4000      # a build for which lrupd's largest row has WORDS words
-GONE = "the reader of standard output, which runs lrupd, has ended before it read "
+GONE = "the reader of standard output, which runs lrupd, ended before it read "
 
 
 class Checked(NamedTuple):
@@ -266,7 +266,7 @@ def room_for_one(work: Path) -> None:
 def imported(work: Path) -> None:
     """As for lrup-solve, of a solver that is alone."""
     checked = check(written(FOUR, work), "1 i 1 2 0\n", [], work)
-    want((checked.status, checked.filter_said), (3, "lrup-exact: line 1: an import, of a solver that shares nothing\n"), "the end")
+    want((checked.status, checked.filter_said), (3, "lrup-exact: line 1: an import, but the solver shares nothing\n"), "the end")
 
 
 # The folder, and words.
@@ -277,7 +277,7 @@ def in_the_way(name: str, work: Path) -> None:
     (work / "d").mkdir()
     path = written("mine", work / "d", name)
     checked = check(written(FOUR, work), "0\n", [], work)
-    said = f"lrup-exact: --rounds takes a folder without files of rounds; there is d/{name}\n"
+    said = f"lrup-exact: d/{name}: exists, but --rounds needs a folder without files of rounds\n"
     want((checked, path.read_text(), left(work)), (Checked([], "", "", None, said, 1), "mine", [name]), "the end, and the file")
 
 
@@ -294,7 +294,7 @@ def others_write(mode: int, taken: bool, work: Path) -> None:
     (work / "d").mkdir()
     (work / "d").chmod(mode)
     checked = check(written(FOUR, work), "2 0\n0\n", [], work)
-    wanted = (0, "", 0) if taken else (None, "lrup-exact: others may write to the folder d\n", 1)
+    wanted = (0, "", 0) if taken else (None, "lrup-exact: d: other users may write to this folder\n", 1)
     want((checked.status, checked.filter_said, checked.filter_status), wanted, "the ends")
 
 
@@ -316,7 +316,7 @@ def put_in_place(how: str, work: Path) -> None:
         place.unlink()
         {"link": lambda: place.symlink_to(mine), "file": lambda: os.link(mine, place)}[how]()
         end = running.stderr.read().decode(), running.wait(LIMIT)
-    want(end, ("lrup-exact: somebody has put another file in the place of d/round-1.stream-1\n", 1), "the end")
+    want(end, ("lrup-exact: d/round-1.stream-1: another file is in its place\n", 1), "the end")
     want(mine.read_text(), "mine", "what the file has")
 
 
@@ -350,18 +350,18 @@ def locked(work: Path) -> None:
     with in_a_round(work) as sides:
         for name in ("d", "link"):
             done = run([FILTER, "--rounds", name, example("bmc.cnf"), "/dev/null"], cwd=work)
-            want(done[:], ("", f"lrup-exact: another run that goes on has its files in {name}\n", 1), "what is said while it goes on")
+            want(done[:], ("", f"lrup-exact: {name}: another run uses this folder\n", 1), "what is said while it goes on")
         sides.running.kill()
         sides.running.wait(LIMIT)
         said = run([FILTER, "--rounds", "d", example("bmc.cnf"), "/dev/null"], cwd=work).err
-        want(said[:59], "lrup-exact: --rounds takes a folder without files of rounds", "what is said once it was killed")
+        want("but --rounds needs a folder without files of rounds" in said, True, f"what is said once it was killed: {said}")
 
 
 def no_folder(work: Path) -> None:
     formula = written(FOUR, work, "d")
-    want(check(formula, "0\n", [], work)[4:], ("lrup-exact: cannot read the folder d\n", 1), "where a file has the name")
+    want(check(formula, "0\n", [], work)[4:], ("lrup-exact: d: Not a directory\n", 1), "where a file has the name")
     done = run([FILTER, "--rounds", "a/b", formula], cwd=work)
-    want(done[:], ("", "lrup-exact: cannot make the folder a/b\n", 1), "where the folder above isn't there")
+    want(done[:], ("", "lrup-exact: a/b: No such file or directory\n", 1), "where the folder above isn't there")
 
 
 def usage(words: str, cause: str, work: Path) -> None:
@@ -378,7 +378,7 @@ USAGE = [("--rounds", "no value after --rounds"), ("--rounds= FORMULA", "no fold
          ("--memory 1G FORMULA", "--memory without --rounds"), ("--rounds d FORMULA --memory", "no value after --memory"),
          ("--rounds d --memory 3G FORMULA", "more than 2147483648 bytes: 3G"),
          ("--rounds d --memory 99999999999999999999999 FORMULA", "more than 2147483648 bytes: 99999999999999999999999")]
-USAGE += [(f"--rounds d --memory {word} FORMULA", f"no size, as 500000000, 500M or 2G: {word}")
+USAGE += [(f"--rounds d --memory {word} FORMULA", f"not a size as 500000000, 500M or 2G: {word}")
           for word in ("0", "0G", "x", "1x", "1GB", "G", "-1", "1.5G", "+1")]
 
 

@@ -251,14 +251,14 @@ def held_hints(program: str, count: int, work: Path) -> None:
 def compressed(name: str, words: List[str], work: Path) -> None:
     """A formula or a proof that is compressed: what unpacks it is told."""
     formula, packed = written(FOUR, work), written(COMPRESSED[name] + b"\0" * 100, work, "packed")
-    want(exact([*words, packed, "/dev/null"])[:], ("", f"lrup-exact: {packed}: compressed: {name} it\n", 1), "what is said of the formula")
-    want(exact([*words, formula, packed])[:], ("", f"lrup-exact: byte 1: compressed: {name} it\n", 1), "what is said of the proof")
+    want(exact([*words, packed, "/dev/null"])[:], ("", f"lrup-exact: {packed}: compressed: unpack it with {name}\n", 1), "what is said of the formula")
+    want(exact([*words, formula, packed])[:], ("", f"lrup-exact: byte 1: compressed: unpack it with {name}\n", 1), "what is said of the proof")
 
 
 def bad_other(line: str, work: Path) -> None:
     """Where it is read it isn't LRAT text with rising identities of the formula's literals."""
     other = written(f"{line}\n8 2 0 1 2 0\n", work, "other")
-    stops(FOUR, FIRST + "7 1 -2 0 8 0\n", "line 2: in ", FIRST, ONE_OF_TWO + ["--other", f"2={other}"], work)
+    stops(FOUR, FIRST + "7 1 -2 0 8 0\n", f"line 2: {other}: ", FIRST, ONE_OF_TWO + ["--other", f"2={other}"], work)
 
 
 def closed_input(work: Path) -> None:
@@ -305,11 +305,11 @@ def refusals() -> List[Row]:
         ("no RAT step", "p cnf 2 2\n1 2 0\n-1 2 0\n", "-2 0\n", "line 1: no conflict by unit propagation: the clause -2 0 "
          "doesn't follow from those that weren't deleted, and it isn't RAT\n", "", []),
         ("a clause of another stream", FOUR, "5 0 6 3 4 0\n",
-         f"line 1: {NO_CLAUSE} 6 of stream 2: it wants an import, or --other 2=STREAM\n", "", ONE_OF_TWO),
+         f"line 1: {NO_CLAUSE} 6 of stream 2: it needs an import, or --other 2=STREAM\n", "", ONE_OF_TWO),
         ("a clause of another stream, which isn't in its file", FOUR, "5 0 6 3 4 0\n",
          f"line 1: {NO_CLAUSE} 6, which isn't in --other 2\n", "", ONE_OF_TWO + ["--other", "2=/dev/null"]),
         ("a clause of another stream, of one", FOUR, "5 0 6 3 4 0\n",
-         f"line 1: {NO_CLAUSE} 6, which isn't there: one of another stream wants --streams and --other\n", "", []),
+         f"line 1: {NO_CLAUSE} 6, which isn't there: if it is another stream's, use --streams and --other\n", "", []),
         ("a clause that was deleted", FOUR, "5 d 1 0\n6 2 0 1 2 0\n", f"line 2: {NO_CLAUSE} 1, which isn't there\n", "1 d 1 0\n", []),
         ("an import that was deleted", FOUR, "6 i 2 0\n5 d 6 0\n5 0 6 3 4 0\n", f"line 3: {NO_CLAUSE} 6, which isn't there\n",
          "6 i 2 0\n1 d 6 0\n", ONE_OF_TWO),
@@ -331,7 +331,7 @@ def refusals() -> List[Row]:
         ("an import of another's that was deleted", FOUR, "6 i 1 2 0\n5 d 6 0\n6 i 1 2 0\n",
          "line 3: an import of 6, which was deleted", "6 i 1 2 0\n1 d 6 0\n", ONE_OF_TWO),
         ("an import with a variable that isn't there", FOUR, "6 i 3 0\n", "line 1: a variable", "", ONE_OF_TWO),
-        ("an import after other numbers", FOUR, "9 2 0 1 2 0\n6 i -2 0\n", "line 2: an import, and", FIRST, ONE_OF_TWO),
+        ("an import after other numbers", FOUR, "9 2 0 1 2 0\n6 i -2 0\n", "line 2: an import, but", FIRST, ONE_OF_TWO),
         ("an import in DRUP", FOUR, "2 0\n6 i -2 0\n", "line 2: a step of LRAT text", FIRST, ONE_OF_TWO),
         ("a step without its end", FOUR, FIRST + "6 0 5 3 4\n", "line 2: ", FIRST, []),
         ("a step that is cut", FOUR, FIRST + "6 0 5 3", "line 2: the proof ends within a step", FIRST, []),
@@ -342,8 +342,8 @@ def refusals() -> List[Row]:
         ("a hint that is no number", FOUR, FIRST + "6 0 5 3 +4 0\n", "line 2: ", FIRST, []),
         ("a zero with a sign", FOUR, "5 2 -0 0 1 2 0\n", "line 1: ", "", []),
         ("no header", "1 2 0\n", "", "formula.cnf, line 1: no header", "", []),
-        ("a formula that is too short", "p cnf 2 5\n1 2 0\n", FIRST, "formula.cnf, line 3: the end, after 1 of the 5 clauses", "", []),
-        ("a formula with a variable too many", "p cnf 1 1\n1 2 0\n", FIRST, "formula.cnf, line 2: variable 2, above the 1 of", "", []),
+        ("a formula that is too short", "p cnf 2 5\n1 2 0\n", FIRST, "formula.cnf, line 3: file ends after 1 of 5 clauses", "", []),
+        ("a formula with a variable too many", "p cnf 1 1\n1 2 0\n", FIRST, "formula.cnf, line 2: variable 2, above the header's 1", "", []),
         ("a clause of another's file that isn't there", "p cnf 2 1\n1 2 0\n", "2 1 2 0 1 0\n4 1 0 3 0\n", f"line 2: {NO_CLAUSE} 3,",
          "2 1 2 0 1 0\n", ONE_OF_TWO + ["--other", "2=/dev/null"]),
     ]
@@ -666,11 +666,11 @@ def limits(program: str) -> List[Row]:
         ("{formula}", "yes | tr -d '\\n'", "line 1: a line of more than 268435456 bytes"),
         ("{formula}", "(echo 2 0; yes 1 | tr '\\n' ' ')", "line 2: a line of more than 268435456 bytes"),
         ("{formula}", "(echo 'a 5 2 0'; yes 1 | tr '\\n' ' ')", "line 2: a line of more than 268435456 bytes"),
-        ("{formula}", "yes c", "byte 1: the first 268435456 bytes don't tell the form of the proof"),
-        ("{formula}", "yes ''", "byte 1: the first 268435456 bytes don't tell the form of the proof"),
+        ("{formula}", "yes c", "byte 1: the first 268435456 bytes don't show the form of the proof"),
+        ("{formula}", "yes ''", "byte 1: the first 268435456 bytes don't show the form of the proof"),
         ("--format binary-drat {formula}", "(printf a; yes | tr -d '\\n')", "byte 1: a step of more than 33554432 numbers"),
         ("--format binary-lrat {formula}", "(printf a; yes | tr -d '\\n')", "byte 1: a step of more than 33554432 numbers"),
-        ("/dev/zero", ":", "/dev/zero, line 1: no header 'p cnf VARIABLES CLAUSES', with which a formula in DIMACS CNF begins"))]
+        ("/dev/zero", ":", "/dev/zero, line 1: no header 'p cnf VARIABLES CLAUSES': not DIMACS CNF"))]
 
 
 def pipes_and_files() -> List[Row]:
@@ -685,13 +685,13 @@ def pipes_and_files() -> List[Row]:
     for words in ("{work}/none", "{work}", "{formula} {work}/none", "{formula} {work}", "--other 2={work}/none {formula}"):
         runs.append((words, unreadable, words.split()))
     for words, cause in (("", "no FORMULA"), ("--help-me {formula}", "no such option: --help-me"),
-                         ("--format dimacs {formula}", "no form of a proof: dimacs"), ("{formula} x y", "one word too many: y"),
+                         ("--format dimacs {formula}", "unknown form: dimacs"), ("{formula} x y", "unexpected argument: y"),
                          ("{formula} -", "no such option: -"),
-                         ("--stream", "no value after --stream"), ("--stream x {formula}", "no number of a stream: x"),
+                         ("--stream", "no value after --stream"), ("--stream x {formula}", "not a stream's number: x"),
                          ("--stream 3 --streams 2 {formula}", "--stream takes 1 to the number of --streams"),
                          ("--stream 2 {formula}", "--stream takes 1 to the number of --streams"),
                          ("--stream 0 {formula}", "--stream takes 1 to the number of --streams"),
-                         ("--other x=/dev/null {formula}", "no T=STREAM: x=/dev/null"), ("--other 2= {formula}", "no T=STREAM: 2="),
+                         ("--other x=/dev/null {formula}", "not T=STREAM: x=/dev/null"), ("--other 2= {formula}", "not T=STREAM: 2="),
                          ("{formula} --format", "no value after --format")):
         runs.append((f"lrup-exact {words}", usage, words.split(), cause))
     return runs

@@ -226,7 +226,7 @@ ROWS: List[Row] = [
     ("a deletion that came too early", refused, XOR, "d 1 2 0\n1 0\n2 0\n0\n", f"line 2: {NONE}1 0{NOT_RAT}{DELETED}"),
     ("a proof that ends early", refused, FIRST, "", "the proof ends without the empty clause"),
     ("a new variable", refused, FIRST, "3 0\n", "line 1: a variable that the formula doesn't have"),
-    ("compressed", refused, FIRST, "\x1f\x8b garbled", "byte 1: compressed: zcat it"),
+    ("compressed", refused, FIRST, "\x1f\x8b garbled", "byte 1: compressed: unpack it with zcat"),
     *((f"a proof of another formula, {seed}", of_satisfiable, seed) for seed in range(1, 4)),
     *((f"mutated, {seed}", mutated, seed) for seed in range(1, 41)),
     ("no proof", misused, ["%formula"], "no proof: lrup-check FORMULA PROOF"),

@@ -414,7 +414,7 @@ def control_bytes(what: bytes, shown: str, work: Path) -> None:
     name = os.fsdecode(b"a" + what)
     cube = written(b"1" + what + b" 0\n", work, "cube")
     said = [solve(["--assume", cube, written(FOUR, work)]).said, solve([name], cwd=work).said]
-    wanted = [f": a word that is no number: 1{shown})\n", f"a{shown}': No such file or directory\n"]
+    wanted = [f": not a number: 1{shown})\n", f"a{shown}': No such file or directory\n"]
     want([text[-len(end):] for text, end in zip(said, wanted)], wanted, "what is said")
     answer = solve(["-v", "-j", "1", written(FOUR, work, name).name], cwd=work)
     in_ascii = re.sub(rb"[^ -~]", b"?", os.fsencode(shown)).decode()
@@ -582,10 +582,10 @@ def words_and_files() -> List[Row]:
 
 def refused_texts() -> List[Tuple[Text, str, int, str]]:
     """Formulas, with lrupd's answer, and the line and the words of the filter's, and of lrup-solve's."""
-    header, more = "no header 'p cnf VARIABLES CLAUSES', with which a formula in DIMACS CNF begins", "more clauses than the 1 of the header"
-    no_number = [(f"p cnf 2 1\n{text}\n", f"bad number in line {line}", line, f"a word that is no number: {word}") for text, line, word in (
+    header, more = "no header 'p cnf VARIABLES CLAUSES': not DIMACS CNF", "more clauses than the header's 1"
+    no_number = [(f"p cnf 2 1\n{text}\n", f"bad number in line {line}", line, f"not a number: {word}") for text, line, word in (
         ("1 x 0", 2, "x"), ("1 -0", 2, "-0"), ("c 0\n1 -0", 3, "-0"), ("-", 2, "-"), ("+1 0", 2, "+1"), ("01 0", 2, "01"),
-        ("-01 0", 2, "-01"), ("1 00", 2, "00"), ("1 0\n%\n0", 3, "%, as at the end of SATLIB's files: sed '/^%/,$d' leaves it out"), ("1 0 c", 2, "c"), (" c x\n1 0", 2, "c"), ("1\v2 0", 2, "1?2"), ("1 2\f0", 2, "2?0"),
+        ("-01 0", 2, "-01"), ("1 00", 2, "00"), ("1 0\n%\n0", 3, "%: SATLIB's files end with it, and sed '/^%/,$d' removes it"), ("1 0 c", 2, "c"), (" c x\n1 0", 2, "c"), ("1\v2 0", 2, "1?2"), ("1 2\f0", 2, "2?0"),
         ("1\0 0", 2, "1?"), ("1 0\0", 2, "0?"), ("1 0\n\x1a", 3, "?"), ("1,2 0", 2, "1,2"), ("1 2.0 0", 2, "2.0"), ("1 0x2 0", 2, "0x2"))]
     no_header = [(text, "no header", line, header) for text, line in (
         ("", 1), ("c x\n", 2), ("1 2 0\n", 1), ("pcnf 1 1\n1 0\n", 1), ("P CNF 1 1\n1 0\n", 1), (" c x\np cnf 1 1\n1 0\n", 1),
@@ -594,29 +594,29 @@ def refused_texts() -> List[Tuple[Text, str, int, str]]:
         ("c x\np cnf 2\n", 2), ("p cnf 02 1\n1 0\n", 1), ("p cnf 1 01\n1 0\n", 1), ("p cnf 00 0\n", 1), ("p cnf +1 1\n1 0\n", 1),
         ("p cnf 1 -1\n1 0\n", 1), ("p cnf -0 0\n", 1), ("p cnf 1 x\n1 0\n", 1), ("p cnf\n1 1\n1 0\n", 1), ("p\ncnf 1 1\n1 0\n", 1),
         ("p cnf 1 1\v\n1 0\n", 1), ("p cnf 1\f1\n1 0\n", 1), ("p CNF 1 1\n1 0\n", 1), ("p sat 1\n", 1))]
-    bad_header += [(text, "bad header", 1, "more in the line than the header 'p cnf VARIABLES CLAUSES'") for text in
+    bad_header += [(text, "bad header", 1, "unexpected words after the header 'p cnf VARIABLES CLAUSES'") for text in
                    ("p cnf 2 1 1 2 0\n", "p cnf 1 1 c x\n1 0\n", "p cnf 1 1\r1 0\r", "p cnf 1 1 \v\n1 0\n", "p cnf 1 1 1\n1 0\n")]
     return [*no_number, *no_header, *bad_header,
             ("p cnf 2 2\n1 0\n", "too few clauses", 3,
-             "the end, after 1 of the 2 clauses of the header: is the file cut? Else it has to be 'p cnf 2 1'"),
-            ("p cnf 2 1\n1 0\n2 0\n", "too many clauses in line 3", 3, f"{more}, which has to be 'p cnf 2 2'"),
-            ("p cnf 2 1\n1 0\n0\nc\n-2 1\n0 -1 0", "too many clauses in line 3", 3, f"{more}, which has to be 'p cnf 2 4'"),
-            ("p cnf 2 1\n1 0\n2 0\n1 7 0", "too many clauses in line 3", 3, f"{more}, which has to be 'p cnf 7 3'"),
+             "file ends after 1 of 2 clauses; truncated? If not, the header should be 'p cnf 2 1'"),
+            ("p cnf 2 1\n1 0\n2 0\n", "too many clauses in line 3", 3, f"{more}: the header should be 'p cnf 2 2'"),
+            ("p cnf 2 1\n1 0\n0\nc\n-2 1\n0 -1 0", "too many clauses in line 3", 3, f"{more}: the header should be 'p cnf 2 4'"),
+            ("p cnf 2 1\n1 0\n2 0\n1 7 0", "too many clauses in line 3", 3, f"{more}: the header should be 'p cnf 7 3'"),
             ("p cnf 2 1\n1 0\n2 0\n1 x 0", "too many clauses in line 3", 3, more),
             ("p cnf 2 1\n1 0\n2 0\n1", "too many clauses in line 3", 3, more),
             ("p cnf 2 1\n1 -3 0\n", "variable out of range in line 2", 2,
-             "variable 3, above the 2 of the header, which has to be 'p cnf 3 1'"),
+             "variable 3, above the header's 2: the header should be 'p cnf 3 1'"),
             ("p cnf 2 1\n1 0 3 0\n", "variable out of range in line 2", 2,
-             "variable 3, above the 2 of the header, which has to be 'p cnf 3 2'"),
+             "variable 3, above the header's 2: the header should be 'p cnf 3 2'"),
             ("p cnf 2 1\n1 3\n-16777215 0\n9 0\n", "variable out of range in line 2", 2,
-             "variable 3, above the 2 of the header, which has to be 'p cnf 16777215 2'"),
-            ("p cnf 2 1\n1 3 16777216 0\n", "variable out of range in line 2", 2, "variable 3, above the 2 of the header"),
+             "variable 3, above the header's 2: the header should be 'p cnf 16777215 2'"),
+            ("p cnf 2 1\n1 3 16777216 0\n", "variable out of range in line 2", 2, "variable 3, above the header's 2"),
             ("p cnf 2 1\n1 99999999999999999999 0\n", "variable out of range in line 2", 2,
-             "variable 99999999999999999999, above the 2 of the header"),
-            ("p cnf 2 1\n1 2", "open clause", 2, "the last clause has no 0 at its end"),
-            ("p cnf 99999999 1\n1 0\n", "limit", 1, "99999999 variables, and lrupd takes at most 16777215"),
-            ("p cnf 1 16777216\n1 0\n", "limit", 1, "16777216 clauses, and lrupd takes at most 16777215"),
-            ("p cnf 1 1\n" + "1 " * 1048576 + "0\n", "limit", 2, "more than 1048575 literals in a clause, which lrupd doesn't take")]
+             "variable 99999999999999999999, above the header's 2"),
+            ("p cnf 2 1\n1 2", "open clause", 2, "the last clause doesn't end with 0"),
+            ("p cnf 99999999 1\n1 0\n", "limit", 1, "99999999 variables, above lrupd's limit of 16777215"),
+            ("p cnf 1 16777216\n1 0\n", "limit", 1, "16777216 clauses, above lrupd's limit of 16777215"),
+            ("p cnf 1 1\n" + "1 " * 1048576 + "0\n", "limit", 2, "more than 1048575 literals in a clause, lrupd's limit")]
 
 
 def taken_texts() -> List[Row]:
@@ -634,7 +634,7 @@ SPACED = ": more than the single spaces between its words"
 def refusals() -> List[Row]:
     runs: List[Row] = []
     for words, cause in ((["--nothing", "{formula}"], "--nothing"), (["-vx", "{formula}"], "-vx"),
-                         (["{formula}", "{formula}"], "one word too many"),
+                         (["{formula}", "{formula}"], "unexpected argument"),
                          (["-j"], "no value after -j"), (["-j", "0", "{formula}"], "-j takes 1 to 64, not 0"),
                          (["-j", "65", "{formula}"], "-j takes 1 to 64, not 65"), (["-j", "x", "{formula}"], "not x"),
                          (["--time", "-1", "{formula}"], "--time takes seconds above 0, not -1"),
@@ -656,11 +656,11 @@ def refusals() -> List[Row]:
                          (["{work}/a\nb"], "a\\nb': No such file or directory"),
                          (["--assume", "{work}/none", "{formula}"], "{work}/none: No such file or directory"),
                          (["--proofs", "{work}/new", "{work}/none"], "none: No such file or directory"),
-                         *((["{work}/" + name], f"{name}: compressed: {name} it") for name in COMPRESSED)):
+                         *((["{work}/" + name], f"{name}: compressed: unpack it with {name}") for name in COMPRESSED)):
         runs.append((" ".join(["lrup-solve", *words]), refused, words, cause))
     runs += [(f"refused {text[:20]!r}", refused_by_all, text, *rest) for text, *rest in refused_texts()]
     beyond = "the literal {}, and the formula has the variables 1 to 2"
-    for name, known in (("bad", ": a word that is no number: x"), ("beyond", ": " + beyond.format(-7)), ("spaces", SPACED), ("crlf", ": a CR, and a line ends with LF alone"),
+    for name, known in (("bad", ": not a number: x"), ("beyond", ": " + beyond.format(-7)), ("spaces", SPACED), ("crlf", ": a CR, and a line ends with LF alone"),
                         ("noend", ": no LF at its end"), ("two", ": a second line"), ("blank", SPACED), ("tab", SPACED),
                         ("open", ": no line of literals that ends with 0"), ("least", ": " + beyond.format(-(1 << 63))),
                         ("less", ": " + beyond.format(str(-(1 << 64) - 1)[:20])), ("long", ": " + beyond.format("1" * 20)),
@@ -670,7 +670,7 @@ def refusals() -> List[Row]:
                    ("refused late, satisfiable", refused_late, "p cnf 1 0\n"),
                    ("its reading killed", reading_killed, "p cnf 1 0\n"), ("read late", read_late, dimacs(1, [[1]]), ""),
                    ("read late, what engines refuse", read_late, "p cnf 1 1\n2 0\n",
-                    "line 2: variable 2, above the 1 of the header, which has to be 'p cnf 2 1'")]
+                    "line 2: variable 2, above the header's 1 the header, which has to be 'p cnf 2 1'")]
 
 
 def main() -> int:

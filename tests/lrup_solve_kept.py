@@ -114,7 +114,7 @@ def there_before(work: Path) -> None:
     written("mine", work, "core")
     answer = solve(["--core", "core", written(FOUR, work)], cwd=work)
     want((answer.said, answer.answers, answer.status, (work / "core").read_text()),
-         ("lrup-solve: core is there, and isn't written over\n", [], 1, "mine"), "the answer")
+         ("lrup-solve: core: exists, not overwritten\n", [], 1, "mine"), "the answer")
 
 
 def programs_beside(tools: Dict[str, str], work: Path) -> Path:

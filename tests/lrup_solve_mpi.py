@@ -223,7 +223,7 @@ def shows(word: str, beginning: str, work: Path) -> None:
 def bad_formula(work: Path) -> None:
     """lrupd's words, and what is known of the file."""
     formula = written("p cnf 2 1\n1 3 0\n", work)
-    known = f"({formula}, line 2: variable 3, above the 2 of the header, which has to be 'p cnf 3 1')"
+    known = f"({formula}, line 2: variable 3, above the header's 2: the header should be 'p cnf 3 1')"
     said = f"lrupd: formula refused: variable out of range in line 2 {known}\n"
     answer = solve(2, ["-j", "1", formula])
     want((answer.out, answer.said, answer.status), ("", said, 1), "what is said")
@@ -383,7 +383,7 @@ def refusals() -> List[Row]:
     return [("65 engines", refused, 5, ["-j", "13"], program + "65 engines in all processes: at most 64\n", []),
             ("no engine", refused, 3, ["-j", "0"], program + "-j takes 1 to 64, not 0\n", []),
             ("no engine, process 0 is late", refused, 3, ["-j", "0"], program + "-j takes 1 to 64, not 0\n", LATE),
-            ("no formula", refused, 3, ["-j", "1", "--", "{work}/none"], program + "one word too many: formula.cnf\n", []),
+            ("no formula", refused, 3, ["-j", "1", "--", "{work}/none"], program + "unexpected argument: formula.cnf\n", []),
             ("a solver", refused, 2, ["--solver", "cadical %formula %proof"],
              program + "--solver and --mpi: a solver shares nothing with engines elsewhere\n", []),
             ("MPI's command ends with 1", not_started, "echo why >&2; exit 1", "with status 1"),

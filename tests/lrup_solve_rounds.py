@@ -501,7 +501,7 @@ def what_happens() -> List[Row]:
                                 ("kill -9 $$", 0, "ended by a signal"),
                                 ("cp $formula $saved; exit 3", 0, untaken),
                                 (waits, 1, "cannot open .*/round-2.cnf"),
-                                (f"echo p cnf 2 1 > $saved; {waits}", 1, "no checkpoint: .*/round-2.cnf"),
+                                (f"echo p cnf 2 1 > $saved; {waits}", 1, ".*/round-2.cnf: not a checkpoint of lrupd"),
                                 (f"cp $formula $saved; {waits}", 0, "lrupd hasn't saved the clause|no engine is left")):
         rows.append((f"another lrupd: {body}", impostor, body, status, cause))
     return rows

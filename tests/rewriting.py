@@ -21,7 +21,7 @@ FILLINGS = b" 0123456789\n\0-di"
 WITHOUT_ENDS, WITHOUT_SPACES = bytes.maketrans(b"\n", b" "), bytes.maketrans(b" ", b"1")
 PAUSES = (0, 0.0002, 0.001)     # seconds
 LINES = 30000
-CUT = "a file was cut while it was read\n"
+CUT = "a file was truncated while it was read\n"
 
 
 def changed(text: bytes, numbers: random.Random) -> bytes:

@@ -297,9 +297,9 @@ def base(number: int, work: Path) -> Garbled:
 
 FAULTY_LINE = (r"spelling|too long|truncated|rat hint|identity|an identity above that of the last addition|missing \d+|"
                r"a circle of lines that cite each other: \d+")
-FAULT = (rf"lrup-trim: (\S+, line \d+: ({FAULTY_LINE})|no line derives the empty clause|the run ends in round \d+, with that line|"
-         r"of the lines that are needed, number \d+: (no conflict by unit propagation: .*|a variable that the formula doesn't have)|"
-         r"\S+: not STREAMS LINES ROOM|\S+: compressed: \w+ it|\S+ isn't there)")
+FAULT = (rf"lrup-trim: (\S+, line \d+: ({FAULTY_LINE})|no line derives the empty clause|the run ends in round \d+, at that line|"
+         r"needed line \d+: (no conflict by unit propagation: .*|a variable that the formula doesn't have)|"
+         r"\S+: not STREAMS LINES ROOM|\S+: compressed: unpack it with \w+|\S+: No such file or directory)")
 
 
 def garbled_trim(found: Garbled, formula: Path, rehints: bool, work: Path) -> Optional[Tuple[bool, List[Ran]]]:
@@ -412,9 +412,9 @@ def bad_round(files: Dict[str, str], said: str, work: Path) -> None:
 
 
 ROUND = {"round-1.stream-1": FIRST, "round-2.stream-1": "6 0 5 3 4 0\n"}
-BAD_ROUNDS = [("no round", {"other": ""}, "d/round-1.stream-1 isn't there"),
-              ("a fault", {**ROUND, "round-1.stream-1": FIRST + "x\n"}, "the run ends in round 1, with that line"),
-              ("no stream 2", {**ROUND, "round-2.sizes": "2 1 1\n"}, "cannot open d/round-2.stream-2: No such file or directory")]
+BAD_ROUNDS = [("no round", {"other": ""}, "d/round-1.stream-1: No such file or directory"),
+              ("a fault", {**ROUND, "round-1.stream-1": FIRST + "x\n"}, "the run ends in round 1, at that line"),
+              ("no stream 2", {**ROUND, "round-2.sizes": "2 1 1\n"}, "d/round-2.stream-2: No such file or directory")]
 BAD_ROUNDS += [(f"sizes '{text[:9]}'", {**ROUND, "round-2.sizes": text}, "d/round-2.sizes: not STREAMS LINES ROOM")
                for text in ("", "1 2", "1 2\n", "1 2 3 4\n", "0 2 3\n", "65 2 3\n", "x 2 3\n", "1 2 3\n\n", "-1 2 3\n", "1  2 3\n")]
 
@@ -455,20 +455,20 @@ REFUSED = [("", 2, "error: no FORMULA"), ("f", 2, "error: no DIR or STREAM"), ("
            ("--core", 2, "error: no value after --core"), ("--stream x f s", 2, "error: --stream without --core"),
            ("--core x --core y f s", 2, "error: given twice: --core"), ("f" + " s" * 65, 2, "error: more than 64 streams, from s"),
            ("-x f s", 2, "error: no such option: -x"),
-           ("--core there f s", 1, "there is there, and isn't written over"), ("--lrat f f s", 1, "f is there, and isn't written over"),
-           ("--core x --stream=s f s", 1, "s is there, and isn't written over"),
-           ("f d s", 1, "d is a folder, and goes alone"), ("f d", 1, "d/round-1.stream-1 isn't there"),
-           ("f p", 1, "p: it is read more than once, so it has to be a file"),
-           ("p s", 1, "p: it is read more than once, so it has to be a file"),
-           ("f none", 1, "cannot open none: No such file or directory"), ("none s", 1, "cannot open none: No such file or directory"),
-           ("f z", 1, "z: compressed: zcat it"), ("z s", 1, "z: compressed: zcat it"), ("f s", 1, "no line derives the empty clause"),
-           ("s s", 1, "s, line 1: no header 'p cnf VARIABLES CLAUSES', with which a formula in DIMACS CNF begins"),
-           ("--assume none f s", 1, "cannot open none: No such file or directory"),
-           ("--assume there f s", 1, "there: no line of literals of FORMULA's variables, and 0, with single spaces"),
+           ("--core there f s", 1, "there: exists, not overwritten"), ("--lrat f f s", 1, "f: exists, not overwritten"),
+           ("--core x --stream=s f s", 1, "s: exists, not overwritten"),
+           ("f d s", 1, "d: a folder has to be the only input"), ("f d", 1, "d/round-1.stream-1: No such file or directory"),
+           ("f p", 1, "p: not a regular file, but it is read more than once"),
+           ("p s", 1, "p: not a regular file, but it is read more than once"),
+           ("f none", 1, "none: No such file or directory"), ("none s", 1, "none: No such file or directory"),
+           ("f z", 1, "z: compressed: unpack it with zcat"), ("z s", 1, "z: compressed: unpack it with zcat"), ("f s", 1, "no line derives the empty clause"),
+           ("s s", 1, "s, line 1: no header 'p cnf VARIABLES CLAUSES': not DIMACS CNF"),
+           ("--assume none f s", 1, "none: No such file or directory"),
+           ("--assume there f s", 1, "there: not a line of literals of FORMULA's variables and 0, with single spaces"),
            ("--lrat d/none/x f s", 1, "no line derives the empty clause"),
            ("--re-hint f s", 2, "error: --re-hint without --core or --lrat"),
            ("--re-hint=1 f s", 2, "error: no such option: --re-hint=1"),
-           ("--re-hint --core r f s", 1, "r.re-hint is there, and isn't written over")]
+           ("--re-hint --core r f s", 1, "r.re-hint: exists, not overwritten")]
 
 
 def cut(work: Path) -> None:
@@ -488,14 +488,14 @@ def no_place(work: Path) -> None:
     for name, cause in (("none/x", "No such file or directory"), ("core", "File exists")):
         done = trim(["--core", "core", "--stream", "stream", "--lrat", name, example("four-clause.cnf"), example("four-clause.lrup")], work)
         name = "core" if name == "core" else name
-        want((done.out, done.err, done.status, os.listdir(work)), ("", f"lrup-trim: cannot make {name}: {cause}\n", 1, []), name)
+        want((done.out, done.err, done.status, os.listdir(work)), ("", f"lrup-trim: {name}: {cause}\n", 1, []), name)
 
 
 def full(limit: int, options: Sequence[object], work: Path) -> None:
     """A file can't have more bytes: no beginning of one is left."""
     words = [*outputs_of(work), *options, example("bmc.cnf"), example("bmc.lrup")]
     done = trim(words, work, preexec_fn=lambda: within(limit))
-    found = re.fullmatch(r"lrup-trim: cannot write \S+/(core|stream|lrat)(\.re-hint)?: File too large\n", done.err)
+    found = re.fullmatch(r"lrup-trim: \S+/(core|stream|lrat)(\.re-hint)?: File too large\n", done.err)
     want((done.out, found is not None, done.status, os.listdir(work)), ("", True, 1, []), done.err)
 
 

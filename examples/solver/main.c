@@ -51,7 +51,7 @@ static uint64_t number_of(char **words) {
     char *end;
     if (words[1] == NULL) fail("no number after", words[0]);
     unsigned long long number = strtoull(words[1], &end, 10);
-    if (*words[1] < '0' || *words[1] > '9' || *end != 0) fail("no number:", words[1]);
+    if (*words[1] < '0' || *words[1] > '9' || *end != 0) fail("not a number:", words[1]);
     return number;
 }
 

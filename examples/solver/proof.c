@@ -13,7 +13,7 @@
 void proof_open(Proof *proof, const char *path, uint64_t clauses, int stream, int streams) {
     proof->path = path;
     proof->file = open(path, O_WRONLY | O_CREAT | O_TRUNC, 0666);   // waits for the reader of a FIFO
-    if (proof->file < 0) fail("cannot open", path);
+    if (proof->file < 0) fail_file(path, strerror(errno));
     proof->next = clauses + (uint64_t)stream;
     proof->step = (uint64_t)streams;
     proof->last = 1;
@@ -23,7 +23,7 @@ void proof_flush(Proof *proof) {
     size_t written = 0;
     while (written < proof->used) {
         ssize_t count = write(proof->file, proof->buffer + written, proof->used - written);
-        if (count < 0 && errno != EINTR) fail("cannot write", proof->path);
+        if (count < 0 && errno != EINTR) fail_file(proof->path, strerror(errno));
         if (count > 0) written += (size_t)count;
     }
     proof->bytes += written;
@@ -103,5 +103,5 @@ void proof_import(Proof *proof, uint64_t identity, const Literal *literals, size
 
 void proof_close(Proof *proof) {
     proof_flush(proof);
-    if (close(proof->file) != 0) fail("cannot write", proof->path);
+    if (close(proof->file) != 0) fail_file(proof->path, strerror(errno));
 }

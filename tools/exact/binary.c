@@ -27,11 +27,11 @@ static uint64_t number(Input *input) {
         value |= (uint64_t)(byte & 127) << shift;
         if (byte < 128) return value;
     }
-    stop("a number that is too large");
+    stop("number too large");
 }
 
 static int64_t as_literal(uint64_t number) {
-    if (number >> 1 == 0 || number >> 1 > LAST_IDENTITY) stop("a number that is no literal and no identity");
+    if (number >> 1 == 0 || number >> 1 > LAST_IDENTITY) stop("neither a literal nor an identity");
     return number & 1 ? -(int64_t)(number >> 1) : (int64_t)(number >> 1);
 }
 
@@ -46,7 +46,7 @@ static void numbers(Input *input, Numbers *list) {
 static void decode(Numbers *list, size_t start, size_t end, Coding coding) {
     for (size_t k = start; k < end; k++) {
         if (coding != PLAIN) list->items[k] = as_literal((uint64_t)list->items[k]);
-        else if (list->items[k] > (int64_t)LAST_IDENTITY) stop("a number that is too large");
+        else if (list->items[k] > (int64_t)LAST_IDENTITY) stop("number too large");
     }
 }
 
@@ -115,7 +115,7 @@ void binary_run(Filter *filter, Input *input, Form form) {
         list.length = 0;
         if (form == SHARING_DRAT && letter == 'x') filter->marked++;
         else if (form == SHARING_DRAT && (letter == 'i' || letter == 'r')) sharing_step(filter, input, letter, &list);
-        else if (letter != 'a' && letter != 'd') stop("no step of a binary proof, which begins with a or d");
+        else if (letter != 'a' && letter != 'd') stop("not a step of a binary proof, which begins with a or d");
         else if (form == BINARY_LRAT) lrat_step(filter, input, letter, &list, &coding);
         else drat_step(filter, input, letter, &list);
     }

@@ -25,7 +25,7 @@
 enum { LONGEST_PATH = 4096, LONGEST_NAME = 64, PAUSE = 5 };     // milliseconds
 enum { USUAL_LINES = 65536 };  // lrupd's default in round 1; the room never exceeds lrupd's default
 #define OF_A_ROUND "round-"
-#define ANOTHER_FILE "somebody has put another file in the place of"
+#define ANOTHER_FILE "another file is in its place"
 
 static const char *folder;
 static int held;                            // the open folder, even if it is renamed
@@ -42,25 +42,26 @@ static struct stat made;                    // the FIFO
 // users must not be able to replace files in it.
 static void lock_folder(void) {
     held = open(folder, O_RDONLY | O_DIRECTORY | O_CLOEXEC);
-    if (held < 0) fail("cannot read the folder", folder);
-    if (others_may_write(held)) fail("others may write to the folder", folder);
-    if (flock(held, LOCK_EX | LOCK_NB) != 0 && errno == EWOULDBLOCK) fail("another run that goes on has its files in", folder);
+    if (held < 0) fail_file(folder, strerror(errno));
+    if (others_may_write(held)) fail_file(folder, "other users may write to this folder");
+    if (flock(held, LOCK_EX | LOCK_NB) != 0 && errno == EWOULDBLOCK)
+        fail_file(folder, "another run uses this folder");
 }
 
 // Opens the folder. It must have no file of a round: lrupd would read it, or refuse to overwrite
 // it.
 void chain_open(const char *path) {
     folder = path;
-    if (strlen(folder) > LONGEST_PATH - LONGEST_NAME) fail("too long a name:", folder);
-    if (mkdir(folder, 0775) != 0 && errno != EEXIST) fail("cannot make the folder", folder);
+    if (strlen(folder) > LONGEST_PATH - LONGEST_NAME) fail_file(folder, "name too long");
+    if (mkdir(folder, 0775) != 0 && errno != EEXIST) fail_file(folder, strerror(errno));
     lock_folder();
     int listed = openat(held, ".", O_RDONLY | O_DIRECTORY | O_CLOEXEC);
     DIR *list = listed < 0 ? NULL : fdopendir(listed);
-    if (list == NULL) fail("cannot read the folder", folder);
+    if (list == NULL) fail_file(folder, strerror(errno));
     for (const struct dirent *entry; (entry = readdir(list)) != NULL;) {
         if (strncmp(entry->d_name, OF_A_ROUND, strlen(OF_A_ROUND)) != 0) continue;
         snprintf(stream, sizeof stream, "%s/%s", folder, entry->d_name);
-        fail("--rounds takes a folder without files of rounds; there is", stream);
+        fail_file(stream, "exists, but --rounds needs a folder without files of rounds");
     }
     closedir(list);
 }
@@ -79,13 +80,14 @@ static void make_files(void) {
     name_file(sizes, "sizes");
     name_file(stream, "stream-1");
     int out = openat(held, name_in(sizes), O_WRONLY | O_CREAT | O_EXCL, 0666);
-    if (out < 0) fail("cannot make", sizes);
+    if (out < 0) fail_file(sizes, strerror(errno));
     bool written = write_whole(out, text, (size_t)length);
     is_awaited = 1;
     if (close(out) == 0 && written && mkfifoat(held, name_in(stream), 0666) == 0 &&
         fstatat(held, name_in(stream), &made, AT_SYMLINK_NOFOLLOW) == 0) return;
+    int error = errno;
     unlinkat(held, name_in(sizes), 0);
-    fail("cannot make", stream);
+    fail_file(stream, strerror(error));
 }
 
 static void remove_files(void) {
@@ -116,16 +118,17 @@ static void open_stream(void) {
     struct pollfd reader = { .fd = STDOUT_FILENO };
     struct stat found;
     while ((file = openat(held, name_in(stream), O_WRONLY | O_NONBLOCK | O_NOFOLLOW)) < 0) {
-        if (errno == ELOOP) fail(ANOTHER_FILE, stream);
-        if (errno != ENXIO && errno != EINTR) fail("cannot open", stream);
+        if (errno == ELOOP) fail_file(stream, ANOTHER_FILE);
+        if (errno != ENXIO && errno != EINTR) fail_file(stream, strerror(errno));
         if (poll(&reader, 1, PAUSE) <= 0) continue;
         if (reader.revents & POLLERR) {
             remove_files();
-            stop("the reader of standard output, which runs lrupd, has ended before it read %s", stream);
+            stop("the reader of standard output, which runs lrupd, ended before it read %s", stream);
         }
         reader.fd = -1;
     }
-    if (fstat(file, &found) != 0 || found.st_dev != made.st_dev || found.st_ino != made.st_ino) fail(ANOTHER_FILE, stream);
+    if (fstat(file, &found) != 0 || found.st_dev != made.st_dev || found.st_ino != made.st_ino)
+        fail_file(stream, ANOTHER_FILE);
     fcntl(file, F_SETFL, 0);
     remove_files();
 }

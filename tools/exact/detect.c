@@ -72,7 +72,7 @@ void check_plain(Input *input) {
     const char *program = unpacked_by(first, input_ahead(input, 1));
     if (program == NULL) return;
     position_set("byte", 1);
-    stop("compressed: %s it", program);
+    stop("compressed: unpack it with %s", program);
 }
 
 // Whether a text is LRAT or DRUP and DRAT, its steps decide.

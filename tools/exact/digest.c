@@ -83,7 +83,7 @@ void digest_file(int file, const char *path, char text[DIGEST_DIGITS + 1]) {
     digest_begin(&digest);
     for (ssize_t count; (count = read(file, bytes, PIECE)) != 0;) {
         if (count > 0) digest_add(&digest, bytes, (size_t)count);
-        else if (errno != EINTR) stop("cannot read %s: %s", path, strerror(errno));
+        else if (errno != EINTR) stop("%s: %s", path, strerror(errno));
     }
     digest_end(&digest, text);
 }

@@ -46,3 +46,9 @@ _Noreturn void fail(const char *cause, const char *object) {
     told(text);
     abort();
 }
+
+_Noreturn void fail_file(const char *path, const char *cause) {
+    char where[LONGEST_TEXT];
+    snprintf(where, sizeof where, "%s:", path);
+    fail(where, cause);
+}

@@ -228,12 +228,12 @@ static _Noreturn void stop_without_conflict(Filter *filter, const Addition *addi
     bool may_be_shared = !is_alone && missing > (int64_t)filter->formula.clauses;
     unsigned long long stream = may_be_shared ? owner(filter, (uint64_t)missing) : filter->stream;
     if (may_be_shared && filter->streams == 1)
-        stop("%s, and the step cites the clause %lld, which isn't there: one of another stream wants --streams and --other", none, name);
+        stop("%s, and the step cites the clause %lld, which isn't there: if it is another stream's, use --streams and --other", none, name);
     if (stream == filter->stream || clauses_named(&filter->dropped, (uint64_t)missing) != 0)
         stop("%s, and the step cites the clause %lld, which isn't there", none, name);
     if (others_find(&filter->others, stream))
         stop("%s, and the step cites the clause %lld, which isn't in --other %llu", none, name, stream);
-    stop("%s, and the step cites the clause %lld of stream %llu: it wants an import, or --other %llu=STREAM", none, name, stream, stream);
+    stop("%s, and the step cites the clause %lld of stream %llu: it needs an import, or --other %llu=STREAM", none, name, stream, stream);
 }
 
 // Finds a chain by unit propagation. A round may end at each lemma that is written for it.
@@ -297,7 +297,7 @@ void filter_add(Filter *filter, const Addition *addition) {
     if (least < 0) stop("a RAT step (negative hints), which lrupd doesn't check: switch off the techniques that make them");
     bool tautology = mark_or_stop(filter, addition->literals, addition->length);
     if (addition->named && clauses_named(&filter->clauses, (uint64_t)addition->name) != 0)
-        stop("the identity %lld a second time", (long long)addition->name);
+        stop("the identity %lld is used twice", (long long)addition->name);
     if (!tautology && !filter->refuted) derive(filter, addition);
     filter->marked = 0;
     unmark_literals(filter);
@@ -325,14 +325,14 @@ static void write_import(uint64_t identity, const int64_t *literals, size_t leng
 // From now on steps may use the clause.
 void filter_import(Filter *filter, int64_t identity, const int64_t *literals, size_t length) {
     int64_t formula = (int64_t)filter->formula.clauses;
-    if (filter->hooks && filter->others.length == 0) stop("an import, of a solver that shares nothing");
+    if (filter->hooks && filter->others.length == 0) stop("an import, but the solver shares nothing");
     if (filter->refuted) return;
     if (identity < 1 || (identity > formula && owner(filter, (uint64_t)identity) == filter->stream))
         stop("an import of %lld, which is no clause of the formula or of another stream", (long long)identity);
     bool tautology = mark_or_stop(filter, literals, length);
     if (length > LITERALS_OF_A_LINE) stop("longer than a line may be");
     if (identity > formula && filter->renumbered && !filter->keeps_identities)
-        stop("an import, and the proof's identities aren't those of its stream");
+        stop("an import, but the proof's identities aren't those of its stream");
     filter->keeps_identities |= identity > formula;
     ClauseRef ref = find(filter, identity);
     if (clauses_named(&filter->dropped, (uint64_t)identity) != 0 || (ref == 0 && identity <= formula))
@@ -439,9 +439,9 @@ void filter_delete_literals(Filter *filter, const int64_t *literals, size_t leng
 // Steps that only FRAT has.
 
 void filter_original(Filter *filter, int64_t name, const int64_t *literals, size_t length) {
-    if (clauses_named(&filter->clauses, (uint64_t)name) != 0) stop("the identity %lld a second time", (long long)name);
+    if (clauses_named(&filter->clauses, (uint64_t)name) != 0) stop("the identity %lld is used twice", (long long)name);
     ClauseRef ref = take_set(filter, literals, length);
-    if (ref == 0) stop("an original clause that the formula doesn't have, or not so often");
+    if (ref == 0) stop("an original clause that the formula lacks, or has less often");
     clauses_name(&filter->clauses, (uint64_t)name, ref);
 }
 
@@ -455,7 +455,7 @@ void filter_rename(Filter *filter, const int64_t *pairs, size_t length) {
     }
     for (size_t k = 0; k < given->length; k++) {
         int64_t name = pairs[2 * k + 1];
-        if (clauses_named(&filter->clauses, (uint64_t)name) != 0) stop("the identity %lld a second time", (long long)name);
+        if (clauses_named(&filter->clauses, (uint64_t)name) != 0) stop("the identity %lld is used twice", (long long)name);
         if (given->items[k] != 0) clauses_name(&filter->clauses, (uint64_t)name, given->items[k]);
     }
 }

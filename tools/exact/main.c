@@ -41,7 +41,7 @@ static const char usage[] =
     "       lrup-exact --rounds DIR [--memory SIZE] [OPTIONS] FORMULA [PROOF]\n"
     "       lrup-exact --help | --version\n"
     "OPTIONS are --format FORM, and --ignore-deletions, which keeps all clauses that the proof deletes.\n"
-    "FORM is lrat, drat, frat, binary-lrat or binary-drat; without it the first bytes of the proof tell the form.\n"
+    "FORM is lrat, drat, frat, binary-lrat or binary-drat; by default the first bytes of the proof decide.\n"
     "lrupd --rounds DIR FORMULA DIR/round-1.stream-1 reads what --rounds writes; SIZE is the most that lrupd may take for a round,\n"
     "as 500M or 2G.\n";
 
@@ -55,7 +55,7 @@ static Form form_named(const char *word) {
                                          [BINARY_DRAT] = "binary-drat" };
     for (Form form = LRAT; form <= BINARY_DRAT; form++)
         if (strcmp(word, names[form]) == 0) return form;
-    refuse("no form of a proof:", word);
+    refuse("unknown form:", word);
 }
 
 // What follows the number, which has at most nine digits; NULL if there is no number.
@@ -69,7 +69,7 @@ static char *behind_number(char *word, uint64_t *number) {
 static uint64_t number_of(char *word) {
     uint64_t number;
     const char *rest = behind_number(word, &number);
-    if (!rest || *rest != 0) refuse("no number of a stream:", word);
+    if (!rest || *rest != 0) refuse("not a stream's number:", word);
     return number;
 }
 
@@ -78,14 +78,14 @@ typedef struct { uint64_t number; const char *path; } OtherStream;
 static OtherStream other_of(char *word) {
     OtherStream other;
     const char *rest = behind_number(word, &other.number);
-    if (!rest || rest[0] != '=' || rest[1] == 0) refuse("no T=STREAM:", word);
+    if (!rest || rest[0] != '=' || rest[1] == 0) refuse("not T=STREAM:", word);
     other.path = rest + 1;
     return other;
 }
 
 static uint64_t memory_of(const char *word) {
     uint64_t bytes = memory_read(word);
-    if (bytes == 0) refuse("no size, as 500000000, 500M or 2G:", word);
+    if (bytes == 0) refuse("not a size as 500000000, 500M or 2G:", word);
     if (bytes > MOST_MEMORY) refuse("more than 2147483648 bytes:", word);
     return bytes;
 }
@@ -122,7 +122,7 @@ static void read_word(CommandLine *given, char ***words) {
     else if ((value = value_of(words, "--memory")) != NULL) given->memory = memory_of(value);
     else if (strcmp(**words, "--ignore-deletions") == 0) given->ignores_deletions = true;
     else if (***words == '-') refuse("no such option:", **words);
-    else if (given->files_length == 2) refuse("one word too many:", **words);
+    else if (given->files_length == 2) refuse("unexpected argument:", **words);
     else given->files[given->files_length++] = **words;
 }
 
@@ -140,7 +140,7 @@ static void run(Filter *filter, Input *input, Form form) {
     else check_plain(input);
     if (form == UNKNOWN_FORM) {
         position_set("byte", 1);
-        stop("the first bytes don't tell the form: say it, --format lrat|drat|frat|binary-lrat|binary-drat");
+        stop("the first bytes don't show the form: use --format lrat|drat|frat|binary-lrat|binary-drat");
     }
     filter_open(filter, form == FRAT);
     if (form == FRAT) frat_run(filter, input);

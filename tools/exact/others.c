@@ -25,11 +25,11 @@ static void keep(Other *other, const Words *words) {
     literals->length = 0;
     for (size_t k = 1; k < words->first_zero; k++) {
         if (numbers[k] > other->variables || numbers[k] < -other->variables)
-            stop("in %s a variable that the formula doesn't have, or no number", other->input.path);
+            stop("%s: a variable that the formula doesn't have, or not a number", other->input.path);
         PUSH(literals, (Literal)(numbers[k] > 0 ? 2 * (numbers[k] - 1) : 2 * (-numbers[k] - 1) + 1));
     }
     if (numbers[0] <= (int64_t)other->last || words->zeros == 0 || words->first_zero == 0)
-        stop("in %s no step of LRAT text, or an identity that isn't above the one before", other->input.path);
+        stop("%s: not a step of LRAT text, or an identity that isn't above the one before", other->input.path);
     other->last = (uint64_t)numbers[0];
     size_t length = literals_sort(literals->items, literals->length);
     bool tautology = literals_clash(literals->items, length);

@@ -10,7 +10,7 @@ static const char *name_of(Form form) { return form == LRAT ? "LRAT" : "DRUP or 
 // All steps have the form of the first one.
 static void check_form(Form *form, Form found) {
     if (*form != TEXT && *form != found)
-        stop("a step of %s text, and those before were %s", name_of(found), name_of(*form));
+        stop("a step of %s text, but those before were %s", name_of(found), name_of(*form));
     *form = found;
 }
 
@@ -53,7 +53,7 @@ void text_run(Filter *filter, Input *input, Form form) {
         words_read(&words, line);
         if (words.numbers.length == 0) continue;
         if (words.numbers.items[0] == LETTER('c') || words.numbers.items[0] == LETTER('o')) continue;
-        if (words.garbled && !line_is_text(line)) stop("not text: say the form of a binary proof with --format");
+        if (words.garbled && !line_is_text(line)) stop("not text: use --format for a binary proof");
         words_check_whole(&words, line);
         step(filter, &words, &line, &form);
     }

@@ -121,7 +121,7 @@ void words_read(Words *words, Line line) {
 void words_check(const Words *words, size_t start, size_t end) {
     for (size_t k = start; k < end; k++) {
         if (words->numbers.items[k] == TOO_LONG) stop("a number of more than %d digits", DIGITS);
-        if (words->numbers.items[k] < LEAST_NUMBER) stop("a word that is no number");
+        if (words->numbers.items[k] < LEAST_NUMBER) stop("not a number");
     }
 }
 

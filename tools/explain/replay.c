@@ -206,7 +206,7 @@ static void carry(Replay *replay) {
 void replay_all(Replay *replay, const char *formula, const char *folder, char **paths, uint32_t count) {
     replay->round = 1;
     if (folder) count = record_streams(folder, 1, 0, &replay->row);
-    if (count == 0) stop("%s isn't there", record_file(folder, 1, "stream-", 1));
+    if (count == 0) stop("%s: No such file or directory", record_file(folder, 1, "stream-", 1));
     if (folder) record_check(folder, formula);
     take_formula(replay, formula);
     for (;;) {

@@ -161,6 +161,6 @@ void tell_short(const Replay *replay, const Stream *stream) {
         const Stream *owner = owner_of(replay, stream->fault.object);
         printf(", of stream %u, whose line %llu is bad\n", owner->number, (Printed)owner->lines + 1);
     } else {
-        printf(", by itself: --all tells why\n");
+        printf(", by itself: --all says why\n");
     }
 }

@@ -44,7 +44,7 @@ static const char *name_of(unsigned char byte) {
 static const char *guess_of(const Stream *stream, Line line, size_t place, unsigned char byte) {
     static char text[32];
     const char *program = stream->lines == 0 ? unpacked_by(line.start[0], line.start[1]) : NULL;
-    if (program) return snprintf(text, sizeof text, "compressed: %s it", program), text;
+    if (program) return snprintf(text, sizeof text, "compressed: unpack it with %s", program), text;
     if (byte == '\r') return "lines end with LF alone, and not with CR LF";
     if (place == 0 && byte == '\n') return "an empty line, which streams don't have";
     if (place == 0 && byte == 'c') return "a comment, which streams don't have?";
@@ -66,17 +66,17 @@ static void why_form(const Stream *stream) {
     bool is_end = line.start + fault.place == line.end;
     unsigned char byte = is_end ? '\n' : line.start[fault.place];
     const char *guess = fault.kind == SPELLING ? guess_of(stream, line, fault.place, byte) : NULL;
-    if (fault.kind == SPELLING) printf("  why: %s stands where there has to be %s\n", name_of(byte), fault.wanted);
+    if (fault.kind == SPELLING) printf("  why: expected %s, found %s\n", fault.wanted, name_of(byte));
     else if (fault.kind == RAT_HINT)
-        printf("  why: a hint with a minus, of a RAT step, which lrupd doesn't check: switch off what makes them\n");
+        printf("  why: a negative hint, of a RAT step, which lrupd doesn't check: switch off what makes such steps\n");
     else if (fault.kind == TRUNCATED)
-        printf("  why: the stream ends within this line, after %zu bytes: there has to be %s\n", fault.place, fault.wanted);
+        printf("  why: the stream ends within this line, after %zu bytes: expected %s\n", fault.place, fault.wanted);
     else
         printf("  why: %zu %s%s, %zu too many: a %s may have %zu\n", fault.count, fault.of, fault.most == DIGITS ? " of a number" : "",
                fault.count - fault.most, fault.most == DIGITS ? "number" : "line", fault.most);
     tell_bytes(line, is_whole, fault.place);
     if (guess) printf("       %s\n", guess);
-    if (fault.kind == TRUNCATED) printf("       the solver was ended, or didn't write out its buffer?\n");
+    if (fault.kind == TRUNCATED) printf("       was the solver killed, or its buffer not flushed?\n");
 }
 
 // Identities, literals and room.
@@ -87,7 +87,7 @@ static uint64_t lines_for(const Replay *replay, uint64_t identity) {
 }
 
 static void tell_lines_for(const Replay *replay, uint64_t identity) {
-    printf("       --lines %llu would do for it\n", (Printed)lines_for(replay, identity));
+    printf("       --lines %llu would be enough\n", (Printed)lines_for(replay, identity));
 }
 
 static uint32_t number_of_owner(const Replay *replay, uint64_t identity) {
@@ -124,7 +124,7 @@ static uint64_t step_of(const Stream *stream) {
 static void tell_left_out(const Replay *replay, const Stream *stream) {
     uint64_t step = step_of(stream);
     if (step > replay->count && step <= STREAMS)
-        printf("       the identities of stream %u go up by %llu, as of %llu streams, and %u %s given: was one left out?\n", stream->number,
+        printf("       the identities of stream %u go up by %llu, as with %llu streams, but %u %s given: was one left out?\n", stream->number,
                (Printed)step, (Printed)step, replay->count, replay->count == 1 ? "is" : "are");
 }
 
@@ -147,7 +147,7 @@ static void tell_lines_of(const Replay *replay, const Stream *stream, uint64_t i
         if (number_of_owner(replay, reading.identity) == stream->number && reading.identity > greatest)
             greatest = reading.identity;
     if (greatest == identity) return tell_lines_for(replay, identity);
-    printf("       --lines %llu does for this line, and %llu for all lines of the stream\n",
+    printf("       --lines %llu is enough for this line, and %llu for all lines of the stream\n",
            (Printed)lines_for(replay, identity), (Printed)lines_for(replay, greatest));
 }
 
@@ -162,7 +162,7 @@ static void why_identity(const Replay *replay, const Stream *stream) {
     if (identity <= replay->clauses) {
         printf("  why: %llu is of the formula, whose clauses are 1 to %llu\n", (Printed)identity, (Printed)replay->clauses);
     } else if (number_of_owner(replay, identity) != stream->number) {
-        printf("  why: %llu is of stream %u, of %u that take turns above %llu\n", (Printed)identity, number_of_owner(replay, identity),
+        printf("  why: %llu belongs to stream %u: %u streams take turns above %llu\n", (Printed)identity, number_of_owner(replay, identity),
                replay->count, (Printed)replay->clauses);
         tell_left_out(replay, stream);
     } else if (identity > replay->last) {
@@ -172,7 +172,7 @@ static void why_identity(const Replay *replay, const Stream *stream) {
         return;
     } else {
         uint64_t line = known_of(replay, stream->last)->line;
-        printf("  why: %llu isn't above %llu, which line %llu took: identities go up\n", (Printed)identity, (Printed)stream->last,
+        printf("  why: %llu isn't above %llu, the identity of line %llu\n", (Printed)identity, (Printed)stream->last,
                (Printed)line);
     }
     tell_right_identity(replay, stream);
@@ -197,7 +197,7 @@ static void why_tautology(const Replay *replay) {
     const Reading *line = &replay->line;
     for (size_t k = 0; k < line->length; k++) {
         if (replay->values[literal_of(line->literals[k])] <= 0) continue;
-        printf("  why: both %lld and %lld stand there, so the clause is true always: leave the line out\n", -(long long)line->literals[k],
+        printf("  why: the clause has %lld and %lld, so it is always true: leave the line out\n", -(long long)line->literals[k],
                (long long)line->literals[k]);
         return;
     }
@@ -215,7 +215,7 @@ static void why_no_room(const Replay *replay, const Stream *stream) {
     uint64_t wanted = replay->trail.length, literals = literals_of_stream(stream);
     printf("  why: the clause has %llu different literals, and %llu of --room %llu %s left: %llu too few\n", (Printed)wanted,
            (Printed)stream->room, (Printed)replay->row.room, stream->room == 1 ? "is" : "are", (Printed)(wanted - stream->room));
-    printf("       --room %llu does for this line, and %llu for all lines of the stream\n",
+    printf("       --room %llu is enough for this line, and %llu for all lines of the stream\n",
            (Printed)(replay->row.room + wanted - stream->room), (Printed)literals);
 }
 
@@ -242,10 +242,10 @@ static void why_missing(const Replay *replay, const Stream *stream, uint64_t hin
     }
     printf("  why: %llu is of stream %u", (Printed)hint, owner->number);
     if (owner == stream && later) printf(", this one, which derives it later, in its line %llu\n", (Printed)later);
-    else if (owner == stream) printf(", this one, and no line of it derives it\n");
+    else if (owner == stream) printf(", this one, and none of its lines derives it\n");
     else if (is_cut_off(owner, hint))
-        printf(", which is over: its line %llu is bad (%s)\n", (Printed)owner->lines + 1, fault_words(&owner->fault));
-    else if (!later) printf(", and no line of it derives it\n");
+        printf(", which stopped at its bad line %llu (%s)\n", (Printed)owner->lines + 1, fault_words(&owner->fault));
+    else if (!later) printf(", and none of its lines derives it\n");
     else if (replay->is_stuck)
         printf(", whose line %llu waits for %llu, in a circle that comes back to this line\n", (Printed)owner->lines + 1,
                (Printed)owner->awaited);
@@ -264,7 +264,7 @@ static void why_deleted(const Replay *replay, const Stream *stream, uint64_t hin
     printf("  why: its owner deleted %llu in stream %u, line %llu, for all\n", (Printed)hint, owner->number,
            (Printed)line_deleting(owner, hint));
     if (owner != stream)
-        printf("       threads may come to that line sooner or later than here: a clause that others cite isn't to be deleted\n");
+        printf("       threads may reach that line earlier or later: don't delete a clause that others cite\n");
 }
 
 // The first clause that is unit with this literal now, or the conflict; or 0.
@@ -294,7 +294,7 @@ static void tell_follows(const Replay *replay, const Stream *stream, Literal lit
     printf("       %d would follow here from ", as_written(complement_of(literal)));
     tell_clause_and_place(replay, unit);
     if (is_hint) printf(", hint %zu of the line, which comes too late\n", later + 1);
-    else printf(", which is no hint of the line\n");
+    else printf(", which isn't a hint of the line\n");
 }
 
 static void tell_true(const Replay *replay, Literal literal, uint64_t hint) {
@@ -333,9 +333,9 @@ static void why_no_conflict(const Replay *replay, const Stream *stream) {
     if (replay->line.count == 0) printf("  why: the line has no hints\n");
     else printf("  why: each hint is unit, and none has all its literals false: the conflict is missing\n");
     if (conflict == 0) return;
-    printf("       all literals are false here of ");
+    printf("       all literals are false in ");
     tell_clause_and_place(replay, conflict);
-    printf(", which is no hint of the line\n");
+    printf(", which isn't a hint of the line\n");
 }
 
 static void tell_chain(const Replay *replay, const Stream *stream) {
@@ -372,7 +372,7 @@ static void why_not_live(const Replay *replay, const Stream *stream, uint64_t id
     } else if (line <= stream->lines) {
         printf("  why: this stream has deleted %llu before, in its line %llu\n", (Printed)identity, (Printed)line);
     } else {
-        printf("  why: %llu stands twice in this line\n", (Printed)identity);
+        printf("  why: %llu is in this line twice\n", (Printed)identity);
     }
 }
 
@@ -407,7 +407,7 @@ static void why_differs(const Replay *replay, uint64_t identity) {
         if (at == clause->length) PUSH(&more, literal);
     }
     tell_difference("the import leaves out", &left_out);
-    tell_difference("the import has, and the clause hasn't,", &more);
+    tell_difference("only the import has", &more);
     left_out.items = grow(left_out.items, 0);
     more.items = grow(more.items, 0);
 }

@@ -204,7 +204,7 @@ bool is_of_letters(const char *word) { return word[0] == '-' && word[1] != 0 && 
 void take_file(Options &options, const char *word) {
     if (!options.formula) options.formula = word;
     else if (options.check) options.solvers.push_back(word);
-    else refuse("one word too many: " + quoted(word));
+    else refuse("unexpected argument: " + quoted(word));
 }
 
 // --check has to come first, since with it the words after the formula are proofs.

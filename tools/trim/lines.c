@@ -34,8 +34,8 @@ static bool is_null(const struct stat *found) {
 static int file_open(const char *path, size_t *length) {
     struct stat found;
     int file = open(path, O_RDONLY | O_NONBLOCK | O_CLOEXEC);
-    if (file < 0 || fstat(file, &found) != 0) stop("cannot open %s: %s", path, strerror(errno));
-    if (!S_ISREG(found.st_mode) && !is_null(&found)) stop("%s: it is read more than once, so it has to be a file", path);
+    if (file < 0 || fstat(file, &found) != 0) stop("%s: %s", path, strerror(errno));
+    if (!S_ISREG(found.st_mode) && !is_null(&found)) stop("%s: not a regular file, but it is read more than once", path);
     *length = (size_t)found.st_size;
     return file;
 }
@@ -60,7 +60,7 @@ static int file_without_name(void) {
     const char *folder = getenv("TMPDIR");
     int length = snprintf(name, sizeof name, "%s/lrup-XXXXXX", folder && *folder ? folder : "/tmp");
     int file = length < LONGEST_PATH ? mkostemp(name, O_CLOEXEC) : -1;
-    if (file < 0) stop("cannot make a file in %s: %s", folder && *folder ? folder : "/tmp", strerror(errno));
+    if (file < 0) stop("cannot create a file in %s: %s", folder && *folder ? folder : "/tmp", strerror(errno));
     unlink(name);
     return file;
 }
@@ -85,7 +85,7 @@ static int unpacked(int packed, const char *program, const char *path) {
 static void file_was_cut(int number) {
     (void)number;
     position_set(NULL, 0);
-    stop("a file was cut while it was read");
+    stop("a file was truncated while it was read");
 }
 
 // Mapped over zeros, which follow the file's bytes; so an empty file has memory, too.
@@ -95,7 +95,7 @@ unsigned char *file_map(const char *path, size_t *length) {
     if (program) {
         struct stat found;
         file = unpacked(file, program, path);
-        if (fstat(file, &found) != 0) stop("cannot open %s: %s", path, strerror(errno));
+        if (fstat(file, &found) != 0) stop("%s: %s", path, strerror(errno));
         *length = (size_t)found.st_size;
     }
     signal(SIGBUS, file_was_cut);
@@ -192,7 +192,7 @@ const char *record_file(const char *folder, size_t round, const char *kind, uint
     const int most = LONGEST_PATH - LONGEST_ENDING;
     int length = snprintf(path, LONGEST_PATH, "%s/round-%zu.%s", folder, round, kind);
     if (number > 0 && length < most) length += snprintf(path + length, (size_t)(LONGEST_PATH - length), "%u", number);
-    if (length >= most) stop("too long a name: %s", folder);
+    if (length >= most) stop("%s: name too long", folder);
     for (size_t k = 0; k < PACKED_FORMS && number > 0 && !is_there(path); k++) {
         strcpy(path + length, PACKED[k].ending);
         if (is_there(path)) return path;
@@ -207,7 +207,7 @@ void record_check(const char *folder, const char *formula) {
     size_t length = (size_t)snprintf(path, sizeof path, "%s/formula.sha256", folder);
     if (length >= sizeof path || !is_there(path)) return;
     int file = file_open(path, &length);
-    if (read(file, kept, sizeof kept - 1) < 0) stop("cannot read %s: %s", path, strerror(errno));
+    if (read(file, kept, sizeof kept - 1) < 0) stop("%s: %s", path, strerror(errno));
     close(file);
     file = file_open(formula, &length);
     digest_file(file, formula, found);

@@ -42,11 +42,11 @@ static void take_signals(void) {
 static const char usage[] =
     "usage: lrup-trim [--core FILE] [--stream FILE] [--lrat FILE] [--assume FILE] [--re-hint] FORMULA DIR|STREAM...\n"
     "       lrup-trim --help | --version\n"
-    "Of the streams of a run of lrupd, or of a record of lrup-solve (--proofs DIR), writes what the empty clause needs:\n"
+    "Writes what the empty clause needs of lrupd's streams, or of a record of lrup-solve (--proofs DIR):\n"
     "  --core FILE    the clauses of FORMULA that are needed\n"
     "  --stream FILE  one stream over the core\n"
     "  --lrat FILE    one stream over FORMULA, which is LRAT text\n"
-    "  --assume FILE  take a clause that contradicts these assumptions, as lrupd does\n"
+    "  --assume FILE  end with a clause that contradicts these assumptions, as for lrupd\n"
     "  --re-hint      find other hints, which need fewer lines: it takes longer, and more memory\n";
 
 static _Noreturn void refuse(const char *cause, const char *word) {
@@ -119,9 +119,9 @@ static void check_files(const CommandLine *given) {
     struct stat found;
     const char *const outputs[] = { given->core.path, given->stream.path, given->lrat.path, given->rehinted.path };
     for (size_t k = 0; k < sizeof outputs / sizeof *outputs; k++)
-        if (outputs[k] && lstat(outputs[k], &found) == 0) stop("%s is there, and isn't written over", outputs[k]);
+        if (outputs[k] && lstat(outputs[k], &found) == 0) stop("%s: exists, not overwritten", outputs[k]);
     for (uint32_t k = 0; k < given->streams_length; k++)
-        if (is_folder(given->streams[k]) && given->streams_length > 1) stop("%s is a folder, and goes alone", given->streams[k]);
+        if (is_folder(given->streams[k]) && given->streams_length > 1) stop("%s: a folder has to be the only input", given->streams[k]);
     file_check(given->formula);
 }
 
@@ -133,7 +133,7 @@ static void assume(Proof *proof, const char *path) {
         if ((literals[k] == 0) != (k == length - 1) || llabs(literals[k]) > proof->formula.variables) literals = NULL;
         else if (literals[k] != 0) proof->assumed[2 * (llabs(literals[k]) - 1) + (literals[k] < 0)] = 1;
     }
-    if (!literals) stop("%s: no line of literals of FORMULA's variables, and 0, with single spaces", path);
+    if (!literals) stop("%s: not a line of literals of FORMULA's variables and 0, with single spaces", path);
 }
 
 // Prints a text, and a word quoted for a shell, as lrup-solve quotes it, too.

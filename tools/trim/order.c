@@ -160,7 +160,7 @@ static bool goes_on(Proof *proof, const unsigned char *dropped) {
     uint32_t count = proof->target || !proof->folder ? 0 : record_streams(proof->folder, index + 2, before, NULL);
     if (count == 0) return false;
     for (uint32_t k = 0; k < proof->rounds.items[index].count; k++)
-        if (proof->streams.items[proof->rounds.items[index].first + k].stopped) stop("the run ends in round %u, with that line", index + 1);
+        if (proof->streams.items[proof->rounds.items[index].first + k].stopped) stop("the run ends in round %u, at that line", index + 1);
     round_add(proof, NULL, count);
     carry(proof, &proof->rounds.items[index], dropped, &proof->rounds.items[index + 1]);
     return true;
@@ -169,7 +169,7 @@ static bool goes_on(Proof *proof, const unsigned char *dropped) {
 void order(Proof *proof) {
     if (proof->folder) {
         uint32_t count = record_streams(proof->folder, 1, 0, NULL);
-        if (count == 0) stop("%s isn't there", record_file(proof->folder, 1, "stream-", 1));
+        if (count == 0) stop("%s: No such file or directory", record_file(proof->folder, 1, "stream-", 1));
         round_add(proof, NULL, count);
     }
     proof->rounds.items[0].formula = proof->formula.clauses;

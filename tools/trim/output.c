@@ -28,7 +28,7 @@ void outputs_keep(void) { made_length = 0; }
 static void to_output(const char *bytes, size_t length) {
     if (!write_whole(output->file, bytes, length)) {
         position_set(NULL, 0);
-        stop("cannot write %s: %s", output->path, strerror(errno));
+        stop("%s: %s", output->path, strerror(errno));
     }
     output->bytes += length;
 }
@@ -37,14 +37,14 @@ void output_open(Output *place) {
     output = place;
     made[made_length] = output->path;
     output->file = open(output->path, O_WRONLY | O_CREAT | O_EXCL | O_CLOEXEC, 0666);
-    if (output->file < 0) stop("cannot make %s: %s", output->path, strerror(errno));
+    if (output->file < 0) stop("%s: %s", output->path, strerror(errno));
     made_length++;
     write_to(to_output);
 }
 
 void output_close(void) {
     write_flush();
-    if (close(output->file) != 0) stop("cannot write %s: %s", output->path, strerror(errno));
+    if (close(output->file) != 0) stop("%s: %s", output->path, strerror(errno));
 }
 
 // The core has FORMULA's order and variables. A comment before a clause has its number in FORMULA,
@@ -73,7 +73,7 @@ static void core_check(const Proof *proof, const char *core, const char *formula
         if (name > whole.clauses || place >= found.clauses || !is_same(&whole, name - 1, &found, place++))
             stop("%s: clause %zu isn't clause %zu of %s: was one of them changed?", core, place, name, formula);
     }
-    if (found.clauses != place || found.variables != whole.variables) stop("%s: it was changed", core);
+    if (found.clauses != place || found.variables != whole.variables) stop("%s: changed since it was written", core);
     formula_free(&whole);
     formula_free(&found);
 }

@@ -30,7 +30,7 @@ static void lines_derive(const Proof *proof, Filter *filter) {
         Run run = proof->runs.items[k];
         for (Number number = run.from; number < run.to; number++) {
             if (proof->last_use[number] == 0) continue;
-            position_set("of the lines that are needed, number", ++lines);
+            position_set("needed line", ++lines);
             line_derive(filter, stream_with(proof, run.from), number);
         }
     }

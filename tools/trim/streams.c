@@ -11,7 +11,7 @@
 enum { SLOTS = 256 };       // slots that share one entry of `places`
 
 void stream_changed(const Stream *stream) {
-    stop("%s was changed while it was read", stream->path);
+    stop("%s: changed while it was read", stream->path);
 }
 
 // The line that begins at `start` and ends with LF.
@@ -26,7 +26,7 @@ Line line_at(const Stream *stream, unsigned char *start) {
 void hints_keep(Stream *stream, uint64_t slot, unsigned char *place) {
     unsigned char **first = &stream->places[slot / SLOTS];
     if (*first == NULL) *first = place;
-    if (place - *first >= UINT32_MAX) stop("%s, line %llu: too far behind others", stream->path, (unsigned long long)stream->line + 1);
+    if (place - *first >= UINT32_MAX) stop("%s, line %llu: too far from other lines of the stream", stream->path, (unsigned long long)stream->line + 1);
     stream->hints[slot] = (uint32_t)(place - *first) + 1;
 }
 
@@ -71,7 +71,7 @@ void stream_open(Proof *proof, Stream *stream, const Round *round, uint64_t numb
     stream->at = stream->start = file_map(stream->path, &length);
     // an empty file has zeros here
     const char *program = unpacked_by(stream->start[0], stream->start[1]);
-    if (program) stop("%s: compressed: %s it", stream->path, program);
+    if (program) stop("%s: compressed: unpack it with %s", stream->path, program);
     proof->bytes += length;
     unsigned char *last = memrchr(stream->start, '\n', length);
     stream->end = last ? last + 1 : stream->start;
