@@ -32,7 +32,7 @@ OTHER = "p cnf 1 2\n1 0\n-1 0\n"        # with another formula behind it, stream
 REFUTING = "5 2 0 1 2 0\n7 0 5 3 4 0\n"
 USAGE = ("usage: lrup-chain [--keep] [--lrupd PATH] [--tries N] [--lines N] [--room N] [--assume FILE] [--serial] [--watch] "
          "FORMULA DIR\n       lrup-chain --help | --version\n")
-NO_SIZES = "lrup-chain: not STREAMS LINES ROOM: d/round-1.sizes\n"
+NO_SIZES = "lrup-chain: d/round-1.sizes: not STREAMS LINES ROOM\n"
 Named = Tuple[str, Wanted]
 
 
@@ -70,9 +70,9 @@ def ends() -> Iterator[Named]:
     yield chain("refuted in one round", 0, [REFUTING.replace("7", "6")], report(["2 added, 0 deleted, ended"], 0))
     yield chain("a round that is left out", 3, ROUNDS[:1], report([FOUND], 3), saved={2: SAVED[0]},
                 others={"d/round-3.stream-1": ROUNDS[2]})
-    unopened = "lrupd: cannot open stream 1\nlrup-chain: no "
-    yield chain("no folder", 5, [], "", unopened + "folder: d\n")
-    yield chain("no stream", 5, [], "", unopened + "stream: d/round-1.stream-1 isn't there\n", others={"d/round-1.sizes": "1 1 1\n"})
+    unopened = "lrupd: cannot open stream 1\nlrup-chain: d"
+    yield chain("no folder", 5, [], "", unopened + ": No such folder\n")
+    yield chain("no stream", 5, [], "", unopened + "/round-1.stream-1: No such file\n", others={"d/round-1.sizes": "1 1 1\n"})
     yield "a formula that is refused, and no stream", Wanted(["x", "d"], 4, err="lrupd: formula refused: no header\n", files={"x": ""})
     cube = {"cube": "-2 0\n"}
     yield chain("under assumptions", 8, ROUNDS, report([FOUND], 8), saved={2: SAVED[0]}, words=["--assume", "cube"], others=cube)
@@ -100,7 +100,7 @@ def sizes() -> Iterator[Named]:
     yield chain("of an earlier lrup-chain", 2, ROUNDS, "", NO_SIZES, others={"d/round-1.sizes": "250 2000\n"})
     for words in (["--lines", "1"], ["--lines=1"], ["--room", "1"], ["--tries", "1", "--room=1", "--serial"]):
         option = next(word for word in words if word[2:6] in ("line", "room")).split("=")[0]
-        yield chain(f"sizes and {' '.join(words)}", 2, ROUNDS, "", f"lrup-chain: no {option} beside d/round-1.sizes, which has it\n",
+        yield chain(f"sizes and {' '.join(words)}", 2, ROUNDS, "", f"lrup-chain: {option}: refused, since d/round-1.sizes has it\n",
                     words=words, others={"d/round-1.sizes": "1 1 1\n"})
     yield chain("no sizes", 2, ROUNDS, "", NO_SIZES, others={"d/round-1.sizes": ""})
     yield "fewer streams", Wanted(["formula", "d"], 0, last(2, ["1 added, 0 deleted, ended"], 0), left=left(),
@@ -263,7 +263,7 @@ def no_verdict(body: str, out: str, shell: str, script: Path, work: Path) -> Non
     lay(work, others={"d/round-2.cnf": OTHER})
     written(f"#!/bin/sh\n{body}\n", work, "lrupd").chmod(0o755)
     done = run([shell, script, "--lrupd", "./lrupd", "formula", "d"], cwd=work)
-    said = "lrup-chain: status 0 without its verdict: ./lrupd is another program than lrupd\n"
+    said = "lrup-chain: ./lrupd ended with status 0, but without the verdict of lrupd\n"
     want((done, (work / "d/round-2.cnf").exists()), (Ran(out, said, 1), True), "the answer, and whether a file is there")
 
 

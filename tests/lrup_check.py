@@ -234,7 +234,7 @@ ROWS: List[Row] = [
     ("no formula that is there", misused, ["%none", "%proof"], "%none: No such file or directory"),
     ("no proof that is there", misused, ["%formula", "%none"], "%none: No such file or directory"),
     ("a folder", misused, ["%formula", "%folder"], "%folder is a folder"),
-    ("standard input twice", misused, ["-", "-"], "standard input is read once"),
+    ("standard input twice", misused, ["-", "-"], "standard input can be read only once"),
     *((f"an option of engines, {words[0]}", misused, [*words, "%formula", "%proof"], f"{words[0]} is lrup-solve's: lrup-check starts no engine")
       for words in (["-j", "2"], ["--mpi", "mpirun"], ["--solver", "x %formula %proof"], ["--seed", "1"], ["--share-size", "4"],
                     ["--no-share"])),

@@ -371,7 +371,7 @@ def rows() -> List[Row]:
         (["--solver", "cadical"], need + "cadical"), (["--solver", ""], need + "''"),
         (["--solver=cadical %formula"], need + "'cadical %formula'"),
         (["--solver", "cadical %proof"], need + "'cadical %proof'"),
-        (["--solver", CADICAL, "--assume", "{cube}"], "--assume and --solver: a solver isn't told of assumptions"),
+        (["--solver", CADICAL, "--assume", "{cube}"], "--assume and --solver: a solver doesn't get the assumptions"),
         (["--solver", CADICAL, "-j", "64"], "more than 64 engines, with those of --solver"),
         (["--solver", CADICAL] * 65, "more than 64 engines, with those of --solver"))]
     return found
