@@ -1,17 +1,17 @@
 #!/usr/bin/env python3
-"""Runs lrup-explain, and compares what it says with what lrupd says of the same streams.
+"""Runs lrup-explain, and compares what it says with what lrupd says about the same streams.
 
     explain.py PROGRAM [COUNT [MUTANTS]]
 
-COUNT is 2,000: faulty streams of one to five solvers. Their lines have hints left out, doubled and in another order, literals with wrong
-signs, deletions and imports put in; or bytes are garbled. MUTANTS is 1,000: of those of filter_mutants.py, which are no proofs in this
-form mostly. Of each stream fault and line have to be those of lrupd --serial; with threads they have to be where no stream deletes what
-others cite. Each chain that is offered has to be right: with it in the place of the line's hints lrupd takes the line. Where hints
-alone are wrong one has to be offered. While streams are rewritten and cut it ends by itself. lrup-explain is built for tests, with
--fsanitize=address,undefined where the compiler can; of four runs on faulty streams three are as users have it. It
-shows what is off; the last line is 'N passed, M failed', and ', K skipped' where something isn't there. The status is 1 where a run
-failed.
-"""
+COUNT is 2,000: faulty streams of one to five solvers. Hints are left out, doubled and reordered,
+literals get wrong signs, deletions and imports are inserted; or bytes are garbled. MUTANTS is 1,000:
+mutants of filter_mutants.py, most of which are no proofs in this form. For each stream, fault and line
+have to be those of lrupd --serial; with threads, too, if no stream deletes what others cite. Each
+chain that is offered has to be right: with it instead of the line's hints, lrupd accepts the line. If
+only hints are wrong, a chain has to be offered. While streams are rewritten and truncated, it still
+ends. lrup-explain is built for tests, with -fsanitize=address,undefined if the compiler can; three of
+four runs on faulty streams use the normal build. Failures are shown; the last line is 'N passed,
+M failed', and ', K skipped' if something is missing. The status is 1 if a run failed."""
 import functools
 import os
 import random
@@ -32,20 +32,20 @@ from harness import (COMPRESSED, EXAMPLES, EXPLAIN, FOUR, ROOT, SANITIZED_EXPLAI
 from rewriting import cut_while_read, withstands
 
 PAGE = ROOT / "docs" / "lrup-explain.1"
-BAD = 3         # the status, where a line is
-LIBRARY = [ROOT / "tools" / "exact" / name for name in ("errors.c", "formula.c", "lists.c", "literals.c")]     # of the example solver
-QUICK = 4       # of so many runs one is of the build for tests
-TRIES = 20000   # with which a clause that never comes takes a second
+BAD = 3         # the status if a line is bad
+LIBRARY = [ROOT / "tools" / "exact" / name for name in ("errors.c", "formula.c", "lists.c", "literals.c")]     # the example solver's
+QUICK = 4       # one run in four uses the build for tests
+TRIES = 20000   # so that a clause that never comes takes a second
 
-Faults = Dict[int, Tuple[int, str]]     # by stream the line and the words
+Faults = Dict[int, Tuple[int, str]]     # by stream: the line, and the fault's words
 
 
 def explain(words: Sequence[object], work: Path, quick: bool = False) -> Ran:
-    """As it is built for tests; or as users have it, which takes less time."""
+    """Runs the build for tests, or the normal one, which is faster."""
     return run([EXPLAIN if quick else SANITIZED_EXPLAIN, *words], cwd=work, env={**os.environ, **SANITIZING})
 
 
-# What is said.
+# Reports.
 
 TITLE = re.compile(r"^(?:round \d+, )?stream (\d+) \(.*\), line (\d+): "
                    r"(.+?)(?:, of stream \d+, whose line \d+ is bad|, by itself: .*)?$", re.M)
@@ -60,18 +60,18 @@ def told(done: Ran) -> Faults:
 
 
 def reported(done: Ran) -> Faults:
-    """By lrupd."""
+    """The faults in lrupd's report."""
     if done.status not in (0, 3):
         raise Failure(f"lrupd's status {done.status}: {done.err}")
     return {int(stream): (int(line), words)
             for stream, line, words in re.findall(r"^c stream (\d+): .*, bad line (\d+) \((.*)\)$", done.out, re.M)}
 
 
-# Streams that are faulty.
+# Faulty streams.
 
 
 class Base(NamedTuple):
-    """The formula's text, and those of streams; how many clauses it has."""
+    """The texts of the formula and of streams; the formula's number of clauses."""
     formula: str
     streams: List[str]
     clauses: int
@@ -79,7 +79,7 @@ class Base(NamedTuple):
 
 @functools.lru_cache(maxsize=None)
 def base(number: int) -> Base:
-    """Of one to five solvers, some with imports."""
+    """A run of one to five solvers, some with imports."""
     numbers = random.Random(f"{number} base")
     with tempfile.TemporaryDirectory() as name:
         options = ["--seed", number, "--share", numbers.choice((2, 4, 100)), *["--imports"] * (number % 2)]
@@ -96,7 +96,7 @@ def is_addition(words: List[str]) -> bool:
 
 
 def with_other_hints(words: List[str], numbers: random.Random) -> List[str]:
-    """In another order, one left out, one twice, one more."""
+    """Reorders the hints, leaves one out, doubles one, or adds one."""
     end = words.index("0") + 1
     hints = words[end:-1]
     at = numbers.randrange(len(hints)) if hints else 0
@@ -133,14 +133,14 @@ def cited_in(lines: List[List[str]]) -> List[str]:
 
 
 def deletion(line: List[str], lines: List[List[str]], numbers: random.Random) -> List[str]:
-    """Of what this line cites, mostly; or of anything."""
+    """A deletion of something that the line cites, usually; or of anything."""
     hints = line[line.index("0") + 1:-1]
     named = hints if hints and numbers.random() < 0.7 else cited_in(lines)
     return ["1", "d", *numbers.choices(named, k=numbers.choice((1, 1, 1, 2))), "0"]
 
 
 def import_of(lines: List[List[str]], numbers: random.Random) -> List[str]:
-    """Of some clause, with its literals or others."""
+    """An import of some clause, with its literals or others."""
     words = numbers.choice([words for words in lines if is_addition(words)] or [["1", "1", "0", "0"]])
     literals = words[1:words.index("0")]
     identity = numbers.choice((words[0], words[0], numbers.choice(cited_in(lines)), "999999"))
@@ -148,7 +148,7 @@ def import_of(lines: List[List[str]], numbers: random.Random) -> List[str]:
 
 
 def with_a_fault(streams: List[str], numbers: random.Random, hints_only: bool = False) -> List[str]:
-    """One of a line, mostly; in the lines of one stream."""
+    """One fault in a line, usually, of one stream."""
     everywhere = [[line.split() for line in text.splitlines()] for text in streams]
     number = numbers.choice([place for place, lines in enumerate(everywhere) if any(map(is_addition, lines))])
     lines = list(everywhere[number])
@@ -168,7 +168,7 @@ def with_a_fault(streams: List[str], numbers: random.Random, hints_only: bool = 
 
 
 def sizes_for(found: Base, numbers: random.Random) -> List[str]:
-    """Enough mostly, and else a bit too small."""
+    """Usually large enough, otherwise a bit too small."""
     additions = [line.split() for text in found.streams for line in text.splitlines() if is_addition(line.split())]
     lines = max([(int(words[0]) - found.clauses) // len(found.streams) + 1 for words in additions] or [1])
     room = sum(words.index("0") for words in additions)
@@ -179,11 +179,11 @@ def sizes_for(found: Base, numbers: random.Random) -> List[str]:
     return ["--lines", str(lines), "--room", str(room)]
 
 
-# Comparisons.
+# Comparisons with lrupd.
 
 
 def without_identity(text: str, identity: str) -> str:
-    """No line deletes it."""
+    """The stream without lines that delete this identity."""
     lines = [line.split(" ") for line in text.split("\n")]
     for words in lines:
         if words[1:2] == ["d"]:
@@ -192,7 +192,7 @@ def without_identity(text: str, identity: str) -> str:
 
 
 def mended(done: Ran, texts: List[str], clauses: int) -> Optional[Tuple[int, int, List[str]]]:
-    """The stream and the line of which a chain is offered, and the streams with it."""
+    """The stream and line for which a chain is offered, and the streams with that chain."""
     chain, title = CHAIN.search(done.out), TITLE.search(done.out)
     if not chain or not title:
         return None
@@ -219,7 +219,7 @@ def are_mended(done: Ran, texts: List[str], options: Sequence[str], formula: Pat
 
 
 def compared(texts: List[str], options: Sequence[str], formula: Path, clauses: int, quick: bool, work: Path) -> Ran:
-    """With lrupd --serial."""
+    """Compares the faults with those of lrupd --serial."""
     paths = [written(text.encode("latin-1"), work, f"s{place}") for place, text in enumerate(texts, 1)]
     done = explain(["--serial", *options, formula, *paths], work, quick)
     want(told(done), reported(run([PROGRAM, "--serial", *options, formula, *paths])), f"of {options} the faults in\n{done.out}")
@@ -241,7 +241,7 @@ def faulty(seed: int, work: Path) -> None:
 
 
 def other_hints_alone(seed: int, work: Path) -> None:
-    """Of one solver, without deletions: a chain is offered for each line, until all are right."""
+    """One solver, without deletions: a chain is offered for each line until all lines are right."""
     numbers = random.Random(f"{seed} hints")
     found = base(5 * numbers.randrange(BASES // 5))
     text = "".join(line + "\n" for line in found.streams[0].splitlines() if line.split()[1] == "a" or is_addition(line.split()))
@@ -260,11 +260,11 @@ def other_hints_alone(seed: int, work: Path) -> None:
     raise Failure("more lines than three were bad")
 
 
-# With threads.
+# Threads.
 
 
 def cited_by(text: str) -> Set[int]:
-    """In hints and imports, as far as lines are numbers."""
+    """Identities in hints and imports, as far as lines are numbers."""
     found: Set[int] = set()
     for line in text.splitlines():
         words = line.split()
@@ -280,7 +280,7 @@ def deleted_by(text: str) -> Set[int]:
 
 
 def with_threads(seed: int, work: Path) -> None:
-    """No stream deletes a clause that is its own and that others cite: then threads have one report."""
+    """No stream deletes an own clause that others cite, so threads have one report."""
     numbers = random.Random(f"{seed} threads")
     found = base(1 + seed % (BASES - 1))
     texts = with_a_fault(found.streams, numbers)
@@ -298,18 +298,18 @@ def with_threads(seed: int, work: Path) -> None:
 
 
 def mutant(number: int, work: Path) -> None:
-    """Of filter_mutants.py: its proof as a stream."""
+    """The proof of a mutant of filter_mutants.py, as a stream."""
     found = Mutant(number, PROOFS, work)
     names = [written(found.proof, work, "stream") if place == found.stream else Path("/dev/null") for place in range(1, found.streams + 1)]
     said = run([PROGRAM, "--serial", found.formula, *names])
     done = explain(["--serial", found.formula, *names], work, number % QUICK != 0)
-    if done.status == 1:    # a formula that isn't one
+    if done.status == 1:    # not a formula
         want((done.out, done.err.count("\n"), said.status), ("", 1, 4), f"what is said\n{done.err}{said}")
         return
     want(told(done), reported(said), f"the faults in\n{done.out}")
 
 
-# By hand.
+# Faults by hand.
 
 FIRST = "5 2 0 1 2 0\n"
 HINTS = "     hint           its clause: ! made true by it, T true, F false, ? neither\n"
@@ -330,7 +330,7 @@ NO_CHAIN = ("  no chain: unit propagation over all clauses that the line may cit
             "       then, and {} clauses have none of these. The clause is wrong, or another one is missing\n")
 EMPTY = "  derives  the empty clause\n" + HINTS
 
-# The name, the streams, the options, and what is said of the fault; the formula is the four clauses over two variables.
+# The name, the streams, the options, and the explanation; the formula is the four clauses over two variables.
 FAULTS = [
     ("excess", ["5 2 0 1 2 3 4 0\n"], "", "stream 1 (f1), line 1: excess 3\n" + ONE_FALSE + row(2, "conflict", "-1F 2F", of_formula(2))
      + row(3, "BAD", "1T -2T", of_formula(3))
@@ -453,7 +453,7 @@ FAULTS = [
 
 
 def form(text: str, words: str, why: str, shown: str, place: int, work: Path) -> None:
-    """Of a line, by its bytes."""
+    """Explains a misspelled line, by its bytes."""
     stream = written(text.encode("latin-1"), work, "f1")
     shown, caret = shown, " " * shown.index("^") + f"^ byte {place}"
     wanted = f"stream 1 (f1), line 1: {words}\n  why: {why}\n      {shown.replace('^', '')}\n      {caret}\n"
@@ -463,7 +463,7 @@ def form(text: str, words: str, why: str, shown: str, place: int, work: Path) ->
 
 
 PLACE = "expected {1}, found {0}"
-# The line, the fault, why, the bytes with ^ before the one that decides, its place.
+# The line, the fault, the explanation, the bytes with ^ before the one that decides, its place.
 FORMS = [
     ("5  2 0 1 2 0\n", "spelling", PLACE.format("a space", "a literal, 0, d or i"), "5 ^ 2 0 1 2 0", 3),
     ("5 2 0 1 2 0\r\n", "spelling", PLACE.format("a carriage return", "LF, the line's end"), "5 2 0 1 2 0^\\r", 12),
@@ -498,7 +498,8 @@ FORMS = [
 
 
 def fault(streams: Sequence[str], options: str, said: str, work: Path) -> None:
-    """lrupd says so, too, with threads, or --serial; a clause that never comes is waited for a moment."""
+    """Explains a fault; lrupd reports the same, with threads or --serial. It waits a moment for a
+    clause that never comes."""
     names = [written(text, work, f"f{number}").name for number, text in enumerate(streams, 1)]
     words = [*options.split(), written(FOUR, work), *names]
     done = explain(words, work)
@@ -515,7 +516,8 @@ def good(words: Sequence[object], work: Path) -> None:
 
 
 def in_rounds(number: int, work: Path) -> None:
-    """Of two solvers, in three rounds, with a fault in the last one, or in one before, after which no round comes."""
+    """Two solvers in three rounds, with a fault in the last one, or in an earlier one, after which
+    no round comes."""
     numbers = random.Random(f"{number} rounds")
     formula, streams = example("pigeonhole.cnf"), [example("pigeonhole-two.1"), example("pigeonhole-two.2")]
     want(run([sys.executable, EXAMPLES / "chain.py", 3, formula, work / "d", *streams]), Ran("", "", 0), "what chain.py says")
@@ -545,21 +547,21 @@ SAID_OF_CARRIED = ("round 2, stream 2 (d/round-2.stream-2), line 1: no conflict\
 
 
 def carried(work: Path) -> None:
-    """Clauses of the round before are told by where they come from."""
+    """A clause of the round before is described by its origin."""
     for name, text in CARRIED.items():
         written(text, work, f"d/{name}")
     want(explain([written(FOUR, work), "d"], work), Ran(SAID_OF_CARRIED, "", BAD), "what is said")
 
 
-# The example solver, with one hint left out: of the unit clauses at level 0 the last one.
+# The example solver without one hint: that of the last unit clause at level 0.
 
 RIGHT_LINE = "for (size_t k = 0; k < level_zero.length; k++) PUSH(hints, level_zero.items[k]);"
-LEFT_OUT = r"^       (-?\d+ would follow here from|all literals are false here of) \d+ \(.*\), which isn't a hint of the line$"
+LEFT_OUT = r"^       (-?\d+ would follow here from|all literals are false in) \d+ \(.*\), which isn't a hint of the line$"
 WRONG_LINE = "for (size_t k = 1; k < level_zero.length; k++) PUSH(hints, level_zero.items[k]);"
 
 
 def emitter(work: Path) -> None:
-    """Each bad line is mended by what is said of it, and nothing else."""
+    """The explanation mends each bad line, and nothing else changes."""
     learn = (EXAMPLES / "solver" / "learn.c").read_text()
     want(learn.count(RIGHT_LINE), 1, f"how often learn.c has '{RIGHT_LINE}'")
     sources = shutil.copytree(EXAMPLES / "solver", work / "solver", ignore=shutil.ignore_patterns("out"))
@@ -583,10 +585,10 @@ def emitter(work: Path) -> None:
     want(run([PROGRAM, formula, written(texts[0], work, "right")]).status, 0, "lrupd's status in the end")
 
 
-# Words, and files.
+# Arguments and files.
 
 def on_the_page(work: Path) -> None:
-    """The example of the manual page is the beginning of what is said there: USING's has all of it."""
+    """The manual page's example is the beginning of the output, which USING has in full."""
     paths = [shutil.copy(example(f"bmc-four.{number}"), work / f"f{number}.lrup") for number in range(1, 5)]
     lines = paths[1].read_text().splitlines(True)
     lines[59] = lines[59].replace(" 207 ", " ")
@@ -606,7 +608,8 @@ def while_rewritten(seed: int, work: Path) -> None:
 
 
 def refuses(words: str, status: int, said: str, work: Path) -> None:
-    """In a folder with a formula f, a stream s, a pipe p, a folder d without rounds, and a formula that is compressed, z."""
+    """In a folder with a formula f, a stream s, a pipe p, a folder d without rounds, and a
+    compressed formula z."""
     for name, text in {"f": FOUR.encode(), "s": FIRST.encode(), "z": COMPRESSED["zcat"]}.items():
         written(text, work, name)
     piped(work / "p")
@@ -627,7 +630,7 @@ REFUSED = [("", 2, "error: no FORMULA"), ("f", 2, "error: no DIR or STREAM"), ("
 
 
 def compressed(program: str, work: Path) -> None:
-    """A stream: lrupd says that its first byte is misspelled."""
+    """A compressed stream: lrupd says that its first byte is misspelled."""
     stream = written(COMPRESSED[program], work, "f1")
     done = explain([written(FOUR, work), "f1"], work)
     want((told(done), done.out.splitlines()[-1]), ({1: (1, "spelling")}, f"       compressed: unpack it with {program}"), "what is said")

@@ -42,7 +42,7 @@ static const char *name_of(unsigned char byte) {
 
 // The usual cause.
 static const char *guess_of(const Stream *stream, Line line, size_t place, unsigned char byte) {
-    static char text[32];
+    static char text[64];
     const char *program = stream->lines == 0 ? unpacked_by(line.start[0], line.start[1]) : NULL;
     if (program) return snprintf(text, sizeof text, "compressed: unpack it with %s", program), text;
     if (byte == '\r') return "lines end with LF alone, and not with CR LF";
