@@ -3,10 +3,11 @@
 
     builds.py
 
-For the filter, lrup-trim, lrup-solve, lrup-solve-mpi and the example solver, checks the commands that
-make prints, with flags from the command line and from the environment. Compiles the filter in a copy,
-and again after a change of a source, a header or flags. Installs everything in a folder, and uninstalls
-it. Failures are shown; the last line is 'N passed, M failed', and the status is 1 if a row failed."""
+For the filter, lrup-trim, lrup-solve, lrup-solve-mpi and the example solver, checks the commands
+that make prints, with flags from the command line and from the environment. Compiles the filter in
+a copy, and again after a change of a source, a header or flags. Installs everything in a folder,
+and uninstalls it. Failures are shown; the last line is 'N passed, M failed', and the status is 1 if
+a row failed."""
 import os
 import re
 import shutil

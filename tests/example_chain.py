@@ -1,13 +1,14 @@
 #!/usr/bin/env python3
-"""Runs examples/chain.py, which cuts streams into rounds, and lrup-chain over the rounds, beside one run.
+"""Runs examples/chain.py, which cuts streams into rounds, and lrup-chain over the rounds, beside
+one run.
 
     example_chain.py PROGRAM SOLVER
 
-Streams that were recorded, and streams of the example solver with imports and deletions, are cut into
-one to nine rounds. The last round has to end with status 0, and the rounds' additions have to be those
-of one run. With the sizes of the largest round, one run can't hold all of them. If a hint is left out,
-the round with that line has to be the last, with a bad line. Failures are shown; the last line is
-'N passed, M failed', and the status is 1 if a chain failed."""
+Streams that were recorded, and streams of the example solver with imports and deletions, are cut
+into one to nine rounds. The last round has to end with status 0, and the rounds' additions have to
+be those of one run. With the sizes of the largest round, one run can't hold all of them. If a hint
+is left out, the round with that line has to be the last, with a bad line. Failures are shown; the
+last line is 'N passed, M failed', and the status is 1 if a chain failed."""
 import os
 import re
 import sys
@@ -26,7 +27,8 @@ TWO = ["pigeonhole-two.1", "pigeonhole-two.2"]
 RECORDED = [("four-clause.cnf", ["four-clause.lrup"], (1, 2, 3)), ("pigeonhole.cnf", ["pigeonhole.lrup"], (2, 7)),
             ("bmc.cnf", ["bmc.lrup"], (3, 9)), ("pigeonhole.cnf", TWO, (1, 3)),
             ("bmc.cnf", FOUR_SOLVERS, (1, 2, 3, 7)), ("two-groups.cnf", TWO_GROUPS, (3,))]
-# The generator's arguments, the number of streams, the LBD up to which clauses are shared, the rounds.
+# The generator's arguments, the number of streams, the LBD up to which clauses are shared, the
+# rounds.
 SOLVED = [("random 170 4", 3, 100, 4), ("pigeons 7", 2, 100, 5), ("order 15", 5, 4, 3), ("random 180 3", 8, 2, 6),
           ("random 150 1", 1, 4, 5)]
 

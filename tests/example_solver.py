@@ -1,5 +1,6 @@
 #!/usr/bin/env python3
-"""Runs the example solver on small formulas with one to eight streams, and the program on its streams.
+"""Runs the example solver on small formulas with one to eight streams, and the program on its
+streams.
 
     example_solver.py PROGRAM SOLVER
 
@@ -26,7 +27,8 @@ OPTIONS = ["--tries", "1000000"]
 LARGE = OPTIONS + ["--lines", "1000000", "--room", "10000000"]
 UNSATISFIABLE, SATISFIABLE = 20, 10
 
-# The generator's arguments, the answer, the streams, the LBD up to which clauses are shared. The seed is the row's number.
+# The generator's arguments, the answer, the streams, the LBD up to which clauses are shared. The
+# seed is the row's number.
 ROWS = [
     ("random 100 1", UNSATISFIABLE, 1, 4),
     ("random 100 1", UNSATISFIABLE, 2, 4),

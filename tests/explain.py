@@ -4,14 +4,15 @@
     explain.py PROGRAM [COUNT [MUTANTS]]
 
 COUNT is 2,000: faulty streams of one to five solvers. Hints are left out, doubled and reordered,
-literals get wrong signs, deletions and imports are inserted; or bytes are garbled. MUTANTS is 1,000:
-mutants of filter_mutants.py, most of which are no proofs in this form. For each stream, fault and line
-have to be those of lrupd --serial; with threads, too, if no stream deletes what others cite. Each
-chain that is offered has to be right: with it instead of the line's hints, lrupd accepts the line. If
-only hints are wrong, a chain has to be offered. While streams are rewritten and truncated, it still
-ends. lrup-explain is built for tests, with -fsanitize=address,undefined if the compiler can; three of
-four runs on faulty streams use the normal build. Failures are shown; the last line is 'N passed,
-M failed', and ', K skipped' if something is missing. The status is 1 if a run failed."""
+literals get wrong signs, deletions and imports are inserted; or bytes are garbled. MUTANTS is
+1,000: mutants of filter_mutants.py, most of which are no proofs in this form. For each stream,
+fault and line have to be those of lrupd --serial; with threads, too, if no stream deletes what
+others cite. Each chain that is offered has to be right: with it instead of the line's hints, lrupd
+accepts the line. If only hints are wrong, a chain has to be offered. While streams are rewritten
+and truncated, it still ends. lrup-explain is built for tests, with -fsanitize=address,undefined if
+the compiler can; three of four runs on faulty streams use the normal build. Failures are shown; the
+last line is 'N passed, M failed', and ', K skipped' if something is missing. The status is 1 if a
+run failed."""
 import functools
 import os
 import random
@@ -330,7 +331,8 @@ NO_CHAIN = ("  no chain: unit propagation over all clauses that the line may cit
             "       then, and {} clauses have none of these. The clause is wrong, or another one is missing\n")
 EMPTY = "  derives  the empty clause\n" + HINTS
 
-# The name, the streams, the options, and the explanation; the formula is the four clauses over two variables.
+# The name, the streams, the options, and the explanation; the formula is the four clauses over two
+# variables.
 FAULTS = [
     ("excess", ["5 2 0 1 2 3 4 0\n"], "", "stream 1 (f1), line 1: excess 3\n" + ONE_FALSE + row(2, "conflict", "-1F 2F", of_formula(2))
      + row(3, "BAD", "1T -2T", of_formula(3))

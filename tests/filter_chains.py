@@ -5,12 +5,12 @@
 
 Chains of 10 to 1,000,000 steps, of units and of one failed literal, and the other formulas of
 bench/solve/easy.py: lrupd has to accept each stream to its end, with 'unsatisfiable', and its bytes
-and lines have to be linear in the formula. Proofs are written by hand, or by CaDiCaL if it is on the
-PATH; some have more hints than a line may have, clauses with as many literals, root units that chains
-need in the worst order, and streams without identities to spare. A build that allows six hints in a
-line, with -fsanitize=address,undefined if the compiler can, splits nearly all chains of recorded
-proofs and of random formulas, also in rounds. Failures are shown; the last line is 'N passed,
-M failed', and ', K skipped' if something is missing. The status is 1 if a run failed."""
+and lines have to be linear in the formula. Proofs are written by hand, or by CaDiCaL if it is on
+the PATH; some have more hints than a line may have, clauses with as many literals, root units that
+chains need in the worst order, and streams without identities to spare. A build that allows six
+hints in a line, with -fsanitize=address,undefined if the compiler can, splits nearly all chains of
+recorded proofs and of random formulas, also in rounds. Failures are shown; the last line is 'N
+passed, M failed', and ', K skipped' if something is missing. The status is 1 if a run failed."""
 import os
 import random
 import re

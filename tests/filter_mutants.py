@@ -3,17 +3,17 @@
 
     filter_mutants.py PROGRAM [COUNT [FIRST]]
 
-COUNT is 10,000, from mutant number FIRST on, 0; a number always gives the same mutant. In small proofs
-of each form, bytes are flipped, cut off, inserted and removed, steps doubled, swapped and left out,
-numbers made huge and words made letters. So are some formulas, and other streams; the filter refuses
-exactly the formulas that the program refuses. The filter is built with -fsanitize=address,undefined,
-by clang, $CC or cc, and checks its invariants. It has to end soon with status 0 and no message, or with
-status 1 and one line on standard error. Its output has to be lines of a stream, by the grammar here;
-and the program, which reads each stream that isn't empty, has to accept it to its end, except for
-identities beyond --lines and clauses of streams that aren't there. A mutant that fails is kept in
-tools/exact/out/mutants. Failures are shown; the last line is 'N passed, M failed', and the status is 1
-if a run failed. If the compiler can't build such a program, the mutants are skipped, and the output
-says so."""
+COUNT is 10,000, from mutant number FIRST on, 0; a number always gives the same mutant. In small
+proofs of each form, bytes are flipped, cut off, inserted and removed, steps doubled, swapped and
+left out, numbers made huge and words made letters. So are some formulas, and other streams; the
+filter refuses exactly the formulas that the program refuses. The filter is built with
+-fsanitize=address,undefined, by clang, $CC or cc, and checks its invariants. It has to end soon
+with status 0 and no message, or with status 1 and one line on standard error. Its output has to be
+lines of a stream, by the grammar here; and the program, which reads each stream that isn't empty,
+has to accept it to its end, except for identities beyond --lines and clauses of streams that aren't
+there. A mutant that fails is kept in tools/exact/out/mutants. Failures are shown; the last line is
+'N passed, M failed', and the status is 1 if a run failed. If the compiler can't build such a
+program, the mutants are skipped, and the output says so."""
 import multiprocessing
 import os
 import random

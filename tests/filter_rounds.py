@@ -1,15 +1,16 @@
 #!/usr/bin/env python3
-"""Runs the filter with --rounds beside lrupd --rounds, with rows so small that proofs take many rounds.
+"""Runs the filter with --rounds beside lrupd --rounds, with rows so small that proofs take many
+rounds.
 
     filter_rounds.py PROGRAM
 
-Recorded proofs in each form, and those of CaDiCaL and CryptoMiniSat if they are on the PATH: each run
-has to end with status 0, with as many additions as the proof has, and leave only an empty file. Then
-proofs that are truncated, have a wrong line, or continue after the empty clause; formulas without
-clauses, or with no room in a row; folders that aren't empty; and either side killed at any time.
-Neither may wait for the other forever. The filter is also built for tests, with
--fsanitize=address,undefined if the compiler can. Failures are shown; the last line is 'N passed,
-M failed', and ', K skipped' if something is missing. The status is 1 if a run failed."""
+Recorded proofs in each form, and those of CaDiCaL and CryptoMiniSat if they are on the PATH: each
+run has to end with status 0, with as many additions as the proof has, and leave only an empty file.
+Then proofs that are truncated, have a wrong line, or continue after the empty clause; formulas
+without clauses, or with no room in a row; folders that aren't empty; and either side killed at any
+time. Neither may wait for the other forever. The filter is also built for tests, with
+-fsanitize=address,undefined if the compiler can. Failures are shown; the last line is 'N passed, M
+failed', and ', K skipped' if something is missing. The status is 1 if a run failed."""
 import contextlib
 import os
 import re
@@ -154,7 +155,8 @@ def recorded(name: str, stream: str, memory: str, least: int, most: int, form: s
     want_added(checked, count, form)
 
 
-# The solver's command, the form if it has to be given, the generator's arguments, the memory, the rounds.
+# The solver's command, the form if it has to be given, the generator's arguments, the memory, the
+# rounds.
 EARLY = "cadical -q --reduceint=20 --elimint=10 --probeint=10 --subsumeint=10"
 SOLVED = [("cadical -q", "binary-drat", "random 180 3", "500K", 3, 8), ("cadical -q --no-binary", "", "random 180 3", "600K", 3, 8),
           (EARLY, "binary-drat", "random 170 4", "300K", 3, 50), (EARLY + " --no-binary", "", "pigeons 7", "200K", 3, 50),

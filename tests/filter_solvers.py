@@ -3,9 +3,9 @@
 
     filter_solvers.py PROGRAM
 
-CaDiCaL, CryptoMiniSat and PicoSAT, as far as they are on the PATH, write their proofs to pipes, and the
-filter's output is checked while they run. Failures are shown; the last line is 'N passed, M failed', and
-', K skipped' if solvers are missing. The status is 1 if a run failed."""
+CaDiCaL, CryptoMiniSat and PicoSAT, as far as they are on the PATH, write their proofs to pipes, and
+the filter's output is checked while they run. Failures are shown; the last line is 'N passed, M
+failed', and ', K skipped' if solvers are missing. The status is 1 if a run failed."""
 import os
 import re
 import shutil

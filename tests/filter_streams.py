@@ -5,11 +5,11 @@
 
 The recorded streams of examples/, with their hints shuffled, doubled and missing, with comments and
 extra spaces, have to become good streams with as many additions. So have streams of several solvers
-with an import for each clause that they cite of another one, the recorded streams in each other form,
-and CaDiCaL's DRAT text in tests/proofs. Then a few lines and their output, refusals and their places,
-limits from both sides, truncated proofs, pipes that stay open, and outputs that fail. Failures are
-shown; the last line is 'N passed, M failed', and ', K skipped' if something can't be tried. The status
-is 1 if a run failed."""
+with an import for each clause that they cite of another one, the recorded streams in each other
+form, and CaDiCaL's DRAT text in tests/proofs. Then a few lines and their output, refusals and their
+places, limits from both sides, truncated proofs, pipes that stay open, and outputs that fail.
+Failures are shown; the last line is 'N passed, M failed', and ', K skipped' if something can't be
+tried. The status is 1 if a run failed."""
 import os
 import random
 import re

@@ -1,7 +1,7 @@
 """Shared by the tests of programs: runs, files and pipes, builds, and counting what passed.
 
-A test is a row: a name, a function and its arguments. The function also gets a folder of its own, as
-the last argument."""
+A test is a row: a name, a function and its arguments. The function also gets a folder of its own,
+as the last argument."""
 import contextlib
 import fcntl
 import functools
@@ -41,8 +41,8 @@ FOUR = "p cnf 2 4\n1 2 0\n-1 2 0\n1 -2 0\n-1 -2 0\n"
 COMPRESSED = {"zcat": b"\x1f\x8b\x08\0", "xzcat": b"\xfd7zXZ\0", "bzcat": b"BZh9", "zstdcat": b"\x28\xb5\x2f\xfd"}
 VERDICTS = {0: "s UNSATISFIABLE", 3: "s UNKNOWN", 8: "s UNSATISFIABLE UNDER ASSUMPTIONS"}
 
-# Shells start background processes with the first two ignored, and nohup with the third; then programs under test would
-# ignore them, too. Handlers aren't inherited.
+# Shells start background processes with the first two ignored, and nohup with the third; then
+# programs under test would ignore them, too. Handlers aren't inherited.
 signal.signal(signal.SIGINT, signal.default_int_handler)
 signal.signal(signal.SIGQUIT, signal.SIG_DFL)
 if signal.getsignal(signal.SIGHUP) == signal.SIG_IGN:

@@ -17,8 +17,9 @@ SATISFIABLE = "p cnf 3 4\nc a comment\n1 2 0\n-1\n2 0 1 -3 0\nc 3 0\n3 -2 1 0\n"
 LONG = 30       # seconds after which a run should have ended
 PROOF = "5 2 0 1 2 0\n6 0 5 3 4 0\n"                         # of FOUR
 
-# The id of an lrupd that is the front's child, and an orphan that gets the same id, and ends with a status. If
-# the program may choose ids, that takes a moment; otherwise it forks for some seconds, until a process has the id.
+# The id of an lrupd that is the front's child, and an orphan that gets the same id, and ends with a
+# status. If the program may choose ids, that takes a moment; otherwise it forks for some seconds,
+# until a process has the id.
 AGAIN = """
 import ctypes, os, signal, time
 

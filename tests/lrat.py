@@ -1,10 +1,11 @@
-"""A checker of LRAT text without RAT steps, by the paper on LRAT (docs/RELATED.md), not by this repository.
+"""A checker of LRAT text without RAT steps, by the paper on LRAT (docs/RELATED.md), not by this
+repository.
 
     id literals 0 hints 0       derives a clause by reverse unit propagation
     id d ids 0                  deletes clauses
 
-Identities are positive, and those of additions increase. All hints but the last are unit in turn, and
-the last one is the conflict."""
+Identities are positive, and those of additions increase. All hints but the last are unit in turn,
+and the last one is the conflict."""
 import re
 from typing import List, Optional
 

@@ -4,10 +4,10 @@
     lrup_chain.py PROGRAM
 
 lrupd decides what rounds come to; the tests check which arguments lrupd gets, that its report and
-status are passed on, and which files are left. A file that replaces a round's formula changes nothing.
-Then wrong scripts, each an edit of the right one: a row has to notice. Expected results follow from the
-clauses, by the rules of rounds. Failures are shown; the last line is 'N passed, M failed', and the
-status is 1 if a row failed."""
+status are passed on, and which files are left. A file that replaces a round's formula changes
+nothing. Then wrong scripts, each an edit of the right one: a row has to notice. Expected results
+follow from the clauses, by the rules of rounds. Failures are shown; the last line is 'N passed, M
+failed', and the status is 1 if a row failed."""
 import os
 import re
 import shutil
@@ -340,7 +340,8 @@ def live(shell: str, script: Path, work: Path) -> None:
 # A file that replaces a round's formula.
 
 SATISFIABLE = "p cnf 2 3\n1 2 0\n-1 2 0\n1 -2 0\n"
-# A formula from which round 1 derives 2; what replaces its checkpoint; round 2's stream, with its line of the report.
+# A formula from which round 1 derives 2; what replaces its checkpoint; round 2's stream, with its
+# line of the report.
 FORGED = [("unsatisfiable", SATISFIABLE, "p cnf 2 4\n1 2 0\n-1 2 0\n2 0\n-2 0\n", "5 0 3 4 0\n", 3, "bad line 1 (not unit 3)"),
           ("a contradiction", SATISFIABLE, OTHER, "3 0 1 2 0\n", 3, "bad line 1 (identity)"),
           ("satisfiable", FOUR, "p cnf 2 1\n1 0\n", "6 0 5 3 4 0\n", 0, "ended"),

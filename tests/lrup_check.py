@@ -5,9 +5,9 @@
 
 Proofs are written by CaDiCaL, CryptoMiniSat and PicoSAT, if they are on the PATH, by the example
 solver, and by hand; they come from a file, a pipe and standard input, alone and in parallel, in one
-round and in many. A step that doesn't follow gives no verdict, and its line and clause are named. It
-builds like lrup_solve.py. Failures are shown; the last line is 'N passed, M failed', and ', K skipped'
-if something is missing. The status is 1 if a run failed."""
+round and in many. A step that doesn't follow gives no verdict, and its line and clause are named.
+It builds like lrup_solve.py. Failures are shown; the last line is 'N passed, M failed', and ', K
+skipped' if something is missing. The status is 1 if a run failed."""
 import os
 import random
 import shutil

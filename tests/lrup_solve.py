@@ -4,11 +4,12 @@
     lrup_solve.py PROGRAM [FLAGS]
 
 Known formulas with each status, 300 random ones with early inprocessing, one to eight engines; each
-child killed in turn, signals, a full disk, closed outputs. In a build for tests the rules of sharing
-are left out one by one: each omission has to be noticed. It builds both programs with `make`, with
-FLAGS for the compilers, as '-O1 -g -fsanitize=thread'; if `make` doesn't find CaDiCaL's library,
-everything is skipped, and the output says so. Failures are shown; the last line is 'N passed,
-M failed', and ', K skipped' if something is missing. The status is 1 if a run failed."""
+child killed in turn, signals, a full disk, closed outputs. In a build for tests the rules of
+sharing are left out one by one: each omission has to be noticed. It builds both programs with
+`make`, with FLAGS for the compilers, as '-O1 -g -fsanitize=thread'; if `make` doesn't find
+CaDiCaL's library, everything is skipped, and the output says so. Failures are shown; the last line
+is 'N passed, M failed', and ', K skipped' if something is missing. The status is 1 if a run
+failed."""
 import fcntl
 import os
 import pty

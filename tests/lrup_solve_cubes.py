@@ -1,10 +1,12 @@
 #!/usr/bin/env python3
-"""Runs lrup-solve --cubes FILE: cubes that cover a formula or don't, that overlap or contradict, and wrong files.
+"""Runs lrup-solve --cubes FILE: cubes that cover a formula or don't, that overlap or contradict,
+and wrong files.
 
     lrup_solve_cubes.py PROGRAM [FLAGS]
 
-One to four engines, rounds, assumptions, an engine killed; random formulas with random cubes; and the
-example. Cubes aren't trusted: each answer is the formula's. It builds and reports like lrup_solve.py."""
+One to four engines, rounds, assumptions, an engine killed; random formulas with random cubes; and
+the example. Cubes aren't trusted: each answer is the formula's. It builds and reports like
+lrup_solve.py."""
 import itertools
 import random
 import re

@@ -1,12 +1,14 @@
 #!/usr/bin/env python3
-"""Runs lrup-solve with programs in place of lrup-engines that lie, die, and write to whatever they can.
+"""Runs lrup-solve with programs in place of lrup-engines that lie, die, and write to whatever they
+can.
 
     lrup_solve_front.py PROGRAM [FLAGS]
 
 Whatever they do, 's UNSATISFIABLE' is printed only if lrupd has ended with status 0 on the named
-formula, and 's SATISFIABLE' only with an assignment that makes each clause and the assumptions true;
-each other line begins with c; no process is left, and no file is made. It builds like lrup_solve.py.
-Failures are shown; the last line is 'N passed, M failed'. The status is 1 if a run failed."""
+formula, and 's SATISFIABLE' only with an assignment that makes each clause and the assumptions
+true; each other line begins with c; no process is left, and no file is made. It builds like
+lrup_solve.py. Failures are shown; the last line is 'N passed, M failed'. The status is 1 if a run
+failed."""
 import os
 import re
 import shlex

@@ -3,11 +3,11 @@
 
     lrup_solve_hostile.py PROGRAM [FLAGS [COUNT]]
 
-Whatever fails or dies, the answer is right, or 's UNKNOWN', or a message with status 1, or none if a
-signal ended the front. Each run ends, and leaves no process and no file, unless its row says so. About
-COUNT signals are sent, by default 60; with 600 each kind of run has each call refused, too. It builds
-like lrup_solve.py. Failures are shown; the last line is 'N passed, M failed'. The status is 1 if a run
-failed."""
+Whatever fails or dies, the answer is right, or 's UNKNOWN', or a message with status 1, or none if
+a signal ended the front. Each run ends, and leaves no process and no file, unless its row says so.
+About COUNT signals are sent, by default 60; with 600 each kind of run has each call refused, too.
+It builds like lrup_solve.py. Failures are shown; the last line is 'N passed, M failed'. The status
+is 1 if a run failed."""
 import contextlib
 import errno
 import os

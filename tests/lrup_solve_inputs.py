@@ -1,5 +1,6 @@
 #!/usr/bin/env python3
-"""What lrup-solve reads and keeps, by its arguments: inputs by path and by pipe, records, assumptions, refusals.
+"""What lrup-solve reads and keeps, by its arguments: inputs by path and by pipe, records,
+assumptions, refusals.
 
     lrup_solve_inputs.py PROGRAM [FLAGS]
 

@@ -3,11 +3,11 @@
 
     lrup_solve_kept.py PROGRAM [FLAGS]
 
-The outputs have to be reported, and right: the core's clauses are those of the formula with the given
-numbers, and lrupd refutes the core; an independent LRAT checker accepts the text, and so does lrupd. A
-record's check notices another formula. If lrupd refuses a line, lrup-explain is run. It builds like
-lrup_solve.py. Failures are shown; the last line is 'N passed, M failed'. The status is 1 if a run
-failed."""
+The outputs have to be reported, and right: the core's clauses are those of the formula with the
+given numbers, and lrupd refutes the core; an independent LRAT checker accepts the text, and so does
+lrupd. A record's check notices another formula. If lrupd refuses a line, lrup-explain is run. It
+builds like lrup_solve.py. Failures are shown; the last line is 'N passed, M failed'. The status is
+1 if a run failed."""
 import hashlib
 import os
 import re

@@ -3,10 +3,10 @@
 
     lrup_solve_mpi.py PROGRAM [FLAGS [small]]
 
-Each answer, with and without sharing, rows so small that a run continues for many rounds, the record;
-refusals; each kind of process killed or stopped, in process 0 and in another one, and mpirun, and the
-front. FLAGS and output are as in lrup_solve.py; with `small` only quick rows run, and the output says
-what is skipped. Without MPI, or mpirun, everything is skipped."""
+Each answer, with and without sharing, rows so small that a run continues for many rounds, the
+record; refusals; each kind of process killed or stopped, in process 0 and in another one, and
+mpirun, and the front. FLAGS and output are as in lrup_solve.py; with `small` only quick rows run,
+and the output says what is skipped. Without MPI, or mpirun, everything is skipped."""
 import contextlib
 import itertools
 import os

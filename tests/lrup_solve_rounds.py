@@ -1,12 +1,13 @@
 #!/usr/bin/env python3
-"""Runs lrup-solve with rows so small that a run continues for many rounds, and under failures there.
+"""Runs lrup-solve with rows so small that a run continues for many rounds, and under failures
+there.
 
     lrup_solve_rounds.py PROGRAM [FLAGS]
 
-One to four engines, with and without sharing, each answer; the record, which lrupd checks again, and
-lrup-chain; a child killed in a round or in the pause after it, checkpoints that can't be written,
-signals; nothing grows from round to round. The rules of sharing between rounds are left out one by
-one. FLAGS and output are as in lrup_solve.py."""
+One to four engines, with and without sharing, each answer; the record, which lrupd checks again,
+and lrup-chain; a child killed in a round or in the pause after it, checkpoints that can't be
+written, signals; nothing grows from round to round. The rules of sharing between rounds are left
+out one by one. FLAGS and output are as in lrup_solve.py."""
 import contextlib
 import glob
 import os
@@ -451,7 +452,8 @@ def stays_small(work: Path) -> None:
         want(size < 1.3 * before[name] + 6000, True, f"kilobytes of {name}, {before[name]} and then {size}")
 
 
-# Rules of sharing between rounds: leaving one out is noticed, and with it nothing of the kind happens.
+# Rules of sharing between rounds: leaving one out is noticed, and with it nothing of the kind
+# happens.
 
 
 def rests_on(what: str, found: str, tested: Mapping[str, object], work: Path) -> None:

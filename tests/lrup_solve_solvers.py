@@ -5,10 +5,10 @@
 
 CaDiCaL, CryptoMiniSat and PicoSAT, if they are on the PATH, and the example solver, alone, together
 and beside engines: known formulas, random ones, in one round and in many. A solver that dies, lies,
-writes nonsense or hangs is lost: alone it gives no verdict; beside a good one the answer is the good
-one's. No process of a command outlives the run. It builds like lrup_solve.py. Failures are shown; the
-last line is 'N passed, M failed', and ', K skipped' if something is missing. The status is 1 if a run
-failed."""
+writes nonsense or hangs is lost: alone it gives no verdict; beside a good one the answer is the
+good one's. No process of a command outlives the run. It builds like lrup_solve.py. Failures are
+shown; the last line is 'N passed, M failed', and ', K skipped' if something is missing. The status
+is 1 if a run failed."""
 import os
 import random
 import re

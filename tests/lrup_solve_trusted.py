@@ -3,9 +3,9 @@
 
     lrup_solve_trusted.py PROGRAM [FLAGS]
 
-A hostile program gets a wrong answer from each front that lacks such a line, and none from the whole
-front. It builds like lrup_solve.py. Failures are shown; the last line is 'N passed, M failed'. The
-status is 1 if a run failed."""
+A hostile program gets a wrong answer from each front that lacks such a line, and none from the
+whole front. It builds like lrup_solve.py. Failures are shown; the last line is 'N passed, M
+failed'. The status is 1 if a run failed."""
 import os
 import re
 import shlex

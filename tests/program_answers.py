@@ -25,7 +25,8 @@ FILES = {"formula": FOUR, "one": ONE, "two": TWO}
 FOUR_SOLVERS = [f"bmc-four.{number}" for number in range(1, 5)]
 ASSUMED = [example("assumed.cnf"), example("assumed.lrup")]
 CUBE = example("assumed.cube")
-# Watched runs, and how many lines --watch prints: the end of each stream in each round, and the start of each round but the first.
+# Watched runs, and how many lines --watch prints: the end of each stream in each round, and the
+# start of each round but the first.
 TOLD = [(["--watch", *options, "formula", *["one"] * count], count) for options in ([], ["--serial"]) for count in (1, 5)]
 TOLD += [(["--watch", *options, "--rounds", "d", "formula", "d/round-1.stream-1"], 3) for options in ([], ["--serial"])]
 ADDED = "1 added, 0 deleted, ended"

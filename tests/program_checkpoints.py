@@ -3,10 +3,11 @@
 
     program_checkpoints.py PROGRAM
 
-Rows have the file's bytes; for recorded streams they follow from the rules. If nothing may be created,
-nothing is touched; if saving fails, there is still a report. A checkpoint is a formula that the program
-accepts; a part of it, as a full disk leaves it, isn't. Failures are shown; the last line is 'N passed,
-M failed', and ', K skipped' if the machine doesn't allow a test. The status is 1 if a row failed."""
+Rows have the file's bytes; for recorded streams they follow from the rules. If nothing may be
+created, nothing is touched; if saving fails, there is still a report. A checkpoint is a formula
+that the program accepts; a part of it, as a full disk leaves it, isn't. Failures are shown; the
+last line is 'N passed, M failed', and ', K skipped' if the machine doesn't allow a test. The status
+is 1 if a row failed."""
 import os
 import shutil
 import sys

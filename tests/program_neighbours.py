@@ -1,11 +1,13 @@
 #!/usr/bin/env python3
-"""Runs the program on a good proof of some thousand lines beside hostile neighbours, one after the other.
+"""Runs the program on a good proof of some thousand lines beside hostile neighbours, one after the
+other.
 
     program_neighbours.py PROGRAM
 
-The proof cites no other stream, so its line in the report has to be the same each time, with threads
-and with --serial: that beside an empty stream. For some neighbours their line is known, too. Failures
-are shown; the last line is 'N passed, M failed', and the status is 1 if a run failed."""
+The proof cites no other stream, so its line in the report has to be the same each time, with
+threads and with --serial: that beside an empty stream. For some neighbours their line is known,
+too. Failures are shown; the last line is 'N passed, M failed', and the status is 1 if a run
+failed."""
 import os
 import random
 import subprocess

@@ -1,16 +1,16 @@
 #!/usr/bin/env python3
-"""Refuses each allocation, read, write, thread, open, creation of a file and flush of the program in turn,
-and compares each answer and checkpoint with the permitted ones.
+"""Refuses each allocation, read, write, thread, open, creation of a file and flush of the program
+in turn, and compares each answer and checkpoint with the permitted ones.
 
     program_refusals.py PROGRAM [RT]
 
-It builds refuse.c, which the loader puts before the C library, and runs PROGRAM with the first call of
-a kind refused, then the second, and so on until a run meets no refusal; that run has to give the
-normal answer. Then it does so with a few tests, unless RT is left out: runs without the program around
-them, calls that can be repeated, and calls that allocate nothing. They are as `rt ci` built them; if
-there are none, RT, Rattle's command, builds them. If a thread isn't started, the started ones have ended
-before that is reported, and pipes that stay open delay nothing; a program that waits for no thread has
-to be found wrong. Last, the memory of a store has to be given back."""
+It builds refuse.c, which the loader puts before the C library, and runs PROGRAM with the first call
+of a kind refused, then the second, and so on until a run meets no refusal; that run has to give the
+normal answer. Then it does so with a few tests, unless RT is left out: runs without the program
+around them, calls that can be repeated, and calls that allocate nothing. They are as `rt ci` built
+them; if there are none, RT, Rattle's command, builds them. If a thread isn't started, the started
+ones have ended before that is reported, and pipes that stay open delay nothing; a program that
+waits for no thread has to be found wrong. Last, the memory of a store has to be given back."""
 import itertools
 import os
 import re
@@ -232,7 +232,8 @@ def tests() -> Iterator[Test]:
     yield Test("checkpoint", "worked::a_refused_save_can_be_made_again", ["AllocError"])
     yield Test("stream_threads", "ring::a_refused_ring_can_be_made_again", [])
     yield Test("stream_threads", "jobs::refused_jobs_can_be_made_again", ["AllocError"], last=20)
-    # Some allocations are the test's own; each later one is for the set of dropped identities, and ends the stream.
+    # Some allocations are the test's own; each later one is for the set of dropped identities, and
+    # ends the stream.
     yield Test("stream_check", "memory::a_refused_growth_ends_the_reading", ["AllocError"])
     # The last allocation is the test's own, and comes after a thousand calls of each kind.
     yield Test("propagate", "the_ninth_allocation_comes_after_all_calls", ["AllocError", "AllocFailed { .. }"],
@@ -297,7 +298,8 @@ def unjoined(folder: Path) -> List[str]:
 
 
 def leave(machine: Machine, folder: Path, count: int) -> Tuple[int, List[str]]:
-    """How many threads were refused beside a number of pipes that stay open after their first line, and what went wrong.
+    """How many threads were refused beside a number of pipes that stay open after their first line,
+    and what went wrong.
 
     The run ends all the same, and reads none of them.
     """

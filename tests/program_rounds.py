@@ -3,11 +3,11 @@
 
     program_rounds.py PROGRAM
 
-Each row runs with threads and with --serial. Rounds end by each verdict, by wrong lines, and by each
-fault, in the first one and in later ones; sizes are spelled in each wrong way; streams and sizes are
-files and pipes, and a checkpoint is replaced between two rounds. Failures are shown; the last line is
-'N passed, M failed', and ', K skipped' if the machine doesn't allow a test. The status is 1 if a row
-failed."""
+Each row runs with threads and with --serial. Rounds end by each verdict, by wrong lines, and by
+each fault, in the first one and in later ones; sizes are spelled in each wrong way; streams and
+sizes are files and pipes, and a checkpoint is replaced between two rounds. Failures are shown; the
+last line is 'N passed, M failed', and ', K skipped' if the machine doesn't allow a test. The status
+is 1 if a row failed."""
 import re
 import shutil
 import subprocess
@@ -40,10 +40,11 @@ Named = Tuple[str, Wanted]
 def rounds(name: str, status: int, texts: Texts, out: str = "", err: str = "", saved: Sequence[str] = (), options: str = "",
            others: Mapping[str, str] = {}, gone: Sequence[str] = (), do: str = "", how: str = "",
            pipes: Mapping[str, Pieces] = {}) -> Iterator[Named]:
-    """Streams of these texts, and what was saved behind each round; no other formula of a round is there, and no file has changed.
+    """Streams of these texts, and what was saved behind each round; no other formula of a round is
+    there, and no file has changed.
 
-    Before, the shell does that; the streams that are gone, or that are pipes, are no files in the end.
-    """
+    Before, the shell does that; the streams that are gone, or that are pipes, are no files in the
+    end. """
     given = {name: text for name, text in {**round_files(texts), **others}.items() if name not in pipes}
     formulas: Dict[str, Optional[str]] = {saved_name(number): None for number in LEFT}
     left = {**formulas, **given, **{saved_name(number): text for number, text in enumerate(saved, 2)}, **dict.fromkeys(gone)}
@@ -238,7 +239,8 @@ def unopened() -> Iterator[Named]:
         for device in "null", "zero":
             if number > 1:
                 yield from stopped(number, "sizes", 2, f"which are /dev/{device}", do=f"ln -s /dev/{device} {name}; ")
-    # Of at most 4,095 bytes in a path, that of round 2's formula has 4,095, or 4,093 and that of its sizes 4,095.
+    # Of at most 4,095 bytes in a path, that of round 2's formula has 4,095, or 4,093 and that of
+    # its sizes 4,095.
     for cause, times in ("cannot read sizes", 2041), ("cannot open stream 1", 2040):
         for way in WAYS:
             words = [*way.split(), "--rounds", "d" + "/." * times, "formula", stream_name(1)]

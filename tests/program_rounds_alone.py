@@ -1,6 +1,6 @@
 #!/usr/bin/env python3
-"""Runs the program with --rounds, and each of these rounds separately, with --checkpoint on the checkpoint
-before: the last report is that of the last run, and each file has the same bytes.
+"""Runs the program with --rounds, and each of these rounds separately, with --checkpoint on the
+checkpoint before: the last report is that of the last run, and each file has the same bytes.
 
     program_rounds_alone.py PROGRAM
 

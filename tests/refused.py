@@ -1,4 +1,5 @@
-"""The permitted answers of the program when a call of the system is refused, and a machine that refuses one."""
+"""The permitted answers of the program when a call of the system is refused, and a machine that
+refuses one."""
 import itertools
 import os
 import re

@@ -1,5 +1,6 @@
 #!/usr/bin/env python3
-"""Writes to files in place, while other programs read them, until it is killed, or a minute has passed.
+"""Writes to files in place, while other programs read them, until it is killed, or a minute has
+passed.
 
     rewriting.py SEED FILE...
 

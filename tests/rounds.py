@@ -1,5 +1,5 @@
-"""Two proofs in three rounds over the four clauses, by one stream and by two, with lrupd's report and
-checkpoints: by hand."""
+"""Two proofs in three rounds over the four clauses, by one stream and by two, with lrupd's report
+and checkpoints: by hand."""
 from typing import Dict, List, NamedTuple, Sequence
 
 from harness import FOUR, report

@@ -3,12 +3,12 @@
 
     shown.py PROGRAM [FLAGS]
 
-A command comes after '$ ' in a block that is indented by four spaces or more. If its line ends with a
-backslash, a bar or '&&', it continues in the next one. The text below is its expected output, standard
-error, too: a line '..' stands for any lines, and in a line with lrup-solve's times each number for any
-other. If there is no text, any output will do. Some commands aren't run, since they would prove the
-program: see NOT_RUN. Then the examples' scripts get wrong arguments, files and answers. Failures are
-shown; the last line is 'N passed, M failed'."""
+A command comes after '$ ' in a block that is indented by four spaces or more. If its line ends with
+a backslash, a bar or '&&', it continues in the next one. The text below is its expected output,
+standard error, too: a line '..' stands for any lines, and in a line with lrup-solve's times each
+number for any other. If there is no text, any output will do. Some commands aren't run, since they
+would prove the program: see NOT_RUN. Then the examples' scripts get wrong arguments, files and
+answers. Failures are shown; the last line is 'N passed, M failed'."""
 import os
 import re
 import shutil
@@ -23,7 +23,8 @@ from solving import PROGRAM, SOLVE, run_built
 
 LIMIT = 120  # seconds for a page
 NOT_RUN = ["make try", "make install PREFIX=$HOME/.local", "sudo make packages && make test"]
-# Files in a page's folder, besides the examples: copies, and generated formulas. And the packages that its commands need.
+# Files in a page's folder, besides the examples: copies, and generated formulas. And the packages
+# that its commands need.
 PAGES: List[Tuple[str, Sequence[str], Sequence[str]]] = [
     ("README.md", ["random 150 1 > formula.cnf"], ["cadical"]),
     ("docs/USING.md", ["random 150 1 > formula.cnf"], ["cadical", "cryptominisat5"]),
@@ -166,10 +167,10 @@ def scripts() -> Iterator[Row]:
     for words, given, cause in (
             ([domain, "none"], b"", "DOMAIN, PROBLEM or answer can't be read: [Errno 2] No such file or directory: 'none'"),
             ([domain, "/dev/stdin"], b"(define (problem empty))", "DOMAIN, PROBLEM or answer can't be read: ':init'"),
-            (["/dev/stdin", problem], b"(define (domain d) (:predicates (p ?x - t)))", "/dev/stdin: no domain in PDDL with STRIPS alone"),
-            ([problem, domain], b"", f"{problem}: no domain in PDDL with STRIPS alone"),
-            ([domain, domain], b"", f"{domain}: no problem in PDDL with STRIPS alone"),
-            ([domain, "/dev/null"], b"", "/dev/null: no problem in PDDL with STRIPS alone")):
+            (["/dev/stdin", problem], b"(define (domain d) (:predicates (p ?x - t)))", "/dev/stdin: not a domain in PDDL with only STRIPS"),
+            ([problem, domain], b"", f"{problem}: not a domain in PDDL with only STRIPS"),
+            ([domain, domain], b"", f"{domain}: not a problem in PDDL with only STRIPS"),
+            ([domain, "/dev/null"], b"", "/dev/null: not a problem in PDDL with only STRIPS")):
         yield f"plan.py {words}", refused, plan, [*words, "3"], given, f"plan.py: {cause}", 1
 
 

@@ -1,7 +1,8 @@
 """Shared by the tests of lrup-solve: its two builds, runs, and the expected answers.
 
-Their command line is PROGRAM [FLAGS]. `make` builds both, with FLAGS for the compilers if given, in a
-folder for these flags: several scripts run at once, and the first one builds what is out of date."""
+Their command line is PROGRAM [FLAGS]. `make` builds both, with FLAGS for the compilers if given, in
+a folder for these flags: several scripts run at once, and the first one builds what is out of
+date."""
 import contextlib
 import fcntl
 import os

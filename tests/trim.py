@@ -3,15 +3,15 @@
 
     trim.py PROGRAM [COUNT]
 
-COUNT is 300: random runs of one to five solvers, with and without imports, in one to seven rounds, some
-under an assumption, some with new hints; and as many garbled records. The core has to have clauses of
-the formula; lines have to be numbered densely, each has to be cited, and deleted right after that. With
-the commands that lrup-trim prints, lrupd has to accept the lines over the core and over the formula; of
-garbled streams, both or none, as the LRAT checker does; and none if the formula is satisfiable. Records
-of lrup-solve are trimmed if CaDiCaL's library is installed. While streams are rewritten and truncated,
-everything is written or nothing. lrup-trim is built for tests, with -fsanitize=address,undefined if the
-compiler can. Failures are shown; the last line is 'N passed, M failed', and ', K skipped' if something
-is missing. The status is 1 if a run failed."""
+COUNT is 300: random runs of one to five solvers, with and without imports, in one to seven rounds,
+some under an assumption, some with new hints; and as many garbled records. The core has to have
+clauses of the formula; lines have to be numbered densely, each has to be cited, and deleted right
+after that. With the commands that lrup-trim prints, lrupd has to accept the lines over the core and
+over the formula; of garbled streams, both or none, as the LRAT checker does; and none if the
+formula is satisfiable. Records of lrup-solve are trimmed if CaDiCaL's library is installed. While
+streams are rewritten and truncated, everything is written or nothing. lrup-trim is built for tests,
+with -fsanitize=address,undefined if the compiler can. Failures are shown; the last line is 'N
+passed, M failed', and ', K skipped' if something is missing. The status is 1 if a run failed."""
 import hashlib
 import mmap
 import os
