@@ -1,4 +1,4 @@
-// Unverified, as all of this solver; lrupd redoes each line. Writes the stream of one solver.
+// Unverified, like the whole solver; lrupd checks each line. Writes the stream of one solver.
 #include <errno.h>
 #include <fcntl.h>
 #include <string.h>
@@ -8,11 +8,11 @@
 #include "solver.h"
 #include "stream.h"
 
-// With m clauses in the formula and n streams, line k of stream s, from 0, has the identity m + s + k n. So each solver counts
-// for itself, and an identity says whose it is.
+// With m clauses in the formula and n streams, line k of stream s, from 0, has the identity m + s +
+// k n. So each solver counts on its own, and an identity shows its owner.
 void proof_open(Proof *proof, const char *path, uint64_t clauses, int stream, int streams) {
     proof->path = path;
-    proof->file = open(path, O_WRONLY | O_CREAT | O_TRUNC, 0666);   // waits for the reader of a FIFO
+    proof->file = open(path, O_WRONLY | O_CREAT | O_TRUNC, 0666);  // waits for the reader of a FIFO
     if (proof->file < 0) fail_file(path, strerror(errno));
     proof->next = clauses + (uint64_t)stream;
     proof->step = (uint64_t)streams;
@@ -90,7 +90,8 @@ void proof_delete(Proof *proof, const Identities *identities) {
     proof->deleted += identities->length;
 }
 
-// "id i literals 0": this solver took over that clause of another one, whose line was flushed before. It takes no identity.
+// "id i literals 0": this solver took over that clause of another one, whose line was flushed
+// before. An import uses no identity of its own.
 void proof_import(Proof *proof, uint64_t identity, const Literal *literals, size_t length) {
     put_number(proof, identity);
     put_byte(proof, ' ');
