@@ -1,10 +1,10 @@
-# `make help` lists what there is, by the words behind ##. Building needs Rattle's toolchain, the command rt, and Python 3, as rt
-# itself; make demo and make test also need a C compiler.
+# `make help` lists the targets, by the comments after ##. Building needs Rattle's toolchain (the
+# command rt) and Python 3; make demo and make test also need a C compiler.
 
 RT ?= rt
 PREFIX ?= /usr/local
 VERSION := $(shell cat VERSION)
-# With which the program is proved, as README says.
+# The kit with which the program is proved, from README.
 KIT := $(shell sed -n 's/^`\(rattle-kit-[^`]*\)`.*/\1/p' README.md 2> /dev/null)
 PROGRAM := crates/lrupd/out/lrupd
 SOLVER := examples/solver/out/solver
@@ -13,19 +13,19 @@ TRIM := tools/trim/out/lrup-trim
 EXPLAIN := tools/explain/out/lrup-explain
 SOLVE := tools/solve/out/lrup-solve
 ENGINES = $(dir $(SOLVE))lrup-engines
-# Of whoever builds, as CPPFLAGS, LDFLAGS and LDLIBS are; what the sources want stands with the rules.
+# For users to set, like CPPFLAGS, LDFLAGS and LDLIBS; flags that the sources need are in the rules.
 CFLAGS ?= -O2
 CXXFLAGS ?= -O2
 WARNINGS := -Wall -Wextra -Wshadow -Wconversion
-# Where C and C++ are compiled to; lrup-solve has a place of its own, since tests build it in several ways.
+# Objects; those of lrup-solve have their own folder, since tests build it in several ways.
 OBJECTS := out/objects
 SOLVE_OBJECTS = $(SOLVE).objects
-# What of the filter is part of lrup-solve, lrup-trim and lrup-explain; and of the solver of the demo.
+# Sources of the filter that lrup-solve, lrup-trim and lrup-explain use; and the example solver.
 FILTER := $(filter-out tools/exact/main.c tools/exact/chain.c,$(wildcard tools/exact/*.c))
 SHARED_WITH_SOLVER := $(addprefix tools/exact/,errors.c formula.c lists.c literals.c)
-# Of one process.
+# lrup-engines without MPI.
 ALONE := $(filter-out $(wildcard tools/solve/mpi*.cpp),$(wildcard tools/solve/*.cpp))
-# What the tests of programs wait for: 'make examples BUILT= PROGRAM=path' takes another program.
+# Tests of programs build this first; 'make examples BUILT= PROGRAM=path' tests another program.
 BUILT ?= build
 FORMULA ?= examples/bmc.cnf
 STREAMS ?= $(addprefix examples/bmc-four.,1 2 3 4)
@@ -38,7 +38,7 @@ OPTIONS ?= --tries 1000000
 help:
 	@awk -f gate/help.awk $(firstword $(MAKEFILE_LIST))
 
-# rt's own lines are left out.
+# Leaves rt's own lines out.
 try: toolchain ## try: run the program on an example in about a minute, before anything is proved
 	@echo "compiling, about a minute .." >&2; log=$$(mktemp); trap 'rm -f "$$log"' EXIT; status=0; cd crates/lrupd && $(RT) try -- \
 	$(foreach word,$(OPTIONS) $(FORMULA) $(STREAMS),$(or $(realpath $(word)),$(word))) < /dev/null 2> "$$log" || status=$$?; \
@@ -47,19 +47,21 @@ try: toolchain ## try: run the program on an example in about a minute, before a
 	echo "status $$status, not proved: make run proves it"; \
 	case $$status in 0|3|8) ;; *) exit $$status ;; esac
 
-# Of one's own files, as make try:
+# On your own files, like make try:
 #     make run FORMULA=path/to/formula.cnf STREAMS="path/to/stream1 path/to/stream2"
 run: build ## try: the same, proved first; both take FORMULA=path STREAMS="path path" OPTIONS=--serial
 	@status=0; $(PROGRAM) $(OPTIONS) $(FORMULA) $(STREAMS) || status=$$?; \
 	echo "status $$status"; \
 	case $$status in 0|3|8) ;; *) exit $$status ;; esac
 
-# A line a crate as it is proved, and what is left.
+# Prints a line for each crate once it is proved, and how much is left.
 build: toolchain ## build: prove the program, 7 to 30 minutes the first time, and leave it at crates/lrupd/out/lrupd
 	@python3 gate/build.py $(RT)
 
-# The filter's name is lrup-exact; lrup-solve is installed where CaDiCaL's library is there. The manual pages have the version at their
-# feet. Without the toolchain, as under sudo, what was built before is installed. make runs a line with $(MAKE) also with -n.
+# The filter is installed as lrup-exact, and lrup-solve only if CaDiCaL's library is there. The
+# manual pages get the version in their last line. Without the toolchain, as under sudo, the
+# programs that were built before are installed. No line calls $(MAKE), since make would run it even
+# with -n.
 PLACE = $(DESTDIR)$(PREFIX)
 COMPLETIONS = $(PLACE)/share/bash-completion/completions
 install: $(if $(shell command -v $(RT)),build,built) exact trim explain install-solve ## use: install all, with manual pages, below PREFIX=/usr/local
@@ -74,7 +76,7 @@ install: $(if $(shell command -v $(RT)),build,built) exact trim explain install-
 	sh tools/completions.sh "$(PLACE)/bin" "$(COMPLETIONS)"
 
 built:
-	@test -x $(PROGRAM) || { echo "there is no $(PROGRAM), which make build leaves there by the command '$(RT)'"; exit 1; }
+	@test -x $(PROGRAM) || { echo "$(PROGRAM) isn't built: 'make build' builds it with the command '$(RT)'"; exit 1; }
 
 install-solve: $(if $(shell $(CXX) -E -x c++ -include cadical.hpp /dev/null > /dev/null 2>&1 && echo yes),solve,no-solve)
 	@test ! -x $(SOLVE) || { \
@@ -91,8 +93,8 @@ uninstall: ## use: remove what make install installs below PREFIX
 	"$(PLACE)/bin/$(name)" "$(PLACE)/share/man/man1/$(name).1" "$(COMPLETIONS)/$(name)") "$(PLACE)/libexec/lrupd/lrup-engines"
 	@rmdir "$(PLACE)/libexec/lrupd" 2> /dev/null || :
 
-# Standard output, standard error and the status are compared, on the examples and on some hundred small runs; two groups of streams
-# are checked apart.
+# Compares standard output, standard error and the status; also checks two groups of streams
+# separately.
 examples: $(BUILT) c-and-python ## check: compare what the program answers on the examples, and on some hundred small runs
 	@python3 tests/program_answers.py $(PROGRAM)
 	@python3 tests/program_groups.py $(PROGRAM)
@@ -100,7 +102,7 @@ examples: $(BUILT) c-and-python ## check: compare what the program answers on th
 live: $(BUILT) c-and-python ## check: four recorded solvers, line by line through pipes, checked while they run
 	@python3 tests/program_live.py $(PROGRAM)
 
-checkpoints: $(BUILT) solver ## check: what --checkpoint saves, lrup-chain, and streams that are cut into rounds for it
+checkpoints: $(BUILT) solver ## check: what --checkpoint saves, lrup-chain, and streams that are cut into rounds
 	@python3 tests/program_checkpoints.py $(PROGRAM)
 	@python3 tests/lrup_chain.py $(PROGRAM)
 	@python3 tests/example_chain.py $(PROGRAM) $(SOLVER)
@@ -109,38 +111,38 @@ rounds: $(BUILT) c-and-python ## check: runs in rounds: each end and fault, size
 	@python3 tests/program_rounds.py $(PROGRAM)
 	@python3 tests/program_rounds_alone.py $(PROGRAM)
 
-demo: build solver ## try: four solvers that share their clauses, and the program beside them
+demo: build solver ## try: four solvers that share clauses, checked while they run
 	@python3 examples/solver/demo.py $(PROGRAM) $(SOLVER)
 
-# An example, and not verified.
-solver: $(SOLVER) ## build: the solver of the demo, at examples/solver/out/solver
+# An unverified example.
+solver: $(SOLVER) ## build: the demo's solver, at examples/solver/out/solver
 	@:
 
-# Not verified, and not trusted.
-exact: $(EXACT) ## build: the filter that makes streams of other solvers' proofs, at tools/exact/out/exact
+# Unverified and untrusted.
+exact: $(EXACT) ## build: lrup-exact, which turns other solvers' proofs into streams, at tools/exact/out/exact
 	@:
 
-# Not verified, and not trusted.
-trim: $(TRIM) ## build: lrup-trim, cores and smaller proofs of recorded streams, at tools/trim/out
+# Unverified and untrusted.
+trim: $(TRIM) ## build: lrup-trim, which makes cores and smaller proofs of streams, at tools/trim/out
 	@:
 
-# Not verified, and not trusted.
-explain: $(EXPLAIN) ## build: lrup-explain, why a line is bad, and what would be right, at tools/explain/out
+# Unverified and untrusted.
+explain: $(EXPLAIN) ## build: lrup-explain, which says why a line is bad, at tools/explain/out
 	@:
 
-# Not verified. The front, which starts lrupd and prints the answer, is believed; lrup-engines isn't.
-solve: $(SOLVE) $(ENGINES) beside-it ## build: lrup-solve and lrup-check, to a proved verdict, at tools/solve/out; wants CaDiCaL's library
+# Unverified. The front, which starts lrupd and prints the answer, is trusted; lrup-engines isn't.
+solve: $(SOLVE) $(ENGINES) beside-it ## build: lrup-solve and lrup-check, at tools/solve/out; needs CaDiCaL's library
 
-# It isn't installed: it goes with the MPI of where it was built.
-solve-mpi: $(ENGINES)-mpi $(ENGINES) $(SOLVE) beside-it ## build: lrup-engines-mpi, for lrup-solve --mpi: engines on several hosts; wants MPI, too
+# It isn't installed, since it depends on the MPI of the host that built it.
+solve-mpi: $(ENGINES)-mpi $(ENGINES) $(SOLVE) beside-it ## build: lrup-engines-mpi, for lrup-solve --mpi on several hosts; needs MPI, too
 
-# What the front looks for beside it, and what looks for the front.
+# Programs that the front looks for beside itself, and lrup-check, which looks for the front.
 beside-it: $(EXACT) $(TRIM) $(EXPLAIN)
 	@mkdir -p $(dir $(SOLVE)) && ln -sfr $(PROGRAM) $(dir $(SOLVE))lrupd && ln -sfr $(EXACT) $(dir $(SOLVE))lrup-exact && \
 	ln -sfr $(TRIM) $(EXPLAIN) $(dir $(SOLVE)) && install -m 755 tools/solve/lrup-check $(dir $(SOLVE))
 
-# One source after the other, each once it has changed, or a header that it includes, or how it is compiled. A program that runs is
-# replaced, and not written over.
+# A source is compiled if it, a header that it includes, or the way to compile it has changed. A
+# running program is replaced, not overwritten.
 in_order = $(patsubst %,$(1)/%.o,$(basename $(2)))
 VERSIONED = -DVERSION='"$(VERSION)"'
 COMPILE_C = $(CC) -std=c11 $(WARNINGS) $(VERSIONED) $(CPPFLAGS) $(CFLAGS)
@@ -171,25 +173,25 @@ $(SOLVE_OBJECTS)/tools/solve/mpi_%.o: tools/solve/mpi_%.cpp $(SOLVE_OBJECTS)/fla
 $(SOLVE_OBJECTS)/%.o: %.cpp $(SOLVE_OBJECTS)/flags | libcadical
 	@mkdir -p $(dir $@) && $(CXX) $(COMPILE_CXX) -MMD -MP -c -o $@ $<
 
-# What both scripts have that check a record.
+# Functions that are in both scripts that check a record.
 $(SOLVE_OBJECTS)/packed.sh.h: tools/lrup-chain
 	@mkdir -p $(dir $@) && { echo 'R"sh('; sed -n '/^stream() {/,/^}/p; /^unpack() {/,/^}/p' $<; echo ')sh"'; } > $@
 $(SOLVE_OBJECTS)/tools/solve/rounds.o: $(SOLVE_OBJECTS)/packed.sh.h
 $(SOLVE_OBJECTS)/tools/solve/rounds.o: COMPILE_CXX += -I $(SOLVE_OBJECTS)
 
-# How all is compiled, written where that isn't what it was.
+# The compilers' commands, rewritten only when they change.
 $(OBJECTS)/flags $(SOLVE_OBJECTS)/flags: FORCE | c-and-python
 	@mkdir -p $(dir $@) && echo '$(subst ','\'',$(COMPILE_C) $(CXX) $(COMPILE_CXX) $(LDFLAGS) $(LDLIBS))' > $@.new && \
 	{ cmp -s $@.new $@ && rm $@.new || mv $@.new $@; }
 FORCE:
 -include $(wildcard $(OBJECTS)/*/*/*.d $(SOLVE_OBJECTS)/*/*/*.d $(SOLVE_OBJECTS)/*/*/*/*.d)
 
-# With clang, too, where it is there.
+# With clang, too, if it is installed.
 C_SOURCES := $(wildcard $(addsuffix /*.c,tools/exact tools/trim tools/explain tools/solve tools/solve/front examples/solver tests))
 C_HEADERS := $(wildcard $(addsuffix /*.h,tools/exact tools/trim tools/explain examples/solver)) tools/solve/shared.h \
 	tools/solve/test_hooks.h tools/solve/front/supervisor.h
 STRICT = -std=c11 $(WARNINGS) -Werror -O2 -fsyntax-only -I tools/exact -x c
-warnings: c-and-python ## check: that C compiles without a warning, and each header by itself
+warnings: c-and-python ## check: C compiles without a warning, and each header by itself
 	@for compiler in $(firstword $(CC)) clang; do command -v $$compiler > /dev/null || continue; \
 	$$compiler $(STRICT) $(C_SOURCES) || exit 1; \
 	for file in $(C_HEADERS); do $$compiler $(STRICT) -D_POSIX_C_SOURCE=200809L -include $$file /dev/null || exit 1; done; done
@@ -197,18 +199,18 @@ warnings: c-and-python ## check: that C compiles without a warning, and each hea
 quotes-test: c-and-python ## check: that wrong quotes on the pages are refused
 	@python3 tests/quotes.py
 
-builds: c-and-python ## check: that C and C++ are compiled with the flags that are said, and again what has changed
+builds: c-and-python ## check: C and C++ are compiled with the given flags, and again after a change
 	@python3 tests/builds.py
 
-shown: $(BUILT) solver exact trim explain ## check: run each command that the pages show, and compare what it writes
+shown: $(BUILT) solver exact trim explain ## check: run the commands that the pages show, and compare their output
 	@python3 tests/shown.py $(PROGRAM)
 
-solver-test: $(BUILT) solver ## check: the example solver's streams, of one to eight solvers, and of some that are killed
+solver-test: $(BUILT) solver ## check: streams of one to eight example solvers, and of some that are killed
 	@python3 tests/example_solver.py $(PROGRAM) $(SOLVER)
 
 FILTER_TESTS := filter_rounds filter_mutants filter_chains filter_streams filter_solvers
 .PHONY: $(FILTER_TESTS)
-filter-test: $(FILTER_TESTS) ## check: the filter, in rounds too, with the solvers that are on the PATH, and 10,000 mutated proofs
+filter-test: $(FILTER_TESTS) ## check: the filter, also in rounds, with solvers on the PATH, and on 10,000 mutated proofs
 
 $(FILTER_TESTS): $(BUILT) exact
 	@python3 tests/$@.py $(PROGRAM)
@@ -216,49 +218,50 @@ $(FILTER_TESTS): $(BUILT) exact
 trim-test: $(BUILT) solver exact trim ## check: lrup-trim, on 300 random runs in rounds, and on garbled streams
 	@python3 tests/trim.py $(PROGRAM)
 
-explain-test: $(BUILT) solver explain ## check: lrup-explain, on 2,000 faulty streams and 1,000 mutated proofs, beside what lrupd says
+explain-test: $(BUILT) solver explain ## check: lrup-explain against lrupd, on 2,000 faulty streams and 1,000 mutated proofs
 	@python3 tests/explain.py $(PROGRAM)
 
-# Without CaDiCaL's library nothing is run, and without MPI nothing of --mpi. With MPI= only what takes seconds there, as in
-# the gate.
+# Skipped without CaDiCaL's library, and those of --mpi without MPI. With MPI= only their quick rows
+# run, as in the gate.
 MPI ?= yes
 SOLVE_TESTS := lrup_solve_rounds lrup_solve lrup_solve_inputs lrup_solve_solvers lrup_check lrup_solve_kept lrup_solve_front \
 	lrup_solve_trusted lrup_solve_hostile lrup_solve_kills lrup_solve_cubes lrup_solve_resume lrup_solve_mpi
 .PHONY: $(SOLVE_TESTS)
-solve-test: $(SOLVE_TESTS) ## check: lrup-solve, and what may happen to it, with 300 random formulas
+solve-test: $(SOLVE_TESTS) ## check: lrup-solve, on 300 random formulas, and with everything that may fail
 
 $(SOLVE_TESTS): $(BUILT) exact c-and-python
 	@python3 tests/$@.py $(PROGRAM) $(if $(MPI),,$(if $(filter %_mpi,$@),-O2 small))
 
-neighbours: $(BUILT) c-and-python ## check: what is said of a good proof beside hostile streams, which never changes
+neighbours: $(BUILT) c-and-python ## check: hostile streams never change the report on a good proof
 	@python3 tests/program_neighbours.py $(PROGRAM)
 
 sweep: $(BUILT) c-and-python ## check: runs with each allocation, read, write and thread refused in turn
 	@python3 tests/program_refusals.py $(PROGRAM) $(RT)
 
-# Without valgrind nothing is run, nor by make instructions.
-leaks: $(BUILT) c-and-python ## measure: memory that isn't given back, by valgrind
+# Skipped without valgrind, like make instructions.
+leaks: $(BUILT) c-and-python ## measure: memory leaks, by valgrind
 	@python3 tests/program_leaks.py $(PROGRAM)
 
-instructions: $(BUILT) c-and-python ## measure: how many instructions lines take, by valgrind, beside what they took
+instructions: $(BUILT) c-and-python ## measure: how many instructions lines take, by valgrind, against the recorded figures
 	@python3 gate/instructions.py $(PROGRAM)
 
-# With packages that the gate doesn't have: acl2, acl2-books and acl2-books-certs; hol-light and libnum-ocaml-dev.
-peers: $(BUILT) solve ## measure: ACL2's verified checkers beside lrupd, in about ten minutes; wants ACL2, which is large
+# These need packages that the gate doesn't: acl2, acl2-books and acl2-books-certs; hol-light and
+# libnum-ocaml-dev.
+peers: $(BUILT) solve ## measure: ACL2's verified checkers beside lrupd, in about ten minutes; needs ACL2, which is large
 	@python3 bench/peers/peers.py $(PROGRAM) $(TRIM) $(SOLVE)
 
-hol: $(BUILT) solve ## check: HOL Light proves 61 tautologies by lrup-solve, in some minutes; wants HOL Light
+hol: $(BUILT) solve ## check: HOL Light proves 61 tautologies by lrup-solve, in some minutes; needs HOL Light
 	@PATH="$(abspath $(dir $(SOLVE))):$$PATH" examples/hol/taut.sh
 
-# On AUDIT, THEOREMS, STORE_CALLS and PROOFS_AND_ROUNDS; make pages names what else is wrong there.
+# On AUDIT, THEOREMS, STORE_CALLS and PROOFS_AND_ROUNDS; `make pages` names other faults there.
 quotes: ## check: put changed definitions onto the pages that quote them
 	@python3 gate/quotes.py --write
 
-# A list that docs/PROMISES.md has in words.
-promises: ## check: list what each function of CRATE=name, or of all crates, promises, and the edits that turn it
+# docs/PROMISES.md has this list in words.
+promises: ## check: list what each function promises, and the edits of it, of CRATE=name or of all crates
 	@python3 gate/promises.py $(CRATE)
 
-# Each script says at its top what it looks for.
+# Each script says at its top what it checks.
 pages: c-and-python ## check: the documents, against the sources and each other; needs no prover
 	@python3 gate/quotes.py
 	@python3 gate/interface.py
@@ -266,35 +269,33 @@ pages: c-and-python ## check: the documents, against the sources and each other;
 	@python3 gate/promises.py > /dev/null
 	@python3 gate/promises.py --check
 
-# With dpkg-deb and dpkg-dev.
+# Needs dpkg-deb and dpkg-dev.
 deb: ## use: a Debian package of what make install installs, with the pages for users and the examples, in out/
 	@rm -rf out/deb && $(MAKE) --no-print-directory install DESTDIR="$(abspath out/deb)" PREFIX=/usr
 	@sh tools/deb.sh out/deb $(VERSION)
 
-# Of what is committed.
+# Committed files only.
 dist: ## use: an archive of the sources, in out/
 	@mkdir -p out && git archive --prefix=lrupd-$(VERSION)/ -o out/lrupd-$(VERSION).tar.gz HEAD && echo out/lrupd-$(VERSION).tar.gz
 
-# As many tests are run as there is time for in LIMIT seconds. tools/pre-push runs it before a push.
+# Runs as many tests as fit into LIMIT seconds. tools/pre-push runs it before a push.
 LIMIT ?= 90
 quick: toolchain c-and-python ## check: after a change of CRATE=name: layout, proofs, its tests before they are proved, the pages
 	@sh gate/quick.sh $(RT) $(CRATE) $(LIMIT)
 
-# Each costs a check of its crate; the gate has those on which most stands.
-edits: toolchain ## check: the edits that the gate leaves out, of CRATE=name or of all crates; each has to be refused
+# Each edit costs a check of its crate; the gate tries the most important ones.
+edits: toolchain ## check: try the edits that the gate leaves out, of CRATE=name or of all crates: each must be refused
 	@sh gate/edits.sh $(RT) $(CRATE)
 
-# Tests of what isn't there are left out, and say so; where CI is set they fail.
-packages: ## check: install, as root, Debian's packages that the tests want
+# Tests whose packages are missing are skipped, and say so; if CI is set, they fail.
+packages: ## check: install, as root, the Debian packages that tests need
 	@sh gate/packages.sh
 
-# The whole gate: the pages; every proof from nothing, each edit that must be refused, each test, and the program as two compilers
-# build it; then, with the program that was built there, the examples, the live run, checkpoints, runs in rounds and chains, the
-# solver's streams and the filter's, mutated proofs, faulty streams, trimmed ones, lrup-solve, a proof beside hostile streams, each call
-# of the system refused in turn, of the program and of tests, memory given back, and the instructions that lines take. The last line is
-# rt's own, 'N passed, M failed'.
-# Tests of programs run side by side, those that take longest first, and two more than there are cores, since most of them wait now and
-# then; what each one prints comes when it has ended. That each has a rule is seen before the proofs begin.
+# The whole gate: the pages; then rt ci, which proves everything from nothing, tries the edits, runs
+# the crates' tests, and builds the program with two compilers; then the tests of programs. The last
+# line is rt's own, 'N passed, M failed'. Tests of programs run in parallel, the longest first, and
+# two more than there are cores, since most of them wait now and then. The output of each comes when
+# it has ended. `make -n` first checks that every test target exists.
 TESTS := lrup_solve_rounds sweep filter_mutants lrup_solve lrup_solve_solvers lrup_solve_cubes filter_rounds lrup_solve_resume explain-test \
 	trim-test lrup_solve_front \
 	lrup_solve_hostile lrup_solve_mpi lrup_solve_inputs lrup_solve_kept lrup_solve_kills lrup_solve_trusted lrup_check leaks filter_chains \

@@ -1,8 +1,7 @@
-"""Builds a program in Rattle that measures crates of this repository, and the C program beside it.
+"""Proves and builds programs in Rattle that measure this repository's crates; compiles C programs.
 
-The program stands in a folder of bench/: NAME.rt.in, and the folders specs and proofs where its contracts want them. Their files
-end in .in, since no check of this repository reads them.
-"""
+The program is in a folder of bench/: NAME.rt.in, and the folders specs and proofs if it has
+contracts. Their files end in .in, so that the repository's checks skip them."""
 
 import os
 import shutil
@@ -17,10 +16,9 @@ def copy_without_in(source, target):
 
 
 def build_proved(work, folder, name, crates, below):
-    """Proves and builds the program in a repository of its own, over what checks of the crates kept in out/.
-
-    crates has, for each crate of this repository that is wanted, the crates below it; below are those that the program names.
-    """
+    """Proves and builds the program in a repository of its own, on top of the crates' proofs in
+    out/. `crates` maps each crate that it needs to the crates below; `below` has those that it uses
+    itself."""
     crate = os.path.join(work, "crates", name)
     os.makedirs(os.path.join(crate, "src"))
     for other in crates:
@@ -43,7 +41,7 @@ def build_proved(work, folder, name, crates, below):
 
 
 def build_c(work, folder, name):
-    """Builds the C program of the folder, by $CC or cc, with all that the compiler can do for this machine."""
+    """Compiles the folder's C program with $CC or cc, for this machine's processor."""
     program = os.path.join(work, name)
     source = os.path.join(HERE, folder, f"{name}.c")
     compiler = os.environ.get("CC", "cc")

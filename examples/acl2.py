@@ -1,15 +1,16 @@
 #!/usr/bin/env python3
-"""Has one of ACL2's verified checkers judge an LRAT proof, as lrup-trim --lrat writes it.
+"""Lets one of ACL2's verified checkers judge an LRAT proof of lrup-trim --lrat.
 
     acl2.py [--stobj] FORMULA PROOF
 
-The checker is the incremental one of ACL2's books, or with --stobj the stobj-based one. It prints 's VERIFIED', with status 0, or
-'s NOT VERIFIED' and what ACL2 says, with status 1. It needs Debian's packages acl2, acl2-books and acl2-books-certs.
+The checker is the incremental one of ACL2's books, or with --stobj the stobj-based one. The script
+prints 's VERIFIED', with status 0, or 's NOT VERIFIED' and ACL2's message, with status 1. It needs
+Debian's packages acl2, acl2-books and acl2-books-certs.
 
-What these checkers promise begins after their parsers, which read less than DIMACS CNF and LRAT. So they get the same formula in
-other bytes: the header first, no comments, each clause in a line, no literal twice, and a copy of another clause in the place of
-a tautology. Literals of the proof are sorted by variable, and the incremental checker gets it in compressed LRAT.
-"""
+The checkers' theorems don't cover their parsers, which don't read all of DIMACS CNF and LRAT. So
+they get the formula in a simpler form: the header first, no comments, one clause on each line, no
+repeated literal, and a copy of another clause in place of a tautology. The proof's literals are
+sorted by variable, and the incremental checker gets compressed LRAT. """
 import os
 import re
 import shutil
@@ -60,7 +61,7 @@ def sorted_steps(path: str) -> Iterator[List[str]]:
 
 
 def compressed_number(word: str) -> bytes:
-    """Twice the number, and one more if it is negative, in bytes of seven bits, the lowest first."""
+    """Twice the number, plus one if it is negative, in bytes of seven bits, the lowest first."""
     rest, code = 2 * abs(int(word)) + (word[0] == "-"), bytearray()
     while rest > 127:
         code.append(rest & 127 | 128)
@@ -91,7 +92,8 @@ def converted(kind: str, formula: str, proof: str, work: str) -> Tuple[str, str]
 
 
 def judged(kind: str, files: Sequence[Tuple[str, str]]) -> List[Verdict]:
-    """Formulas and proofs in the checker's own forms. ACL2 ends with a proof that it accepts, and goes on after any other."""
+    """Judges formulas and proofs in the checker's forms. ACL2 ends after a proof that it accepts,
+    and continues after any other."""
     found: List[Verdict] = []
     while len(found) < len(files):
         checks = "".join(f'(lrat::lrat-check "{formula}" "{proof}")\n(cw "~%next~%")\n' for formula, proof in files[len(found):])
@@ -125,7 +127,7 @@ def main() -> int:
         except (OSError, ValueError, IndexError, StopIteration) as fault:
             sys.exit(f"acl2.py: FORMULA or PROOF can't be read: {str(fault) or 'no header'}")
         if not shutil.which("acl2"):
-            sys.exit(f"acl2.py: there is no acl2 on the PATH: {PACKAGES}")
+            sys.exit(f"acl2.py: no acl2 on the PATH: {PACKAGES}")
         found, = judged(kind, [files])
     print("s VERIFIED" if found.is_verified else f"s NOT VERIFIED\nc {found.fault}")
     return 0 if found.is_verified else 1

@@ -3,14 +3,15 @@
 
     chain.py ROUNDS FORMULA FOLDER STREAM...
 
-The lines are put in an order in which each comes after those that derive what it cites, and before those that retire that; this
-order is cut into ROUNDS pieces, at least 1. A round saves the clauses that are live at its end, in the order of their identities,
-and the place of a clause there is its identity in the next round: so each piece is renumbered. FOLDER, a new one, gets the streams
-and the sizes of all rounds, and
+The lines are ordered so that each comes after those that derive what it cites, and before those
+that retire it; this order is cut into ROUNDS pieces, at least 1. A round saves the clauses that are
+live at its end, in the order of their identities, and a clause's place there is its identity in the
+next round: so each piece is renumbered. FOLDER, a new one, gets the streams and the sizes of all
+rounds, and
 
     lrup-chain --tries 1000000 FORMULA FOLDER
 
-has lrupd check them. Nobody has to trust this script: what is wrong in a round is told there.
+checks them with lrupd. You needn't trust this script: lrupd reports what is wrong in a round.
 """
 import sys
 from collections import Counter
@@ -19,7 +20,7 @@ from typing import Dict, List, NamedTuple, Set
 
 USAGE = "usage: chain.py ROUNDS FORMULA FOLDER STREAM..., with 1 round or more"
 MOST_CLAUSES = 16777215
-NOWHERE = 10 ** 18 - 1  # the identity of no clause: cited for one that no stream derived, or that a checkpoint doesn't have
+NOWHERE = 10 ** 18 - 1  # no clause's identity: cited for a clause that no stream derived, or that a checkpoint lacks
 
 
 class Fault(Exception):
@@ -64,7 +65,7 @@ def clauses_of(formula: Path) -> int:
 
 
 def in_order(streams: List[List[Line]]) -> List[Line]:
-    """Where no line is ready one is taken all the same: lrupd will tell what is wrong with it."""
+    """If no line is ready, one is taken all the same: lrupd will report what is wrong with it."""
     owners = {line.identity: line.stream for lines in streams for line in lines if line.kind == "a"}
     cites = Counter(identity for lines in streams for line in lines if line.kind != "d" for identity in line.cited)
     due, left, order = set(owners), [lines[::-1] for lines in streams], []
@@ -84,13 +85,14 @@ def in_order(streams: List[List[Line]]) -> List[Line]:
 
 
 def renumbered(line: Line, now: Dict[int, int]) -> Line:
-    """What was left out of a checkpoint needs no deletion any more."""
+    """Clauses that a checkpoint lacks need no deletion any more."""
     cited = [now.get(identity, NOWHERE) for identity in line.cited if line.kind != "d" or identity in now]
     return line._replace(identity=now.get(line.identity, 0), cited=cited)
 
 
 def pieces(lines: List[Line], now: Dict[int, int], count: int, streams: int) -> List[List[Line]]:
-    """The streams of a round whose formula has so many clauses. The new clauses get their identities in it."""
+    """The streams of a round whose formula has `count` clauses. New clauses get their identities in
+    `now`."""
     identities = [iter(range(count + number, NOWHERE, streams)) for number in range(1, streams + 1)]
     found: List[List[Line]] = [[] for _ in range(streams)]
     for line in lines:
@@ -108,13 +110,14 @@ def text_of(line: Line) -> str:
 
 
 def sizes_of(streams: List[List[Line]]) -> str:
-    """The streams, the identities that each needs, and the literals."""
+    """The number of streams, and the identities and literals that each needs."""
     derived = [[line for line in lines if line.kind == "a"] for lines in streams]
     return f"{len(streams)} {max(map(len, derived))} {max(sum(len(line.literals) for line in lines) for lines in derived)}\n"
 
 
 def live(streams: List[List[Line]], count: int) -> List[int]:
-    """The identities of what a round saves: all but what its owner deleted, and what each stream did."""
+    """The identities of saved clauses: all except those that their owner, or each stream,
+    deleted."""
     derived: List[Set[int]] = [{line.identity for line in lines if line.kind == "a"} for lines in streams]
     deleted = [{identity for line in lines if line.kind == "d" for identity in line.cited} for lines in streams]
     retired = [own & gone for own, gone in zip(derived, deleted)]

@@ -1,4 +1,4 @@
 #!/usr/bin/awk -f
-# ids.awk CHECKPOINT: of each clause the id that it had, and the one that it has now, its place.
+# ids.awk CHECKPOINT: prints each clause's old id, and its new one, its place.
 $1 == "c" { id = $3; next }
 $1 != "p" { place++; print id ? id : place, place; id = 0 }

@@ -1,14 +1,14 @@
 #!/usr/bin/env python3
-"""Proves the program and all that it stands on, crates that don't stand on each other side by side.
+"""Proves the program and all libraries that it uses, independent crates in parallel.
 
     python3 gate/build.py RT
 
-rt lets one run at a time into a crate and those below it, and nearly all stand on lrup_model. So each library is proved in a lane:
-a folder with copies of its sources and of the libraries below, into which its out/ is moved for that time. Those with the longest
-way to the program come first, by SECONDS. Where a build is broken off, the next one goes on with
-what was proved. At the end `rt run` proves and runs the program. It knows by sums which libraries are proved, and proves any other
-again: nothing rests on what stands here.
-"""
+rt lets one run at a time into a crate and the crates below it, and nearly all use lrup_model. So
+each library is proved in a lane: a folder with copies of its sources and of the libraries below,
+into which its out/ is moved for that time. Crates with the longest way to the program come first,
+by SECONDS. A build that is interrupted leaves what was proved to the next one. At the end `rt run`
+proves and runs the program. It knows by checksums which libraries are proved, and proves any other
+again: nothing depends on this script."""
 import fcntl
 import os
 import re
@@ -29,12 +29,12 @@ LANES = (ROOT / ".git" if (ROOT / ".git").is_dir() else ROOT / "out") / "lanes"
 PARTS = ("src", "specs", "proofs")
 CORES = len(os.sched_getaffinity(0))
 JOBS = min(4, CORES)
-GB_EACH = 3.5  # with four jobs; the most that was seen is 3.3
+GB_EACH = 3.5  # with four jobs; at most 3.3 was seen
 
 
 LINES = {line.split(":")[0]: line for line in (ROOT / "crates.txt").read_text().splitlines() if ":" in line}
 USES = {name: [word for word in line.split() if word in LINES] for name, line in LINES.items()}  # of the repository
-# Processor seconds of a crate's proofs from nothing, as rt ci spent them on four cores.
+# Processor seconds that rt ci took on four cores for a crate's proofs from nothing.
 SECONDS = {
     "lrup_model": 90, "dimacs": 80, "lrup_text": 180, "propagate": 65, "stream_check": 180, "idwords": 60, "clause_store": 60,
     "checkpoint": 70, "portfolio": 330, "stream_threads": 385, "run_laws": 35,
@@ -58,7 +58,8 @@ def way(name):
 
 
 def is_young(name):
-    """Whether the library is younger than its sources. If it doesn't fit them all the same, `rt run` will see that."""
+    """Whether the library is newer than its sources. If it doesn't fit them all the same, `rt run`
+    notices."""
     stamp = CRATES / name / "out/rlib/stamp"
     parts = [CRATES / crate / part for crate in {name, *below(name)} for part in PARTS]
     files = [file for part in parts for file in part.rglob("*") if file.suffix != ".md"]
@@ -78,7 +79,8 @@ def link(one, other):
 
 
 def locked(folder):
-    """Waits until no rt works in the folder, and keeps others out until what it returns is closed."""
+    """Waits until no rt works in the folder, and keeps others out until the returned file is
+    closed."""
     held = os.open(folder, os.O_RDONLY)
     try:
         fcntl.flock(held, fcntl.LOCK_EX | fcntl.LOCK_NB)
@@ -140,14 +142,15 @@ def left(done):
 
 
 def tell(done, name, began):
-    """The line of a crate that is proved."""
+    """Prints the line of a proved crate."""
     took = int(time.monotonic() - began)
     rest = f"; {left(done)} % left" * bool(left(done))
     print(f"{len(done)} of {len(ALL)}: {name}, {took // 60}:{took % 60:02}{rest}", flush=True)
 
 
 def prove_libraries(rt, done):
-    """Those that aren't done. Returns the status and what was printed of one that isn't proved, if there is one."""
+    """Proves the libraries that aren't done. Returns the status, and the output of one that isn't
+    proved, if there is one."""
     todo = sorted(ALL - {PROGRAM} - done, key=way, reverse=True)
     if todo:
         print(f"{len(done)} of {len(ALL)} were proved before; {left(done)} % left", flush=True)
@@ -175,7 +178,7 @@ def prove_libraries(rt, done):
 
 
 def prove_program(rt, is_told):
-    """Says that it is proved where it wasn't before, and where libraries were told of: their line isn't the last one."""
+    """Prints that the program is proved, unless it was before and no library's line was printed."""
     began = time.monotonic()
     files = [ROOT / "examples" / f"four-clause.{end}" for end in ("cnf", "lrup")]
     words = [rt, "run", "--jobs", str(JOBS), "--", *files]

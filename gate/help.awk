@@ -1,14 +1,19 @@
-# Prints the targets of a Makefile by what one wants of them, from the lines 'NAME: .. ## KIND: WHAT IT DOES'.
+# Prints what to run in the first hour, and then a Makefile's targets by purpose, from the lines 'NAME: .. ## PURPOSE: WHAT IT DOES'.
 BEGIN {
-    count = split("try build use check measure", kinds, " ")
+    count = split("try build use check measure", purposes, " ")
 }
 /^[a-z-]+:.* ## [a-z]+: / {
     name = substr($0, 1, index($0, ":") - 1)
     text = substr($0, index($0, " ## ") + 4)
-    kind = substr(text, 1, index(text, ":") - 1)
-    lines[kind] = lines[kind] sprintf("  make %-13s %s\n", name, substr(text, length(kind) + 3))
+    purpose = substr(text, 1, index(text, ":") - 1)
+    lines[purpose] = lines[purpose] sprintf("  make %-13s %s\n", name, substr(text, length(purpose) + 3))
 }
 END {
+    print "the first hour, which CONTRIBUTING.md describes:"
+    print "  make build         prove everything once"
+    print "  rt check           in crates/NAME, after each change: prove what has changed"
+    print "  rt try --test      in crates/NAME_tests: run tests before they are proved"
+    print "  make quick CRATE=NAME    check the crate, its tests and the pages, in two minutes"
     for (number = 1; number <= count; number++)
-        printf "%s:\n%s", kinds[number], lines[kinds[number]]
+        printf "%s:\n%s", purposes[number], lines[purposes[number]]
 }

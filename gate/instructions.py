@@ -1,16 +1,16 @@
 #!/usr/bin/env python3
-"""Counts the instructions that the program takes, and compares them with what it took when it was measured last.
+"""Counts the program's instructions, and compares them with the recorded figures.
 
     instructions.py PROGRAM
 
-It needs valgrind, and says 'skipped' where there is none, or in CI 'failed'. PROGRAM is crates/lrupd/out/lrupd, as LLVM built it. With --serial,
-runs over the same files take as many instructions each time; what is counted is the lines' part, so a run over empty streams is
-taken off. Each has to be within 5 % of its figure below: the toolchain is fixed, and the rest is for other C libraries and
-processors. Where a change of the code is meant to move one, put the count that is printed in its place. How the work
-grows with an assumed cube is compared too, by ratios, which need no figure.
+It needs valgrind; without it, it prints 'skipped', or in CI 'failed'. PROGRAM is
+crates/lrupd/out/lrupd, built by LLVM. With --serial, runs over the same files take the same number
+of instructions. The count is for the lines, so a run over empty streams is subtracted. Each count
+has to be within 5 % of its figure below: the toolchain is fixed, and the margin is for other C
+libraries and processors. If a change is meant to move a count, replace its figure by the printed
+one. How the work grows with an assumed cube is compared, too, by ratios, which need no figure.
 
-The last line has the counts, and the status is 1 where one isn't as wanted.
-"""
+The last line has the counts, and the status is 1 if one is wrong."""
 import os
 import re
 import shutil
@@ -24,7 +24,7 @@ ROOT = Path(__file__).resolve().parent.parent
 EXAMPLES = ROOT / "examples"
 FIGURES = {"four solvers": 6_259_316, "long lines": 9_082_910}
 MARGIN = 0.05
-LIMIT = 600  # seconds, after which a run hangs
+LIMIT = 600  # seconds after which a run counts as hanging
 LITERALS, HINTS = 65_535, 65_536  # the most of one line
 ASSUMED, LINES = 20_000, 400
 
@@ -42,7 +42,7 @@ class Counter:
         return path
 
     def count(self, words, wanted):
-        """How many instructions a run takes, which has to end with this report."""
+        """The number of instructions of a run, which has to end with this report."""
         tool = ["valgrind", "--tool=callgrind", f"--callgrind-out-file={os.devnull}"]
         words = ["--serial", *map(str, words)]
         try:
@@ -58,24 +58,25 @@ class Counter:
         return int(found[1])
 
     def lines(self, words, streams, wanted):
-        """How many more than over streams that are empty."""
+        """How many more than over empty streams."""
         nothing = "".join(f"c stream {number}: 0 added, 0 deleted, ended\n" for number in range(1, len(streams) + 1))
         empty = self.count([*words, *[os.devnull] * len(streams)], nothing + "s UNKNOWN\n")
         return self.count([*words, *streams], wanted) - empty
 
     def four_solvers(self):
-        """3,000 lines of some 70 bytes, each whole in what one read gives."""
+        """3,000 lines of some 70 bytes, each whole within one read."""
         streams = [EXAMPLES / f"bmc-four.{number}" for number in range(1, 5)]
         return self.lines([EXAMPLES / "bmc.cnf"], streams, (EXAMPLES / "bmc-four.out").read_text())
 
     def long_lines(self):
-        """A line with the most literals and one with the most hints, which no read gives whole. The third hint is one too many."""
+        """A line with the most literals, and one with the most hints, neither whole within a read.
+        The third hint is one too many."""
         text = f"5 {'2 ' * LITERALS}0 1 2 0\n6 2 0 1 2 {'100001 ' * (HINTS - 2)}0\n"
         wanted = "c stream 1: 1 added, 0 deleted, bad line 2 (excess 100001)\ns UNKNOWN\n"
         return self.lines([EXAMPLES / "four-clause.cnf"], [self.file(text)], wanted)
 
     def assumed(self, literals, lines):
-        """Some additions under a number of assumed literals, none of which contradicts them."""
+        """Some additions under that many assumed literals, none of which contradicts them."""
         formula = self.file(f"p cnf {LITERALS} 2\n1 2 0\n-1 2 0\n")
         cube = self.file("".join(f"{literal} " for literal in range(1, literals + 1)) + "0\n")
         stream = self.file("".join(f"{number} 2 0 1 2 0\n" for number in range(3, 3 + lines)))
@@ -94,7 +95,8 @@ def main():
         counter = Counter(os.path.abspath(sys.argv[1]), Path(name))
         counts = {"four solvers": counter.four_solvers(), "long lines": counter.long_lines()}
         none = counter.assumed(0, 0)
-        # A cube is looked through by halves: lines under a large one take little more than under one of one literal.
+        # A cube is searched by halves: lines under a large one take little more than under one
+        # literal.
         few, many = [counter.assumed(size, LINES) - counter.assumed(size, 0) for size in [1, ASSUMED]]
         # It is sorted once: twice as many literals take little more than twice as long.
         small, large = [counter.assumed(size, 0) - none for size in [4_000, 8_000]]

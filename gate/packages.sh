@@ -1,7 +1,7 @@
 #!/bin/sh
-# Installs what the tests want beside Rattle's toolchain, compilers of C and C++, and Python 3: Debian's packages, as root. Those that
-# are there are left as they are. Tests of what isn't there are left out, and in CI they fail. clang has its sanitizers in a package of
-# their own.
+# Installs, as root, the Debian packages that tests need besides Rattle's toolchain, compilers of C
+# and C++, and Python 3. Installed packages stay as they are. Tests whose packages are missing are
+# skipped, and fail in CI. clang's sanitizers are a separate package.
 packages='cadical clang codespell cryptominisat libcadical-dev libclang-rt-dev libopenmpi-dev openmpi-bin picosat python3-z3 valgrind yosys'
 missing=
 for package in $packages; do

@@ -1,10 +1,11 @@
 #!/bin/sh
-# Is for a change of a crate, in two minutes at most where the rest was checked before:
+# Checks a change of a crate, in two minutes at most if the rest was checked before:
 #
 #     sh gate/quick.sh RT CRATE SECONDS
 #
-# It lays out the files, and says which; checks the proofs, and that edits can be applied; runs the tests, in CRATE_tests, before
-# they are proved, as many as there is time for in SECONDS; and looks at the pages. Of what fails it shows all but what is proved.
+# It lays out the files, and names them; checks the proofs, and that edits can be applied; runs the
+# tests in CRATE_tests before they are proved, as many as SECONDS allow; and checks the pages. Of a
+# failing step it shows everything except lines on proved parts.
 if [ $# -ne 3 ] || [ ! -d "$(dirname "$0")/../crates/${2%_tests}" ]; then
     echo "usage: make quick CRATE=name, with the name of a folder in crates/" >&2
     exit 2
@@ -17,7 +18,8 @@ unseen=
 log=$(mktemp) || exit 2
 trap 'rm -f "$log"' EXIT
 
-# Behind a line that ends with a list of bytes, as rt prints them of a comparison that failed, one with their text.
+# After a line that ends with a list of bytes, which rt prints for a failed comparison, adds a line
+# with their text.
 with_texts() {
     awk '{ print }
         match($0, /\[[0-9]+(, [0-9]+)+\]$/) {
@@ -31,7 +33,7 @@ with_texts() {
         }'
 }
 
-# show WHAT: what the log has but for what is proved, and the end.
+# show WHAT: prints the log without lines on proved parts, and exits.
 show() {
     echo
     grep -v ': proved$\|^statements \|^library \|\.\.\. ok$' "$log" | with_texts
@@ -39,7 +41,8 @@ show() {
     exit 1
 }
 
-# step WHAT FOLDER COMMAND..: says what is begun, runs the command in the folder, and says how long it took.
+# step WHAT FOLDER COMMAND..: prints WHAT, runs the command in the folder, and prints how long it
+# took.
 step() {
     what=$1
     folder=$2
@@ -52,7 +55,7 @@ step() {
     ! grep '^rt: note: must-fail/' "$log" || { echo "$what: failed"; exit 1; }
 }
 
-# The crates that use this one, directly or by others, but for those of tests.
+# The crates that use this one, directly or indirectly, except those of tests.
 crates_above() {
     awk -F: -v crate="$crate" '
         { uses[$1] = $2 " " }
@@ -68,13 +71,13 @@ crates_above() {
         }' crates.txt | sort | paste -sd ' ' -
 }
 
-# The tests of the crate. One that has no answer within the minute that rt gives it hasn't failed: the machine may be busy. Where
-# not one was run, nothing is known, and that fails.
+# Runs the crate's tests. A test without an answer within rt's limit of a minute hasn't failed: the
+# machine may be busy. If none was run, nothing is known, so that fails.
 tests() {
     began=$(date +%s)
     all=$(grep -rh '^ *#\[test\]' "crates/${crate}_tests/src" | wc -l)
     printf '%s: ' "${crate}_tests"
-    [ "$all" -gt 0 ] || { echo "has proofs alone, and nothing to run"; return; }
+    [ "$all" -gt 0 ] || { echo "has only proofs, and nothing to run"; return; }
     (cd "crates/${crate}_tests" && timeout "$seconds" "$rt" try --test) > "$log" 2>&1
     status=$?
     read -r passed open wrong << COUNTS
@@ -95,8 +98,8 @@ COUNTS
 for name in "$crate" "${crate}_tests"; do
     [ ! -d "crates/$name" ] || step "$name: layout" "crates/$name" "$rt" fmt
 done
-step "$crate: proofs, after those of libraries that have changed" "crates/$crate" "$rt" check
+step "$crate: proofs, and those of changed libraries" "crates/$crate" "$rt" check
 [ ! -d "crates/${crate}_tests" ] || tests
 step "pages" . make -s --no-print-directory pages
 above=$(crates_above)
-echo "$crate: ok, but ${unseen}the proofs of tests weren't looked at${above:+, nor the crates above: $above}"
+echo "$crate: ok, but ${unseen}the proofs of tests weren't checked${above:+, nor the crates above: $above}"

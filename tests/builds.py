@@ -1,13 +1,13 @@
 #!/usr/bin/env python3
-"""Looks at how make compiles C and C++: with the flags that are said, and again what has changed.
+"""Tests how make compiles C and C++: with the given flags, and again after a change.
 
     builds.py
 
-Of the filter, lrup-trim, lrup-solve, lrup-solve-mpi and the solver of the demo the commands are printed, with flags of the command line
-and of the environment. The filter is compiled in a copy, and again after a change of a source, of a header, and of flags. All is installed in
-a folder, and uninstalled. It shows what
-is off; the last line is 'N passed, M failed', and the status is 1 where a row failed.
-"""
+For the filter, lrup-trim, lrup-solve, lrup-solve-mpi and the example solver, checks the commands
+that make prints, with flags from the command line and from the environment. Compiles the filter in
+a copy, and again after a change of a source, a header or flags. Installs everything in a folder,
+and uninstalls it. Failures are shown; the last line is 'N passed, M failed', and the status is 1 if
+a row failed."""
 import os
 import re
 import shutil
@@ -20,18 +20,18 @@ from harness import FILTER, ROOT, Row, needs, run, run_all, want, written
 
 C = {"CC": "one-cc", "CFLAGS": "-DFLAG_OF_C", "CPPFLAGS": "-DFLAG_OF_BOTH", "LDFLAGS": "-Lflag", "LDLIBS": "-lflag"}
 WORDS = {**C, "CXX": "one-cxx", "CXXFLAGS": "-DFLAG_OF_CXX"}
-# Targets, and what their C and C++ programs are compiled by, and linked.
+# Targets, and the commands that compile and link their C and C++ programs.
 BUILDS = {"exact": ["one-cc"], "trim": ["one-cc"], "solver": ["one-cc"], "solve": ["one-cc", "one-cxx"],
           "solve-mpi": ["one-cc", "one-cxx", "mpicxx"]}
 
 
 def clean(more: Dict[str, str]) -> Dict[str, str]:
-    """The environment, without the make that may have started this."""
+    """The environment, without variables of a make that may have started this script."""
     return {**{name: value for name, value in os.environ.items() if name not in (*WORDS, "MAKEFLAGS", "MAKELEVEL", "MFLAGS")}, **more}
 
 
 def commands(target: str, words: Sequence[str], env: Dict[str, str]) -> List[List[str]]:
-    """Of compilers, all of which make would run; nothing is there so far."""
+    """The compilers' commands that make would run; nothing is built so far."""
     places = ["OBJECTS=out/none", "SOLVER=out/none/solver", "EXACT=out/none/exact", "TRIM=out/none/trim", "SOLVE=out/none/solve"]
     done = run(["make", "-n", "-C", ROOT, target, *places, *words], env=clean(env))
     want((done.err, done.status), ("", 0), "what make says")
@@ -40,7 +40,7 @@ def commands(target: str, words: Sequence[str], env: Dict[str, str]) -> List[Lis
 
 
 def with_flags(target: str, by_environment: bool, work: Path) -> None:
-    """Each command has the flags of its language, and none of another one's, nor -O2."""
+    """Each command has the flags of its language, and neither another one's nor -O2."""
     words, env = [f"{name}={value}" for name, value in WORDS.items()], {}
     found = commands(target, *(([], WORDS) if by_environment else (words, env)))
     compilers = {word for line in found for word in line[:2] if "=" not in word and not word.startswith("-")}
@@ -53,16 +53,16 @@ def with_flags(target: str, by_environment: bool, work: Path) -> None:
 
 
 def usual(target: str, work: Path) -> None:
-    """Without a word -O2."""
+    """By default each command has -O2."""
     for line in commands(target, [], {}):
         want("-O2" in line, True, f"-O2 in {line}")
 
 
-# What is compiled again.
+# Recompilation.
 
 
 def compiled(work: Path, words: Sequence[str] = ()) -> Set[str]:
-    """The sources that make has compiled, and the program where it was linked."""
+    """The sources that make has compiled, and the program if it was linked."""
     files = lambda: {path: path.stat().st_mtime_ns for path in [*work.rglob("*.o"), *work.rglob("exact/out/exact")]}
     before = files()
     done = run(["make", "-s", "-j2", "exact", "CFLAGS=-O0", *words], cwd=work, env=clean({}))
@@ -71,7 +71,7 @@ def compiled(work: Path, words: Sequence[str] = ()) -> Set[str]:
 
 
 def including(header: str, folder: Path) -> Set[str]:
-    """The sources that include it, directly or not."""
+    """The sources that include the header, directly or not."""
     found = {header}
     while True:
         more = {path.name for path in folder.glob("*.[ch]") if any(f'"{name}"' in path.read_text() for name in found)} - found
@@ -101,8 +101,8 @@ def again(work: Path) -> None:
 
 
 def installed(work: Path) -> None:
-    """Without the toolchain, of a program that is there: with -n nothing, then each program with a page and a completion; and nothing
-    is left once it is uninstalled. What isn't built is said."""
+    """Installs built programs without the toolchain: with -n nothing, then each program with a
+    manual page and a completion. Uninstalling leaves nothing. A missing program is reported."""
     program = written("#!/bin/sh\necho 'usage: lrupd [--lines N] [--help]'\n", work, "lrupd")
     program.chmod(0o755)
     words = ["RT=none", f"DESTDIR={work}/a place", "PREFIX=/usr"]
@@ -122,7 +122,7 @@ def installed(work: Path) -> None:
     want((done.err, done.status), (f"lrup-chain {(ROOT / 'VERSION').read_text().strip()}\n", 2), "what lrup-chain --version says")
     want((make("uninstall").err, [path for path in (work / "a place").rglob("*") if path.is_file()]), ("", []), "what is left")
     done = make("install", f"PROGRAM={work}/none")
-    want((done.status, f"there is no {work}/none, which make build leaves there" in done.out), (2, True), f"what is said: {done.out}")
+    want((done.status, f"{work}/none isn't built" in done.out), (2, True), f"what is said: {done.out}")
 
 
 def packaged(work: Path) -> None:

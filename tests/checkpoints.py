@@ -12,7 +12,8 @@ MOST_CLAUSES = 16_777_215  # of a formula
 
 
 def printed(variables: int, entries: Iterable[Entry]) -> str:
-    """A formula of these clauses, each after a comment with its identity where that isn't its place."""
+    """A formula of these clauses, each after a comment with its identity unless that is its
+    place."""
     lines = []
     for place, (identity, literals) in enumerate(entries, 1):
         note = f"c id {identity}\n" if identity != place else ""
@@ -25,7 +26,8 @@ def variables_of(formula: Path) -> int:
 
 
 def live(formula: Path, streams: Sequence[Path]) -> List[Entry]:
-    """The clauses that are live where all lines are right: none that its owner deleted, nor that all streams dropped."""
+    """The clauses that are live if all lines are right: neither deleted by their owners nor dropped
+    by all streams."""
     clauses: Dict[int, Clause] = dict(enumerate(read_formula(formula), 1))
     count = len(clauses)
     retired: Set[int] = set()
@@ -42,7 +44,8 @@ def live(formula: Path, streams: Sequence[Path]) -> List[Entry]:
 
 
 def sorted_literals(text: str) -> List[str]:
-    """The lines, each clause with its literals in order and once, since no rule says in which order they stand."""
+    """The lines, each clause with its literals sorted and without repetitions, since no rule fixes
+    their order."""
     lines = []
     for line in text.split("\n"):
         if line and line[0] not in "cp":
@@ -54,12 +57,12 @@ def sorted_literals(text: str) -> List[str]:
 
 
 def want_checkpoint(path: Path, wanted: str) -> None:
-    """Each byte of it, but for the order of literals."""
+    """Compares each byte, except for the order of literals."""
     want(sorted_literals(path.read_text()), sorted_literals(wanted), "the checkpoint")
 
 
 def most_clauses(work: Path) -> Path:
-    """A formula that has as many."""
+    """A formula with as many clauses as a formula may have."""
     formula = work / "formula"
     if shutil.disk_usage(work).free < 300_000_000:
         raise Skipped("less than 300 MB are free for files")

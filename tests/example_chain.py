@@ -1,13 +1,14 @@
 #!/usr/bin/env python3
-"""Runs examples/chain.py, which cuts streams into rounds, and lrup-chain over them, beside one run over the same.
+"""Runs examples/chain.py, which cuts streams into rounds, and lrup-chain over the rounds, beside
+one run.
 
     example_chain.py PROGRAM SOLVER
 
-Recorded streams and those of the example solver, with imports and deletions, are cut into one to nine rounds; the last one has to
-end with status 0, and the rounds' additions have to be those of the one run together. A run without rounds can't have all with the
-sizes of the largest round. Where a hint is left out the round with that line has to say so, and
-no round comes after it. It shows what is off; the last line is 'N passed, M failed', and the status is 1 where a chain failed.
-"""
+Streams that were recorded, and streams of the example solver with imports and deletions, are cut
+into one to nine rounds. The last round has to end with status 0, and the rounds' additions have to
+be those of one run. With the sizes of the largest round, one run can't hold all of them. If a hint
+is left out, the round with that line has to be the last, with a bad line. Failures are shown; the
+last line is 'N passed, M failed', and the status is 1 if a chain failed."""
 import os
 import re
 import sys
@@ -26,13 +27,15 @@ TWO = ["pigeonhole-two.1", "pigeonhole-two.2"]
 RECORDED = [("four-clause.cnf", ["four-clause.lrup"], (1, 2, 3)), ("pigeonhole.cnf", ["pigeonhole.lrup"], (2, 7)),
             ("bmc.cnf", ["bmc.lrup"], (3, 9)), ("pigeonhole.cnf", TWO, (1, 3)),
             ("bmc.cnf", FOUR_SOLVERS, (1, 2, 3, 7)), ("two-groups.cnf", TWO_GROUPS, (3,))]
-# What is generated, the streams, the LBD up to which clauses are shared, and the rounds.
+# The generator's arguments, the number of streams, the LBD up to which clauses are shared, the
+# rounds.
 SOLVED = [("random 170 4", 3, 100, 4), ("pigeons 7", 2, 100, 5), ("order 15", 5, 4, 3), ("random 180 3", 8, 2, 6),
           ("random 150 1", 1, 4, 5)]
 
 
 class Chained(NamedTuple):
-    """How many rounds there were, the report of the last one, what was said of the streams of all, and beside that; the status."""
+    """The number of rounds, the last round's report, the additions of all streams, the same of one
+    run; the status."""
     rounds: int
     report: List[str]
     ends: List[str]
@@ -69,8 +72,8 @@ def solved(program: str, solver: str, words: str, streams: int, share: int, coun
 
 
 def too_much_for_one_run(program: str, place: int, fault: str, count: int, work: Path) -> None:
-    """With the sizes that the rounds have they go through, and one run with the largest of them stops: by turns, so that no
-    stream is given up before one is full."""
+    """With the rounds' sizes the streams go through, and one run with the largest sizes stops. With
+    --serial, so that no stream gives up before another one is full."""
     formula, streams = example("bmc.cnf"), list(map(example, FOUR_SOLVERS))
     want_refuted(chain(program, count, formula, streams, TRIES, work), count)
     sizes = [path.read_text().split()[1 + place] for path in (work / "rounds").glob("*.sizes")]
@@ -79,7 +82,7 @@ def too_much_for_one_run(program: str, place: int, fault: str, count: int, work:
 
 
 def wrong_step(program: str, at: int, bad: int, work: Path) -> None:
-    """An addition has no hints any more: the round which has the line is the last one."""
+    """An addition loses its hints: the round with that line is the last one."""
     lines = example("bmc.lrup").read_text().splitlines(True)
     at = next(place for place in range(at, len(lines)) if " d " not in lines[place])
     words = lines[at].split()
@@ -97,7 +100,7 @@ USAGE = "usage: chain.py ROUNDS FORMULA FOLDER STREAM..., with 1 round or more\n
 HEADER = "chain.py: formula: no header 'p cnf VARIABLES CLAUSES' with at most 16777215 clauses\n"
 STEP = "chain.py: stream: line {} isn't one of a stream\n"
 GIVEN = ["2", "formula", "d", "stream"]
-# The words, the formula, the stream, and what is said, by one line.
+# The arguments, the formula, the stream, and the line of the message.
 REFUSED = {
     "no words": ([], FORMULA, STREAM, USAGE), "no stream": (GIVEN[:3], FORMULA, STREAM, USAGE),
     "no round": (["0", *GIVEN[1:]], FORMULA, STREAM, USAGE), "no number": (["\u00b2", *GIVEN[1:]], FORMULA, STREAM, USAGE),
@@ -127,7 +130,7 @@ def under_assumptions(program: str, work: Path) -> None:
 
 
 def never_derived(program: str, work: Path) -> None:
-    """Streams that cite a clause of a stream that isn't there."""
+    """Streams cite a clause of a stream that isn't given."""
     chained = chain(program, 3, example("bmc.cnf"), [example("bmc-four.1"), Path("/dev/null")], ["--tries", "10"], work)
     want((chained.rounds, chained.status, "missing" in chained.report[0]), (1, 3, True), f"{chained.report}: the end")
 

@@ -1,14 +1,15 @@
 #!/usr/bin/env python3
-"""Runs the solver on small formulas with one to eight streams, and the program on its streams.
+"""Runs the example solver on small formulas with one to eight streams, and the program on its
+streams.
 
     example_solver.py PROGRAM SOLVER
 
-Each report has to say of each stream that it ended, with the additions and deletions that the solver says it wrote; where the
-formula is unsatisfiable the status has to be 0. Where nothing is shared the streams also go to files, whose report has to be
-the same with --serial. Imports change nothing of that; all of a run's imports also make a stream of their own, to which one is
-added that was garbled. Then solvers are killed in the middle: each stream ended, or is truncated. It shows what is off; the
-last line is 'N passed, M failed', and the status is 1 where a run failed.
-"""
+Each report has to say that each stream ended, with the additions and deletions that the solver
+printed; if the formula is unsatisfiable, the status has to be 0. If nothing is shared, the streams
+also go to files, whose report has to be the same with --serial. Imports change nothing of that; all
+imports of a run also make a stream of their own, and a garbled import is added to another one. Then
+solvers are killed midway: each stream ends, or is truncated. Failures are shown; the last line is
+'N passed, M failed', and the status is 1 if a run failed."""
 import os
 import re
 import select
@@ -26,7 +27,8 @@ OPTIONS = ["--tries", "1000000"]
 LARGE = OPTIONS + ["--lines", "1000000", "--room", "10000000"]
 UNSATISFIABLE, SATISFIABLE = 20, 10
 
-# The generator's words, the answer, the streams, the LBD up to which clauses are shared. The seed is the row's number.
+# The generator's arguments, the answer, the streams, the LBD up to which clauses are shared. The
+# seed is the row's number.
 ROWS = [
     ("random 100 1", UNSATISFIABLE, 1, 4),
     ("random 100 1", UNSATISFIABLE, 2, 4),
@@ -44,7 +46,7 @@ ROWS = [
     ("random 120 8 5", UNSATISFIABLE, 3, 0),
 ]
 
-# Rows with imports, of solvers that run long enough to take clauses over.
+# Rows with imports: the solvers run long enough to take clauses over.
 IMPORTS = [
     ("random 170 4", UNSATISFIABLE, 3, 100),
     ("random 200 9", SATISFIABLE, 4, 4),
@@ -63,7 +65,7 @@ def make_pipes(work: Path, count: int) -> List[Path]:
 
 
 def judge_solver(said: str, status: Optional[int], answer: int, path: Path) -> Tuple[str, int]:
-    """The report that the solver's words want, and the program's status."""
+    """The report that the solver's output implies, and the program's status."""
     want(status, answer, "the solver's status")
     if answer == SATISFIABLE:
         true = {line.split()[1] for line in said.splitlines() if line.startswith("v ")}
@@ -89,7 +91,7 @@ def live(program: str, solver: List[str], words: str, answer: int, streams: int,
 
 
 def record(solver: List[str], words: str, answer: int, streams: int, work: Path) -> Tuple[Path, List[Path], str, Tuple[str, int]]:
-    """The formula, the streams' files, what the solver says, and the wanted report and status."""
+    """The formula, the streams' files, the solver's output, and the expected report and status."""
     path, files = generated(words, work), [work / f"stream{number}" for number in range(1, streams + 1)]
     out, _, status = run([*solver, path, *files])
     return path, files, out, judge_solver(out, status, answer, path)
@@ -102,7 +104,7 @@ def recorded(program: str, solver: List[str], words: str, answer: int, streams: 
 
 
 def garbled(line: str) -> str:
-    """An import without its first literal, or of a unit clause with its complement."""
+    """An import without its first literal, or of a unit clause with the complement."""
     identity, kind, literal, *rest = line.split()
     if rest == ["0"]:
         rest = [str(-int(literal)), "0"]
@@ -110,8 +112,8 @@ def garbled(line: str) -> str:
 
 
 def imported(program: str, solver: List[str], words: str, answer: int, streams: int, work: Path) -> None:
-    """Files, beside a stream of all their imports; and of one more, which is garbled. Where one thread had the answer before the
-    others began there are none, and another seed is taken."""
+    """The files, a stream with all their imports, and one with a garbled import. If one thread had
+    the answer before the others began, there are no imports, and another seed is taken."""
     for seed in [*solver[-1:], *range(101, 120)]:
         command = [*solver[:-1], str(seed), "--streams", str(streams + 1)]
         path, files, said, (ended, status) = record(command, words, answer, streams, work)
@@ -134,9 +136,9 @@ def has_bytes(pipe: IO[bytes]) -> bool:
 
 
 def killed(program: str, solver: List[str], words: str, streams: int, seconds: float, work: Path) -> None:
-    """The program begins when all streams have lines."""
+    """Solvers are killed; the program begins when all streams have lines."""
     path, pipes = generated(words, work), [work / f"pipe{number}" for number in range(1, streams + 1)]
-    ends = list(map(held, pipes))   # so that the program has a writer for each, in any case
+    ends = list(map(held, pipes))   # so that each pipe has a writer in any case
     with started([*solver, path, *pipes], stdout=subprocess.DEVNULL) as solvers:
         until("all streams have lines", lambda: all(map(has_bytes, ends)) or solvers.poll() is not None)
         with started([program, *LARGE, path, *pipes], stdout=subprocess.PIPE, text=True) as checker:

@@ -1,11 +1,11 @@
-// What lrup-engines-mpi sends of what engines gave away, and what it places elsewhere, without MPI and without engines. It shows what
-// is off, and ends with status 1 then.
+// Tests which clauses lrup-engines-mpi sends, and places in another process, without MPI and
+// engines. Failures are shown, and give status 1.
 #include <cstdio>
 #include <memory>
 
 #include "../tools/solve/mpi_run.h"
 
-// Nothing is renewed here.
+// No round ends here.
 uint64_t checkpoint_place(const Checkpoint *, uint64_t) { return 0; }
 
 namespace {
@@ -21,7 +21,7 @@ void want(const std::string &found, const std::string &wanted) {
     status = 1;
 }
 
-// One of two: engines 1 and 2 are in the first, and 3 in the second.
+// One of two processes: engines 1 and 2 are in the first, and 3 in the second.
 struct Process {
     std::unique_ptr<Shared> shared = std::make_unique<Shared>();
     std::vector<uint32_t> words[3];
@@ -52,7 +52,7 @@ struct Process {
     }
 };
 
-// The round, and how many clauses have how many literals, in their order.
+// The round, and how many clauses have how many literals, in order.
 std::string text_of(Message message) {
     uint64_t round = 0;
     struct { uint32_t engine, identity, length; } sent;
@@ -75,7 +75,7 @@ Message collected(Process &process, const std::string &wanted) {
     return message;
 }
 
-// In all: those that were placed, those that were dropped, and those that others may read.
+// The totals of clauses that were placed, were dropped, and may be read by others.
 void place(Process &process, Message message, const std::string &wanted) {
     process.exchange.place(message);
     const Traffic &all = process.exchange.traffic;
@@ -92,11 +92,12 @@ void place(Process &process, Message message, const std::string &wanted) {
 int main() {
     Process one(0, 2), other(THIRD, 1);
     for (int engine : { 1, 2 }) one.give(engine, 4, 500), one.give(engine, 1, 5), one.give(engine, 3, 10);
-    collected(one, "1:");                           // their lines aren't sent
+    collected(one, "1:");                           // their lines aren't sent yet
     one.clear();
-    Message first = collected(one, "1: 10 of 1 20 of 3 732 of 4");      // 2998 literals, of 1500 for each engine
+    // 2998 literals; the budget is 1500 for each engine
+    Message first = collected(one, "1: 10 of 1 20 of 3 732 of 4");
     want(std::to_string(one.exchange.traffic.left_out), "268");
-    collected(one, "1:");                           // nor later
+    collected(one, "1:");                           // the rest isn't sent later
     for (int k = 0; k < THIRD; k++) want(std::to_string(one.shared->engine_statuses[THIRD].floors[k]), std::to_string(one.staged[k]));
     place(other, first, "762 0 762");
     STORE(other.shared->saved_round, 1);
@@ -104,7 +105,7 @@ int main() {
     STORE(one.shared->saved_round, 1);
     one.give(1, 2, 6);
     one.clear();
-    collected(one, "1:");                           // their identities may be of the next round
+    collected(one, "1:");  // their identities may be those of the next round
     one.give(1, 2, 6);
     one.clear();
     STORE(one.shared->round, 2);

@@ -1,17 +1,18 @@
 #!/usr/bin/env python3
-"""Runs lrup-explain, and compares what it says with what lrupd says of the same streams.
+"""Runs lrup-explain, and compares what it says with what lrupd says about the same streams.
 
     explain.py PROGRAM [COUNT [MUTANTS]]
 
-COUNT is 2,000: faulty streams of one to five solvers. Their lines have hints left out, doubled and in another order, literals with wrong
-signs, deletions and imports put in; or bytes are garbled. MUTANTS is 1,000: of those of filter_mutants.py, which are no proofs in this
-form mostly. Of each stream fault and line have to be those of lrupd --serial; with threads they have to be where no stream deletes what
-others cite. Each chain that is offered has to be right: with it in the place of the line's hints lrupd takes the line. Where hints
-alone are wrong one has to be offered. While streams are rewritten and cut it ends by itself. lrup-explain is built for tests, with
--fsanitize=address,undefined where the compiler can; of four runs on faulty streams three are as users have it. It
-shows what is off; the last line is 'N passed, M failed', and ', K skipped' where something isn't there. The status is 1 where a run
-failed.
-"""
+COUNT is 2,000: faulty streams of one to five solvers. Hints are left out, doubled and reordered,
+literals get wrong signs, deletions and imports are inserted; or bytes are garbled. MUTANTS is
+1,000: mutants of filter_mutants.py, most of which are no proofs in this form. For each stream,
+fault and line have to be those of lrupd --serial; with threads, too, if no stream deletes what
+others cite. Each chain that is offered has to be right: with it instead of the line's hints, lrupd
+accepts the line. If only hints are wrong, a chain has to be offered. While streams are rewritten
+and truncated, it still ends. lrup-explain is built for tests, with -fsanitize=address,undefined if
+the compiler can; three of four runs on faulty streams use the normal build. Failures are shown; the
+last line is 'N passed, M failed', and ', K skipped' if something is missing. The status is 1 if a
+run failed."""
 import functools
 import os
 import random
@@ -32,20 +33,20 @@ from harness import (COMPRESSED, EXAMPLES, EXPLAIN, FOUR, ROOT, SANITIZED_EXPLAI
 from rewriting import cut_while_read, withstands
 
 PAGE = ROOT / "docs" / "lrup-explain.1"
-BAD = 3         # the status, where a line is
-LIBRARY = [ROOT / "tools" / "exact" / name for name in ("errors.c", "formula.c", "lists.c", "literals.c")]     # of the example solver
-QUICK = 4       # of so many runs one is of the build for tests
-TRIES = 20000   # with which a clause that never comes takes a second
+BAD = 3         # the status if a line is bad
+LIBRARY = [ROOT / "tools" / "exact" / name for name in ("errors.c", "formula.c", "lists.c", "literals.c")]     # the example solver's
+QUICK = 4       # one run in four uses the build for tests
+TRIES = 20000   # so that a clause that never comes takes a second
 
-Faults = Dict[int, Tuple[int, str]]     # by stream the line and the words
+Faults = Dict[int, Tuple[int, str]]     # by stream: the line, and the fault's words
 
 
 def explain(words: Sequence[object], work: Path, quick: bool = False) -> Ran:
-    """As it is built for tests; or as users have it, which takes less time."""
+    """Runs the build for tests, or the normal one, which is faster."""
     return run([EXPLAIN if quick else SANITIZED_EXPLAIN, *words], cwd=work, env={**os.environ, **SANITIZING})
 
 
-# What is said.
+# Reports.
 
 TITLE = re.compile(r"^(?:round \d+, )?stream (\d+) \(.*\), line (\d+): "
                    r"(.+?)(?:, of stream \d+, whose line \d+ is bad|, by itself: .*)?$", re.M)
@@ -60,18 +61,18 @@ def told(done: Ran) -> Faults:
 
 
 def reported(done: Ran) -> Faults:
-    """By lrupd."""
+    """The faults in lrupd's report."""
     if done.status not in (0, 3):
         raise Failure(f"lrupd's status {done.status}: {done.err}")
     return {int(stream): (int(line), words)
             for stream, line, words in re.findall(r"^c stream (\d+): .*, bad line (\d+) \((.*)\)$", done.out, re.M)}
 
 
-# Streams that are faulty.
+# Faulty streams.
 
 
 class Base(NamedTuple):
-    """The formula's text, and those of streams; how many clauses it has."""
+    """The texts of the formula and of streams; the formula's number of clauses."""
     formula: str
     streams: List[str]
     clauses: int
@@ -79,7 +80,7 @@ class Base(NamedTuple):
 
 @functools.lru_cache(maxsize=None)
 def base(number: int) -> Base:
-    """Of one to five solvers, some with imports."""
+    """A run of one to five solvers, some with imports."""
     numbers = random.Random(f"{number} base")
     with tempfile.TemporaryDirectory() as name:
         options = ["--seed", number, "--share", numbers.choice((2, 4, 100)), *["--imports"] * (number % 2)]
@@ -96,7 +97,7 @@ def is_addition(words: List[str]) -> bool:
 
 
 def with_other_hints(words: List[str], numbers: random.Random) -> List[str]:
-    """In another order, one left out, one twice, one more."""
+    """Reorders the hints, leaves one out, doubles one, or adds one."""
     end = words.index("0") + 1
     hints = words[end:-1]
     at = numbers.randrange(len(hints)) if hints else 0
@@ -133,14 +134,14 @@ def cited_in(lines: List[List[str]]) -> List[str]:
 
 
 def deletion(line: List[str], lines: List[List[str]], numbers: random.Random) -> List[str]:
-    """Of what this line cites, mostly; or of anything."""
+    """A deletion of something that the line cites, usually; or of anything."""
     hints = line[line.index("0") + 1:-1]
     named = hints if hints and numbers.random() < 0.7 else cited_in(lines)
     return ["1", "d", *numbers.choices(named, k=numbers.choice((1, 1, 1, 2))), "0"]
 
 
 def import_of(lines: List[List[str]], numbers: random.Random) -> List[str]:
-    """Of some clause, with its literals or others."""
+    """An import of some clause, with its literals or others."""
     words = numbers.choice([words for words in lines if is_addition(words)] or [["1", "1", "0", "0"]])
     literals = words[1:words.index("0")]
     identity = numbers.choice((words[0], words[0], numbers.choice(cited_in(lines)), "999999"))
@@ -148,7 +149,7 @@ def import_of(lines: List[List[str]], numbers: random.Random) -> List[str]:
 
 
 def with_a_fault(streams: List[str], numbers: random.Random, hints_only: bool = False) -> List[str]:
-    """One of a line, mostly; in the lines of one stream."""
+    """One fault in a line, usually, of one stream."""
     everywhere = [[line.split() for line in text.splitlines()] for text in streams]
     number = numbers.choice([place for place, lines in enumerate(everywhere) if any(map(is_addition, lines))])
     lines = list(everywhere[number])
@@ -168,7 +169,7 @@ def with_a_fault(streams: List[str], numbers: random.Random, hints_only: bool = 
 
 
 def sizes_for(found: Base, numbers: random.Random) -> List[str]:
-    """Enough mostly, and else a bit too small."""
+    """Usually large enough, otherwise a bit too small."""
     additions = [line.split() for text in found.streams for line in text.splitlines() if is_addition(line.split())]
     lines = max([(int(words[0]) - found.clauses) // len(found.streams) + 1 for words in additions] or [1])
     room = sum(words.index("0") for words in additions)
@@ -179,11 +180,11 @@ def sizes_for(found: Base, numbers: random.Random) -> List[str]:
     return ["--lines", str(lines), "--room", str(room)]
 
 
-# Comparisons.
+# Comparisons with lrupd.
 
 
 def without_identity(text: str, identity: str) -> str:
-    """No line deletes it."""
+    """The stream without lines that delete this identity."""
     lines = [line.split(" ") for line in text.split("\n")]
     for words in lines:
         if words[1:2] == ["d"]:
@@ -192,7 +193,7 @@ def without_identity(text: str, identity: str) -> str:
 
 
 def mended(done: Ran, texts: List[str], clauses: int) -> Optional[Tuple[int, int, List[str]]]:
-    """The stream and the line of which a chain is offered, and the streams with it."""
+    """The stream and line for which a chain is offered, and the streams with that chain."""
     chain, title = CHAIN.search(done.out), TITLE.search(done.out)
     if not chain or not title:
         return None
@@ -219,7 +220,7 @@ def are_mended(done: Ran, texts: List[str], options: Sequence[str], formula: Pat
 
 
 def compared(texts: List[str], options: Sequence[str], formula: Path, clauses: int, quick: bool, work: Path) -> Ran:
-    """With lrupd --serial."""
+    """Compares the faults with those of lrupd --serial."""
     paths = [written(text.encode("latin-1"), work, f"s{place}") for place, text in enumerate(texts, 1)]
     done = explain(["--serial", *options, formula, *paths], work, quick)
     want(told(done), reported(run([PROGRAM, "--serial", *options, formula, *paths])), f"of {options} the faults in\n{done.out}")
@@ -241,7 +242,7 @@ def faulty(seed: int, work: Path) -> None:
 
 
 def other_hints_alone(seed: int, work: Path) -> None:
-    """Of one solver, without deletions: a chain is offered for each line, until all are right."""
+    """One solver, without deletions: a chain is offered for each line until all lines are right."""
     numbers = random.Random(f"{seed} hints")
     found = base(5 * numbers.randrange(BASES // 5))
     text = "".join(line + "\n" for line in found.streams[0].splitlines() if line.split()[1] == "a" or is_addition(line.split()))
@@ -260,11 +261,11 @@ def other_hints_alone(seed: int, work: Path) -> None:
     raise Failure("more lines than three were bad")
 
 
-# With threads.
+# Threads.
 
 
 def cited_by(text: str) -> Set[int]:
-    """In hints and imports, as far as lines are numbers."""
+    """Identities in hints and imports, as far as lines are numbers."""
     found: Set[int] = set()
     for line in text.splitlines():
         words = line.split()
@@ -280,7 +281,7 @@ def deleted_by(text: str) -> Set[int]:
 
 
 def with_threads(seed: int, work: Path) -> None:
-    """No stream deletes a clause that is its own and that others cite: then threads have one report."""
+    """No stream deletes an own clause that others cite, so threads have one report."""
     numbers = random.Random(f"{seed} threads")
     found = base(1 + seed % (BASES - 1))
     texts = with_a_fault(found.streams, numbers)
@@ -298,18 +299,18 @@ def with_threads(seed: int, work: Path) -> None:
 
 
 def mutant(number: int, work: Path) -> None:
-    """Of filter_mutants.py: its proof as a stream."""
+    """The proof of a mutant of filter_mutants.py, as a stream."""
     found = Mutant(number, PROOFS, work)
     names = [written(found.proof, work, "stream") if place == found.stream else Path("/dev/null") for place in range(1, found.streams + 1)]
     said = run([PROGRAM, "--serial", found.formula, *names])
     done = explain(["--serial", found.formula, *names], work, number % QUICK != 0)
-    if done.status == 1:    # a formula that isn't one
+    if done.status == 1:    # not a formula
         want((done.out, done.err.count("\n"), said.status), ("", 1, 4), f"what is said\n{done.err}{said}")
         return
     want(told(done), reported(said), f"the faults in\n{done.out}")
 
 
-# By hand.
+# Faults by hand.
 
 FIRST = "5 2 0 1 2 0\n"
 HINTS = "     hint           its clause: ! made true by it, T true, F false, ? neither\n"
@@ -330,13 +331,14 @@ NO_CHAIN = ("  no chain: unit propagation over all clauses that the line may cit
             "       then, and {} clauses have none of these. The clause is wrong, or another one is missing\n")
 EMPTY = "  derives  the empty clause\n" + HINTS
 
-# The name, the streams, the options, and what is said of the fault; the formula is the four clauses over two variables.
+# The name, the streams, the options, and the explanation; the formula is the four clauses over two
+# variables.
 FAULTS = [
     ("excess", ["5 2 0 1 2 3 4 0\n"], "", "stream 1 (f1), line 1: excess 3\n" + ONE_FALSE + row(2, "conflict", "-1F 2F", of_formula(2))
      + row(3, "BAD", "1T -2T", of_formula(3))
      + "        4  unread\n  why: hint 2, 2, is the conflict, and none may follow: 2 too many\n" + RIGHT),
     ("no conflict", ["5 2 0 1 0\n"], "", "stream 1 (f1), line 1: no conflict\n" + ONE_FALSE
-     + UNENDED + "       all literals are false here of 2 (clause 2 of the formula), which is no hint of the line\n" + RIGHT),
+     + UNENDED + "       all literals are false in 2 (clause 2 of the formula), which isn't a hint of the line\n" + RIGHT),
     ("no hints", ["5 2 0 0\n"], "", "stream 1 (f1), line 1: no conflict\n  derives  2    so at first -2 is true\n"
      "  why: the line has no hints\n" + RIGHT),
     ("a wrong sign", ["5 2 0 1 3 0\n"], "", "stream 1 (f1), line 1: not unit 3\n" + ONE_FALSE + row(3, "BAD", "1T -2T", of_formula(3))
@@ -351,7 +353,7 @@ FAULTS = [
      "       2 would follow here from 5 (stream 1, line 1), hint 2 of the line, which comes too late\n  a right chain: 5 3 4\n"),
     ("one left out", [FIRST + "6 0 3 4 0\n"], "", "stream 1 (f1), line 2: not unit 3\n" + EMPTY
      + row(3, "BAD", "1? -2?", of_formula(3)) + "        4  unread\n  why: 2 literals are neither true nor false: 1 -2\n"
-     "       2 would follow here from 5 (stream 1, line 1), which is no hint of the line\n  a right chain: 5 3 4\n"),
+     "       2 would follow here from 5 (stream 1, line 1), which isn't a hint of the line\n  a right chain: 5 3 4\n"),
     ("a clause that doesn't follow", ["5 0 1 2 0\n"], "", "stream 1 (f1), line 1: not unit 1\n" + EMPTY
      + row(1, "BAD", "1? 2?", of_formula(1)) + "        2  unread\n  why: 2 literals are neither true nor false: 1 2\n"
      + NO_CHAIN.format(0, 4)),
@@ -364,10 +366,10 @@ FAULTS = [
     ("retired by another", [FIRST + "5 d 5 0\n", "2 i -1 2 0\n2 i 2 -1 0\n6 0 5 3 4 0\n"], "--serial",
      "stream 2 (f2), line 3: retired 5\n" + EMPTY
      + row(5, "BAD", "2?", "stream 1, line 1") + "        3  unread   .. 1 more\n  why: its owner deleted 5 in stream 1, line 2, for all\n"
-     "       threads may come to that line sooner or later than here: a clause that others cite isn't to be deleted\n"
+     "       threads may reach that line earlier or later: don't delete a clause that others cite\n"
      "  a right chain: 5 3 4    (if 5 isn't deleted)\n"),
     ("missing, never derived", ["5 2 0 1 9 0\n"], "", "stream 1 (f1), line 1: missing 9\n" + ONE_FALSE
-     + row(9, "BAD", "-", "stream 1, no such line so far") + "  why: 9 is of stream 1, this one, and no line of it derives it\n" + RIGHT),
+     + row(9, "BAD", "-", "stream 1, no such line so far") + "  why: 9 is of stream 1, this one, and none of its lines derives it\n" + RIGHT),
     ("missing, the line's own", ["5 2 0 1 5 0\n"], "", "stream 1 (f1), line 1: missing 5\n" + ONE_FALSE
      + row(5, "BAD", "-", "stream 1, no such line so far") + "  why: 5 is what this line derives: no line cites itself\n" + RIGHT),
     ("missing, derived later", ["5 2 0 1 7 0\n7 2 0 1 2 0\n"], "", "stream 1 (f1), line 1: missing 7\n" + ONE_FALSE
@@ -375,9 +377,9 @@ FAULTS = [
      + "  why: 7 is of stream 1, this one, which derives it later, in its line 2\n" + RIGHT),
     ("missing, beyond the last", ["5 2 0 1 9 0\n"], "--lines 3", "stream 1 (f1), line 1: missing 9\n" + ONE_FALSE
      + row(9, "BAD", "-", "above the last identity, 7") + "  why: 9 is above 7, the last identity with --lines 3\n"
-     "       --lines 5 would do for it\n" + RIGHT),
+     "       --lines 5 would be enough\n" + RIGHT),
     ("missing, of another one", ["5 2 0 1 8 0\n", "6 2 0 1 2 0\n"], "", "stream 1 (f1), line 1: missing 8\n" + ONE_FALSE
-     + row(8, "BAD", "-", "stream 2, no such line so far") + "  why: 8 is of stream 2, and no line of it derives it\n" + RIGHT),
+     + row(8, "BAD", "-", "stream 2, no such line so far") + "  why: 8 is of stream 2, and none of its lines derives it\n" + RIGHT),
     ("missing by turns", ["5 2 0 1 6 0\n", "6 2 0 1 2 0\n"], "--serial", "stream 1 (f1), line 1: missing 6\n" + ONE_FALSE
      + row(6, "BAD", "-", "stream 2, no such line so far")
      + "  why: 6 is of stream 2, which derives it in its line 1, and with --serial only later: threads wait for it\n" + RIGHT),
@@ -389,63 +391,63 @@ FAULTS = [
      "stream 3 (f3), line 1: missing 6, of stream 2, whose line 1 is bad\n"),
     ("what comes of another fault", ["5 0 6 8 0\n", "6 2 0 1 0\n8 -2 0 3 4 0\n", "7 x\n"], "",
      "stream 2 (f2), line 1: no conflict\n" + ONE_FALSE + UNENDED
-     + "       all literals are false here of 2 (clause 2 of the formula), which is no hint of the line\n" + RIGHT
-     + "stream 1 (f1), line 1: missing 6, of stream 2, whose line 1 is bad\nstream 3 (f3), line 1: spelling, by itself: --all tells why\n"),
+     + "       all literals are false in 2 (clause 2 of the formula), which isn't a hint of the line\n" + RIGHT
+     + "stream 1 (f1), line 1: missing 6, of stream 2, whose line 1 is bad\nstream 3 (f3), line 1: spelling, by itself: --all says why\n"),
     ("a stream that is cut", ["5 0 6 0\n", "6 2 0 1"], "", "stream 2 (f2), line 1: truncated\n"
-     "  why: the stream ends within this line, after 7 bytes: there has to be a digit or a space\n      6 2 0 1\n             ^ byte 8\n"
-     "       the solver was ended, or didn't write out its buffer?\nstream 1 (f1), line 1: missing 6, of stream 2, whose line 1 is bad\n"),
+     "  why: the stream ends within this line, after 7 bytes: expected a digit or a space\n      6 2 0 1\n             ^ byte 8\n"
+     "       was the solver killed, or its buffer not flushed?\nstream 1 (f1), line 1: missing 6, of stream 2, whose line 1 is bad\n"),
     ("each by itself", ["5 0 6 8 0\n", "6 2 0 1 0\n8 -2 0 3 4 0\n", "7 x\n"], "--all",
      "stream 2 (f2), line 1: no conflict\n" + ONE_FALSE + UNENDED
-     + "       all literals are false here of 2 (clause 2 of the formula), which is no hint of the line\n" + RIGHT
-     + "stream 3 (f3), line 1: spelling\n  why: 'x' stands where there has to be a literal, 0, d or i\n      7 x\n        ^ byte 3\n"
+     + "       all literals are false in 2 (clause 2 of the formula), which isn't a hint of the line\n" + RIGHT
+     + "stream 3 (f3), line 1: spelling\n  why: expected a literal, 0, d or i, found 'x'\n      7 x\n        ^ byte 3\n"
      + "stream 1 (f1), line 1: missing 6, of stream 2, whose line 1 is bad\n"),
     ("identity of the formula", ["4 2 0 1 2 0\n"], "", "stream 1 (f1), line 1: identity\n  derives  2\n"
      "  why: 4 is of the formula, whose clauses are 1 to 4\n       right here: 5, or after a gap 6, 7 and so on\n"),
     ("identity of another stream", [FIRST + "8 2 0 1 2 0\n", ""], "", "stream 1 (f1), line 2: identity\n  derives  2\n"
-     "  why: 8 is of stream 2, of 2 that take turns above 4\n       right here: 7, or after a gap 9, 11 and so on\n"),
+     "  why: 8 belongs to stream 2: 2 streams take turns above 4\n       right here: 7, or after a gap 9, 11 and so on\n"),
     ("identity below the last", ["9 2 0 1 2 0\n7 2 0 1 2 0\n", ""], "", "stream 1 (f1), line 2: identity\n  derives  2\n"
-     "  why: 7 isn't above 9, which line 1 took: identities go up\n       right here: 11, or after a gap 13, 15 and so on\n"),
+     "  why: 7 isn't above 9, the identity of line 1\n       right here: 11, or after a gap 13, 15 and so on\n"),
     ("identity beyond the last", ["5 2 0 1 2 0\n7 2 0 1 2 0\n", ""], "--lines 1", "stream 1 (f1), line 2: identity\n  derives  2\n"
-     "  why: 7 is above 6, the last identity with --lines 1\n       --lines 2 would do for it\n"),
+     "  why: 7 is above 6, the last identity with --lines 1\n       --lines 2 would be enough\n"),
     ("identity beyond the last, and more", ["5 2 0 1 2 0\n7 2 0 1 2 0\nx\n13 2 0 1 2 0\n14 2 0 1 2 0\n9 2 0 1 2 0\n", ""], "--lines 1",
      "stream 1 (f1), line 2: identity\n  derives  2\n  why: 7 is above 6, the last identity with --lines 1\n"
-     "       --lines 2 does for this line, and 5 for all lines of the stream\n"),
+     "       --lines 2 is enough for this line, and 5 for all lines of the stream\n"),
     ("identity, and none is left", [FIRST + "6 2 0 1 2 0\n", ""], "--lines 1", "stream 1 (f1), line 2: identity\n  derives  2\n"
-     "  why: 6 is of stream 2, of 2 that take turns above 4\n       stream 1 has no identity left: its next one would be 7\n"
-     "       --lines 2 would do for it\n"),
+     "  why: 6 belongs to stream 2: 2 streams take turns above 4\n       stream 1 has no identity left: its next one would be 7\n"
+     "       --lines 2 would be enough\n"),
     ("an import of an own clause", [FIRST + "5 i 2 0\n"], "", "stream 1 (f1), line 2: identity\n  states   2\n"
      "  why: 5 is this stream's own: an import names a clause of another stream, or of the formula\n"),
     ("an import beyond the last", ["9 i 2 0\n"], "--lines 3", "stream 1 (f1), line 1: identity\n  states   2\n"
-     "  why: 9 is above 7, the last identity\n       --lines 5 would do for it\n"),
+     "  why: 9 is above 7, the last identity\n       --lines 5 would be enough\n"),
     ("literal", ["5 3 -4 0 1 0\n"], "", "stream 1 (f1), line 1: literal\n  derives  3 -4\n"
      "  why: 2 literals are above 2, the variables of the formula's header: the first is 3\n"),
     ("tautology", ["5 1 2 -1 0 1 0\n"], "", "stream 1 (f1), line 1: tautology\n  derives  1 2 -1\n"
-     "  why: both 1 and -1 stand there, so the clause is true always: leave the line out\n"),
+     "  why: the clause has 1 and -1, so it is always true: leave the line out\n"),
     ("no room", [FIRST + "6 1 2 1 0 1 0\n7 1 0 3 5 0\n"], "--room 2", "stream 1 (f1), line 2: no room\n  derives  1 2 1\n"
      "  why: the clause has 2 different literals, and 1 of --room 2 is left: 1 too few\n"
-     "       --room 3 does for this line, and 5 for all lines of the stream\n"),
+     "       --room 3 is enough for this line, and 5 for all lines of the stream\n"),
     ("not live, deleted before", ["1 d 2 0\n1 d 1 2 0\n"], "", "stream 1 (f1), line 2: not live 2\n"
      "  why: this stream has deleted 2 before, in its line 1\n"),
-    ("not live, twice", ["1 d 2 1 2 0\n"], "", "stream 1 (f1), line 1: not live 2\n  why: 2 stands twice in this line\n"),
+    ("not live, twice", ["1 d 2 1 2 0\n"], "", "stream 1 (f1), line 1: not live 2\n  why: 2 is in this line twice\n"),
     ("not live, never derived", ["1 d 5 0\n" + FIRST], "", "stream 1 (f1), line 1: not live 5\n"
      "  why: no line of this stream has derived 5; line 2 does, which comes later\n"),
     ("not live, never at all", ["1 d 5 0\n"], "", "stream 1 (f1), line 1: not live 5\n  why: no line of this stream has derived 5\n"),
     ("not live, beyond the last", ["1 d 9 0\n"], "--lines 3", "stream 1 (f1), line 1: not live 9\n"
-     "  why: 9 is above 7, the last identity\n       --lines 5 would do for it\n"),
+     "  why: 9 is above 7, the last identity\n       --lines 5 would be enough\n"),
     ("differs", ["2 i -1 -2 0\n"], "", "stream 1 (f1), line 1: differs 2\n  states   -1 -2\n"
-     "  why: 2 is -1 2 (clause 2 of the formula)\n       the import leaves out 2\n       the import has, and the clause hasn't, -2\n"),
+     "  why: 2 is -1 2 (clause 2 of the formula)\n       the import leaves out 2\n       only the import has -2\n"),
     ("an import that is missing", ["6 i 2 0\n", "8 2 0 1 2 0\n"], "", "stream 1 (f1), line 1: missing 6\n  states   2\n"
-     "  why: 6 is of stream 2, and no line of it derives it\n"),
+     "  why: 6 is of stream 2, and none of its lines derives it\n"),
     ("an import of a stream without lines", ["6 i 2 0\n", ""], "", "stream 1 (f1), line 1: missing 6\n  states   2\n"
-     "  why: 6 is of stream 2, and no line of it derives it\n       stream 2 has no lines: was it left out?\n"),
+     "  why: 6 is of stream 2, and none of its lines derives it\n       stream 2 has no lines: was it left out?\n"),
     ("one of four streams", ["5 2 0 1 6 0\n9 2 0 1 2 0\n13 2 0 1 2 0\n"], "", "stream 1 (f1), line 1: missing 6\n" + ONE_FALSE
-     + row(6, "BAD", "-", "stream 1, no such line so far") + "  why: 6 is of stream 1, this one, and no line of it derives it\n"
-     "       the identities of stream 1 go up by 4, as of 4 streams, and 1 is given: was one left out?\n" + RIGHT),
+     + row(6, "BAD", "-", "stream 1, no such line so far") + "  why: 6 is of stream 1, this one, and none of its lines derives it\n"
+     "       the identities of stream 1 go up by 4, as with 4 streams, but 1 is given: was one left out?\n" + RIGHT),
     ("one stream with a gap", ["5 2 0 1 7 0\n6 2 0 1 2 0\n9 2 0 1 2 0\n"], "", "stream 1 (f1), line 1: missing 7\n" + ONE_FALSE
-     + row(7, "BAD", "-", "stream 1, no such line so far") + "  why: 7 is of stream 1, this one, and no line of it derives it\n" + RIGHT),
+     + row(7, "BAD", "-", "stream 1, no such line so far") + "  why: 7 is of stream 1, this one, and none of its lines derives it\n" + RIGHT),
     ("two of three streams", [FIRST, "7 2 0 1 2 0\n10 2 0 1 2 0\n16 2 0 1 2 0\n"], "", "stream 2 (f2), line 1: identity\n  derives  2\n"
-     "  why: 7 is of stream 1, of 2 that take turns above 4\n"
-     "       the identities of stream 2 go up by 3, as of 3 streams, and 2 are given: was one left out?\n"
+     "  why: 7 belongs to stream 1: 2 streams take turns above 4\n"
+     "       the identities of stream 2 go up by 3, as with 3 streams, but 2 are given: was one left out?\n"
      "       right here: 6, or after a gap 8, 10 and so on\n"),
     ("an import that was dropped", ["1 d 2 0\n2 i -1 2 0\n"], "", "stream 1 (f1), line 2: dropped 2\n  states   -1 2\n"
      "  why: this stream deleted 2 in its line 1, for itself\n"),
@@ -453,7 +455,7 @@ FAULTS = [
 
 
 def form(text: str, words: str, why: str, shown: str, place: int, work: Path) -> None:
-    """Of a line, by its bytes."""
+    """Explains a misspelled line, by its bytes."""
     stream = written(text.encode("latin-1"), work, "f1")
     shown, caret = shown, " " * shown.index("^") + f"^ byte {place}"
     wanted = f"stream 1 (f1), line 1: {words}\n  why: {why}\n      {shown.replace('^', '')}\n      {caret}\n"
@@ -462,8 +464,8 @@ def form(text: str, words: str, why: str, shown: str, place: int, work: Path) ->
     want(reported(run([PROGRAM, written(FOUR, work), stream])), {1: (1, words)}, "what lrupd says")
 
 
-PLACE = "{} stands where there has to be {}"
-# The line, the fault, why, the bytes with ^ before the one that decides, its place.
+PLACE = "expected {1}, found {0}"
+# The line, the fault, the explanation, the bytes with ^ before the one that decides, its place.
 FORMS = [
     ("5  2 0 1 2 0\n", "spelling", PLACE.format("a space", "a literal, 0, d or i"), "5 ^ 2 0 1 2 0", 3),
     ("5 2 0 1 2 0\r\n", "spelling", PLACE.format("a carriage return", "LF, the line's end"), "5 2 0 1 2 0^\\r", 12),
@@ -482,9 +484,9 @@ FORMS = [
     ("2 i 1 d 0\n", "spelling", PLACE.format("'d'", "a literal or 0"), "2 i 1 ^d 0", 7),
     ("a\x0c\x04\0\n", "spelling", PLACE.format("'a'", "an identity"), "^a\\x0c\\x04\\x00", 1),
     ("5 \xff\n", "spelling", PLACE.format("byte 0xff", "a literal, 0, d or i"), "5 ^\\xff", 3),
-    ("5 2 0 -2 3 0\n", "rat hint", "a hint with a minus, of a RAT step, which lrupd doesn't check: switch off what makes them",
+    ("5 2 0 -2 3 0\n", "rat hint", "a negative hint, of a RAT step, which lrupd doesn't check: switch off what makes such steps",
      "5 2 0 ^-2 3 0", 7),
-    ("5 2 0 1 2", "truncated", "the stream ends within this line, after 9 bytes: there has to be a digit or a space", "5 2 0 1 2^", 10),
+    ("5 2 0 1 2", "truncated", "the stream ends within this line, after 9 bytes: expected a digit or a space", "5 2 0 1 2^", 10),
     ("12345678901234567890 2 0 1 0\n", "too long", "20 digits of a number, 2 too many: a number may have 18",
      "123456789012345678^90 2 0 1 0", 19),
     ("5 " + "1 " * 65600 + "0 0\n", "too long", "65600 literals, 65 too many: a line may have 65535",
@@ -498,7 +500,8 @@ FORMS = [
 
 
 def fault(streams: Sequence[str], options: str, said: str, work: Path) -> None:
-    """lrupd says so, too, with threads, or --serial; a clause that never comes is waited for a moment."""
+    """Explains a fault; lrupd reports the same, with threads or --serial. It waits a moment for a
+    clause that never comes."""
     names = [written(text, work, f"f{number}").name for number, text in enumerate(streams, 1)]
     words = [*options.split(), written(FOUR, work), *names]
     done = explain(words, work)
@@ -515,7 +518,8 @@ def good(words: Sequence[object], work: Path) -> None:
 
 
 def in_rounds(number: int, work: Path) -> None:
-    """Of two solvers, in three rounds, with a fault in the last one, or in one before, after which no round comes."""
+    """Two solvers in three rounds, with a fault in the last one, or in an earlier one, after which
+    no round comes."""
     numbers = random.Random(f"{number} rounds")
     formula, streams = example("pigeonhole.cnf"), [example("pigeonhole-two.1"), example("pigeonhole-two.2")]
     want(run([sys.executable, EXAMPLES / "chain.py", 3, formula, work / "d", *streams]), Ran("", "", 0), "what chain.py says")
@@ -539,27 +543,27 @@ CARRIED = {"round-1.stream-1": FIRST + "4 d 1 2 0\n", "round-2.sizes": "2 5 5\n"
            "round-2.stream-2": "5 0 3 2 0\n"}
 SAID_OF_CARRIED = ("round 2, stream 2 (d/round-2.stream-2), line 1: no conflict\n" + EMPTY
                    + row(3, "-> 2", "2!", "stream 1, line 1 of round 1") + row(2, "-> -1", "-1! -2F", of_formula(4))
-                   + UNENDED + "       all literals are false here of 1 (clause 3 of the formula), which is no hint of the line\n"
+                   + UNENDED + "       all literals are false in 1 (clause 3 of the formula), which isn't a hint of the line\n"
                    "  a right chain: 3 2 1\n"
-                   "round 2, stream 1 (d/round-2.stream-1), line 2: no conflict, by itself: --all tells why\n")
+                   "round 2, stream 1 (d/round-2.stream-1), line 2: no conflict, by itself: --all says why\n")
 
 
 def carried(work: Path) -> None:
-    """Clauses of the round before are told by where they come from."""
+    """A clause of the round before is described by its origin."""
     for name, text in CARRIED.items():
         written(text, work, f"d/{name}")
     want(explain([written(FOUR, work), "d"], work), Ran(SAID_OF_CARRIED, "", BAD), "what is said")
 
 
-# The example solver, with one hint left out: of the unit clauses at level 0 the last one.
+# The example solver without one hint: that of the last unit clause at level 0.
 
 RIGHT_LINE = "for (size_t k = 0; k < level_zero.length; k++) PUSH(hints, level_zero.items[k]);"
-LEFT_OUT = r"^       (-?\d+ would follow here from|all literals are false here of) \d+ \(.*\), which is no hint of the line$"
+LEFT_OUT = r"^       (-?\d+ would follow here from|all literals are false in) \d+ \(.*\), which isn't a hint of the line$"
 WRONG_LINE = "for (size_t k = 1; k < level_zero.length; k++) PUSH(hints, level_zero.items[k]);"
 
 
 def emitter(work: Path) -> None:
-    """Each bad line is mended by what is said of it, and nothing else."""
+    """The explanation mends each bad line, and nothing else changes."""
     learn = (EXAMPLES / "solver" / "learn.c").read_text()
     want(learn.count(RIGHT_LINE), 1, f"how often learn.c has '{RIGHT_LINE}'")
     sources = shutil.copytree(EXAMPLES / "solver", work / "solver", ignore=shutil.ignore_patterns("out"))
@@ -583,10 +587,10 @@ def emitter(work: Path) -> None:
     want(run([PROGRAM, formula, written(texts[0], work, "right")]).status, 0, "lrupd's status in the end")
 
 
-# Words, and files.
+# Arguments and files.
 
 def on_the_page(work: Path) -> None:
-    """The example of the manual page is the beginning of what is said there: USING's has all of it."""
+    """The manual page's example is the beginning of the output, which USING has in full."""
     paths = [shutil.copy(example(f"bmc-four.{number}"), work / f"f{number}.lrup") for number in range(1, 5)]
     lines = paths[1].read_text().splitlines(True)
     lines[59] = lines[59].replace(" 207 ", " ")
@@ -606,7 +610,8 @@ def while_rewritten(seed: int, work: Path) -> None:
 
 
 def refuses(words: str, status: int, said: str, work: Path) -> None:
-    """In a folder with a formula f, a stream s, a pipe p, a folder d without rounds, and a formula that is compressed, z."""
+    """In a folder with a formula f, a stream s, a pipe p, a folder d without rounds, and a
+    compressed formula z."""
     for name, text in {"f": FOUR.encode(), "s": FIRST.encode(), "z": COMPRESSED["zcat"]}.items():
         written(text, work, name)
     piped(work / "p")
@@ -617,20 +622,20 @@ def refuses(words: str, status: int, said: str, work: Path) -> None:
 
 REFUSED = [("", 2, "error: no FORMULA"), ("f", 2, "error: no DIR or STREAM"), ("--line 1 f s", 2, "error: no such option: --line"),
            ("--lines", 2, "error: no value after --lines"), ("--room 1 --room 2 f s", 2, "error: given twice: --room"),
-           ("--lines x f s", 2, "error: no number: x"), ("--lines= f s", 2, "error: no number"),
+           ("--lines x f s", 2, "error: not a number: x"), ("--lines= f s", 2, "error: no number"),
            ("--tries 1000001 f s", 2, "error: too large: 1000001"), ("--room 268435457 f s", 2, "error: too large: 268435457"),
-           ("f" + " s" * 65, 2, "error: more than 64 streams, from s"), ("f d s", 1, "d is a folder, and goes alone"),
-           ("f d", 1, "d/round-1.stream-1 isn't there"), ("f p", 1, "p: it is read more than once, so it has to be a file"),
-           ("f none", 1, "cannot open none: No such file or directory"), ("none s", 1, "none: No such file or directory"),
-           ("z s", 1, "z: compressed: zcat it"),
+           ("f" + " s" * 65, 2, "error: more than 64 streams, from s"), ("f d s", 1, "d: a folder has to be the only input"),
+           ("f d", 1, "d/round-1.stream-1: No such file or directory"), ("f p", 1, "p: not a regular file, but it is read more than once"),
+           ("f none", 1, "none: No such file or directory"), ("none s", 1, "none: No such file or directory"),
+           ("z s", 1, "z: compressed: unpack it with zcat"),
            ("--lines 268435456 f s", 1, "row too long: 269484045 words, and lrupd takes at most 268435456: smaller --lines or --room")]
 
 
 def compressed(program: str, work: Path) -> None:
-    """A stream: lrupd says that its first byte is misspelled."""
+    """A compressed stream: lrupd says that its first byte is misspelled."""
     stream = written(COMPRESSED[program], work, "f1")
     done = explain([written(FOUR, work), "f1"], work)
-    want((told(done), done.out.splitlines()[-1]), ({1: (1, "spelling")}, f"       compressed: {program} it"), "what is said")
+    want((told(done), done.out.splitlines()[-1]), ({1: (1, "spelling")}, f"       compressed: unpack it with {program}"), "what is said")
 
 
 def help_of(work: Path) -> None:

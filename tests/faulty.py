@@ -1,4 +1,4 @@
-"""Streams of the example solver, and streams that are garbled."""
+"""Streams of the example solver, and garbled streams."""
 import random
 import re
 from pathlib import Path
@@ -12,7 +12,7 @@ UNSATISFIABLE, SATISFIABLE = 20, 10
 
 
 def solved(formula: Path, count: int, options: Sequence[object], work: Path) -> Optional[List[Path]]:
-    """The streams of so many solvers; None where the formula is satisfiable."""
+    """The streams of that many solvers; None if the formula is satisfiable."""
     streams = [work / f"stream{number}" for number in range(1, count + 1)]
     status = run([SOLVER, *options, formula, *streams]).status
     want(status in (UNSATISFIABLE, SATISFIABLE), True, f"the solver's status {status}")
@@ -26,7 +26,7 @@ def random_formula(numbers: random.Random) -> Tuple[int, List[Clause]]:
 
 
 def refuted(numbers: random.Random, count: int, options: Sequence[object], work: Path) -> Tuple[Path, List[Path]]:
-    """A random formula, and the streams of so many solvers."""
+    """A random unsatisfiable formula, and the streams of that many solvers."""
     while True:
         formula = written(dimacs(*random_formula(numbers)), work)
         streams = solved(formula, count, options, work)

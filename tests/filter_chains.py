@@ -1,16 +1,16 @@
 #!/usr/bin/env python3
-"""Runs the filter, and lrup-solve, on formulas with long chains, and lrupd on what comes out.
+"""Runs the filter, and lrup-solve, on formulas with long chains, and lrupd on the output.
 
     filter_chains.py PROGRAM
 
-Chains of 10 to 1,000,000 steps, of units and of one failed literal, and the other formulas of bench/solve/easy.py: each stream has
-to be accepted to its end, with 'unsatisfiable', and to be linear in the formula, by its bytes and by its lines. Proofs are written
-by hand, or by CaDiCaL where it is on the PATH; there are hints that are longer than a line may be, clauses with as many literals,
-units that hold and that chains need in the worst order, and streams that have no identities to spare. A build that takes lines of
-six hints at most, with -fsanitize=address,undefined where the compiler can, splits nearly all chains of recorded proofs and of
-random formulas, in rounds, too. It shows what is off; the last line is 'N passed, M failed', and ', K skipped' where something isn't
-there. The status is 1 where a run failed.
-"""
+Chains of 10 to 1,000,000 steps, of units and of one failed literal, and the other formulas of
+bench/solve/easy.py: lrupd has to accept each stream to its end, with 'unsatisfiable', and its bytes
+and lines have to be linear in the formula. Proofs are written by hand, or by CaDiCaL if it is on
+the PATH; some have more hints than a line may have, clauses with as many literals, root units that
+chains need in the worst order, and streams without identities to spare. A build that allows six
+hints in a line, with -fsanitize=address,undefined if the compiler can, splits nearly all chains of
+recorded proofs and of random formulas, also in rounds. Failures are shown; the last line is 'N
+passed, M failed', and ', K skipped' if something is missing. The status is 1 if a run failed."""
 import os
 import random
 import re
@@ -30,7 +30,7 @@ sys.path.insert(0, str(ROOT / "bench" / "solve"))
 import easy
 
 MOST = 65536            # hints of a line
-FEW = 6                 # of the build that splits nearly all
+FEW = 6                 # of the build that splits nearly all chains
 SHORT = EXACT / "out" / "exact-short-lines"
 STEPS = (10, 65535, 65536, 65537, 1000000)
 RANDOM = 300            # formulas, half of which have a proof
@@ -38,12 +38,13 @@ Text = Union[str, bytes]
 
 
 def longest_line(text: str) -> int:
-    """The hints, or deleted clauses, of the line that has most."""
+    """The number of hints, or deleted clauses, in the longest line."""
     return max((len(words) - (words.index("0", 1) + 2 if words[1] != "d" else 3) for words in map(str.split, text.splitlines())), default=0)
 
 
 def check(formula: Path, text: str, work: Path, stream: int = 1, streams: int = 1) -> None:
-    """lrupd takes each line of the stream, which stands in its place among empty ones, and the formula is refuted."""
+    """lrupd accepts each line of the stream, in its place among empty streams, and the formula is
+    refuted."""
     added = sum(" d " not in line for line in text.splitlines())
     paths = [written(text, work, "stream") if number == stream else "/dev/null" for number in range(1, streams + 1)]
     done = run([PROGRAM, "--lines", added + 1, "--room", 4000000, formula, *paths])
@@ -71,7 +72,7 @@ def make(work: Path, kind: str, *numbers: int, backwards: bool = False) -> Path:
 
 
 def by_hand(kind: str, steps: int, form: str, work: Path) -> None:
-    """Of a proof without hints, and of LRAT whose list of hints is as long as the chain."""
+    """A proof without hints, and LRAT whose list of hints is as long as the chain."""
     formula = make(work, kind, steps)
     clauses = steps + 1 if kind == "units" else steps + 3
     if kind == "units":
@@ -113,14 +114,15 @@ def simulated(work: Path) -> None:
     check(formula, filtered(["--format", "drat", formula], "0\n"), work)
 
 
-# Units that hold.
+# Units at the root.
 
 
 AFTER = "{0} 1 2 0\n{0} 1 -2 0\n{0} -1 2 0\n{0} -1 -2 0\n"
 
 
 def units_needed(steps: int, order: str, work: Path) -> None:
-    """Units from 3 on, one implying the next, that hold and clash with nothing. The proof asks for the last first, or in between."""
+    """Units from 3 on, each implying the next, that hold and contradict nothing. The proof needs
+    the last first, or one in between."""
     last = steps + 2
     chain = "".join(f"-{variable} {variable + 1} 0\n" for variable in range(3, last))
     formula = written(f"p cnf {last} {steps + 4}\n3 0\n{chain}{AFTER.format(-last)}", work)
@@ -133,7 +135,8 @@ def units_needed(steps: int, order: str, work: Path) -> None:
 
 
 def circuit(gates: Iterable[Tuple[int, int]], given: Sequence[int], first: int) -> List[List[int]]:
-    """Exclusive ors, which get the variables from `first` on. Once the given ones hold the last one has a value that leads to a clash."""
+    """Exclusive ors over variables from `first` on. With the given ones the last one has a value
+    that leads to a conflict."""
     clauses, value, variable = [], dict.fromkeys(given, True), first
     for variable, (one, other) in enumerate(gates, first):
         value[variable] = value[one] != value[other]
@@ -143,7 +146,8 @@ def circuit(gates: Iterable[Tuple[int, int]], given: Sequence[int], first: int) 
 
 
 def clause_of_many(count: int, gates: int, work: Path) -> None:
-    """A clause that all gates, each over the one before and any other one, are needed for. Each of them rests on most of its literals."""
+    """A clause that needs all gates, each over the one before and any other. Each depends on most
+    of its literals."""
     numbers, inputs = random.Random(count), range(1, count + 1)
     clauses = circuit(((last, numbers.randrange(1, last)) for last in range(count, count + gates)), inputs, count + 1)
     free = count + gates + 2
@@ -156,7 +160,8 @@ def clause_of_many(count: int, gates: int, work: Path) -> None:
 
 
 def many_at_once(count: int, work: Path) -> None:
-    """One literal implies so many, of which a tree of gates over two each makes one: more are needed at once than a line may have."""
+    """One literal implies many others, and a tree of gates each derives one from two: more are
+    needed at once than a line may have."""
     inputs = range(2, count + 2)
     first, leaves = count + 2, 2 * count + 1
     gates = [(variable, variable + 1) for variable in inputs[:-1]] + [(inputs[-1], inputs[0])]
@@ -171,7 +176,7 @@ def many_at_once(count: int, work: Path) -> None:
 
 
 def wide(count: int, refuted: bool, work: Path) -> None:
-    """A clause whose literals are all false. Beyond what two lines can take there is no chain."""
+    """A clause whose literals are all false. Beyond what two lines can hold there is no chain."""
     units = "".join(f"{variable} 0\n" for variable in range(1, count + 1))
     formula = written(f"p cnf {count} {count + 1}\n{units}" + " ".join(f"-{variable}" for variable in range(1, count + 1)) + " 0\n", work)
     text, said, status = run([FILTER, "--format", "drat", formula], "0\n")
@@ -182,7 +187,7 @@ def wide(count: int, refuted: bool, work: Path) -> None:
 
 
 def without_identities(work: Path) -> None:
-    """Of two streams of LRAT, which may cite each other."""
+    """Two LRAT streams that may cite each other."""
     formula = make(work, "units", MOST + 1)
     words = ["--stream", "1", "--streams", "2", formula]
     said = "lrup-exact: line 1: longer than a line may be\n"
@@ -190,7 +195,7 @@ def without_identities(work: Path) -> None:
     check(formula, filtered(["--format", "drat", *words], "0\n"), work, 1, 2)
 
 
-# Lines of six hints at most.
+# At most six hints in a line.
 
 
 def short_lines() -> None:
@@ -219,7 +224,7 @@ def in_rounds(formula: Path, proof: Text, form: str, memory: str, least: int, wo
 
 
 def random_formula(seed: int) -> str:
-    """With units, and clauses that are long beside a line."""
+    """A formula with units, and with clauses that are long for a line."""
     numbers = random.Random(seed)
     variables = numbers.randrange(8, 50)
     clauses = random_clauses(numbers, variables, round(numbers.uniform(3, 5.5) * variables), (2, 3, 3, 3, 4, 5, 9))
@@ -233,7 +238,8 @@ def random_formula(seed: int) -> str:
 
 
 def random_proofs(first: int, count: int, work: Path) -> None:
-    """CaDiCaL's, as DRUP, FRAT, and as LRAT of long lines, with a third of the hints left out."""
+    """CaDiCaL's proofs as DRUP, as FRAT, and as LRAT with long lines, with a third of the hints
+    left out."""
     needs("cadical")
     checked = 0
     for seed in range(first, first + count):

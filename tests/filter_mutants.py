@@ -1,17 +1,19 @@
 #!/usr/bin/env python3
-"""Runs the filter on mutated proofs, built so that it reports undefined behaviour, and the program on what comes out.
+"""Runs a sanitized build of the filter on mutated proofs, and the program on the output.
 
     filter_mutants.py PROGRAM [COUNT [FIRST]]
 
-COUNT is 10,000, and the mutants are those from number FIRST on, 0: a number always gives the same one. Small proofs in each form
-have bytes flipped, cut off, put in and taken out, steps doubled, swapped and left out, numbers made huge and words made letters; some
-formulas, and other streams, do too, and the filter refuses just the formulas that the program refuses. The filter is built with
--fsanitize=address,undefined, by clang, $CC or cc, so that it looks at what always holds; it has to end soon with status 0 and no word,
-or with status 1 and one line on standard error. What comes out has to be lines of a stream, by their spelling here; and the program,
-which reads each stream that isn't empty, has to take it to its end, but for identities beyond --lines and clauses of streams that
-aren't there. A mutant that fails is kept in tools/exact/out/mutants. It shows what is off; the last line is 'N passed, M failed', and
-the status is 1 where a run failed. Where the compiler builds no such program the mutants are left out, and that is said.
-"""
+COUNT is 10,000, from mutant number FIRST on, 0; a number always gives the same mutant. In small
+proofs of each form, bytes are flipped, cut off, inserted and removed, steps doubled, swapped and
+left out, numbers made huge and words made letters. So are some formulas, and other streams; the
+filter refuses exactly the formulas that the program refuses. The filter is built with
+-fsanitize=address,undefined, by clang, $CC or cc, and checks its invariants. It has to end soon
+with status 0 and no message, or with status 1 and one line on standard error. Its output has to be
+lines of a stream, by the grammar here; and the program, which reads each stream that isn't empty,
+has to accept it to its end, except for identities beyond --lines and clauses of streams that aren't
+there. A mutant that fails is kept in tools/exact/out/mutants. Failures are shown; the last line is
+'N passed, M failed', and the status is 1 if a run failed. If the compiler can't build such a
+program, the mutants are skipped, and the output says so."""
 import multiprocessing
 import os
 import random
@@ -31,14 +33,14 @@ from proof_forms import FORMS, Clause, Step, frat, read_formula, read_steps, var
 KEPT = FILTER.parent / "mutants"
 SECONDS = 120
 
-# The word of --format, the formula and the steps.
+# The argument of --format, the formula and the steps.
 Base = Tuple[str, bytes, List[bytes]]
-# The formula, the stream, and how many of its first lines are mutated.
+# The formula, the stream, and how many of its first lines may be mutated.
 BASES = [("four-clause.cnf", "four-clause.lrup", 2), ("pigeonhole.cnf", "pigeonhole.lrup", 12),
          ("pigeonhole.cnf", "pigeonhole.lrup", 60), ("bmc.cnf", "bmc.lrup", 20)]
 LONG = 9000             # the clauses of a long proof, enough for the filter to give memory back
-LONG_ONES = 0.02        # of the mutants
-FAR = 10 ** 12          # between one name of FRAT and another, mostly
+LONG_ONES = 0.02        # the share of long proofs
+FAR = 10 ** 12          # the usual distance between names of FRAT
 WORDS = ["lrat", "drat", "frat", "binary-lrat", "binary-drat"]
 HUGE = [1 << 31, (1 << 31) - 1, 1 << 32, (1 << 63) - 1, 1 << 63, 1 << 64, 10 ** 17, 10 ** 18 - 1, 10 ** 18, 10 ** 40,
         16777215, 16777216, 65536, (1 << 57) - 1]
@@ -47,7 +49,7 @@ LETTERS = [b"a", b"d", b"i", b"l", b"o", b"f", b"r", b"c", b"x", b"-", b"+1", b"
 NUMBER = rb"[1-9][0-9]{0,17}"
 LINE = re.compile(rb"(?:" + NUMBER + rb" (?:-?" + NUMBER + rb" )*0 (?:" + NUMBER + rb" )*0|"
                   + NUMBER + rb" d (?:" + NUMBER + rb" )*0|" + NUMBER + rb" i (?:-?" + NUMBER + rb" )*0)")
-# The report on a stream that is well spelled, and whose lines are exact.
+# The report on a well-formed stream whose lines are exact.
 ENDS = re.compile(r"c stream \d+: \d+ added, \d+ deleted, (ended|bad line \d+ \((identity|no room|missing \d+)\))")
 
 
@@ -67,12 +69,12 @@ def copies(formula: List[Clause]) -> List[Step]:
 
 
 def backwards(step: Step) -> Step:
-    """Its hints come in the wrong order."""
+    """The proof with hints in the wrong order."""
     return step._replace(hints=step.hints[::-1])
 
 
 def make_proofs() -> Tuple[List[Base], List[Base]]:
-    """Short ones and long ones."""
+    """Short proofs and long ones."""
     short: List[Base] = []
     for formula, name, count in BASES:
         short += in_each_form(formula, lambda _: read_steps(example(name))[:count])
@@ -83,7 +85,7 @@ def make_proofs() -> Tuple[List[Base], List[Base]]:
     return short, in_each_form("pigeonhole.cnf", copies)
 
 
-# Mutations: first of steps, then of bytes.
+# Mutations, first of steps, then of bytes.
 
 
 def mutated_steps(steps: List[bytes], numbers: random.Random) -> bytes:
@@ -103,7 +105,7 @@ def mutated_steps(steps: List[bytes], numbers: random.Random) -> bytes:
 
 
 def other_word(proof: bytes, numbers: random.Random) -> bytes:
-    """A word of the text in the place of another."""
+    """Replaces a word of the text by another one."""
     words = list(re.finditer(rb"[^ \n]+", proof))
     if not words:
         return proof
@@ -113,7 +115,7 @@ def other_word(proof: bytes, numbers: random.Random) -> bytes:
 
 
 def other_bytes(proof: bytes, numbers: random.Random) -> bytes:
-    """Bytes put in, taken out, or flipped."""
+    """Inserts, removes or flips bytes."""
     at = numbers.randrange(len(proof) + 1)
     what = numbers.randrange(5)
     if what == 0:
@@ -137,7 +139,7 @@ def mutated_bytes(proof: bytes, binary: bool, numbers: random.Random) -> bytes:
 
 
 class Mutant:
-    """The words of its command, with the files that they name."""
+    """The arguments of its command, with the files that they name."""
 
     def __init__(self, number: int, proofs: Tuple[List[Base], List[Base]], work: Path) -> None:
         numbers = random.Random(number)
@@ -161,7 +163,7 @@ class Mutant:
         self.proof = proof
 
 
-# Properties of a run.
+# What each run has to satisfy.
 
 
 def spelling(text: bytes) -> Optional[str]:
@@ -190,7 +192,7 @@ def report_of(program: str, mutant: Mutant, text: bytes, work: Path) -> Optional
 
 
 def formula_fault(program: str, mutant: Mutant, said: str) -> Optional[str]:
-    """The filter refuses just the formulas that the program refuses."""
+    """The filter refuses exactly the formulas that the program refuses."""
     done = run([program, mutant.formula, "/dev/null"], limit=SECONDS)
     if said.startswith(f"lrup-exact: {mutant.formula}") == (done.status == 4):
         return None
@@ -212,7 +214,7 @@ def fault_of(program: str, mutant: Mutant, work: Path) -> Optional[str]:
 
 
 def attempt(job: Tuple[str, int]) -> Optional[str]:
-    """None, or what is off."""
+    """None, or what is wrong."""
     program, number = job
     with tempfile.TemporaryDirectory() as name:
         work = Path(name)

@@ -1,16 +1,16 @@
 #!/usr/bin/env python3
-"""Runs the filter with --rounds and lrupd --rounds beside it, with rows that are so small that proofs take many rounds.
+"""Runs the filter with --rounds beside lrupd --rounds, with rows so small that proofs take many
+rounds.
 
     filter_rounds.py PROGRAM
 
-Recorded proofs in each form, and those of CaDiCaL and CryptoMiniSat where they are on the PATH: each run has to end with status 0,
-with as many additions as the proof has, and leave nothing but an empty file. Then proofs that are cut, that have a wrong line, or go
-on behind the empty clause; formulas without clauses, or with no room in a row; folders that aren't empty; and either side killed at
-any time. Neither may wait for the other for ever. The filter is also built for tests, with -fsanitize=address,undefined where the compiler
-can.
-It shows what is off; the last line is 'N passed, M failed', and ', K skipped' where something isn't there. The status is 1 where a
-run failed.
-"""
+Recorded proofs in each form, and those of CaDiCaL and CryptoMiniSat if they are on the PATH: each
+run has to end with status 0, with as many additions as the proof has, and leave only an empty file.
+Then proofs that are truncated, have a wrong line, or continue after the empty clause; formulas
+without clauses, or with no room in a row; folders that aren't empty; and either side killed at any
+time. Neither may wait for the other forever. The filter is also built for tests, with
+-fsanitize=address,undefined if the compiler can. Failures are shown; the last line is 'N passed, M
+failed', and ', K skipped' if something is missing. The status is 1 if a run failed."""
 import contextlib
 import os
 import re
@@ -34,12 +34,13 @@ from solving import in_place_of_lrupd, of_process
 
 PROGRAM, = words_given(__doc__)
 Text = Union[str, bytes]
-LARGEST, WORDS = FILTER.parent / "exact-largest-row", 4000      # a build for which lrupd's largest row has WORDS words
-GONE = "the reader of standard output, which runs lrupd, has ended before it read "
+LARGEST, WORDS = FILTER.parent / "exact-largest-row", 4000      # a build in which lrupd's largest row has WORDS words
+GONE = "the reader of standard output, which runs lrupd, ended before it read "
 
 
 class Checked(NamedTuple):
-    """What lrupd says of each round's stream, its report, what else it says, its status; and what the filter says, with its status."""
+    """The report of each round's stream, lrupd's report, its messages and status; the filter's
+    messages and status."""
     rounds: List[str]
     out: str
     said: str
@@ -57,14 +58,14 @@ class Checked(NamedTuple):
 @contextlib.contextmanager
 def filtering(words: Sequence[object], work: Path, given: object = subprocess.DEVNULL,
               program: Path = FILTER) -> "Iterator[subprocess.Popen[bytes]]":
-    """The filter, of the folder d, with pipes for its outputs."""
+    """The filter, in the folder d, with pipes for its outputs."""
     with started([program, "--rounds", "d", *words], cwd=work, stdin=given, stdout=subprocess.PIPE, stderr=subprocess.PIPE, bufsize=0,
                  env={**os.environ, **SANITIZING}) as running:
         yield running
 
 
 def end_of(running: "subprocess.Popen[bytes]") -> Tuple[str, Optional[int]]:
-    """What the filter says, and its status, when nobody reads its standard output any more."""
+    """The filter's messages and status, once nobody reads its standard output any more."""
     assert running.stdout and running.stderr
     running.stdout.close()
     status = running.wait(LIMIT)
@@ -76,8 +77,8 @@ def lrupd_words(formula: Path) -> List[object]:
 
 
 def check_beside(running: "subprocess.Popen[bytes]", formula: Path, work: Path, lrupd: object = PROGRAM) -> Checked:
-    """lrupd begins when the filter says that it may, and has the filter's standard output, which ends with it. Its report is that of
-    the last round."""
+    """lrupd begins when the filter says so, and has the filter's standard output, which it closes
+    at its end. The report is that of the last round."""
     assert running.stdout
     ready = running.stdout.readline()
     if not ready:
@@ -101,18 +102,18 @@ def left(work: Path) -> List[str]:
 
 
 def want_refuted(checked: Checked, least: int, most: int, work: Path) -> None:
-    """In so many rounds. What is left is what lrupd would have saved."""
+    """Refuted, in that many rounds. What is left is what lrupd would have saved."""
     count = len(checked.rounds)
     want((checked.ends(), checked[2:]), ({"ended"}, ("", 0, "", 0)), "the ends, and what is said")
     want((least <= count <= most, left(work)), (True, [f"round-{count + 1}.cnf"]), f"{count} rounds, from {least} to {most}, and files")
     want((work / "d" / f"round-{count + 1}.cnf").read_text(), "", "the file that is left")
 
 
-# Proofs that refute.
+# Right proofs.
 
 
 def tidied(steps: Sequence[Step]) -> List[Step]:
-    """Each clause is deleted once it is cited no more, so that little is carried from round to round."""
+    """Each clause is deleted once it isn't cited any more, so that little is carried over."""
     additions = [step for step in steps if step.kind == "a"]
     last: Dict[int, int] = {}
     for place, step in enumerate(additions):
@@ -130,14 +131,15 @@ RECORDED = [("four-clause.cnf", "four-clause.lrup", "1K", 1, 1), ("pigeonhole.cn
 
 
 def proof_of(formula: str, stream: str, form: str) -> Tuple[bytes, str, int]:
-    """The proof, the word for its form, and how many additions it has."""
+    """The proof, the argument of --format, and how many additions it has."""
     word, make = FORMS[form]
     steps = tidied(read_steps(example(stream)))
     return b"".join(make(read_formula(example(formula)), steps)), word, sum(step.kind == "a" for step in steps)
 
 
 def want_added(checked: Checked, count: int, form: str) -> None:
-    """As many as the proof has. Where hints are missing the empty clause comes as soon as unit propagation has it."""
+    """As many additions as the proof has; without hints the empty clause comes as soon as unit
+    propagation finds it."""
     is_whole = "LRAT" in form or form == "FRAT with hints"
     if not (count if is_whole else 1) <= checked.added() <= count:
         raise Failure(f"{checked.added()} additions of all rounds, and the proof has {count}")
@@ -153,7 +155,8 @@ def recorded(name: str, stream: str, memory: str, least: int, most: int, form: s
     want_added(checked, count, form)
 
 
-# A solver's command, the form where it has to be said, what is generated, the memory, and the rounds.
+# The solver's command, the form if it has to be given, the generator's arguments, the memory, the
+# rounds.
 EARLY = "cadical -q --reduceint=20 --elimint=10 --probeint=10 --subsumeint=10"
 SOLVED = [("cadical -q", "binary-drat", "random 180 3", "500K", 3, 8), ("cadical -q --no-binary", "", "random 180 3", "600K", 3, 8),
           (EARLY, "binary-drat", "random 170 4", "300K", 3, 50), (EARLY + " --no-binary", "", "pigeons 7", "200K", 3, 50),
@@ -177,7 +180,7 @@ def solved(command: str, form: str, words: str, memory: Optional[str], least: in
 
 
 def behind(work: Path) -> None:
-    """What comes behind the empty clause needs no round, and is looked at."""
+    """What follows the empty clause needs no round, but is checked."""
     formula = written(FOUR, work)
     proof = "2 0\n0\n" + "1 2 0\n" * 1000
     want_refuted(check(formula, proof, ["--memory", "1K"], work), 1, 1, work)
@@ -188,8 +191,9 @@ def behind(work: Path) -> None:
 
 
 def rows_grow(work: Path) -> None:
-    """The first one is for clauses of 16 literals, and takes 2^20 words with one for each clause, if these have half as many; each
-    next one is for those that there were, 200 at most, and takes twice as many."""
+    """The first row is for clauses of 16 literals, and takes 2^20 words with one for each clause,
+    if clauses have half as many; each later row is for the lengths met, 200 at most, and is twice
+    as large."""
     literals = list(range(3, 1003))
     formula = written(dimacs(1002, [[1, 2], [-1, 2], [1, -2], [-1, -2], literals]), work)
     text = " ".join(map(str, literals))
@@ -207,11 +211,11 @@ def few_lines(formula: str, proof: str, status: int, said: str, work: Path) -> N
     want(left(work), ["round-2.cnf"], "what is left")
 
 
-# Proofs that don't.
+# Wrong proofs.
 
 
 def cut(parts: int, form: str, work: Path) -> None:
-    """All that is whole is checked; the last round has status 3."""
+    """Everything whole is checked; the last round has status 3."""
     proof, word, count = proof_of("bmc.cnf", "bmc.lrup", form)
     whole = proof[:len(proof) * parts // 10]
     checked = check(example("bmc.cnf"), whole, ["--memory", "48K", "--format", word], work)
@@ -224,7 +228,7 @@ def cut(parts: int, form: str, work: Path) -> None:
 
 
 def wrong(form: str, at: int, work: Path) -> None:
-    """A step in the middle that doesn't follow: the filter tells its place in the whole proof."""
+    """A step in the middle doesn't follow: the message has its place in the whole proof."""
     word, make = FORMS[form]
     formula, steps = read_formula(example("bmc.cnf")), tidied(read_steps(example("bmc.lrup")))
     before = make(formula, steps[:at])
@@ -243,7 +247,7 @@ def largest_row() -> None:
 
 
 def no_room(work: Path) -> None:
-    """At the beginning, and for what is carried over: only where lrupd makes no larger row."""
+    """At the start, and for carried clauses: only if lrupd makes no larger row."""
     said = "leave{} no room in a row of " + f"{8 * WORDS} bytes\n"
     checked = check(generated("random 400 1", work), "", [], work, LARGEST)
     want((checked, left(work)), (Checked([], "", "", None, f"lrup-exact: the formula {said.format('s')}", 1), []), "the end")
@@ -256,7 +260,7 @@ def no_room(work: Path) -> None:
 
 
 def room_for_one(work: Path) -> None:
-    """Whatever --memory says there is room for the formula, and for one clause."""
+    """Whatever --memory says, there is room for the formula, and for one clause."""
     literals = " ".join(map(str, range(1, 201)))
     formula = written(f"p cnf 201 2\n{literals} 201 0\n-201 0\n", work)
     checked = check(formula, f"{literals} 0\n", ["--memory", "1"], work)
@@ -264,25 +268,25 @@ def room_for_one(work: Path) -> None:
 
 
 def imported(work: Path) -> None:
-    """As for lrup-solve, of a solver that is alone."""
+    """An import is refused, as in lrup-solve for a single solver."""
     checked = check(written(FOUR, work), "1 i 1 2 0\n", [], work)
-    want((checked.status, checked.filter_said), (3, "lrup-exact: line 1: an import, of a solver that shares nothing\n"), "the end")
+    want((checked.status, checked.filter_said), (3, "lrup-exact: line 1: an import, but the solver shares nothing\n"), "the end")
 
 
-# The folder, and words.
+# The folder and the arguments.
 
 
 def in_the_way(name: str, work: Path) -> None:
-    """Nothing is touched."""
+    """A folder with files of rounds is refused, and nothing is touched."""
     (work / "d").mkdir()
     path = written("mine", work / "d", name)
     checked = check(written(FOUR, work), "0\n", [], work)
-    said = f"lrup-exact: --rounds takes a folder without files of rounds; there is d/{name}\n"
+    said = f"lrup-exact: d/{name}: exists, but --rounds needs a folder without files of rounds\n"
     want((checked, path.read_text(), left(work)), (Checked([], "", "", None, said, 1), "mine", [name]), "the end, and the file")
 
 
 def beside_others(work: Path) -> None:
-    """A folder that is there, with other files, one of them the formula."""
+    """A folder that exists, with other files, one of which is the formula."""
     (work / "d").mkdir()
     formula = written(FOUR, work / "d", "formula of round-1")
     checked = check(formula, "2 0\n0\n", [], work)
@@ -290,11 +294,12 @@ def beside_others(work: Path) -> None:
 
 
 def others_write(mode: int, taken: bool, work: Path) -> None:
-    """Where others may remove files they may put their own in the place of a stream; where the folder is sticky they can't."""
+    """If other users may remove files, they may replace a stream; if the folder is sticky, they
+    can't."""
     (work / "d").mkdir()
     (work / "d").chmod(mode)
     checked = check(written(FOUR, work), "2 0\n0\n", [], work)
-    wanted = (0, "", 0) if taken else (None, "lrup-exact: others may write to the folder d\n", 1)
+    wanted = (0, "", 0) if taken else (None, "lrup-exact: d: other users may write to this folder\n", 1)
     want((checked.status, checked.filter_said, checked.filter_status), wanted, "the ends")
 
 
@@ -307,7 +312,7 @@ def made_where_all_may_write(work: Path) -> None:
 
 
 def put_in_place(how: str, work: Path) -> None:
-    """A file in the place of the FIFO isn't written to."""
+    """A file that replaces the FIFO isn't written to."""
     mine = written("mine", work, "mine")
     with filtering([written(FOUR, work), written("2 0\n0\n", work, "proof")], work) as running:
         assert running.stdout and running.stderr
@@ -316,12 +321,12 @@ def put_in_place(how: str, work: Path) -> None:
         place.unlink()
         {"link": lambda: place.symlink_to(mine), "file": lambda: os.link(mine, place)}[how]()
         end = running.stderr.read().decode(), running.wait(LIMIT)
-    want(end, ("lrup-exact: somebody has put another file in the place of d/round-1.stream-1\n", 1), "the end")
+    want(end, ("lrup-exact: d/round-1.stream-1: another file is in its place\n", 1), "the end")
     want(mine.read_text(), "mine", "what the file has")
 
 
 def another_folder(work: Path) -> None:
-    """In another folder that has the name nothing is written or removed."""
+    """If another folder takes the name, nothing in it is written or removed."""
     formula, names = written(FOUR, work), ["round-1.sizes", "round-1.stream-1", "round-2.sizes", "round-2.stream-1"]
     with filtering([formula, written("2 0\n0\n", work, "proof")], work) as running:
         assert running.stdout
@@ -336,7 +341,7 @@ def another_folder(work: Path) -> None:
 
 
 def without_errors(closing: str, work: Path) -> None:
-    """What the filter would say isn't in the stream."""
+    """With standard error closed, messages don't get into the stream."""
     formula, proof = written(FOUR, work), written("2 0\n3 0\n", work, "proof")
     with started(["sh", "-c", f'exec "$@" {closing}', "sh", FILTER, "--rounds", "d", formula, proof], cwd=work,
                  stdin=subprocess.DEVNULL, stdout=subprocess.PIPE, stderr=subprocess.PIPE, bufsize=0) as running:
@@ -345,23 +350,24 @@ def without_errors(closing: str, work: Path) -> None:
 
 
 def locked(work: Path) -> None:
-    """Another run has the folder, until it ends, however it does; between rounds, too, and by another name."""
+    """Another run locks the folder until it ends, however it ends; between rounds, too, and by
+    another name."""
     os.symlink("d", work / "link")
     with in_a_round(work) as sides:
         for name in ("d", "link"):
             done = run([FILTER, "--rounds", name, example("bmc.cnf"), "/dev/null"], cwd=work)
-            want(done[:], ("", f"lrup-exact: another run that goes on has its files in {name}\n", 1), "what is said while it goes on")
+            want(done[:], ("", f"lrup-exact: {name}: another run uses this folder\n", 1), "what is said while it goes on")
         sides.running.kill()
         sides.running.wait(LIMIT)
         said = run([FILTER, "--rounds", "d", example("bmc.cnf"), "/dev/null"], cwd=work).err
-        want(said[:59], "lrup-exact: --rounds takes a folder without files of rounds", "what is said once it was killed")
+        want("but --rounds needs a folder without files of rounds" in said, True, f"what is said once it was killed: {said}")
 
 
 def no_folder(work: Path) -> None:
     formula = written(FOUR, work, "d")
-    want(check(formula, "0\n", [], work)[4:], ("lrup-exact: cannot read the folder d\n", 1), "where a file has the name")
+    want(check(formula, "0\n", [], work)[4:], ("lrup-exact: d: Not a directory\n", 1), "where a file has the name")
     done = run([FILTER, "--rounds", "a/b", formula], cwd=work)
-    want(done[:], ("", "lrup-exact: cannot make the folder a/b\n", 1), "where the folder above isn't there")
+    want(done[:], ("", "lrup-exact: a/b: No such file or directory\n", 1), "where the folder above isn't there")
 
 
 def usage(words: str, cause: str, work: Path) -> None:
@@ -378,11 +384,11 @@ USAGE = [("--rounds", "no value after --rounds"), ("--rounds= FORMULA", "no fold
          ("--memory 1G FORMULA", "--memory without --rounds"), ("--rounds d FORMULA --memory", "no value after --memory"),
          ("--rounds d --memory 3G FORMULA", "more than 2147483648 bytes: 3G"),
          ("--rounds d --memory 99999999999999999999999 FORMULA", "more than 2147483648 bytes: 99999999999999999999999")]
-USAGE += [(f"--rounds d --memory {word} FORMULA", f"no size, as 500000000, 500M or 2G: {word}")
+USAGE += [(f"--rounds d --memory {word} FORMULA", f"not a size as 500000000, 500M or 2G: {word}")
           for word in ("0", "0G", "x", "1x", "1GB", "G", "-1", "1.5G", "+1")]
 
 
-# Either side that ends early: neither waits for the other for ever.
+# If either side ends early, the other doesn't wait forever.
 
 
 def gone(number: int) -> str:
@@ -390,7 +396,8 @@ def gone(number: int) -> str:
 
 
 def lrupd_ends(body: str, status: int, awaited: int, work: Path) -> None:
-    """In round 1, for a reason of its own. The filter hears of it while it waits at the FIFO of that round or the next one."""
+    """lrupd ends in round 1, for its own reason. The filter notices at the FIFO of that round or
+    the next one."""
     proof, word, _ = proof_of("bmc.cnf", "bmc.lrup", "binary DRAT")
     lrupd = in_place_of_lrupd(f"for stream; do :; done; {body}", work)
     checked = check(example("bmc.cnf"), proof, ["--memory", "48K", "--format", word], work, lrupd=lrupd)
@@ -401,34 +408,34 @@ def lrupd_ends(body: str, status: int, awaited: int, work: Path) -> None:
 
 
 class Sides(NamedTuple):
-    """The filter at a pipe that stays open, in the middle of a round, and lrupd beside it."""
+    """The filter, midway in a round, at a pipe that stays open, and lrupd beside it."""
     running: "subprocess.Popen[bytes]"
     checking: "subprocess.Popen[str]"
     pipe: IO[bytes]
     rest: bytes
 
     def go_on(self) -> None:
-        """The rest of the proof, as far as anybody reads it."""
+        """Writes the rest of the proof, as far as anybody reads it."""
         def write() -> None:
             with contextlib.suppress(OSError):
                 self.pipe.write(self.rest)
         threading.Thread(target=write, daemon=True).start()
 
     def ends(self) -> Tuple[str, Optional[int], str, Optional[int]]:
-        """What lrupd says, its status, what the filter says, and its status."""
+        """lrupd's messages and status, and the filter's."""
         _, said = self.checking.communicate(timeout=LIMIT)
         return said, self.checking.returncode, *end_of(self.running)
 
 
 def is_on(pipe: IO[bytes], work: Path) -> bool:
-    """All is read, and the third round or a later one hasn't ended."""
+    """Everything is read, and the third round or a later one hasn't ended."""
     time.sleep(0.05)
     return waiting(pipe.fileno()) == 0 and [int(re.sub(r"round-(\d+)\.cnf|.*", r"\1", name) or 0) > 3 for name in left(work)] == [True]
 
 
 @contextlib.contextmanager
 def in_a_round(work: Path) -> Iterator[Sides]:
-    """The filter has read half a proof, and waits for more; some rounds are over."""
+    """The filter has read half a proof, and waits for more; some rounds have ended."""
     proof, word, _ = proof_of("bmc.cnf", "bmc.lrup", "binary DRAT")
     path, half = piped(work / "proof"), len(proof) // 2
     with filtering(["--memory", "48K", "--format", word, example("bmc.cnf"), path], work) as running, \
@@ -443,7 +450,7 @@ def in_a_round(work: Path) -> Iterator[Sides]:
 
 
 def lrupd_killed(work: Path) -> None:
-    """Nobody will read the next stream. This one can't be written, or was written just before that."""
+    """Nobody will read the next stream. This one can't be written, or was written just before."""
     with in_a_round(work) as sides:
         sides.checking.kill()
         sides.go_on()
@@ -460,7 +467,7 @@ def filter_killed(by: int, work: Path) -> None:
 
 
 def ended_before_it_begins(by: int, work: Path) -> None:
-    """While the filter waits for the first lrupd."""
+    """A signal while the filter waits for lrupd to start."""
     with filtering([example("bmc.cnf"), "/dev/null"], work) as running:
         assert running.stdout
         running.stdout.readline()
@@ -475,7 +482,7 @@ def sleeps(pid: int) -> bool:
 
 
 def ended_while_lrupd_waits(by: int, work: Path) -> None:
-    """It is at the FIFO, and the filter isn't yet: it gets an empty stream."""
+    """lrupd is at the FIFO, and the filter isn't yet: lrupd gets an empty stream."""
     formula = example("bmc.cnf")
     with filtering([formula, "/dev/null"], work) as running:
         assert running.stdout
@@ -492,7 +499,7 @@ def ended_while_lrupd_waits(by: int, work: Path) -> None:
 
 
 def nobody(work: Path) -> None:
-    """Who read standard output goes away before lrupd begins."""
+    """The reader of standard output ends before lrupd begins."""
     with filtering([example("bmc.cnf"), "/dev/null"], work) as running:
         assert running.stdout
         running.stdout.readline()
@@ -502,7 +509,7 @@ def nobody(work: Path) -> None:
 
 
 def without_a_pipe(work: Path) -> None:
-    """Standard output is a file, and lrup-chain begins once the first stream is there."""
+    """Standard output is a file, and lrup-chain begins once the first stream exists."""
     formula, proof = example("pigeonhole.cnf"), written(proof_of("pigeonhole.cnf", "pigeonhole.lrup", "LRAT text")[0], work, "proof")
     with open(work / "out", "wb") as out, started([FILTER, "--rounds=d", "--memory=3K", formula, proof], cwd=work, stdout=out) as running:
         until("the first stream", lambda: (work / "d" / "round-1.stream-1").exists())
@@ -512,7 +519,7 @@ def without_a_pipe(work: Path) -> None:
 
 
 def ignored(work: Path) -> None:
-    """A signal that is ignored where the filter begins stays so."""
+    """A signal that is ignored when the filter starts stays ignored."""
     def ignore() -> None:
         signal.signal(signal.SIGHUP, signal.SIG_IGN)
     with started([FILTER, "--rounds", "d", example("bmc.cnf"), "/dev/null"], cwd=work, stdout=subprocess.DEVNULL,
@@ -581,4 +588,4 @@ def rows() -> List[Row]:
     return [*found, ("nobody reads", nobody), ("without a pipe", without_a_pipe), ("a signal that is ignored", ignored)]
 
 
-sys.exit(run_all(rows(), tries=3))      # what kills one side races with it
+sys.exit(run_all(rows(), tries=3))      # killing one side is a race

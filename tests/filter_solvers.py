@@ -1,12 +1,11 @@
 #!/usr/bin/env python3
-"""Runs the solvers that people have beside the filter and the program.
+"""Runs common solvers beside the filter and the program.
 
     filter_solvers.py PROGRAM
 
-CaDiCaL, CryptoMiniSat and PicoSAT, as far as they are on the PATH, write their proofs to pipes; what comes out of the filter is
-checked while they run. It shows what is off; the last line is 'N passed, M failed', and ', K skipped' where solvers aren't there.
-The status is 1 where a run failed.
-"""
+CaDiCaL, CryptoMiniSat and PicoSAT, as far as they are on the PATH, write their proofs to pipes, and
+the filter's output is checked while they run. Failures are shown; the last line is 'N passed, M
+failed', and ', K skipped' if solvers are missing. The status is 1 if a run failed."""
 import os
 import re
 import shutil
@@ -77,7 +76,7 @@ def make_formula(words: str, work: Path) -> Path:
 
 
 def in_bash(program: str, commands: str, work: Path) -> Ran:
-    """The outputs of the commands, in a folder that has the repository's tools."""
+    """The outputs of the commands, in a folder with the repository's tools."""
     os.symlink(ROOT / "tools", work / "tools")
     os.symlink(program, work / "lrupd")
     for pipe in ("proof", "proof1", "proof2"):
@@ -104,7 +103,7 @@ def beside(program: str, commands: str, words: str, work: Path) -> None:
 
 
 def in_rounds(program: str, memory: str, rounds: int, work: Path) -> None:
-    """In this number of rounds or more."""
+    """In at least that many rounds."""
     wanted_on_path(IN_ROUNDS)
     make_formula("random 180 3", work)
     out, said, status = in_bash(program, IN_ROUNDS.replace("exact --rounds live", f"exact --rounds live --memory {memory}"), work)
@@ -115,7 +114,8 @@ def in_rounds(program: str, memory: str, rounds: int, work: Path) -> None:
 
 
 def while_it_runs(commands: str, words: str, work: Path) -> None:
-    """The filter's first line comes while the solver runs: it writes more than the pipes hold, and nobody reads on."""
+    """The filter's first line comes while the solver runs: it writes more than the pipes hold, and
+    nobody reads on."""
     wanted_on_path(commands)
     formula, proof = make_formula(words, work), piped(work / "proof")
     solver = commands.splitlines()[0].split(" > ")[0].split()

@@ -1,14 +1,15 @@
 #!/usr/bin/env python3
-"""Runs the filter on proofs without exact hints, and the program on what comes out.
+"""Runs the filter on proofs without exact hints, and the program on the output.
 
     filter_streams.py PROGRAM
 
-The recorded streams of examples/, with their hints shuffled, doubled and missing, with comments and loose spaces, have to come
-out as good streams of as many additions; so have those of several solvers with an import for each clause of another one that
-they cite, the recorded streams in each other form, and CaDiCaL's DRAT text in tests/proofs. Then what a few lines come to, what is
-refused and where, limits from both sides, cut proofs, pipes that stay open, and outputs that fail. It shows what is off; the
-last line is 'N passed, M failed', and ', K skipped' where something can't be tried. The status is 1 where a run failed.
-"""
+The recorded streams of examples/, with their hints shuffled, doubled and missing, with comments and
+extra spaces, have to become good streams with as many additions. So have streams of several solvers
+with an import for each clause that they cite of another one, the recorded streams in each other
+form, and CaDiCaL's DRAT text in tests/proofs. Then a few lines and their output, refusals and their
+places, limits from both sides, truncated proofs, pipes that stay open, and outputs that fail.
+Failures are shown; the last line is 'N passed, M failed', and ', K skipped' if something can't be
+tried. The status is 1 if a run failed."""
 import os
 import random
 import re
@@ -37,13 +38,15 @@ def exact(words: Sequence[object], given: Text = b"") -> Ran:
 
 
 def is_refuting(path: object) -> bool:
-    """Whether the stream's last line is the empty clause, which comes as soon as unit propagation has it."""
+    """Whether the stream's last line is the empty clause, which comes as soon as unit propagation
+    finds it."""
     lines = Path(str(path)).read_text().splitlines()
     return bool(lines) and lines[-1].split()[1] == "0"
 
 
 def check(program: str, formula: Path, streams: Sequence[Tuple[object, int]]) -> None:
-    """Each stream has to end, with the additions wanted of it, or fewer if it ends with the empty clause; the formula to be refuted."""
+    """Each stream ends with the expected additions, or fewer if it ends with the empty clause; the
+    formula is refuted."""
     done = run([program, "--tries", "1000000", formula, *(path for path, _ in streams)])
     *lines, verdict = done.out.splitlines() or [""]
     want((len(lines), verdict, done.status), (len(streams), "s UNSATISFIABLE", 0), f"{done.err}the verdict")
@@ -55,11 +58,11 @@ def check(program: str, formula: Path, streams: Sequence[Tuple[object, int]]) ->
 
 
 def at_place(stream: Tuple[object, int], place: int, count: int) -> List[Tuple[object, int]]:
-    """The stream in its place among others that are empty."""
+    """The stream in its place among empty ones."""
     return [stream if number == place else ("/dev/null", 0) for number in range(1, count + 1)]
 
 
-# The recorded streams, with inexact hints.
+# Recorded streams with inexact hints.
 
 
 def additions_of(path: Path) -> int:
@@ -67,13 +70,14 @@ def additions_of(path: Path) -> int:
 
 
 def clauses_of(path: Path) -> Dict[str, List[str]]:
-    """The literals of each clause that a stream derives, by its identity."""
+    """The literals of each clause that a stream derives, by identity."""
     lines = [line.split() for line in path.read_text().splitlines()]
     return {words[0]: words[1:words.index("0", 1)] for words in lines if words[1] != "d"}
 
 
 def with_imports(path: Path, others: Iterable[Path], seed: str, out: Path) -> None:
-    """The stream, with an import of each clause of the others before the line that cites it first."""
+    """The stream, with an import of each clause of another one before the line that cites it
+    first."""
     numbers = random.Random(seed)
     foreign = {identity: literals for other in others for identity, literals in clauses_of(other).items()}
     with open(path) as stream, open(out, "w") as file:
@@ -88,7 +92,8 @@ def with_imports(path: Path, others: Iterable[Path], seed: str, out: Path) -> No
 
 
 def mangle(path: Path, seed: str, keep: Callable[[int], bool], out: Path) -> None:
-    """Hints shuffled and some doubled, a third of the lines without one or all of those that needn't be kept; and spaces."""
+    """Hints shuffled and some doubled, a third of the lines without one hint or without all that
+    need not be kept; and extra spaces."""
     numbers = random.Random(seed)
     with open(path) as stream, open(out, "w") as file:
         file.write("c a comment\n\n")
@@ -115,11 +120,12 @@ def imports_in(text: str) -> List[List[str]]:
 
 
 def exact_stream(name: str, number: int, names: List[str], formula: Path, seed: int, imports: bool, work: Path) -> Path:
-    """A recorded stream, mangled, as the filter has it. With imports it sees that stream alone, and without them all."""
+    """A recorded stream, mangled, and filtered. With imports the filter sees only that stream,
+    otherwise all."""
     source, loose = example(name), work / f"loose{number}"
     clauses, count = len(read_formula(formula)), len(names)
     others = {other: example(names[other - 1]) for other in range(1, count + 1) if other != number}
-    # A clause of another stream isn't known where neither an import nor a hint names it.
+    # A clause of another stream isn't known unless an import or a hint names it.
     foreign = lambda hint: not imports and hint > clauses and (hint - clauses - 1) % count != number - 1
     if imports:
         source = work / f"imports{number}"
@@ -146,7 +152,7 @@ def without_hints(program: str, formula: Path, proof: Path, stream: int, count: 
 
 
 def as_lrat(formula: Path, proof: Path, work: Path) -> None:
-    """What comes out of a proof alone is LRAT, for any checker of that; and what isn't right in it is found."""
+    """The output for a single proof is LRAT for any LRAT checker, which also finds faults in it."""
     text, said, status = exact([formula, proof])
     clauses, lines = read_formula(formula), text.splitlines(True)
     want((lrat_fault(clauses, text), said, status), ("", "", 0), "as LRAT")
@@ -169,16 +175,16 @@ def in_form(program: str, formula_name: str, name: str, form: str, told: bool, w
         options = ["--stream", str(number), "--streams", str(count)] + ["--format", word] * told
         text, said, status = exact([*options, formula], proof)
         if not told and form.startswith("binary") and status == 1 and said.count("\n") == 1 and "--format" in said:
-            continue        # it may ask for the form
+            continue        # the form may be unclear
         want((said, status), ("", 0), "what the filter says")
         check(program, formula, at_place((written(text, work, "exact"), additions_of(stream)), number, count))
 
 
-# A few lines.
+# Proofs of a few lines.
 
 
 def stops(formula: str, proof: Text, cause: str, lines: str, words: List[str], work: Path) -> None:
-    """At the line or the byte that has the cause; the lines before it are out."""
+    """The filter stops at the line or byte of the cause, after writing the lines before it."""
     text, said, status = exact([*words, written(formula, work)], proof)
     want((text, status), (lines, 1), "what came out")
     if not said.startswith("lrup-exact: ") or cause not in said or said.count("\n") != 1:
@@ -190,14 +196,14 @@ def comes_out(formula: str, proof: Text, lines: str, words: List[str], work: Pat
 
 
 def sorted_hints(text: str) -> List[Tuple[List[str], List[str]]]:
-    """Each line, with its hints in order."""
+    """Each line, with its hints sorted."""
     lines = [line.split() for line in text.splitlines()]
     heads = [words.index("0", 1) for words in lines]
     return [(words[:end], sorted(words[end:])) for words, end in zip(lines, heads)]
 
 
 def comes_out_with(program: str, formula: str, proof: Text, lines: str, words: List[str], work: Path) -> None:
-    """These lines, with hints in an order that the program takes."""
+    """The output is these lines, with hints in an order that the program accepts."""
     path = written(formula, work)
     text, said, status = exact([*words, path], proof)
     want((sorted_hints(text), said, status), (sorted_hints(lines), "", 0), "what came out")
@@ -210,7 +216,8 @@ def comes_out_with(program: str, formula: str, proof: Text, lines: str, words: L
 
 
 def told_twice(work: Path) -> None:
-    """Two `o` lines of a clause that the formula has twice name both: one is deleted, and the other there."""
+    """Two `o` lines name both copies of a clause that the formula has twice: one is deleted, and
+    the other stays."""
     formula = written("p cnf 2 5\n1 2 0\n-1 2 0\n1 -2 0\n-1 -2 0\n2 1 0\n", work)
     text, said, status = exact([formula], "o 3 1 2 0\no 8 2 1 0\no 4 -1 2 0\nd 8 2 1 0\na 9 2 0 l 3 4 0\n")
     deletion, addition = ("1", "5") if text.startswith("1 d 1 ") else ("5", "1")
@@ -218,7 +225,8 @@ def told_twice(work: Path) -> None:
 
 
 def far_names(program: str, count: int, work: Path) -> None:
-    """FRAT's names that are large for their number, given and deleted in any order: each clause is found under its own."""
+    """Names of FRAT that are large for their number, given and deleted in any order: each clause is
+    found by its name."""
     formula, numbers, names, proof = written(FOUR, work), random.Random(count), [], TOLD
     for name in numbers.sample(range(10 ** 9, 10 ** 12), count):
         proof += f"a {name} 1 2 0 l 20 0\n"
@@ -233,7 +241,8 @@ def far_names(program: str, count: int, work: Path) -> None:
 
 
 def held_hints(program: str, count: int, work: Path) -> None:
-    """Hints that come before what makes them unit, of one step after another over the same literals: nothing is left of the one before."""
+    """Hints come before those that make them unit, in one step after another over the same
+    literals: no step affects the next."""
     numbers, proof = random.Random(count), ""
     clauses = [[-variable, -variable - 1, -variable - 2, variable + 3] for variable in range(1, count + 1)]
     formula = written(dimacs(count + 3, clauses), work)
@@ -249,27 +258,27 @@ def held_hints(program: str, count: int, work: Path) -> None:
 
 
 def compressed(name: str, words: List[str], work: Path) -> None:
-    """A formula or a proof that is compressed: what unpacks it is told."""
+    """A compressed formula or proof: the message names the program that unpacks it."""
     formula, packed = written(FOUR, work), written(COMPRESSED[name] + b"\0" * 100, work, "packed")
-    want(exact([*words, packed, "/dev/null"])[:], ("", f"lrup-exact: {packed}: compressed: {name} it\n", 1), "what is said of the formula")
-    want(exact([*words, formula, packed])[:], ("", f"lrup-exact: byte 1: compressed: {name} it\n", 1), "what is said of the proof")
+    want(exact([*words, packed, "/dev/null"])[:], ("", f"lrup-exact: {packed}: compressed: unpack it with {name}\n", 1), "what is said of the formula")
+    want(exact([*words, formula, packed])[:], ("", f"lrup-exact: byte 1: compressed: unpack it with {name}\n", 1), "what is said of the proof")
 
 
 def bad_other(line: str, work: Path) -> None:
-    """Where it is read it isn't LRAT text with rising identities of the formula's literals."""
+    """The file of --other isn't LRAT text with rising identities over the formula's literals."""
     other = written(f"{line}\n8 2 0 1 2 0\n", work, "other")
-    stops(FOUR, FIRST + "7 1 -2 0 8 0\n", "line 2: in ", FIRST, ONE_OF_TWO + ["--other", f"2={other}"], work)
+    stops(FOUR, FIRST + "7 1 -2 0 8 0\n", f"line 2: {other}: ", FIRST, ONE_OF_TWO + ["--other", f"2={other}"], work)
 
 
 def closed_input(work: Path) -> None:
-    """Another stream isn't read as the proof."""
+    """With standard input closed, the file of --other isn't read as the proof."""
     formula, other = written(FOUR, work), written("8 2 0 1 2 0\n", work, "other")
     words = [FILTER, "--format", "lrat", *ONE_OF_TWO, "--other", f"2={other}", formula]
     want(run(["sh", "-c", 'exec "$@" <&-', "sh", *words]), Ran("", "", 0), "what comes out")
 
 
 def another(program: str, work: Path) -> None:
-    """Clauses of another stream, enough for the filter to give their memory back."""
+    """Enough clauses of another stream for the filter to give back their memory."""
     formula, count = written(FOUR, work), 9000
     theirs = "".join(f"{6 + 2 * number} 1 2 0 1 0\n" for number in range(count)) + f"{6 + 2 * count} 2 0 1 2 0\n"
     ours = "".join(f"{5 + 2 * number} 1 2 0 {6 + 2 * number} 0\n" for number in range(count))
@@ -305,11 +314,11 @@ def refusals() -> List[Row]:
         ("no RAT step", "p cnf 2 2\n1 2 0\n-1 2 0\n", "-2 0\n", "line 1: no conflict by unit propagation: the clause -2 0 "
          "doesn't follow from those that weren't deleted, and it isn't RAT\n", "", []),
         ("a clause of another stream", FOUR, "5 0 6 3 4 0\n",
-         f"line 1: {NO_CLAUSE} 6 of stream 2: it wants an import, or --other 2=STREAM\n", "", ONE_OF_TWO),
+         f"line 1: {NO_CLAUSE} 6 of stream 2: it needs an import, or --other 2=STREAM\n", "", ONE_OF_TWO),
         ("a clause of another stream, which isn't in its file", FOUR, "5 0 6 3 4 0\n",
          f"line 1: {NO_CLAUSE} 6, which isn't in --other 2\n", "", ONE_OF_TWO + ["--other", "2=/dev/null"]),
         ("a clause of another stream, of one", FOUR, "5 0 6 3 4 0\n",
-         f"line 1: {NO_CLAUSE} 6, which isn't there: one of another stream wants --streams and --other\n", "", []),
+         f"line 1: {NO_CLAUSE} 6, which isn't there: if it is another stream's, use --streams and --other\n", "", []),
         ("a clause that was deleted", FOUR, "5 d 1 0\n6 2 0 1 2 0\n", f"line 2: {NO_CLAUSE} 1, which isn't there\n", "1 d 1 0\n", []),
         ("an import that was deleted", FOUR, "6 i 2 0\n5 d 6 0\n5 0 6 3 4 0\n", f"line 3: {NO_CLAUSE} 6, which isn't there\n",
          "6 i 2 0\n1 d 6 0\n", ONE_OF_TWO),
@@ -331,7 +340,7 @@ def refusals() -> List[Row]:
         ("an import of another's that was deleted", FOUR, "6 i 1 2 0\n5 d 6 0\n6 i 1 2 0\n",
          "line 3: an import of 6, which was deleted", "6 i 1 2 0\n1 d 6 0\n", ONE_OF_TWO),
         ("an import with a variable that isn't there", FOUR, "6 i 3 0\n", "line 1: a variable", "", ONE_OF_TWO),
-        ("an import after other numbers", FOUR, "9 2 0 1 2 0\n6 i -2 0\n", "line 2: an import, and", FIRST, ONE_OF_TWO),
+        ("an import after other numbers", FOUR, "9 2 0 1 2 0\n6 i -2 0\n", "line 2: an import, but", FIRST, ONE_OF_TWO),
         ("an import in DRUP", FOUR, "2 0\n6 i -2 0\n", "line 2: a step of LRAT text", FIRST, ONE_OF_TWO),
         ("a step without its end", FOUR, FIRST + "6 0 5 3 4\n", "line 2: ", FIRST, []),
         ("a step that is cut", FOUR, FIRST + "6 0 5 3", "line 2: the proof ends within a step", FIRST, []),
@@ -342,8 +351,8 @@ def refusals() -> List[Row]:
         ("a hint that is no number", FOUR, FIRST + "6 0 5 3 +4 0\n", "line 2: ", FIRST, []),
         ("a zero with a sign", FOUR, "5 2 -0 0 1 2 0\n", "line 1: ", "", []),
         ("no header", "1 2 0\n", "", "formula.cnf, line 1: no header", "", []),
-        ("a formula that is too short", "p cnf 2 5\n1 2 0\n", FIRST, "formula.cnf, line 3: the end, after 1 of the 5 clauses", "", []),
-        ("a formula with a variable too many", "p cnf 1 1\n1 2 0\n", FIRST, "formula.cnf, line 2: variable 2, above the 1 of", "", []),
+        ("a formula that is too short", "p cnf 2 5\n1 2 0\n", FIRST, "formula.cnf, line 3: file ends after 1 of 5 clauses", "", []),
+        ("a formula with a variable too many", "p cnf 1 1\n1 2 0\n", FIRST, "formula.cnf, line 2: variable 2, above the header's 1", "", []),
         ("a clause of another's file that isn't there", "p cnf 2 1\n1 2 0\n", "2 1 2 0 1 0\n4 1 0 3 0\n", f"line 2: {NO_CLAUSE} 3,",
          "2 1 2 0 1 0\n", ONE_OF_TWO + ["--other", "2=/dev/null"]),
     ]
@@ -374,7 +383,7 @@ def refusals_of_frat() -> List[Row]:
 
 
 def refusals_in_binary() -> List[Row]:
-    """With the byte where the step begins, counted from 1."""
+    """Messages have the byte at which the step begins, counted from 1."""
     drat, lrat = ["--format", "binary-drat"], ["--format", "binary-lrat"]
     two, five = b"a" + codes([2]), b"a" + code(5) + codes([2]) + codes([1, 2])
     return [
@@ -397,7 +406,7 @@ def refusals_in_binary() -> List[Row]:
 
 
 def in_another_order() -> List[Row]:
-    """Hints in an order that isn't named."""
+    """The order of hints isn't fixed."""
     unit = "5 d 5 0\n"
     return [
         ("FRAT, hints that aren't there", FOUR, TOLD + "a 10 2 0 l 33 34 0\na 11 0 l 0\n", FIRST + "6 0 3 4 5 0\n", []),
@@ -511,7 +520,7 @@ def longest_chain(program: str, count: int, work: Path) -> None:
 
 
 def many_deletions(program: str, count: int, work: Path) -> None:
-    """More than one line may have."""
+    """More deletions than one line may have."""
     formula = written(f"p cnf 2 {count + 4}\n" + "1 2 0\n" * count + FOUR.split("\n", 1)[1], work)
     identities = " ".join(map(str, range(1, count + 1)))
     text, said, status = exact([formula], f"{count + 5} d {identities} 0\n{count + 5} 2 0 {count + 1} {count + 2} 0\n")
@@ -522,7 +531,7 @@ def many_deletions(program: str, count: int, work: Path) -> None:
 
 
 def largest(program: str, work: Path) -> None:
-    """Variables and identities."""
+    """The largest variable and identity."""
     most = 16777215
     formula = written(f"p cnf {most} 2\n1 {most} 0\n-1 {most} 0\n", work)
     makes: Dict[str, Callable[[int], Text]] = {"drat": "{} 0\n".format, "binary-drat": lambda literal: b"a" + codes([literal])}
@@ -533,7 +542,7 @@ def largest(program: str, work: Path) -> None:
 
 
 def largest_identity(digits: int, fits: bool, work: Path) -> None:
-    """As one stream has it, whose name may have 18 digits."""
+    """Names may have 18 digits, as in a stream."""
     name, formula = int("9" * digits), written(FOUR, work)
     binary = [b"a" + coding(name) + codes([2]) + coding(1) + coding(2) + b"\0" for coding in (code, varint)]
     proofs: List[Tuple[str, Text]] = [("lrat", f"{name} 2 0 1 2 0\n"), ("binary-lrat", binary[0]), ("binary-lrat", binary[1])]
@@ -544,11 +553,11 @@ def largest_identity(digits: int, fits: bool, work: Path) -> None:
         want(said.count("\n"), 0 if fits else 1, "lines on standard error")
 
 
-MEMORY = 1 << 30        # bytes, of which no hopeless proof needs more
+MEMORY = 1 << 30        # bytes, enough for any hopeless proof
 
 
 def hopeless(words: str, source: str, cause: str, work: Path) -> None:
-    """A proof, or a formula, without an end: the filter's memory has one, and its time."""
+    """An endless proof or formula: the filter's memory and time are bounded."""
     formula = written(FOUR, work)
     limit = lambda: resource.setrlimit(resource.RLIMIT_AS, (MEMORY, MEMORY))
     done = run(["sh", "-c", f"{source} | exec \"$@\"", "sh", FILTER, *words.format(formula=formula).split()], limit=60, preexec_fn=limit)
@@ -556,12 +565,12 @@ def hopeless(words: str, source: str, cause: str, work: Path) -> None:
 
 
 def long_line(work: Path) -> None:
-    """64 MB, of hints that are given again and again."""
+    """64 MB of repeated hints."""
     text, said, status = exact([written(FOUR, work)], "5 2 0 " + "1 2 " * (1 << 24) + "0\n")
     want((text, said, status), (FIRST, "", 0), "what came out")
 
 
-# Proofs that are cut, pipes that stay open, outputs that fail, wrong words.
+# Truncated proofs, pipes that stay open, outputs that fail, wrong arguments.
 
 
 STEPS = [Step("a", 5, [2], [1, 2]), Step("d", 5, [], [1]), Step("a", 6, [], [5, 3, 4])]
@@ -577,14 +586,15 @@ def parts_of(form: str) -> Tuple[List[bytes], bytes]:
 
 
 def is_whole(form: str, proof: bytes, length: int) -> bool:
-    """Whether a step of text ends there, maybe without its LF; and FRAT's hints may be left out."""
+    """Whether a step of text ends there, perhaps without LF; FRAT's hints may be missing."""
     line = proof[:length].rsplit(b"\n", 1)[-1]
     without_hints = form.startswith("FRAT") and line.startswith(b"a ") and line.split()[-1] == b"0"
     return not line or proof[length:length + 1] == b"\n" or without_hints
 
 
 def cut(form: str, work: Path) -> None:
-    """At each byte. Whole steps come out, and where more follows standard error says so."""
+    """Truncated at each byte: whole steps are written, and otherwise standard error says that a
+    step is incomplete."""
     word, _ = FORMS[form]
     parts, rest = parts_of(form)
     proof, formula = b"".join(parts) + rest, written(FOUR, work)
@@ -600,7 +610,7 @@ def cut(form: str, work: Path) -> None:
 
 
 def live(form: str, options: List[str], work: Path) -> None:
-    """A line comes out while the pipe is open."""
+    """Each line is written while the proof's pipe is still open."""
     parts, rest = parts_of(form)
     command = [FILTER, *options, written(FOUR, work)]
     with started(command, stdin=subprocess.PIPE, stdout=subprocess.PIPE, bufsize=0) as running:
@@ -615,7 +625,7 @@ def live(form: str, options: List[str], work: Path) -> None:
 
 
 def fails(proof: str, out: Any, work: Path) -> None:
-    """A stream that can't be written: one line, and status 1."""
+    """The stream can't be written: one line, and status 1."""
     done = run([FILTER, written(FOUR, work)], proof, stdout=out)
     want((done.status, done.err.count("\n"), done.err[:12]), (1, 1, "lrup-exact: "), "the status and the lines")
 
@@ -628,7 +638,7 @@ def full(proof: str, work: Path) -> None:
 
 
 def left(work: Path) -> None:
-    """A reader that goes away."""
+    """The reader closes the output."""
     reader, writer = os.pipe()
     os.close(reader)
     fails("2 0\n" * 100000, writer, work)
@@ -636,14 +646,14 @@ def left(work: Path) -> None:
 
 
 def unreadable(words: List[str], work: Path) -> None:
-    """One line, and status 1."""
+    """A file that can't be read: one line, and status 1."""
     formula = written(FOUR, work)
     text, said, status = exact([word.format(formula=formula, work=work) for word in words])
     want((text, status, said.count("\n"), said[:12]), ("", 1, 1, "lrup-exact: "), f"what is said of {words}")
 
 
 def usage(words: List[str], cause: str, work: Path) -> None:
-    """A mistake in the command line: by the name under which the program is installed."""
+    """A wrong command line: the message has the name under which the program is installed."""
     formula = written(FOUR, work)
     text, said, status = exact([word.format(formula=formula) for word in words])
     want((text, status, said[:18], said.splitlines()[-1]), ("", 2, "usage: lrup-exact ", f"lrup-exact: error: {cause}"), f"{words}")
@@ -666,11 +676,11 @@ def limits(program: str) -> List[Row]:
         ("{formula}", "yes | tr -d '\\n'", "line 1: a line of more than 268435456 bytes"),
         ("{formula}", "(echo 2 0; yes 1 | tr '\\n' ' ')", "line 2: a line of more than 268435456 bytes"),
         ("{formula}", "(echo 'a 5 2 0'; yes 1 | tr '\\n' ' ')", "line 2: a line of more than 268435456 bytes"),
-        ("{formula}", "yes c", "byte 1: the first 268435456 bytes don't tell the form of the proof"),
-        ("{formula}", "yes ''", "byte 1: the first 268435456 bytes don't tell the form of the proof"),
+        ("{formula}", "yes c", "byte 1: the first 268435456 bytes don't show the form of the proof"),
+        ("{formula}", "yes ''", "byte 1: the first 268435456 bytes don't show the form of the proof"),
         ("--format binary-drat {formula}", "(printf a; yes | tr -d '\\n')", "byte 1: a step of more than 33554432 numbers"),
         ("--format binary-lrat {formula}", "(printf a; yes | tr -d '\\n')", "byte 1: a step of more than 33554432 numbers"),
-        ("/dev/zero", ":", "/dev/zero, line 1: no header 'p cnf VARIABLES CLAUSES', with which a formula in DIMACS CNF begins"))]
+        ("/dev/zero", ":", "/dev/zero, line 1: no header 'p cnf VARIABLES CLAUSES': not DIMACS CNF"))]
 
 
 def pipes_and_files() -> List[Row]:
@@ -685,13 +695,13 @@ def pipes_and_files() -> List[Row]:
     for words in ("{work}/none", "{work}", "{formula} {work}/none", "{formula} {work}", "--other 2={work}/none {formula}"):
         runs.append((words, unreadable, words.split()))
     for words, cause in (("", "no FORMULA"), ("--help-me {formula}", "no such option: --help-me"),
-                         ("--format dimacs {formula}", "no form of a proof: dimacs"), ("{formula} x y", "one word too many: y"),
+                         ("--format dimacs {formula}", "unknown form: dimacs"), ("{formula} x y", "unexpected argument: y"),
                          ("{formula} -", "no such option: -"),
-                         ("--stream", "no value after --stream"), ("--stream x {formula}", "no number of a stream: x"),
+                         ("--stream", "no value after --stream"), ("--stream x {formula}", "not a stream's number: x"),
                          ("--stream 3 --streams 2 {formula}", "--stream takes 1 to the number of --streams"),
                          ("--stream 2 {formula}", "--stream takes 1 to the number of --streams"),
                          ("--stream 0 {formula}", "--stream takes 1 to the number of --streams"),
-                         ("--other x=/dev/null {formula}", "no T=STREAM: x=/dev/null"), ("--other 2= {formula}", "no T=STREAM: 2="),
+                         ("--other x=/dev/null {formula}", "not T=STREAM: x=/dev/null"), ("--other 2= {formula}", "not T=STREAM: 2="),
                          ("{formula} --format", "no value after --format")):
         runs.append((f"lrup-exact {words}", usage, words.split(), cause))
     return runs

@@ -1,7 +1,7 @@
-"""Shared by the tests of programs: runs, files and pipes, builds, and the count of what passed.
+"""Shared by the tests of programs: runs, files and pipes, builds, and counting what passed.
 
-A test is a row: a name, a function and its arguments. The function gets a folder of its own as the last one.
-"""
+A test is a row: a name, a function and its arguments. The function also gets a folder of its own,
+as the last argument."""
 import contextlib
 import fcntl
 import functools
@@ -35,14 +35,14 @@ TRIM = ROOT / "tools" / "trim" / "out" / "lrup-trim"
 SANITIZED_TRIM = TRIM.with_name("lrup-trim-sanitized")
 EXPLAIN = ROOT / "tools" / "explain" / "out" / "lrup-explain"
 SANITIZED_EXPLAIN = EXPLAIN.with_name("lrup-explain-sanitized")
-LIMIT = 300  # seconds, after which a run hangs, also on a slow machine that does other work
+LIMIT = 300  # seconds after which a run counts as hanging, even on a slow and busy machine
 FOUR = "p cnf 2 4\n1 2 0\n-1 2 0\n1 -2 0\n-1 -2 0\n"
-# How files begin that these unpack.
+# The first bytes of files that these programs unpack.
 COMPRESSED = {"zcat": b"\x1f\x8b\x08\0", "xzcat": b"\xfd7zXZ\0", "bzcat": b"BZh9", "zstdcat": b"\x28\xb5\x2f\xfd"}
 VERDICTS = {0: "s UNSATISFIABLE", 3: "s UNKNOWN", 8: "s UNSATISFIABLE UNDER ASSUMPTIONS"}
 
-# A shell starts what is in the background with the first two ignored, and nohup with the third, and then programs under test would
-# ignore them, too. A handler isn't theirs.
+# Shells start background processes with the first two ignored, and nohup with the third; then
+# programs under test would ignore them, too. Handlers aren't inherited.
 signal.signal(signal.SIGINT, signal.default_int_handler)
 signal.signal(signal.SIGQUIT, signal.SIG_DFL)
 if signal.getsignal(signal.SIGHUP) == signal.SIG_IGN:
@@ -62,7 +62,7 @@ class Skipped(Exception):
 
 
 class Missing(Skipped):
-    """What a package gives isn't here. In CI, which installs them all, that is a failure."""
+    """A package's program is missing. In CI, which installs all packages, that is a failure."""
 
 
 class Ran(NamedTuple):
@@ -77,7 +77,7 @@ def want(found: Any, wanted: Any, what: str) -> None:
         raise Failure(f"{what}: wanted\n{str(wanted)[:2000]}\nand not\n{str(found)[:2000]}")
 
 
-# Runs.
+# Running programs.
 
 
 def text_of(data: Optional[bytes]) -> str:
@@ -101,7 +101,7 @@ def in_shell(command: str, *words: object, **how: Any) -> Ran:
 
 @contextlib.contextmanager
 def started(words: Words, **how: Any) -> Iterator["subprocess.Popen[Any]"]:
-    """A program at work, which is killed where it hasn't ended when the block is left."""
+    """A running program, which is killed if it hasn't ended when the block is left."""
     with subprocess.Popen(list(map(str, words)), **how) as process:
         try:
             yield process
@@ -110,7 +110,7 @@ def started(words: Words, **how: Any) -> Iterator["subprocess.Popen[Any]"]:
 
 
 def by_another(words: Words, work: Path, user: int = 65534, before: Callable[[], None] = lambda: None, **how: Any) -> Ran:
-    """Runs it in this folder; the superuser, whom nothing is forbidden, does so as another user."""
+    """Runs it in this folder; root, to whom nothing is forbidden, runs it as another user."""
     work.chmod(0o755)
 
     def become_another() -> None:
@@ -127,12 +127,12 @@ def by_another(words: Words, work: Path, user: int = 65534, before: Callable[[],
 
 
 def run_by_another(program: str, words: Words, work: Path) -> Ran:
-    """Of a copy of the program."""
+    """Runs a copy of the program so."""
     return by_another([shutil.copy(program, work / "lrupd"), *words], work)
 
 
 def within(limit: Optional[int]) -> None:
-    """In a program that begins: a limit on the size of files, beyond which writes fail."""
+    """Limits the size of files that a starting program may write."""
     if limit is not None:
         signal.signal(signal.SIGXFSZ, signal.SIG_IGN)
         resource.setrlimit(resource.RLIMIT_FSIZE, (limit, limit))
@@ -167,12 +167,12 @@ def piped(path: Path) -> Path:
 
 
 def held(path: Path) -> IO[bytes]:
-    """A pipe's writing end, which is there before anybody reads: the pipe is open until it is closed."""
+    """A pipe's writing end, opened before anybody reads: the pipe is open until it is closed."""
     return os.fdopen(os.open(piped(path), os.O_RDWR), "wb", buffering=0)
 
 
 def read_from(path: Path) -> IO[bytes]:
-    """A pipe's writing end, as soon as somebody reads there."""
+    """A pipe's writing end, as soon as somebody reads the pipe."""
     ends: List[int] = []
 
     def is_open() -> bool:
@@ -186,13 +186,13 @@ def read_from(path: Path) -> IO[bytes]:
 
 
 def waiting(pipe: int) -> int:
-    """How many bytes were written to a pipe and not read."""
+    """How many bytes in a pipe weren't read."""
     count: int = struct.unpack("i", fcntl.ioctl(pipe, termios.FIONREAD, bytes(4)))[0]
     return count
 
 
 def read_line(file: IO[bytes]) -> str:
-    """One that comes while the pipe is open."""
+    """A line that comes while the pipe is open."""
     ready, _, _ = select.select([file], [], [], LIMIT)
     if not ready:
         raise Failure("no line came while the pipe was open")
@@ -200,7 +200,8 @@ def read_line(file: IO[bytes]) -> str:
 
 
 def feed(path: Path, pieces: Pieces) -> threading.Thread:
-    """Writes these into a pipe as soon as somebody reads there; a number is a wait, in seconds."""
+    """Writes these pieces into a pipe as soon as somebody reads it; a number is a pause in
+    seconds."""
     def write() -> None:
         try:
             with open(path, "wb", buffering=0) as pipe:
@@ -228,7 +229,7 @@ def dimacs(variables: int, clauses: Sequence[Sequence[int]]) -> str:
 
 
 def random_clauses(numbers: random.Random, variables: int, count: int, lengths: Sequence[int] = (3,)) -> List[List[int]]:
-    """Clauses over that number of variables, with lengths drawn from these."""
+    """Clauses over that many variables, with lengths drawn from these."""
     clauses = []
     for _ in range(count):
         chosen = numbers.sample(range(1, variables + 1), min(variables, numbers.choice(lengths)))
@@ -236,7 +237,7 @@ def random_clauses(numbers: random.Random, variables: int, count: int, lengths: 
     return clauses
 
 
-# Programs.
+# Building programs.
 
 
 def compiler(*flags: str) -> List[str]:
@@ -245,7 +246,8 @@ def compiler(*flags: str) -> List[str]:
 
 
 def compiled(program: Path, sources: Sequence[Path], *flags: str, by: Sequence[str] = ()) -> Path:
-    """The program, which is there whole or not at all: other scripts may build it too, and run it, at the same time."""
+    """Builds the program atomically, since other scripts may build it and run it at the same
+    time."""
     new = program.with_name(f"{program.name}-{os.getpid()}")
     subprocess.run([*(by or compiler()), *flags, "-o", str(new), *map(str, sources)], check=True)
     new.replace(program)
@@ -253,13 +255,13 @@ def compiled(program: Path, sources: Sequence[Path], *flags: str, by: Sequence[s
 
 
 SANITIZE = ["-std=c11", "-O1", "-g", "-fsanitize=address,undefined,pointer-overflow", "-fno-sanitize-recover=all"]
-SANITIZING = {"ASAN_OPTIONS": "exitcode=99", "UBSAN_OPTIONS": "exitcode=99:print_stacktrace=1"}     # for the environment
+SANITIZING = {"ASAN_OPTIONS": "exitcode=99", "UBSAN_OPTIONS": "exitcode=99:print_stacktrace=1"}     # environment variables
 
 
 @functools.lru_cache(maxsize=None)
 def sanitizer() -> List[str]:
-    """A compiler that has the sanitizers: clang, where it is there, since it finds more, as an offset to a null pointer. None: an empty
-    list, but not in CI, which has clang."""
+    """A compiler that has the sanitizers: clang if it is installed, since it finds more, such as an
+    offset to a null pointer. An empty list if there is none, but never in CI, which has clang."""
     with tempfile.TemporaryDirectory() as work:
         source, one = written("int main(void) { return 0; }\n", Path(work), "one.c"), Path(work) / "one"
         for found in (["clang"], *[compiler()] * (not has_packages())):
@@ -269,7 +271,7 @@ def sanitizer() -> List[str]:
 
 
 def for_tests(program: Path, sources: Iterable[Path], *flags: str) -> Path:
-    """A program that looks at what always holds in it, and reports undefined behaviour where the compiler can."""
+    """A build that checks its invariants, and reports undefined behaviour if the compiler can."""
     program.parent.mkdir(exist_ok=True)
     return compiled(program, sorted(sources), "-DCHECKED", *(SANITIZE if sanitizer() else ["-std=c11", "-O1"]), *flags, by=sanitizer())
 
@@ -279,7 +281,7 @@ def sanitized_filter() -> None:
 
 
 def sources_of(tool: str) -> List[Path]:
-    """Those of the tool, and what of the filter it has as a part of its own."""
+    """The tool's sources, and those of the filter that it contains."""
     return [*(ROOT / "tools" / tool).glob("*.c"), *(path for path in EXACT.glob("*.c") if path.name not in ("main.c", "chain.c"))]
 
 
@@ -292,38 +294,39 @@ def sanitized_explain() -> None:
 
 
 def words_given(usage: Optional[str], least: int = 1, most: int = 1) -> List[str]:
-    """The words of the command line, of which the first is a program."""
+    """The arguments, the first of which is a program."""
     words = sys.argv[1:]
     if not least <= len(words) <= most:
         sys.exit(usage)
     return [os.path.abspath(words[0]), *words[1:]]
 
 
-# The answers that the checker has to give.
+# The answers expected of the checker.
 
 
 def report(said: Sequence[str], status: int) -> str:
-    """A report that says this of each stream, with the verdict of the status."""
+    """A report with these lines of streams, and the verdict of the status."""
     return "".join(f"c stream {number}: {words}\n" for number, words in enumerate(said, 1)) + VERDICTS[status] + "\n"
 
 
 def watched_ends(err: str) -> List[str]:
-    """What --watch says of each stream that ended, in all rounds."""
+    """The lines of --watch on each stream that ended, in all rounds."""
     return re.findall(r"^lrupd: stream \d+: (\d+ added, \d+ deleted, .*)$", err, re.M)
 
 
 def unwatched(err: str) -> str:
-    """Standard error without what --watch says."""
+    """Standard error without the lines of --watch."""
     return re.sub(r"^lrupd: (stream \d+: .*|round \d+: \d+ clauses?, \d+ literals?, paused for \d+ ms)\n", "", err, flags=re.M)
 
 
 def added(said: Iterable[str]) -> int:
-    """By all streams of which this is said."""
+    """The additions of all streams with these lines."""
     return sum(int(words.split(" added, ")[0]) for words in said)
 
 
 class Wanted(NamedTuple):
-    """Words, the status and what is written, in a folder with these files and pipes; and what some files are in the end."""
+    """Arguments, and the expected status and outputs, in a folder with these files and pipes; and
+    the expected contents of some files at the end."""
     words: Words
     status: int
     out: str = ""
@@ -359,7 +362,7 @@ def with_memory(function: Callable[..., None], *arguments: Any) -> None:
     function(*arguments)
 
 
-# The count.
+# Counting.
 
 
 def has_packages() -> bool:
@@ -373,7 +376,7 @@ def needs(command: str) -> None:
 
 
 def missing(why: str, work: Path) -> None:
-    """In the place of a row that a package is wanted for."""
+    """Takes the place of a row whose package is missing."""
     raise Missing(why)
 
 
@@ -382,13 +385,13 @@ def is_skipped(found: Optional[Exception]) -> bool:
 
 
 def left_out(cause: str) -> int:
-    """Of a whole script, for want of a package: the status."""
+    """Skips a whole script whose package is missing: the status."""
     print(f"{'failed' if has_packages() else 'skipped'}: {cause}")
     return int(has_packages())
 
 
 def outcome(row: Row) -> Optional[Exception]:
-    """The failure, or why the row is skipped; nothing where it passed."""
+    """The failure, or why the row is skipped; None if it passed."""
     _, function, *arguments = row
     try:
         with tempfile.TemporaryDirectory() as work:
@@ -399,14 +402,15 @@ def outcome(row: Row) -> Optional[Exception]:
 
 
 def closing(passed: int, failed: int, skipped: int = 0, title: str = "") -> int:
-    """Prints the last line; the status is 1 where something failed."""
+    """Prints the last line; the status is 1 if something failed."""
     print(f"{title}{passed} passed, {failed} failed" + f", {skipped} skipped" * (skipped > 0))
     return 1 if failed else 0
 
 
 def run_side_by_side(rows: Sequence[Row], at_once: Optional[int] = None) -> int:
-    """As run_all, on all cores, or that many at once, where rows wait; rows and their arguments have to be such that processes can be
-    given them. One that takes too long beside the others is run again when they have ended."""
+    """Like run_all, in parallel, on all cores or that many at once; processes must be able to get
+    the rows and their arguments. A row that takes too long beside the others is run again after
+    them."""
     failed = skipped = 0
     with multiprocessing.Pool(at_once) as workers:
         found_first = list(workers.imap(named_outcome, rows, chunksize=4))
@@ -426,7 +430,7 @@ def named_outcome(row: Row) -> Tuple[str, Optional[Exception]]:
 
 
 def run_all(rows: Sequence[Row], title: str = "", tries: int = 1) -> int:
-    """Shows what is off, and counts. Rows that race with the clock may be tried more than once."""
+    """Shows failures, and counts. Rows that race with the clock may be tried several times."""
     failed = skipped = 0
     for row in rows:
         found = outcome(row)

@@ -1,7 +1,6 @@
-"""Programs that lie and die in the place of lrup-engines, for tests of the front.
+"""Hostile programs in place of lrup-engines, for tests of the front.
 
-A program is Python: what all of them have in common, and a body.
-"""
+A program is Python: a common beginning, and a body."""
 import os
 import stat
 import subprocess
@@ -14,12 +13,13 @@ from harness import run, want, written
 from proof_forms import read_formula
 from solving import PROGRAM, SOLVE, Answer, end_all, marked, none_left
 
-SATISFIABLE = "p cnf 3 4\nc a comment\n1 2 0\n-1\n2 0 1 -3 0\nc 3 0\n3 -2 1 0\n"       # by 1 2, and either 3
-LONG = 30       # seconds, after which a run should have ended
+SATISFIABLE = "p cnf 3 4\nc a comment\n1 2 0\n-1\n2 0 1 -3 0\nc 3 0\n3 -2 1 0\n"       # by 1 2, and 3 or -3
+LONG = 30       # seconds after which a run should have ended
 PROOF = "5 2 0 1 2 0\n6 0 5 3 4 0\n"                         # of FOUR
 
-# The id of an lrupd that is the front's child, and a process that has that id again, lost its parent, and ends with a status. Where
-# the program may choose ids it takes a moment; elsewhere it makes processes for some seconds, until one has the id.
+# The id of an lrupd that is the front's child, and an orphan that gets the same id, and ends with a
+# status. If the program may choose ids, that takes a moment; otherwise it forks for some seconds,
+# until a process has the id.
 AGAIN = """
 import ctypes, os, signal, time
 
@@ -56,7 +56,7 @@ def again(pid, status, mark):
     os.wait()
     time.sleep(1)
 """
-# What the programs have in common. `say` has a line for the front, and `write` any bytes.
+# The common beginning. `say` sends a line to the front, and `write` any bytes.
 BEGINS = f"""#!{sys.executable} -SE
 import os, signal, subprocess, sys, time
 here = os.path.dirname(sys.argv[0])
@@ -116,8 +116,8 @@ def program(body: str, work: Path) -> Path:
 
 def run_with(body: str, words: Sequence[object], text: str, work: Path, lrupd: object = PROGRAM, front: object = SOLVE,
              may_leave: bool = False, **how: Any) -> Answer:
-    """A run that leaves nothing in a temporary folder of its own, and no process: but where it may, these are ended here. Lines are
-    answers, values or comments."""
+    """A run that leaves nothing in its own temporary folder, and no process; if it may leave
+    processes, they are ended here. `lines` are answers, values or comments."""
     formula, files, mark = written(text, work), work / "temporary", marked(work)
     files.mkdir()
     word = "-" if "given" in how else formula

@@ -1,9 +1,8 @@
-"""Programs that do harm in the place of lrup-engines, for tests/lrup_solve_hostile.py.
+"""Harmful programs in place of lrup-engines, for tests/lrup_solve_hostile.py.
 
-Each is a comment with its name, and a body. A name may end with `slow`: the reading of the formula
-takes a moment; with `copied`: lrupd is a copy; or with `leaves`: the supervisor is killed, and so
-processes may be left.
-"""
+Each is a comment with its name, and a body. A name may end with `slow`: reading the formula takes a
+moment; with `copied`: lrupd is a copy; or with `leaves`: the supervisor is killed, so processes may
+be left."""
 import re
 from typing import List, Tuple
 

@@ -1,10 +1,11 @@
-"""A checker of LRAT text without RAT steps, as the paper on LRAT has the format (docs/RELATED.md), and not as this repository does.
+"""A checker of LRAT text without RAT steps, by the paper on LRAT (docs/RELATED.md), not by this
+repository.
 
     id literals 0 hints 0       derives a clause by reverse unit propagation
     id d ids 0                  deletes clauses
 
-Identities are positive, and those of additions go up. Of the hints all but the last are unit in turn, and the last is the conflict.
-"""
+Identities are positive, and those of additions increase. All hints but the last are unit in turn,
+and the last one is the conflict."""
 import re
 from typing import List, Optional
 
@@ -13,7 +14,8 @@ GRAMMAR = re.compile(f"{NUMBER}( -?{NUMBER})* 0( {NUMBER})* 0\n|{NUMBER} d( {NUM
 
 
 def lrat_fault(formula: List[List[int]], proof: str) -> str:
-    """What is off in the first line where something is; an empty text where all are right, and one derives the empty clause."""
+    """The fault in the first wrong line; empty if all lines are right, and one derives the empty
+    clause."""
     clauses, last, is_refuted = dict(enumerate(formula, 1)), len(formula), False
     for number, line in enumerate(proof.splitlines(True), 1):
         if not GRAMMAR.fullmatch(line):
@@ -34,7 +36,7 @@ def lrat_fault(formula: List[List[int]], proof: str) -> str:
 
 
 def is_implied(clause: List[int], hinted: List[Optional[List[int]]]) -> bool:
-    """By unit propagation over the hinted clauses, in their order."""
+    """Checks by unit propagation over the hinted clauses, in order."""
     false = set(clause)
     for place, hint in enumerate(hinted, 1):
         if hint is None:

@@ -1,13 +1,13 @@
 #!/usr/bin/env python3
-"""Runs lrup-chain with the program, by each shell that is there, and breaks what may break.
+"""Runs lrup-chain with the program, by each installed shell, and under failures.
 
     lrup_chain.py PROGRAM
 
-What rounds come to is lrupd's to say; here it counts which words lrupd gets, that its report and its status are handed on, and
-which files are left. A file that is put in the place of a formula between two rounds changes nothing. Then wrong scripts, each an
-edit of the right one: a row has to find it out. What is wanted follows from the clauses, by the rules of rounds. It shows what is
-off; the last line is 'N passed, M failed', and the status is 1 where a row failed.
-"""
+lrupd decides what rounds come to; the tests check which arguments lrupd gets, that its report and
+status are passed on, and which files are left. A file that replaces a round's formula changes
+nothing. Then wrong scripts, each an edit of the right one: a row has to notice. Expected results
+follow from the clauses, by the rules of rounds. Failures are shown; the last line is 'N passed, M
+failed', and the status is 1 if a row failed."""
 import os
 import re
 import shutil
@@ -28,16 +28,16 @@ SHELLS = [shell for shell in ("dash", "bash", "busybox") if shutil.which(shell)]
 ROUNDS, FOUND, SAVED = [streams for streams, in ONE.texts], ONE.said[0][0], ONE.saved
 REFUTED = last(3, ONE.said[2], 0)
 BAD, BAD_SAID = "5 1 0 0\n", "0 added, 0 deleted, bad line 1 (no conflict)"
-OTHER = "p cnf 1 2\n1 0\n-1 0\n"        # with another formula behind it, streams refute it
+OTHER = "p cnf 1 2\n1 0\n-1 0\n"        # streams after another formula refute it
 REFUTING = "5 2 0 1 2 0\n7 0 5 3 4 0\n"
 USAGE = ("usage: lrup-chain [--keep] [--lrupd PATH] [--tries N] [--lines N] [--room N] [--assume FILE] [--serial] [--watch] "
          "FORMULA DIR\n       lrup-chain --help | --version\n")
-NO_SIZES = "lrup-chain: not STREAMS LINES ROOM: d/round-1.sizes\n"
+NO_SIZES = "lrup-chain: d/round-1.sizes: not STREAMS LINES ROOM\n"
 Named = Tuple[str, Wanted]
 
 
 def files(streams: Sequence[str], others: Mapping[str, str] = {}) -> Dict[str, str]:
-    """One stream a round."""
+    """One stream in each round."""
     return {**round_files([[text] for text in streams]), **others}
 
 
@@ -47,7 +47,7 @@ def lay(work: Path, streams: Sequence[str] = ROUNDS, others: Mapping[str, str] =
 
 
 def left(saved: Mapping[int, str] = {}) -> Dict[str, Optional[str]]:
-    """What the formulas of the rounds are in the end; others aren't there."""
+    """The expected formulas of the rounds at the end; others don't exist."""
     return {"formula": FOUR, **{saved_name(number): saved.get(number) for number in range(1, 6)}}
 
 
@@ -56,7 +56,7 @@ def chain(name: str, status: int, streams: Sequence[str], out: str, err: str = "
     return name, Wanted([*words, "formula", "d"], status, out, err, files(streams, others), shell=shell, left=left(saved))
 
 
-# Ends, and what is left.
+# Ends, and the files left.
 
 
 def ends() -> Iterator[Named]:
@@ -70,9 +70,9 @@ def ends() -> Iterator[Named]:
     yield chain("refuted in one round", 0, [REFUTING.replace("7", "6")], report(["2 added, 0 deleted, ended"], 0))
     yield chain("a round that is left out", 3, ROUNDS[:1], report([FOUND], 3), saved={2: SAVED[0]},
                 others={"d/round-3.stream-1": ROUNDS[2]})
-    unopened = "lrupd: cannot open stream 1\nlrup-chain: no "
-    yield chain("no folder", 5, [], "", unopened + "folder: d\n")
-    yield chain("no stream", 5, [], "", unopened + "stream: d/round-1.stream-1 isn't there\n", others={"d/round-1.sizes": "1 1 1\n"})
+    unopened = "lrupd: cannot open stream 1\nlrup-chain: d"
+    yield chain("no folder", 5, [], "", unopened + ": No such folder\n")
+    yield chain("no stream", 5, [], "", unopened + "/round-1.stream-1: No such file\n", others={"d/round-1.sizes": "1 1 1\n"})
     yield "a formula that is refused, and no stream", Wanted(["x", "d"], 4, err="lrupd: formula refused: no header\n", files={"x": ""})
     cube = {"cube": "-2 0\n"}
     yield chain("under assumptions", 8, ROUNDS, report([FOUND], 8), saved={2: SAVED[0]}, words=["--assume", "cube"], others=cube)
@@ -86,7 +86,7 @@ def ends() -> Iterator[Named]:
 
 
 def sizes() -> Iterator[Named]:
-    """Of round 1; the others are lrupd's to read."""
+    """Sizes of round 1; lrupd reads the others."""
     yield chain("sizes", 0, ROUNDS, REFUTED,
                 others={"d/round-1.sizes": "1 1 1\n", "d/round-2.sizes": "1 1 1\n", "d/round-3.sizes": "1 1 0\n"})
     yield chain("sizes without a line feed", 0, ROUNDS, REFUTED, others={"d/round-1.sizes": "1 1 1"})
@@ -100,7 +100,7 @@ def sizes() -> Iterator[Named]:
     yield chain("of an earlier lrup-chain", 2, ROUNDS, "", NO_SIZES, others={"d/round-1.sizes": "250 2000\n"})
     for words in (["--lines", "1"], ["--lines=1"], ["--room", "1"], ["--tries", "1", "--room=1", "--serial"]):
         option = next(word for word in words if word[2:6] in ("line", "room")).split("=")[0]
-        yield chain(f"sizes and {' '.join(words)}", 2, ROUNDS, "", f"lrup-chain: no {option} beside d/round-1.sizes, which has it\n",
+        yield chain(f"sizes and {' '.join(words)}", 2, ROUNDS, "", f"lrup-chain: {option}: refused, since d/round-1.sizes has it\n",
                     words=words, others={"d/round-1.sizes": "1 1 1\n"})
     yield chain("no sizes", 2, ROUNDS, "", NO_SIZES, others={"d/round-1.sizes": ""})
     yield "fewer streams", Wanted(["formula", "d"], 0, last(2, ["1 added, 0 deleted, ended"], 0), left=left(),
@@ -108,7 +108,7 @@ def sizes() -> Iterator[Named]:
 
 
 def refused(text: str, shell: str, script: Path, work: Path) -> None:
-    """What isn't two numbers behind another one lrupd refuses."""
+    """Anything but two numbers after another one is refused by lrupd."""
     lay(work, others={"d/round-1.sizes": text, "d/round-1.stream-2": "", "x": ""})
     done = run([shell, script, "--lrupd", PROGRAM, "formula", "d"], cwd=work)
     want((done.out, done.status, (work / "d/round-2.cnf").exists()), ("", 2, False), f"{done.err}the answer")
@@ -118,7 +118,7 @@ SIZES = ["1 1 x", "1 x 1", "1 1 1 1", "1 -1 1", "1 1 -1", "1 1 1 --serial", "1 -
 
 
 def in_the_way() -> Iterator[Named]:
-    """Where a checkpoint can't be created nothing is touched."""
+    """If a checkpoint can't be created, nothing is touched."""
     refused = "cannot create checkpoint"
     yield chain("round-2.cnf is there", 5, ROUNDS, "", fault(1, refused), {2: OTHER}, others={"d/round-2.cnf": OTHER})
     yield chain("round-3.cnf is there", 5, ROUNDS, "", fault(2, refused), {2: SAVED[0], 3: OTHER},
@@ -140,7 +140,7 @@ def unwritten(how: str, shell: str, script: Path, work: Path) -> None:
 
 
 def torn(shell: str, script: Path, work: Path) -> None:
-    """The checkpoint of round 2 is larger than that of round 1, and than what a file may have."""
+    """The checkpoint of round 2 is larger than that of round 1, and than the limit on files."""
     streams = [ROUNDS[0], "".join(f"{number} 2 0 4 0\n" for number in range(5, 25)), ROUNDS[2]]
     lay(work, streams)
     done = run([shell, script, "--lrupd", PROGRAM, "formula", "d"], cwd=work,
@@ -149,13 +149,13 @@ def torn(shell: str, script: Path, work: Path) -> None:
     want(done, Ran(wanted, fault(2, "checkpoint not written"), 9), "the answer")
 
 
-# Packed streams.
+# Compressed streams.
 
 PACKERS = {"xz": "xz", "gz": "gzip", "zst": "zstd"}
 
 
 def lay_packed(forms: Sequence[str], work: Path) -> List[str]:
-    """Three rounds, of which each stream is packed in the form of its place; the names in their folder."""
+    """Three rounds, whose streams are compressed in different forms; the names in the folder."""
     lay(work)
     for number, form in enumerate(forms, 1):
         needs(PACKERS[form])
@@ -165,7 +165,7 @@ def lay_packed(forms: Sequence[str], work: Path) -> List[str]:
 
 
 def packed(forms: Sequence[str], shell: str, script: Path, work: Path) -> None:
-    """A pipe has the place of each stream until the end, and the formula may be standard input."""
+    """A pipe takes each stream's place until the end; the formula may be standard input."""
     names = lay_packed(forms, work)
     for formula in "formula", "/dev/stdin":
         done = run([shell, script, "--lrupd", PROGRAM, formula, "d"], given=FOUR, cwd=work)
@@ -173,7 +173,8 @@ def packed(forms: Sequence[str], shell: str, script: Path, work: Path) -> None:
 
 
 def not_unpacked(shell: str, script: Path, work: Path) -> None:
-    """A cut stream ends where it is cut; without the program nothing is checked."""
+    """A truncated stream ends where it is truncated; without the unpacking program nothing is
+    checked."""
     names = lay_packed(["xz"], work)
     path = work / "d" / names[0]
     path.write_bytes(path.read_bytes()[:40])
@@ -188,7 +189,7 @@ def not_unpacked(shell: str, script: Path, work: Path) -> None:
 
 
 def packed_and_ended(shell: str, script: Path, work: Path) -> None:
-    """By a signal, while lrupd waits: no pipe and no process is left."""
+    """A signal while lrupd waits: no pipe and no process is left."""
     names = lay_packed(["xz", "gz"], work)
     slow = written("#!/bin/sh\ntouch begun\nexec sleep 1000\n", work, "slow")
     slow.chmod(0o755)
@@ -198,7 +199,7 @@ def packed_and_ended(shell: str, script: Path, work: Path) -> None:
         want((running.wait(LIMIT), sorted(os.listdir(work / "d"))), (143, names), "the status, and what is left")
 
 
-# Words and names.
+# Arguments and names.
 
 
 def words() -> Iterator[Named]:
@@ -246,11 +247,11 @@ def where(shell: str, script: Path, work: Path) -> None:
             os.symlink(PROGRAM, work / "a b" / "lrupd")
 
 
-# Others in lrupd's place, and ends by a signal.
+# Other programs in place of lrupd, and signals.
 
 
 def impostor(shell: str, script: Path, work: Path) -> None:
-    """Whatever the status is, it is the chain's, and so is what is said."""
+    """The status and the output are those of the program in lrupd's place."""
     lay(work)
     for status in range(256):
         written(f"#!/bin/sh\necho s UNSATISFIABLE; echo said >&2; exit {status}\n", work, "lrupd").chmod(0o755)
@@ -259,16 +260,16 @@ def impostor(shell: str, script: Path, work: Path) -> None:
 
 
 def no_verdict(body: str, out: str, shell: str, script: Path, work: Path) -> None:
-    """Status 0 alone, of another program, is none. Nothing is removed."""
+    """Status 0 of another program is no verdict. Nothing is removed."""
     lay(work, others={"d/round-2.cnf": OTHER})
     written(f"#!/bin/sh\n{body}\n", work, "lrupd").chmod(0o755)
     done = run([shell, script, "--lrupd", "./lrupd", "formula", "d"], cwd=work)
-    said = "lrup-chain: status 0 without its verdict: ./lrupd is another program than lrupd\n"
+    said = "lrup-chain: ./lrupd ended with status 0, but without the verdict of lrupd\n"
     want((done, (work / "d/round-2.cnf").exists()), (Ran(out, said, 1), True), "the answer, and whether a file is there")
 
 
 def endless_sizes(source: str, shell: str, script: Path, work: Path) -> None:
-    """They are looked at no further than sizes go."""
+    """Endless sizes are read only as far as sizes may go."""
     lay(work)
     sizes, pipe = work / "d/round-1.sizes", piped(work / "pipe")
     sizes.symlink_to("/dev/zero" if source == "/dev/zero" else pipe)
@@ -278,7 +279,7 @@ def endless_sizes(source: str, shell: str, script: Path, work: Path) -> None:
 
 
 def killed(number: int, by: int, shell: str, script: Path, work: Path) -> None:
-    """In this round lrupd is killed at a stream that goes on. Nothing is removed."""
+    """lrupd is killed in this round, at an unfinished stream. Nothing is removed."""
     lay(work)
     (work / f"d/round-{number}.stream-1").unlink()
     with held(work / f"d/round-{number}.stream-1") as pipe:
@@ -290,7 +291,7 @@ def killed(number: int, by: int, shell: str, script: Path, work: Path) -> None:
             child, = map(int, place.read_text().split())
             os.kill(child, by)
             out, _ = running.communicate(timeout=LIMIT)
-    ends = [128 + by] + [-by] * (by == signal.SIGINT)       # then a shell may end itself so, too
+    ends = [128 + by] + [-by] * (by == signal.SIGINT)       # a shell may end itself by the signal, too
     want((out, running.returncode in ends), ("", True), f"the answer, with status {running.returncode}")
     want([(work / f"d/round-{k}.cnf").exists() for k in range(2, number + 3)], [True] * number + [False], "formulas that are left")
 
@@ -307,8 +308,9 @@ def make_pipes(folder: Path, number: int) -> List[Path]:
 
 
 def live(shell: str, script: Path, work: Path) -> None:
-    """Before a round's pipes are closed there is one for the sizes of the next one. Once that is open, the formula of the round is
-    whole; it is removed, and the round's pipes are made, before the sizes are written."""
+    """Before a round's pipes are closed, there is one for the sizes of the next round. When that is
+    opened, the round's formula is whole; it is removed, and the round's pipes are made, before the
+    sizes are written."""
     folder, seen = work / "d", {}
     folder.mkdir()
     pipes = make_pipes(folder, 1)
@@ -335,10 +337,11 @@ def live(shell: str, script: Path, work: Path) -> None:
     want((done, seen), (Ran(LIVE_SAID, "", 0), LIVE_SAVED), "the answer, and what was saved")
 
 
-# A file in the place of a round's formula.
+# A file that replaces a round's formula.
 
 SATISFIABLE = "p cnf 2 3\n1 2 0\n-1 2 0\n1 -2 0\n"
-# A formula, of which round 1 derives 2; what is put in the place of what it saved; and round 2's stream, with what is said of it.
+# A formula from which round 1 derives 2; what replaces its checkpoint; round 2's stream, with its
+# line of the report.
 FORGED = [("unsatisfiable", SATISFIABLE, "p cnf 2 4\n1 2 0\n-1 2 0\n2 0\n-2 0\n", "5 0 3 4 0\n", 3, "bad line 1 (not unit 3)"),
           ("a contradiction", SATISFIABLE, OTHER, "3 0 1 2 0\n", 3, "bad line 1 (identity)"),
           ("satisfiable", FOUR, "p cnf 2 1\n1 0\n", "6 0 5 3 4 0\n", 0, "ended"),
@@ -347,8 +350,8 @@ FORGED = [("unsatisfiable", SATISFIABLE, "p cnf 2 4\n1 2 0\n-1 2 0\n2 0\n-2 0\n"
 
 
 def forged(formula: str, forgery: Optional[str], stream: str, status: int, ending: str, shell: str, script: Path, work: Path) -> None:
-    """Between two rounds, while lrupd waits at a pipe, the file that it saved is replaced, or removed. The verdict is of the clauses
-    that were checked, whatever the file says."""
+    """Between two rounds, while lrupd waits at a pipe, its checkpoint is replaced or removed. The
+    verdict is about the clauses that were checked."""
     folder, count, seen = work / "d", formula.count("\n") - 1, []
     written(f"{count + 1} 2 0 1 2 0\n", folder, "round-1.stream-1")
     sizes, saved = piped(folder / "round-2.sizes"), folder / "round-2.cnf"
@@ -371,7 +374,7 @@ def forged(formula: str, forgery: Optional[str], stream: str, status: int, endin
     want(saved.read_text() if saved.exists() else None, forgery, "the forged file")
 
 
-# Wrong scripts, each with a row that finds it out.
+# Wrong scripts, each with a row that notices.
 
 WRONG = [("exec \"$lrupd\" \"$@\"", 'exec "$lrupd" "$@" 2> /dev/null', "another lrupd"),
          ("status=$?", "status=$?; [ $status -ne 9 ] || status=3", "a full disk"),
@@ -424,7 +427,8 @@ def wrong(old: str, new: str, row: Row, work: Path) -> None:
 
 
 def in_manual(work: Path) -> None:
-    """The usage and the manual page have the same options, and the program's own help has those that are handed on."""
+    """The usage and the manual page have the same options; lrupd's help has those that are passed
+    on."""
     page, given = (ROOT / "docs" / "lrup-chain.1").read_text(), set(re.findall(r"--[a-z]+", USAGE))
     tagged = {"-" + word for line in re.findall(r"^\.It (Fl .*)$", page, re.M) for word in re.findall(r"Fl (-[a-z]+)", line)}
     listed = {"-" + word for word in re.findall(r"^\.Op Fl (-[a-z]+)", page, re.M)}
@@ -438,7 +442,7 @@ def chained(wanted: Wanted, shell: str, script: Path, work: Path) -> None:
 
 
 def rows_of(shell: str) -> List[Row]:
-    """Each ends with the shell and the script."""
+    """Each row ends with the shell and the script."""
     found: List[Row] = []
     for table in ends, sizes, in_the_way, words:
         found += [(name, chained, wanted) for name, wanted in table()]

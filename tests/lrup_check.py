@@ -3,11 +3,11 @@
 
     lrup_check.py PROGRAM [FLAGS]
 
-Proofs are written by CaDiCaL, CryptoMiniSat and PicoSAT, where they are on the PATH, by the example solver, and by hand: from a
-file, from a pipe and from standard input, alone and side by side, in one round and in many. What doesn't follow gives no verdict,
-and the line and its clause are named. It builds as lrup_solve.py does. It shows what is off; the last line is
-'N passed, M failed', and ', K skipped' where something isn't there. The status is 1 where a run failed.
-"""
+Proofs are written by CaDiCaL, CryptoMiniSat and PicoSAT, if they are on the PATH, by the example
+solver, and by hand; they come from a file, a pipe and standard input, alone and in parallel, in one
+round and in many. A step that doesn't follow gives no verdict, and its line and clause are named.
+It builds like lrup_solve.py. Failures are shown; the last line is 'N passed, M failed', and ', K
+skipped' if something is missing. The status is 1 if a run failed."""
 import os
 import random
 import shutil
@@ -44,7 +44,7 @@ def want_none(answer: Answer, cause: str) -> None:
 
 
 def proof_by(command: str, formula: Path, work: Path) -> Path:
-    """Of a solver: its words, in which `proof` is the proof's file."""
+    """A solver's proof; `proof` in its command is the proof's file."""
     words, proof = command.split(), work / "proof"
     needs(words[0])
     done = run([str(formula) if word == "formula" else str(proof) if word == "proof" else word for word in words])
@@ -52,7 +52,7 @@ def proof_by(command: str, formula: Path, work: Path) -> Path:
     return proof
 
 
-# Proofs that are right.
+# Right proofs.
 
 
 def of_solver(command: str, name: str, how: str, work: Path) -> None:
@@ -90,7 +90,7 @@ def by_hand(text: str, proof: str, work: Path) -> None:
 
 
 def streams(order: Sequence[int], work: Path) -> None:
-    """Four solvers' streams, that cite each other; the order is that of the solvers."""
+    """Streams of four solvers, which cite each other, in the solvers' order."""
     want_proved(check([example("bmc.cnf"), *(EXAMPLES / BMC[number - 1] for number in order)]))
 
 
@@ -124,7 +124,7 @@ def assumed(work: Path) -> None:
     want_proved(check(["--assume", assumptions, formula, written("-1 3 0\n", work, "proof")]), "s UNSATISFIABLE UNDER ASSUMPTIONS")
 
 
-# Faulty ones.
+# Faulty proofs.
 
 
 def refused(text: str, proof: str, cause: str, work: Path) -> None:
@@ -134,7 +134,7 @@ def refused(text: str, proof: str, cause: str, work: Path) -> None:
 
 
 def of_satisfiable(seed: int, work: Path) -> None:
-    """A proof of another formula never shows that a satisfiable one isn't."""
+    """A proof of another formula never refutes a satisfiable one."""
     formula = generated(f"random 60 {seed} 3.0", work)
     other = work / "other"
     other.mkdir()
@@ -144,7 +144,8 @@ def of_satisfiable(seed: int, work: Path) -> None:
 
 
 def mutated(seed: int, work: Path) -> None:
-    """A verdict only for a proof whose lines all follow, which another checker says of the LRAT that is written."""
+    """There is a verdict only for a proof whose lines all follow, as another checker confirms for
+    the LRAT text."""
     formula, numbers = generated(f"random 40 {seed} 7.0", work), random.Random(seed)
     lines = proof_by("cadical -q --no-binary formula proof", formula, work).read_text().splitlines(True)
     for at in numbers.choices([at for at, line in enumerate(lines) if line != "0\n"], k=3):
@@ -168,7 +169,7 @@ def misused(words: Sequence[str], said: str, work: Path) -> None:
 
 
 def no_writer(work: Path) -> None:
-    """A pipe that nobody writes to takes no longer than --time says."""
+    """A pipe without a writer takes no longer than --time says."""
     formula, pipe = written(FOUR, work), work / "pipe"
     os.mkfifo(pipe)
     begun = time.monotonic()
@@ -226,7 +227,7 @@ ROWS: List[Row] = [
     ("a deletion that came too early", refused, XOR, "d 1 2 0\n1 0\n2 0\n0\n", f"line 2: {NONE}1 0{NOT_RAT}{DELETED}"),
     ("a proof that ends early", refused, FIRST, "", "the proof ends without the empty clause"),
     ("a new variable", refused, FIRST, "3 0\n", "line 1: a variable that the formula doesn't have"),
-    ("compressed", refused, FIRST, "\x1f\x8b garbled", "byte 1: compressed: zcat it"),
+    ("compressed", refused, FIRST, "\x1f\x8b garbled", "byte 1: compressed: unpack it with zcat"),
     *((f"a proof of another formula, {seed}", of_satisfiable, seed) for seed in range(1, 4)),
     *((f"mutated, {seed}", mutated, seed) for seed in range(1, 41)),
     ("no proof", misused, ["%formula"], "no proof: lrup-check FORMULA PROOF"),
@@ -234,7 +235,7 @@ ROWS: List[Row] = [
     ("no formula that is there", misused, ["%none", "%proof"], "%none: No such file or directory"),
     ("no proof that is there", misused, ["%formula", "%none"], "%none: No such file or directory"),
     ("a folder", misused, ["%formula", "%folder"], "%folder is a folder"),
-    ("standard input twice", misused, ["-", "-"], "standard input is read once"),
+    ("standard input twice", misused, ["-", "-"], "standard input can be read only once"),
     *((f"an option of engines, {words[0]}", misused, [*words, "%formula", "%proof"], f"{words[0]} is lrup-solve's: lrup-check starts no engine")
       for words in (["-j", "2"], ["--mpi", "mpirun"], ["--solver", "x %formula %proof"], ["--seed", "1"], ["--share-size", "4"],
                     ["--no-share"])),

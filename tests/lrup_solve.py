@@ -1,14 +1,15 @@
 #!/usr/bin/env python3
-"""Runs lrup-solve with the program, and breaks what may break.
+"""Runs lrup-solve with the program, and under failures.
 
     lrup_solve.py PROGRAM [FLAGS]
 
-Known formulas with each status, 300 random ones with early inprocessing, one to eight engines; each child killed
-in turn, signals, a full disk, outputs that are closed. What holds sharing together is left out, one thing at a time, in
-a build for tests: each has to be found out. It builds both with `make`, and the compilers' flags where they are said, as '-O1
--g -fsanitize=thread'; where `make` doesn't find CaDiCaL's library everything is skipped, and that is told. It shows what is
-off; the last line is 'N passed, M failed', and ', K skipped' where something isn't there. The status is 1 where a run failed.
-"""
+Known formulas with each status, 300 random ones with early inprocessing, one to eight engines; each
+child killed in turn, signals, a full disk, closed outputs. In a build for tests the rules of
+sharing are left out one by one: each omission has to be noticed. It builds both programs with
+`make`, with FLAGS for the compilers, as '-O1 -g -fsanitize=thread'; if `make` doesn't find
+CaDiCaL's library, everything is skipped, and the output says so. Failures are shown; the last line
+is 'N passed, M failed', and ', K skipped' if something is missing. The status is 1 if a run
+failed."""
 import fcntl
 import os
 import pty
@@ -34,7 +35,7 @@ from solving import (ANSWERS, EARLY, ELIMINATING, PROGRAM, SOLVE, Answer, check_
 
 words_given(__doc__, most=2)
 MITERS = EXAMPLES / "miter"
-TRIES = 10      # of runs that may be over before something happens to them
+TRIES = 10      # of runs that may end before something happens to them
 SOON = 9        # seconds, fewer than a filter has for its last line
 PROGRESS = re.compile(rb"\r([^\r\n\x1b]* conflicts[^\r\n\x1b]*)\x1b\[K")
 
@@ -53,14 +54,15 @@ def answers_of(words_or_name: str, status: int, options: List[str], work: Path) 
 
 
 def without_a_clause(work: Path) -> None:
-    """A formula that is refuted, and its clauses but one, which aren't."""
+    """A formula that is refuted, and its clauses except one, which are satisfiable."""
     clauses = read_formula(example("pigeonhole.cnf"))
     formula = written(dimacs(30, clauses[1:]), work)
     want_answer(solve([formula]), 10, formula)
 
 
 def randomly(seed: int, work: Path) -> None:
-    """Any answer but 'unknown': an assignment is evaluated here, and of the others the kept proof is checked once more."""
+    """Any answer but 'unknown': an assignment is evaluated here, and a kept proof is checked
+    again."""
     numbers = random.Random(f"{seed} engines")
     formula = written(random_formula(seed), work)
     words = ["-v", "--memory", "64M", "--seed", seed, "-j", numbers.randint(2, 4), formula]
@@ -78,7 +80,7 @@ def randomly(seed: int, work: Path) -> None:
 
 
 def solved_alone(words: Sequence[object], **how: Any) -> int:
-    """The conflicts of CaDiCaL, in the last row of what it reports."""
+    """The conflicts of CaDiCaL, from the last row of its report."""
     done = run(words, **how)
     rows = re.findall(r"^c [01] +[\d.]+ +\d+ +\d+ +\d+ +\d+ +(\d+) .*$", done.out + done.err, re.M)
     want(len(rows), 1, f"last rows of {words}")
@@ -86,7 +88,8 @@ def solved_alone(words: Sequence[object], **how: Any) -> int:
 
 
 def unordered(text: str, seed: int) -> str:
-    """The clauses, and the literals of each, in another order, some doubled, and some clauses that are always true."""
+    """The clauses, and each one's literals, in another order, some doubled, and some clauses that
+    are always true."""
     numbers, (header, *lines) = random.Random(seed), text.splitlines()
     clauses = [[int(word) for word in line.split()[:-1]] for line in lines]
     clauses += [[1, *numbers.choice(clauses), -1] for _ in range(5)] + numbers.sample(clauses, 5)
@@ -98,7 +101,7 @@ def unordered(text: str, seed: int) -> str:
 
 
 def as_alone(words: str, seed: int, work: Path) -> None:
-    """An engine alone searches as `cadical` does on the file, whatever the order of what stands there."""
+    """A single engine searches like `cadical` on the file, in whatever order the file is."""
     needs("cadical")
     formula = generated(words, work)
     if seed:
@@ -109,7 +112,8 @@ def as_alone(words: str, seed: int, work: Path) -> None:
 
 
 def holes(work: Path) -> None:
-    """As many pigeonholes as pigeons, which a lucky assignment satisfies: all in the first hole that is left. It is looked for once."""
+    """As many pigeonholes as pigeons, which a lucky assignment satisfies. CaDiCaL looks for it only
+    once."""
     names = [[pigeon * 40 + hole + 1 for pigeon in range(40)] for hole in range(40)]
     clauses = [list(pigeon) for pigeon in zip(*names)] + [[-one, -other] for hole in names for one in hole for other in hole if one < other]
     formula = written(dimacs(1600, clauses), work)
@@ -120,7 +124,7 @@ def holes(work: Path) -> None:
 
 
 def impostor(body: str, cause: str, work: Path) -> None:
-    """Another program in lrupd's place, which takes the formula and doesn't prove anything."""
+    """Another program in place of lrupd, which accepts the formula and proves nothing."""
     path = in_place_of_lrupd(f"case \"$*\" in *' /dev/null') exit 3;; esac\n{body}", work)
     answer = solve(["--lrupd", path, example("bmc.cnf")])
     want_answer(answer, 0)
@@ -128,12 +132,13 @@ def impostor(body: str, cause: str, work: Path) -> None:
         raise Failure(f"wanted a word on '{cause}', and not\n{answer.out}")
 
 
-# What happens while it runs.
+# Events during a run.
 
 
 class Running:
-    """One that is at work: both engines, their filters and lrupd are there. What hasn't ended when the block is left is killed. A
-    build for tests starts lrupd with the first line, and not when a fast machine may be done."""
+    """A run whose engines, filters and lrupd exist. Processes that haven't ended are killed when
+    the block is left. A build for tests starts lrupd with the first line, before a fast machine can
+    finish."""
     HOOKS = {"FIRST_WORDS": 1 << 22}
 
     def __init__(self, formula: Path, work: Path, ignored: Sequence[int] = ()) -> None:
@@ -162,7 +167,7 @@ class Running:
         return {"engine 1", "engine 2", "filter 1", "filter 2", "lrupd"} <= set(self.children)
 
     def end(self) -> Answer:
-        """What it said; no child of it is left, and no file."""
+        """The run's output; no child of it is left, and no file."""
         out, said = self.process.communicate(timeout=LIMIT)
         until("its children end", lambda: not any(map(is_alive, self.children.values())))
         until("its files are removed", lambda: not os.listdir(self.folder))
@@ -170,7 +175,8 @@ class Running:
 
 
 def killed(names: List[str], number: int, status: int, cause: str, work: Path) -> None:
-    """Children are killed: the others go on, or the answer is 'unknown'. A run that was over before is tried again."""
+    """Children are killed: the others continue, or the answer is 'unknown'. A run that ends before
+    is tried again."""
     formula = generated("random 220 5", work) if status else generated("pigeons 11", work)
     said = ""
     for _ in range(TRIES):
@@ -188,14 +194,14 @@ def killed(names: List[str], number: int, status: int, cause: str, work: Path) -
 
 
 def dealt(answer: Answer) -> List[int]:
-    """Of cubes: how many were dealt out, refuted, and handed on."""
+    """How many cubes were dealt out, refuted, and handed on."""
     found = [re.findall(r"\d[\d,]*", line) for line in answer.comments if line.startswith("cubes: ")]
     return [int(number.replace(",", "")) for number in found[0]] if found else [0, 0, 0]
 
 
 def cubes(words: str, status: int, engines: int, work: Path) -> None:
-    """Engines share the formula out, and one that satisfies its part satisfies the whole. Where they have answered before any had a
-    cube that is tried again."""
+    """Engines divide the formula, and one that satisfies its part satisfies the formula. If they
+    answer before any has a cube, the run is tried again."""
     formula = generated(words, work)
     for _ in range(TRIES):
         answer = solve(["-v", "-j", engines, formula], tested={"SLICE": 20})
@@ -207,7 +213,7 @@ def cubes(words: str, status: int, engines: int, work: Path) -> None:
 
 
 def randomly_cubed(seed: int, work: Path) -> None:
-    """Any answer but 'unknown', as of `randomly`, in rounds and with assumptions."""
+    """Any answer but 'unknown', as in `randomly`, in rounds and with assumptions."""
     numbers = random.Random(f"{seed} cubes")
     size = numbers.randrange(60, 150)
     formula = written(dimacs(size, random_clauses(numbers, size, round(numbers.uniform(4, 4.6) * size))), work)
@@ -222,7 +228,7 @@ def randomly_cubed(seed: int, work: Path) -> None:
 
 
 def killed_with_a_cube(name: str, work: Path) -> None:
-    """Another engine takes the cube of one that is killed, and the answer comes."""
+    """Another engine takes the cube of a killed one, and the answer comes."""
     formula, hooks = generated("pigeons 9", work), {"SLICE": 200}
     with subprocess.Popen(command(["-v", "-j", "4", formula], hooks), env=in_environment(hooks), text=True, start_new_session=True,
                           stdout=subprocess.PIPE, stderr=subprocess.PIPE) as process:
@@ -250,7 +256,7 @@ def ended_by(number: int, work: Path) -> None:
 
 
 def ignored(number: int, work: Path) -> None:
-    """One that was ignored at the start stays so, as under nohup."""
+    """A signal that was ignored at the start stays ignored, as under nohup."""
     with Running(generated("pigeons 11", work), work, ignored=[number, signal.SIGCHLD]) as running:
         running.process.send_signal(number)
         goes_on(running.process)
@@ -262,7 +268,8 @@ def ignored(number: int, work: Path) -> None:
 
 
 def stopped(work: Path) -> None:
-    """As by Ctrl-Z: engines and filters stand still with the front, which stands in a group of its own, and go on with it."""
+    """As by Ctrl-Z: engines and filters stop with the front, which has its own process group, and
+    continue with it."""
     with Running(generated("pigeons 11", work), work) as running:
         pids = [running.process.pid, *(running.children[name] for name in ("lrup-engines", "engine 1", "filter 2"))]
         states = lambda: {of_process(pid, "stat").rsplit(")", 1)[-1].split()[0] for pid in pids}
@@ -276,7 +283,7 @@ def stopped(work: Path) -> None:
 
 
 def ended_while_it_stands(work: Path) -> None:
-    """What somebody has stopped is ended, too, and removes its files."""
+    """Stopped processes are ended, too, and the run removes its files."""
     with Running(generated("pigeons 11", work), work) as running:
         os.kill(running.children["lrup-engines"], signal.SIGSTOP)
         running.process.terminate()
@@ -285,14 +292,15 @@ def ended_while_it_stands(work: Path) -> None:
 
 
 def left_alone(work: Path) -> None:
-    """Where the front is killed the others end, too."""
+    """If the front is killed, the others end, too."""
     with Running(generated("pigeons 11", work), work) as running:
         running.process.kill()
         want(running.end().status, -signal.SIGKILL, "the end")
 
 
 def gives_way(work: Path) -> None:
-    """Where memory is short the system ends engines and filters first, by this number: 1000 is the most, and nobody lowers it."""
+    """If memory is short, the system kills engines and filters first, by this number: 1000 is the
+    most, and nobody lowers it."""
     own = of_process(os.getpid(), "oom_score_adj")
     with Running(generated("pigeons 11", work), work) as running:
         until("engines and filters give way", lambda: {of_process(pid, "oom_score_adj") for name, pid in running.children.items()
@@ -311,7 +319,7 @@ def time_is_up(work: Path) -> None:
 
 
 def full(words: List[str], out: str, most: int, cause: str, work: Path) -> None:
-    """A disk that is full, for the answer; for the streams, files of so many bytes at most."""
+    """A full disk for the answer; for the streams, a limit on the size of files."""
     if not os.path.exists("/dev/full"):
         raise Skipped("there is no /dev/full")
     limit = lambda: resource.setrlimit(resource.RLIMIT_FSIZE, (most, most)) if most else None
@@ -334,18 +342,19 @@ def reader_left(work: Path) -> None:
 
 
 def read_terminal(leader: int) -> bytes:
-    """What is there by now."""
+    """What has been written so far."""
     seen = b""
     try:
         while chunk := os.read(leader, 65536):
             seen += chunk
-    except OSError:     # nothing more, or nobody who writes
+    except OSError:     # nothing more, or no writer
         pass
     return seen
 
 
 def shown_on_terminal(words: List[str], count: int, columns: int, work: Path) -> Tuple[bytes, str]:
-    """Until it has as many lines of progress, or for some turns of the program's loop; and what comes on standard output."""
+    """Until that many progress lines have come, or for some turns of the program's loop; also
+    returns standard output."""
     leader, terminal = pty.openpty()
     fcntl.ioctl(terminal, termios.TIOCSWINSZ, struct.pack("HHHH", 24, columns, 0, 0))
     fcntl.fcntl(leader, fcntl.F_SETFL, os.O_NONBLOCK)
@@ -369,7 +378,7 @@ def shown_on_terminal(words: List[str], count: int, columns: int, work: Path) ->
 
 
 def progress(words: List[str], wanted: bool, columns: int, work: Path) -> None:
-    """One line that is written over and over, and taken away, on a terminal alone, and within its columns."""
+    """One line is overwritten and finally removed, only on a terminal, and within its columns."""
     seen, out = shown_on_terminal(words, 3 * wanted, columns, work)
     want(out.splitlines()[-1], "s UNKNOWN", "the answer")
     shown, width = PROGRESS.findall(seen), (columns or 80) - 1
@@ -382,7 +391,8 @@ def progress(words: List[str], wanted: bool, columns: int, work: Path) -> None:
 
 
 def large_formula(words: List[str], work: Path) -> None:
-    """While it is read, for seconds, a terminal shows that; and a signal ends the run at once, as the time does."""
+    """While a large formula is read, a terminal shows that; a signal ends the run at once, and so
+    does --time."""
     formula = work / "large"
     with formula.open("w") as file:
         file.write("p cnf 2 4\n")
@@ -414,7 +424,8 @@ def large_formula(words: List[str], work: Path) -> None:
 
 
 def terminal_that_stops(work: Path) -> None:
-    """As after `stty tostop` it stops who writes to it in the background, and the front alone is in the foreground."""
+    """As after `stty tostop`: the terminal stops background processes that write to it; only the
+    front is in the foreground."""
     leader, terminal = pty.openpty()
     settings = termios.tcgetattr(terminal)
     settings[3] |= termios.TOSTOP
@@ -427,11 +438,11 @@ def terminal_that_stops(work: Path) -> None:
     os.close(leader)
 
 
-# Formulas that nobody here wrote, of yosys.
+# Formulas by yosys.
 
 
 def miter(name: str, change: Optional[Tuple[str, str]], status: int, work: Path) -> None:
-    """Two circuits, and two of which one is wrong."""
+    """Two circuits, equal or with one of them wrong."""
     needs("yosys")
     text = (MITERS / f"{name}.v").read_text()
     if change:
@@ -456,12 +467,12 @@ def options_told(work: Path) -> None:
     want(in_manual, {word for pair in listed for word in pair if word}, "options of the manual page")
 
 
-# What sharing rests on: left out, it is found out; and with it nothing of the kind happens.
+# Rules of sharing: leaving one out is noticed, and with it nothing of the kind happens.
 
 
 def rests_on(what: str, count: int, found: str, variables: Tuple[int, int], early: str, work: Path) -> None:
-    """So many formulas, with it and without; more where none of them broke, which is a matter of time. Without it a stream waits a
-    second, and not a minute, for a clause that doesn't come."""
+    """Runs that many formulas, with the rule and without; more if none of them broke, which depends
+    on timing. Without it a stream waits a second, not a minute, for a clause that never comes."""
     seen = {True: 0, False: 0}
     for seed in range(10 * count):
         numbers = random.Random(seed)
@@ -471,7 +482,7 @@ def rests_on(what: str, count: int, found: str, variables: Tuple[int, int], earl
             tested: Dict[str, object] = {"SET": early, "SLICE": 30, **({"WITHOUT": what, "TRIES": 20000} if left_out else {})}
             answer = solve(["-v", "--memory", "64M", "--time", "20", "-j", "3", formula], tested=tested)
             seen[left_out] += any(re.search(found, line) for line in answer.comments)
-            if not left_out and "time is up" not in answer.comments:       # short slices hardly come to an end
+            if not left_out and "time is up" not in answer.comments:       # short slices hardly ever finish
                 want_answer(answer, answer.status if answer.status in (10, 20) else 20, formula)
         if seen[True] and seed > 10 or seen[False]:
             break
@@ -479,7 +490,8 @@ def rests_on(what: str, count: int, found: str, variables: Tuple[int, int], earl
 
 
 def published_late(work: Path) -> None:
-    """The filter of engine 1 dies with a clause in its buffer that it has given away: nobody may have heard of it."""
+    """The filter of engine 1 dies with a clause in its buffer that it has given away: no one may
+    have seen it."""
     broke = 0
     for seed in range(120):
         formula = generated(f"random 150 {seed}", work)

@@ -1,11 +1,12 @@
 #!/usr/bin/env python3
-"""Runs lrup-solve --cubes FILE, with cubes that cover a formula, that don't, that overlap and contradict each other, and with wrong files.
+"""Runs lrup-solve --cubes FILE: cubes that cover a formula or don't, that overlap or contradict,
+and wrong files.
 
     lrup_solve_cubes.py PROGRAM [FLAGS]
 
-One to four engines, rounds, assumptions, an engine killed; random formulas with random cubes; and the example. No cube is believed: each
-answer is the formula's. It builds, and shows, as lrup_solve.py does.
-"""
+One to four engines, rounds, assumptions, an engine killed; random formulas with random cubes; and
+the example. Cubes aren't trusted: each answer is the formula's. It builds and reports like
+lrup_solve.py."""
 import itertools
 import random
 import re
@@ -36,7 +37,7 @@ def covering(variables: Sequence[int]) -> List[List[int]]:
 
 
 def refuted(answer: Answer) -> List[int]:
-    """How many of how many."""
+    """How many cubes of how many."""
     found = [re.fullmatch(r"([\d,]+) of ([\d,]+) cubes? refuted", line) for line in answer.comments]
     return [int(number.replace(",", "")) for one in found if one for number in one.groups()]
 
@@ -63,7 +64,7 @@ def solved(words: str, cubes: str, all_cubes: int, status: int, options: List[st
 
 
 def assuming(engines: int, work: Path) -> None:
-    """Cubes that contradict what is assumed are left out; a satisfiable formula."""
+    """Cubes that contradict the assumptions are left out; the formula is satisfiable."""
     clauses = [[9999, *clause] for clause in random_clauses(random.Random(7), 130, 600)]
     formula = written(dimacs(9999, clauses), work)
     cubes = written(cube_lines(covering([9999, 3, 4, 5])), work, "cubes")
@@ -75,7 +76,8 @@ def assuming(engines: int, work: Path) -> None:
 
 
 def randomly(seed: int, work: Path) -> None:
-    """Any answer but 'unknown', with cubes of any kind: an assignment is evaluated here, of the others the record is checked again."""
+    """Any answer but 'unknown', with cubes of any kind: an assignment is evaluated here, and a
+    record is checked again."""
     numbers = random.Random(f"{seed} cubes of a file")
     size = numbers.randrange(60, 150)
     formula = written(dimacs(size, random_clauses(numbers, size, round(numbers.uniform(4, 4.6) * size))), work)
@@ -93,7 +95,7 @@ def randomly(seed: int, work: Path) -> None:
 
 
 def killed(name: str, engines: int, options: List[str], work: Path) -> None:
-    """The cube of a lost engine goes to another one."""
+    """Another engine gets the cube of a lost one."""
     formula = generated("pigeons 9", work)
     file = written(cube_lines(covering([1, 10, 19])), work, "cubes")
     words = command(["-v", "-j", engines, "--cubes", file, *options, formula])
@@ -120,11 +122,11 @@ def solved_as_they_go(work: Path) -> None:
     check_again(kept)
 
 
-# Files, and words.
+# Files and arguments.
 
 
 def accepted(text: str, count: int, work: Path) -> None:
-    """Headers, comments, clauses and empty lines are left out, as are cubes that contradict themselves."""
+    """Headers, comments, clauses and empty lines are skipped, and so are contradictory cubes."""
     answer = solve(["-j", "2", "--cubes", written(text, work, "cubes"), example("bmc.cnf")])
     want_answer(answer, 20)
     want(refuted(answer)[1], count, f"cubes of\n{answer.out}")
@@ -137,7 +139,7 @@ def refused(text: Optional[str], options: List[str], said: str, work: Path) -> N
 
 
 def of_a_record(work: Path) -> None:
-    """The file isn't written over."""
+    """The file isn't overwritten."""
     kept = work / "kept"
     kept.mkdir()
     file = written("a 1 0\n", kept, "round-1.stream-1")
@@ -146,7 +148,7 @@ def of_a_record(work: Path) -> None:
 
 
 def shown_example(work: Path) -> None:
-    """The cubes of the example cover its formula."""
+    """The example's cubes cover its formula."""
     made = run([EXAMPLES / "waerden.py", "4", "5", "55"])
     formula = written(made.out, work)
     split = run([EXAMPLES / "split.py", "50", formula])

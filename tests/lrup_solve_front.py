@@ -1,13 +1,14 @@
 #!/usr/bin/env python3
-"""Runs lrup-solve with programs in the place of lrup-engines, which lie, die, and write to whatever they have.
+"""Runs lrup-solve with programs in place of lrup-engines that lie, die, and write to whatever they
+can.
 
     lrup_solve_front.py PROGRAM [FLAGS]
 
-Whatever they do, 's UNSATISFIABLE' is said only where lrupd has ended with status 0 on the formula that was named, and 's SATISFIABLE'
-only with an assignment that makes each of its clauses true, and the assumptions; each other line begins with c; no process is left, and
-no file is made. It builds as lrup_solve.py does. It shows what is off; the last line is 'N passed, M failed'. The status is 1 where a run
-failed.
-"""
+Whatever they do, 's UNSATISFIABLE' is printed only if lrupd has ended with status 0 on the named
+formula, and 's SATISFIABLE' only with an assignment that makes each clause and the assumptions
+true; each other line begins with c; no process is left, and no file is made. It builds like
+lrup_solve.py. Failures are shown; the last line is 'N passed, M failed'. The status is 1 if a run
+failed."""
 import os
 import re
 import shlex
@@ -37,7 +38,7 @@ def hostile(body: str, wanted: str, words: List[str], text: str, work: Path) -> 
 
 
 def by_pipe(work: Path) -> None:
-    """It can't write to the copy of a formula, from which it could be refuted then."""
+    """It can't write to the sealed copy of a formula, which would then be refuted."""
     body = """files = f"/proc/{front}/fd/"
 for path in [formula, *(files + name for name in os.listdir(files) if "memfd:lrup-solve" in os.readlink(files + name))]:
     try:
@@ -65,7 +66,8 @@ def assuming(literals: str, body: str, wanted: str, status: int, work: Path) -> 
 
 
 def dies_at_each_moment(number: int, work: Path) -> None:
-    """As it goes on to a verdict it dies, after each of its steps, by a signal, with a status, or as others hold what it had open."""
+    """On its way to a verdict it dies after each of its steps, by a signal, with a status, or while
+    others hold its files open."""
     steps = ["told('probe')", "stream(1, %r)" % PROOF[:14], "stream(2, '')", "check('2 10 10 1000000')",
              "stream(1, %r)" % PROOF, "told('lrupd')"]
     for end in ("os.kill(os.getpid(), 9)", "os.kill(os.getpid(), 11)", "os._exit(0)", "os._exit(1)", "os._exit(20)",
@@ -79,7 +81,7 @@ def dies_at_each_moment(number: int, work: Path) -> None:
 
 
 def expects(body: str, expected: str, line: str, status: int, text: str, work: Path) -> None:
-    """Only what is printed decides: 0 if it is that line, and else 1, with a line that says so."""
+    """Only the printed line decides: 0 if it is the expected one, otherwise 1, with a message."""
     words = ["--assume", str(written("-2 0\n", work, "cube"))] if line.endswith("ASSUMPTIONS") else []
     answer = run_with(body, ["--expect", expected, *words], text, work)
     said = f"lrup-solve: --expect {expected}, and the answer is {line}\n" if status else ""
@@ -88,7 +90,7 @@ def expects(body: str, expected: str, line: str, status: int, text: str, work: P
 
 
 def expects_nothing(body: str, work: Path) -> None:
-    """No line, and no status that says that it was as expected."""
+    """No line, and no status that claims the expected answer."""
     for expected in ("unsat", "sat", "unsat-under-assumptions", "x", "unsat: s UNKNOWN", "unknown"):
         folder = work / re.sub(r"\W", "", expected)
         folder.mkdir()
@@ -105,14 +107,15 @@ def help_expected(work: Path) -> None:
 
 
 def never_began(words: List[str], work: Path) -> None:
-    """lrup-engines, or MPI's command, can't be run: that is no answer."""
+    """lrup-engines, or MPI's command, can't be run: no answer."""
     answer = run_with("os._exit(127)", words, FOUR, work)
     want((answer.out, answer.status, answer.said),
          ("", 1, "lrup-solve: lrup-engines ended with status 127, so nothing could run\n"), "the answer")
 
 
 def without_lines(work: Path) -> None:
-    """Comments are printed one by one, without bytes that a terminal obeys, and cut where a block ends; not with -q."""
+    """Comments are printed one by one, without control bytes, and cut at a block's end; not with
+    -q."""
     body = r"""say("c one\x1b[2J\ns UNSATISFIABLE\r\x07\x00two")
 say("c s UNSATISFIABLE")
 say("s UNSATISFIABLE\nv +++\nmodel")
@@ -128,7 +131,7 @@ write(b"c " + 10000 * b"x")"""
 
 
 def impostor(status: int, words: List[str], wanted: str, work: Path) -> None:
-    """An lrupd that ends with another status, of a run that is asked for. 8 counts only under assumptions."""
+    """An lrupd with another status, in a requested run. 8 counts only under assumptions."""
     path = before_lrupd(f"echo s UNSATISFIABLE{' UNDER ASSUMPTIONS' * (status == 8)}; exit {status}", work)
     cube = written("2 0\n", work, "cube")
     body = "stream(1, '')\ncheck('1 1 1 0')\ntold('lrupd')"
@@ -137,7 +140,7 @@ def impostor(status: int, words: List[str], wanted: str, work: Path) -> None:
 
 
 def refused_formula(work: Path) -> None:
-    """However it came to an assignment."""
+    """lrupd refuses the formula, however an assignment was found."""
     for text, values in (("p cnf 1 1\n1 -2 0\n", "+"), ("p cnf 2 1\n1 x 2 0\n", "++"), ("p cnf 2 3\n1 0\n", "++"), ("", "+")):
         folder = work / str(len(text))
         folder.mkdir()
@@ -146,7 +149,8 @@ def refused_formula(work: Path) -> None:
 
 
 def signalled(number: int, body: str, whole_group: bool, work: Path) -> None:
-    """It doesn't heed what it is told, and the run ends all the same. The front, or its process group, gets the signal."""
+    """It ignores what it gets, and the run still ends. The front, or its process group, gets the
+    signal."""
     formula, files, mark = written(FOUR, work), work / "temporary", marked(work)
     files.mkdir()
     with started([SOLVE, "--lrupd", PROGRAM, "--engines", program(f"open({str(work / 'begun')!r}, 'w')\n" + body, work), formula],
@@ -162,13 +166,13 @@ def signalled(number: int, body: str, whole_group: bool, work: Path) -> None:
 
 
 def refused_proof(work: Path) -> None:
-    """What lrupd said is told, as where the report can't be kept."""
+    """lrupd's words are printed, also if the report can't be kept."""
     answer = run_with(f"stream(1, {PROOF!r})\ncheck()\ntold('lrupd')\nsay('refused')", [], FOUR, work)
     want((answer.answers, answer.status), (["s UNSATISFIABLE"], 1), "the answer")
 
 
 def reading_killed(text: str, body: str, wanted: str, status: int, work: Path) -> None:
-    """The lrupd that only reads the formula is killed: that says nothing of the formula, and no assignment counts."""
+    """The probe is killed: that says nothing about the formula, and no assignment counts."""
     lrupd = in_place_of_lrupd("case \"$*\" in *' /dev/null') kill -9 $$;; esac\nexec " + shlex.quote(PROGRAM) + ' "$@"', work)
     answer = run_with(body, [], text, work, lrupd)
     want((answer.answers, answer.status, answer.said), ([wanted], status, ""), "the answer")
@@ -180,7 +184,7 @@ def came_again(work: Path) -> None:
 
 
 def checkers_id_again(work: Path) -> None:
-    """After lrupd has ended with status 3, a process that has its id ends with 0, and has lost its parent."""
+    """After lrupd has ended with status 3, an orphan with its process id ends with 0."""
     answer = run_with(AGAIN + """os.mkfifo(folder + '/round-1.stream-1')
 told('probe')
 check()
@@ -195,7 +199,8 @@ again(pid, 0, here + '/again')""", [], SATISFIABLE, work)
 
 
 def readers_id_again(work: Path) -> None:
-    """After lrupd has refused the formula, a process that has its id ends with the status of one that has read it."""
+    """After lrupd has refused the formula, an orphan with its process id ends with the status of a
+    probe that has read it."""
     lrupd = in_place_of_lrupd("case \"$*\" in *' /dev/null') sleep 1;; esac\nexec " + shlex.quote(PROGRAM) + ' "$@"', work)
     answer = run_with(AGAIN + """pid = lrupd_of(front, '/dev/null')
 told('probe')
@@ -206,7 +211,7 @@ model('+')""", [], "p cnf 1 1\n1 -2 0\n", work, lrupd)
 
 
 def solvers_id_again(work: Path) -> None:
-    """A solver stops lrup-engines and kills lrupd, and a process that has its id ends with 0."""
+    """A solver stops lrup-engines and kills lrupd, and a process with its id ends with 0."""
     attack = written(AGAIN + f"""
 def parent_of(pid):
     return int(open(f"/proc/{{pid}}/stat").read().rsplit(")", 1)[1].split()[1])
@@ -241,14 +246,14 @@ with open(sys.argv[1], "w") as proof:
 
 
 def reading_stopped(work: Path) -> None:
-    """The lrupd that only reads the formula is stopped, and the time ends the run all the same."""
+    """The probe is stopped, and --time still ends the run."""
     lrupd = in_place_of_lrupd("case \"$*\" in *' /dev/null') kill -STOP $$;; esac\nexec " + shlex.quote(PROGRAM) + ' "$@"', work)
     answer = run_with("time.sleep(1000)", ["-q", "--time", "1"], SATISFIABLE, work, lrupd)
     want((answer.answers, answer.status), (["s UNKNOWN"], 0), "the answer")
 
 
 def empty_checker(work: Path) -> None:
-    """A shell would run it, with status 0. A name without a slash is looked up."""
+    """A shell would run it, with status 0. A name without a slash is looked up on the PATH."""
     lrupd = written("", work, "lrupd")
     lrupd.chmod(0o755)
     for word in (lrupd, "lrupd"):
@@ -261,7 +266,7 @@ def empty_checker(work: Path) -> None:
 
 
 def signals_of_the_end(work: Path) -> None:
-    """Each process gets a signal a few times, and not for as long as it stays."""
+    """Each process gets a signal a few times, not as long as it stays."""
     body = f"""def count(*_):
     open({str(work / 'signals')!r}, 'a').write('x')
 signal.signal(signal.SIGTERM, count)
@@ -274,13 +279,13 @@ while True: time.sleep(1)"""
 
 
 def version_in_little_memory(work: Path) -> None:
-    """The front takes no memory for an assignment before there is one."""
+    """The front allocates no memory for an assignment before there is one."""
     done = run(["sh", "-c", "ulimit -v 16000 && exec \"$@\"", "sh", SOLVE, "--engines", "/bin/echo", "--version"])
     want((done.out, done.status), ("--engines /bin/echo --version\n", 0), f"what is said: {done.err}")
 
 
 def missing(work: Path) -> None:
-    """What isn't there, a folder, and a file that nobody may run."""
+    """A missing file, a folder, and a file that nobody may run."""
     (work / "folder").mkdir()
     written("", work, "text")
     for option, program_name in (("--engines", "lrup-engines"), ("--lrupd", "lrupd")):
@@ -291,7 +296,7 @@ def missing(work: Path) -> None:
 
 
 def endless(work: Path) -> None:
-    """What has no end is copied no further than a formula may go."""
+    """An endless input is copied only as far as a formula may go."""
     free = re.search(r"MemAvailable:\s+(\d+)", Path("/proc/meminfo").read_text())
     if not free or int(free[1]) < 5000000:
         raise Skipped("less than 5 GB of memory are free")
@@ -300,7 +305,7 @@ def endless(work: Path) -> None:
 
 
 def length(work: Path) -> None:
-    """What one has to read, and that nothing else but the supervisor is part of it."""
+    """The length of the trusted code, and that only the supervisor is compiled with it."""
     lines = FRONT.read_text().splitlines()
     want((len(lines) <= 470, max(map(len, lines)) <= 100), (True, True), f"lines of the front, {len(lines)}, and their columns")
     want([line for line in lines if line.startswith('#include "')], ['#include "supervisor.h"'], "headers of the project")

@@ -1,15 +1,13 @@
 #!/usr/bin/env python3
-"""Refuses each call of lrup-solve's front, sends signals at random, and runs hostile programs.
+"""Refuses each call of lrup-solve's front, sends random signals, and runs hostile programs.
 
     lrup_solve_hostile.py PROGRAM [FLAGS [COUNT]]
 
-Whatever fails or dies, the answer is the right one, or 's UNKNOWN', or a message with status 1, or
-none of a front that a signal ends. Each run comes to its end, and leaves no process and no file,
-unless its row says so. About COUNT signals are sent, 60 if it isn't said; with 600 each kind of run
-has each call refused, too.
-It builds as lrup_solve.py does. It shows what is off; the last line is 'N passed, M failed'. The
-status is 1 where a run failed.
-"""
+Whatever fails or dies, the answer is right, or 's UNKNOWN', or a message with status 1, or none if
+a signal ended the front. Each run ends, and leaves no process and no file, unless its row says so.
+About COUNT signals are sent, by default 60; with 600 each kind of run has each call refused, too.
+It builds like lrup_solve.py. Failures are shown; the last line is 'N passed, M failed'. The status
+is 1 if a run failed."""
 import contextlib
 import errno
 import os
@@ -41,7 +39,8 @@ STATUSES = {UNKNOWN: 0, FOUND: 10, PROVED: 20, UNDER: 20}
 
 
 def want_no_other(answer: Answer, right: str, formula: Path) -> None:
-    """No other verdict than this one. 's UNKNOWN' may be said at any time, or why none is."""
+    """No other verdict than this one. 's UNKNOWN' may come at any time, or a reason for no
+    answer."""
     found, is_told = answer.answers, answer.status in (1, 127) and answer.said != ""
     is_answer, is_killed = found in ([right], [UNKNOWN]), (answer.status or 0) < 0
     is_whole = is_answer and answer.status == STATUSES[found[0]]
@@ -51,12 +50,12 @@ def want_no_other(answer: Answer, right: str, formula: Path) -> None:
     want(answer.status != 10 or is_model(answer, formula), True, f"whether this is a model: {said}")
 
 
-# Calls of the front that fail.
+# Failing calls of the front.
 
 SOURCES = ROOT / "tools" / "solve" / "front"
 WRAPPERS = TESTS / "refuse_front.c"
 WRAPPED = set(re.findall(r"CALL\((\w+), ", WRAPPERS.read_text()))
-# Of what the front calls the linker finds nothing else in the libraries.
+# The front calls no other functions of the libraries, as the linker shows.
 CANNOT_FAIL = set("""__assert_fail __errno_location __isoc23_sscanf __isoc23_strtol __isoc99_sscanf
     __stack_chk_fail _exit clock_gettime dirname err errx feof ferror getenv getopt_long getpid
     getppid labs optarg opterr optind sigaddset sigemptyset sigfillset sscanf stdout strchr strcmp
@@ -66,7 +65,7 @@ ERRORS = {"read": ("EIO", "EINTR", "short"), "write": ("ENOSPC", "EINTR", "short
           **{name: ("ENOMEM", "EINTR") for name in ("close", "dup2", "fcntl", "fopen", "open",
                                                     "poll", "sigwaitinfo", "waitid", "waitpid")}}
 MOST = 12       # calls of one function
-WHOLE = 600     # signals, with which each kind of run has each function refused
+WHOLE = 600     # from this COUNT on each kind of run has each function refused
 LIES = """signal.alarm(10)
 stream(1, {proof!r})
 told('probe')
@@ -92,8 +91,8 @@ UNDER_PROOF = "5 2 0 1 2 0\n"       # of SATISFIABLE, under -2
 
 
 class Kind(NamedTuple):
-    """What a run does whose calls are refused, and its answer if none is. Where functions are named
-    the gate refuses no others."""
+    """A kind of run whose calls are refused, and its answer if none is. If functions are named, the
+    gate refuses only those."""
     text: str
     body: str
     right: str
@@ -130,7 +129,7 @@ def run_of(kind: Kind, front: Path, work: Path) -> Answer:
 
 
 def refused(front: Path, function: str, how: str, kind: Kind, work: Path) -> None:
-    """Each call in turn, until a run makes none more."""
+    """Refuses each call in turn, until a run makes no more."""
     for number in range(1, MOST + 1):
         folder = Path(tempfile.mkdtemp(dir=work))       # its name marks the processes
         given = {"REFUSE": f"{function}:{number}:{getattr(errno, how, how)}",
@@ -151,7 +150,7 @@ def refused(front: Path, function: str, how: str, kind: Kind, work: Path) -> Non
 
 
 def refusing_front(work: Path) -> Tuple[Path, List[str]]:
-    """And the functions that it calls, none inlined, and none changed into another one."""
+    """Wraps the functions that the front calls; none is inlined or replaced by the compiler."""
     flags = ["-std=c11", "-O0", "-g", "-fno-builtin", "-U_FORTIFY_SOURCE"]
     objects = [compiled(work / f"{name}.o", [SOURCES / f"{name}.c"], "-c", *flags)
                for name in ("front", "supervisor")]
@@ -170,19 +169,20 @@ def refusals(work: Path) -> List[Row]:
             if COUNT >= WHOLE or not kind.functions or function in kind.functions.split()]
 
 
-# Signals at random.
+# Random signals.
 
 GENTLE = (signal.SIGCHLD, signal.SIGCONT)
 STOPS = (signal.SIGSTOP, signal.SIGTSTP, signal.SIGTTOU)
 DEADLY = (signal.SIGHUP, signal.SIGINT, signal.SIGQUIT, signal.SIGABRT, signal.SIGFPE,
           signal.SIGUSR1, signal.SIGALRM, signal.SIGTERM, signal.SIGPIPE, signal.SIGSEGV,
           signal.SIGXCPU, signal.SIGKILL)
-SOON = 20       # seconds, within which all is over once the front has been killed
+SOON = 20       # seconds within which everything ends once the front is killed
 A_ROW = 6       # signals
 
 
 def sent(numbers: random.Random, pid: int) -> Tuple[str, str]:
-    """What, and to which of the processes of this front's run. One that stops may go on soon."""
+    """Which signal, and to which process of this front's run. A stopped process may continue
+    soon."""
     name, chosen = numbers.choice(sorted(processes_of_run(pid).items()))
     number, goes_on = numbers.choice((*DEADLY, *STOPS, *GENTLE)), numbers.random() < 0.5
     with contextlib.suppress(ProcessLookupError):
@@ -194,20 +194,20 @@ def sent(numbers: random.Random, pid: int) -> Tuple[str, str]:
 
 
 def may_leave_files(history: Sequence[Tuple[str, str]]) -> bool:
-    """Those that remove them may have been killed, one and all."""
+    """All processes that remove files may have been killed."""
     killed = {name for number, name in history if number in [deadly.name for deadly in DEADLY]}
     return "cleaner" in killed and not killed.isdisjoint(("lrup-engines", "supervisor", FRONT))
 
 
 def is_over(running: "subprocess.Popen[str]") -> bool:
-    """A front that was stopped for good goes on."""
+    """A front that was stopped for good is continued."""
     if of_process(running.pid, "stat").rsplit(")", 1)[-1].split()[:1] == ["T"]:
         running.send_signal(signal.SIGCONT)
     return running.poll() is not None
 
 
 def are_gone(mark: str, front_was_killed: bool) -> bool:
-    """What was stopped for good goes on here where the front can't see to that."""
+    """Processes that were stopped for good are continued here if the front can't do it."""
     left = processes_of(mark)
     for pid in left if front_was_killed else []:
         with contextlib.suppress(ProcessLookupError):
@@ -216,7 +216,7 @@ def are_gone(mark: str, front_was_killed: bool) -> bool:
 
 
 class Given(NamedTuple):
-    """What a run gets, its answer, and how many seconds it takes."""
+    """A run's arguments, its answer, and how many seconds it takes."""
     words: Sequence[object]
     formula: Path
     right: str
@@ -224,7 +224,7 @@ class Given(NamedTuple):
 
 
 def signalled(numbers: random.Random, most: int, given: Given, work: Path) -> int:
-    """A run that gets at most that many signals: how many there were before its end."""
+    """A run that gets at most that many signals: how many it got before its end."""
     files, mark, limit = work / "temporary", marked(work), numbers.choice((2, 3, 4))
     history: List[Tuple[str, str]] = []
     files.mkdir()
@@ -255,7 +255,8 @@ def signalled(numbers: random.Random, most: int, given: Given, work: Path) -> in
 
 
 def signals(seed: int, count: int, work: Path) -> None:
-    """To runs on one formula: satisfiable or not, or only under assumptions not."""
+    """To runs on one formula: satisfiable, unsatisfiable, or unsatisfiable only under
+    assumptions."""
     numbers, words = random.Random(f"{seed} signals"), ["-j", "2", "--memory", "64M"]
     size, is_assumed = numbers.randrange(120, 220), numbers.random() < 0.4
     clauses = random_clauses(numbers, size, round(numbers.uniform(4, 4.6) * size))
@@ -279,7 +280,7 @@ SLOW = "case \"$*\" in *' /dev/null') sleep 1;; esac\nexec " + PROGRAM + ' "$@"'
 
 
 def no_other(name: str, body: str, words: Sequence[str], text: str, right: str, work: Path) -> None:
-    """Of a program that does what it should."""
+    """A program that behaves."""
     cube, lrupd = written("2 0\n", work, "cube"), Path(PROGRAM)
     if name.endswith(", slow"):
         lrupd = in_place_of_lrupd(SLOW, work)
@@ -310,7 +311,7 @@ def hostile() -> List[Row]:
 
 
 def rows(front_place: Path) -> List[Row]:
-    """Those that wait for long come first."""
+    """Rows that wait for long come first."""
     random_ones = [(f"signals {seed}", signals, seed, A_ROW) for seed in range(COUNT // A_ROW)]
     return [*hostile(), *random_ones, *refusals(front_place)]
 

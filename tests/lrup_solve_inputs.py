@@ -1,10 +1,10 @@
 #!/usr/bin/env python3
-"""What lrup-solve reads and keeps, by its words: inputs by path and by pipe, records, assumptions; and what it refuses.
+"""What lrup-solve reads and keeps, by its arguments: inputs by path and by pipe, records,
+assumptions, refusals.
 
     lrup_solve_inputs.py PROGRAM [FLAGS]
 
-The flags, and what is shown, are as of lrup_solve.py.
-"""
+FLAGS and output are as in lrup_solve.py."""
 import os
 import re
 import resource
@@ -30,7 +30,7 @@ CUBE = os.fsdecode(b"cube\xe9")
 Text = Union[str, bytes]
 
 
-# What is kept and read.
+# Keeping and reading.
 
 
 def keeps(words: List[str], work: Path) -> None:
@@ -40,7 +40,7 @@ def keeps(words: List[str], work: Path) -> None:
 
 
 def keeps_lrat(words: str, work: Path) -> None:
-    """The stream of an engine alone, in one round, is LRAT, for any checker of that."""
+    """The stream of a single engine, in one round, is LRAT for any LRAT checker."""
     kept, formula = work / "kept", generated(words, work)
     want_answer(solve(["-j", "1", "--memory", "256M", "--proofs", kept, formula], tested={"FIRST_WORDS": 1 << 24}), 20)
     want(sorted(os.listdir(kept)), ["about", "command", "files", "formula.sha256", "report", "round-1.sizes", "round-1.stream-1"],
@@ -49,13 +49,14 @@ def keeps_lrat(words: str, work: Path) -> None:
 
 
 def keeps_standard_input(work: Path) -> None:
-    """The record has a copy of what came by a pipe."""
+    """The record has a copy of an input from a pipe."""
     want_answer(solve(["--proofs", work / "kept"], given=example("bmc.cnf").read_text()), 20)
     check_again(work / "kept")
 
 
 def keeps_not_utf8(words: List[str], tested: Dict[str, object], work: Path) -> None:
-    """Names that aren't UTF-8, of which lrupd takes none: the formula's, the assumptions' and the record's, from one such folder."""
+    """Names that aren't UTF-8, which lrupd refuses: the formula's, the assumptions' and the
+    record's, from such a folder."""
     folder = work / os.fsdecode(b"\xff \xed\xa0\x80")
     formula = written(example("bmc.cnf").read_text(), folder, os.fsdecode(b"formula\xc0\x80"))
     written("0\n", folder, CUBE)
@@ -66,7 +67,8 @@ def keeps_not_utf8(words: List[str], tested: Dict[str, object], work: Path) -> N
 
 
 def keeps_by_short_names(work: Path) -> None:
-    """The command does in any folder, though the formula, the checker and the record were named from another one."""
+    """The command works in any folder, even if formula, checker and record were named relative to
+    another one."""
     written("0\n", work, "cube")
     os.symlink(PROGRAM, work / "lrupd")
     shutil.copy(example("bmc.cnf"), work / "formula.cnf")
@@ -76,7 +78,7 @@ def keeps_by_short_names(work: Path) -> None:
 
 
 def writes_over(words: List[str], work: Path) -> None:
-    """In a record's folder nothing is written over that the run reads, whatever its name."""
+    """In the record's folder no input is overwritten, whatever its name."""
     text, kept = example("bmc.cnf").read_text(), work / "kept"
     path, cube = written(text, kept, words[0]), written("0\n", kept, "assumptions")
     os.symlink(path, work / "link")
@@ -91,7 +93,7 @@ def writes_over(words: List[str], work: Path) -> None:
 
 
 def links_in_a_record(work: Path) -> None:
-    """Links that have a stream's name, and are listed, are removed, and what they lead to stays."""
+    """Listed links with a stream's name are removed, and their targets stay."""
     kept, targets = work / "kept", [written("text", work, name) for name in ("one", "two", "three")]
     written("files\nround-1.stream-1\nreport\n.report.new\nround-1.stream-2\n", kept, "files")
     for target, name in zip(targets, ("round-1.stream-1", "report", ".report.new")):
@@ -103,15 +105,15 @@ def links_in_a_record(work: Path) -> None:
 
 
 def earlier_run(work: Path) -> None:
-    """Of a record there is nothing left once the next run is there; its formula may come from the record, by a pipe. What the
-    record doesn't list isn't removed."""
+    """A new run leaves nothing of the old record; its formula may come from that record, by a pipe.
+    What the record doesn't list isn't removed."""
     kept = work / "kept"
     rounds = [f"round-{k}.{name}" for k in (1, 2, 9, 10, 123) for name in ("sizes", "stream-1", "stream-2", "stream-64")]
     others = ["another", "round-0.sizes", "round-1.stream-", "round-1.stream-x", "round-2.cnf", "round-2.cnf.old", "round.cnf", "stream1"]
     names = ["files", "about", "report", "command", "formula.sha256", "formula.cnf", "assumptions", ".round-9.sizes.new", *rounds, "round-7.sizes"]
     for name in [*names[1:-1], *others]:
         written("of an earlier run\n", kept, name)
-    written("\n".join([*names, "round-1.str"]), kept, "files")     # it was killed before it had written a name
+    written("\n".join([*names, "round-1.str"]), kept, "files")     # the run was killed before it had written a name
     shutil.copy(example("bmc.cnf"), kept / "formula.cnf")
     in_shell('cat "$2"/formula.cnf | "$0" --lrupd "$1" -j 2 --replace --proofs "$2" -', SOLVE, PROGRAM, kept)
     one = ["round-1.sizes", "round-1.stream-1"]
@@ -120,7 +122,7 @@ def earlier_run(work: Path) -> None:
     want([name for name in listed(kept) if name[0] != "."], found, "what is listed")
     want((kept / "formula.cnf").read_text(), example("bmc.cnf").read_text(), "the formula")
     check_again(kept)
-    one_round = {"FIRST_WORDS": 1 << 24}      # no machine fills its row before it is ended
+    one_round = {"FIRST_WORDS": 1 << 24}      # no machine fills this row before the run ends
     with started(command(["-j", "1", "--replace", "--proofs", kept, generated("pigeons 11", work)], one_round), env=in_environment(one_round),
                  stdout=subprocess.PIPE, text=True) as running:
         until("lrupd is there", lambda: "lrupd" in children_of(running.pid) or running.poll() is not None)
@@ -133,7 +135,8 @@ def earlier_run(work: Path) -> None:
 
 
 def others_write(mode: int, taken: bool, work: Path) -> None:
-    """Where others may remove files they may put their own in the place of a stream; where the folder is sticky they can't."""
+    """If other users may remove files, they may replace a stream; if the folder is sticky, they
+    can't."""
     kept = work / "kept"
     kept.mkdir()
     kept.chmod(mode)
@@ -151,7 +154,8 @@ def made_where_all_may_write(work: Path) -> None:
 
 
 def locked(name: str, ends: int, work: Path) -> None:
-    """Another run has the folder, until it ends, however it does. The second one is refused at once, and touches nothing."""
+    """Another run locks the folder until it ends, however it ends. The second run is refused at
+    once, and touches nothing."""
     kept, words, mark = work / "kept", ["--proofs", work / name, "-j", "1", example("bmc.cnf")], marked(work)
     os.symlink("kept", work / "link")
     with started(command(["-j", "1", "--proofs", kept, generated("pigeons 11", work)]), stdout=subprocess.DEVNULL) as running:
@@ -168,7 +172,8 @@ def locked(name: str, ends: int, work: Path) -> None:
 
 
 def own_files(name: str, work: Path) -> None:
-    """What has a name of the record's, and isn't of one, is left alone. Every run that has read its formula leaves a record."""
+    """A file with a name of a record's that isn't a record's is left alone. Every run that has read
+    its formula leaves a record."""
     own = work / "own"
     path, other = written("mine\n", own, name), written("mine\n", own, "round-5.cnf")
     refused(["--proofs", own, example("bmc.cnf")], f"{path} is there, and isn't of an earlier run: another --proofs", work)
@@ -186,7 +191,8 @@ def own_files(name: str, work: Path) -> None:
 
 
 def own_list(text: Optional[str], work: Path) -> None:
-    """A list that is no record's, or is a link or a pipe, names nothing that is removed; nor is it written to."""
+    """A list that isn't a record's, or is a link or a pipe, doesn't cause removals, and isn't
+    written to."""
     own, target, mine = work / "own", written("files\nreport\n", work, "target"), written("mine\n", work, "mine")
     report = written("mine\n", own, "report")
     {"link": lambda: (own / "files").symlink_to(target), "hard link": lambda: os.link(target, own / "files"),
@@ -199,7 +205,7 @@ def own_list(text: Optional[str], work: Path) -> None:
 
 
 def replaced(work: Path) -> None:
-    """A record with a proof stays unless --replace says that it goes; one without goes."""
+    """A record with a proof stays unless --replace is given; one without is replaced."""
     kept, words = work / "kept", ["-j", "1", "--proofs", work / "kept"]
     said = f"lrup-solve: {kept} has the proof of an earlier run: --replace, or another --proofs\n"
     cube, under = written("-2 0\n", work, "cube"), written("p cnf 2 2\n1 2 0\n-1 2 0\n", work, "under")
@@ -227,7 +233,7 @@ LISTS = ["link", "hard link", "pipe", "", "\n", "files", "report\n", "files\n../
 
 
 def formula_of_a_round(work: Path) -> None:
-    """The formula lies in the record, with the name of what lrupd saves."""
+    """The formula is in the record, with the name of a saved round."""
     kept = work / "kept"
     formula = written(generated("random 180 3", work).read_bytes(), kept, "round-1.cnf")
     words, text = ["-j", "2", "--replace", "--proofs", kept, formula], formula.read_text()
@@ -239,7 +245,7 @@ def formula_of_a_round(work: Path) -> None:
 
 
 def unkept(work: Path) -> None:
-    """The report can't be kept: the answer is told all the same."""
+    """The report can't be kept: the answer is printed all the same."""
     kept = work / "kept"
     path = before_lrupd(f"mkdir {kept}/report", work)
     answer = solve(["--lrupd", path, "--proofs", kept, example("bmc.cnf")])
@@ -250,7 +256,7 @@ def unkept(work: Path) -> None:
 
 
 def another_name(words: List[str], work: Path) -> None:
-    """Standard input, and other files of this process, by names that lrupd couldn't open."""
+    """Standard input, and other files of the process, by names that lrupd couldn't open."""
     formula = example("bmc.cnf")
     os.symlink("/dev/stdin", work / "link")
     for how in ('"$@" < "$formula"', 'cat "$formula" | "$@"', '"$@" 5< "$formula" < "$formula"'):
@@ -270,7 +276,7 @@ def name_with_an_end_of_line(work: Path) -> None:
 
 
 def relative_link(work: Path) -> None:
-    """What `make solve` leaves can be moved with the repository."""
+    """The links of `make solve` still work if the repository is moved."""
     want(os.readlink(OUT / "lrupd"), os.path.relpath(ROOT / "crates" / "lrupd" / "out" / "lrupd", OUT), "the link to lrupd")
 
 
@@ -318,7 +324,7 @@ def contradicting(work: Path) -> None:
     want(answer.comments[:-1], ["assumptions 1 and -1 contradict each other, which no clause shows"], "what is said")
 
 
-# The run's own folder, and programs.
+# The run's temporary folder, and programs.
 
 
 def open_to_others(mode: int, taken: bool, work: Path) -> None:
@@ -335,7 +341,8 @@ def open_to_others(mode: int, taken: bool, work: Path) -> None:
 
 
 def another_in_place(ends: int, work: Path) -> None:
-    """What has the name of the run's folder by its end isn't removed, nor what a link in the folder leads to; its own files are."""
+    """If another folder has the name at the end, it isn't removed, nor the target of a link in the
+    folder; the run's own files are."""
     files, mine = work / "files", written("mine", work / "mine", "mine")
     files.mkdir()
     with started(command(["-j", "1", generated("pigeons 11", work)]), env={**os.environ, "TMPDIR": str(files)},
@@ -352,7 +359,8 @@ def another_in_place(ends: int, work: Path) -> None:
 
 
 def without_processes(work: Path) -> None:
-    """As another user, who may have no more processes than these: nothing is left, whichever of them can't be started."""
+    """As another user, with this limit on processes: nothing is left, whichever process can't be
+    started."""
     (work / "bin").mkdir()
     for path in (SOLVE, SOLVE.with_name("lrup-engines"), Path(PROGRAM)):
         shutil.copy(path, work / "bin")
@@ -369,7 +377,8 @@ def without_processes(work: Path) -> None:
 
 
 def cleaner_stopped(work: Path) -> None:
-    """The process that removes the folder where the run is killed: the end doesn't wait for it."""
+    """The cleaner, which removes the folder if the run is killed, is stopped: the end doesn't wait
+    for it."""
     files, go = work / "files", work / "go"
     files.mkdir()
     lrupd = before_lrupd(f"while [ ! -e {go} ]; do sleep 0.1; done", work)
@@ -383,8 +392,8 @@ def cleaner_stopped(work: Path) -> None:
 
 
 def from_the_current_folder(how: str, work: Path) -> None:
-    """A tool that lies there isn't run: neither by a PATH that has the folder, nor where the program's own path isn't known, since it
-    has more bytes than the system tells."""
+    """A tool in the current folder isn't run: neither if the PATH has that folder, nor if the
+    program's own path is unknown since it is too long."""
     for name in ("lrup-trim", "lrup-explain", "lrupd", "-mpi"):
         written(f"#!/bin/sh\n{f': > {work}/ran' * (name != 'lrupd')}\nexit 3\n", work, name).chmod(0o755)
     (work / "bin").mkdir()
@@ -410,11 +419,12 @@ def from_the_current_folder(how: str, work: Path) -> None:
 
 
 def control_bytes(what: bytes, shown: str, work: Path) -> None:
-    """Of a file, or of a name, none reaches a terminal. Other letters do on standard error; comments are in ASCII."""
+    """No control byte of a file or a name reaches a terminal. Other letters appear on standard
+    error; comments are in ASCII."""
     name = os.fsdecode(b"a" + what)
     cube = written(b"1" + what + b" 0\n", work, "cube")
     said = [solve(["--assume", cube, written(FOUR, work)]).said, solve([name], cwd=work).said]
-    wanted = [f": a word that is no number: 1{shown})\n", f"a{shown}': No such file or directory\n"]
+    wanted = [f": not a number: 1{shown})\n", f"a{shown}': No such file or directory\n"]
     want([text[-len(end):] for text, end in zip(said, wanted)], wanted, "what is said")
     answer = solve(["-v", "-j", "1", written(FOUR, work, name).name], cwd=work)
     in_ascii = re.sub(rb"[^ -~]", b"?", os.fsencode(shown)).decode()
@@ -422,7 +432,7 @@ def control_bytes(what: bytes, shown: str, work: Path) -> None:
 
 
 def quiet(work: Path) -> None:
-    """-q leaves the answer alone, also beside -v."""
+    """-q prints only the answer, even with -v."""
     for words in (["-q"], ["--quiet"], ["-qv"], ["-vq"], ["-v", "-q"], ["--quiet", "--verbose"]):
         want(solve([*words, example("bmc.cnf")]).out, "s UNSATISFIABLE\n", f"what {words} leaves")
 
@@ -451,7 +461,7 @@ def refused(words: Sequence[object], cause: str, work: Path) -> None:
 
 
 def refused_by_lrupd(text: Text, words: List[str], known: str, work: Path) -> None:
-    """In lrupd's words, and with what is known of the file, by its name; also where it came by a pipe."""
+    """In lrupd's words, with the file's name and details; also for an input from a pipe."""
     formula = written(text, work, "a formula")
     words = [word.format(work=work) for word in words]
     for name, literals in (("bad", "-2 x 0\n"), ("beyond", "-7 0\n"), ("spaces", "1  2 0\n"), ("open", "1 2\n"),
@@ -468,7 +478,7 @@ def refused_by_lrupd(text: Text, words: List[str], known: str, work: Path) -> No
 
 
 def refused_by_all(text: Text, fault: str, line: int, known: str, work: Path) -> None:
-    """A formula that lrupd refuses, and so do the filter and lrup-solve, which know more of it."""
+    """A formula that lrupd refuses is refused by the filter and lrup-solve, with more details."""
     formula = written(text, work, "a formula")
     want(run([PROGRAM, formula, "/dev/null"]), Ran("", f"lrupd: formula refused: {fault}\n", 4), "lrupd's answer")
     said = f"lrup-exact: {formula}, line {line}: {known}\n"
@@ -477,7 +487,7 @@ def refused_by_all(text: Text, fault: str, line: int, known: str, work: Path) ->
 
 
 def taken_by_all(text: Text, status: int, work: Path) -> None:
-    """The filter shows the empty clause, which follows by unit propagation, if the formula isn't satisfiable."""
+    """If the formula is unsatisfiable, the filter finds the empty clause by unit propagation."""
     formula = written(text, work, "a formula")
     stream, said, ended = run([FILTER, "--format", "drat", formula], "0\n" if status == 20 else "")
     want((stream.count("\n"), said, ended), (int(status == 20), "", 0), "what the filter says")
@@ -495,7 +505,7 @@ def refused_folder(work: Path) -> None:
 
 
 def read_late(text: str, said: str, work: Path) -> None:
-    """lrupd doesn't come to the end of the formula: --time ends the waiting at once."""
+    """lrupd doesn't finish reading the formula: --time ends the waiting at once."""
     path = in_place_of_lrupd("case \"$*\" in *' /dev/null') exec sleep 100;; esac\nexec " + shlex.quote(PROGRAM) + ' "$@"', work)
     begun, formula = time.monotonic(), written(text, work)
     answer = solve(["--lrupd", path, "-j", "1", "--time", "1", formula])
@@ -506,7 +516,7 @@ def read_late(text: str, said: str, work: Path) -> None:
 
 
 def refused_late(text: str, work: Path) -> None:
-    """lrupd takes long to refuse it, and the solving has ended before; a signal ends the waiting."""
+    """lrupd refuses the formula late, after the solving has ended; a signal ends the waiting."""
     path = in_place_of_lrupd("case \"$*\" in *' /dev/null') touch read; sleep 2; echo 'lrupd: formula refused: limit' >&2; exit 4;; esac\n"
                              "exit 4", work)
     formula = written(text, work)
@@ -523,7 +533,7 @@ def refused_late(text: str, work: Path) -> None:
 
 
 def reading_killed(text: str, work: Path) -> None:
-    """lrupd is killed as it reads the formula: as any lrupd that is killed."""
+    """lrupd is killed while it reads the formula, which counts like any killed lrupd."""
     path = in_place_of_lrupd("case \"$*\" in *' /dev/null') kill -9 $$;; esac\nexec " + shlex.quote(PROGRAM) + ' "$@"', work)
     answer = solve(["--lrupd", path, "-j", "1", written(text, work)])
     want((answer.answers, answer.status, answer.said), (["s UNKNOWN"], 0, ""), f"the answer of\n{answer.out}")
@@ -581,11 +591,11 @@ def words_and_files() -> List[Row]:
 
 
 def refused_texts() -> List[Tuple[Text, str, int, str]]:
-    """Formulas, with lrupd's answer, and the line and the words of the filter's, and of lrup-solve's."""
-    header, more = "no header 'p cnf VARIABLES CLAUSES', with which a formula in DIMACS CNF begins", "more clauses than the 1 of the header"
-    no_number = [(f"p cnf 2 1\n{text}\n", f"bad number in line {line}", line, f"a word that is no number: {word}") for text, line, word in (
+    """Formulas, lrupd's answer, and the line and message of the filter and of lrup-solve."""
+    header, more = "no header 'p cnf VARIABLES CLAUSES': not DIMACS CNF", "more clauses than the header's 1"
+    no_number = [(f"p cnf 2 1\n{text}\n", f"bad number in line {line}", line, f"not a number: {word}") for text, line, word in (
         ("1 x 0", 2, "x"), ("1 -0", 2, "-0"), ("c 0\n1 -0", 3, "-0"), ("-", 2, "-"), ("+1 0", 2, "+1"), ("01 0", 2, "01"),
-        ("-01 0", 2, "-01"), ("1 00", 2, "00"), ("1 0\n%\n0", 3, "%, as at the end of SATLIB's files: sed '/^%/,$d' leaves it out"), ("1 0 c", 2, "c"), (" c x\n1 0", 2, "c"), ("1\v2 0", 2, "1?2"), ("1 2\f0", 2, "2?0"),
+        ("-01 0", 2, "-01"), ("1 00", 2, "00"), ("1 0\n%\n0", 3, "%: SATLIB's files end with it, and sed '/^%/,$d' removes it"), ("1 0 c", 2, "c"), (" c x\n1 0", 2, "c"), ("1\v2 0", 2, "1?2"), ("1 2\f0", 2, "2?0"),
         ("1\0 0", 2, "1?"), ("1 0\0", 2, "0?"), ("1 0\n\x1a", 3, "?"), ("1,2 0", 2, "1,2"), ("1 2.0 0", 2, "2.0"), ("1 0x2 0", 2, "0x2"))]
     no_header = [(text, "no header", line, header) for text, line in (
         ("", 1), ("c x\n", 2), ("1 2 0\n", 1), ("pcnf 1 1\n1 0\n", 1), ("P CNF 1 1\n1 0\n", 1), (" c x\np cnf 1 1\n1 0\n", 1),
@@ -594,33 +604,33 @@ def refused_texts() -> List[Tuple[Text, str, int, str]]:
         ("c x\np cnf 2\n", 2), ("p cnf 02 1\n1 0\n", 1), ("p cnf 1 01\n1 0\n", 1), ("p cnf 00 0\n", 1), ("p cnf +1 1\n1 0\n", 1),
         ("p cnf 1 -1\n1 0\n", 1), ("p cnf -0 0\n", 1), ("p cnf 1 x\n1 0\n", 1), ("p cnf\n1 1\n1 0\n", 1), ("p\ncnf 1 1\n1 0\n", 1),
         ("p cnf 1 1\v\n1 0\n", 1), ("p cnf 1\f1\n1 0\n", 1), ("p CNF 1 1\n1 0\n", 1), ("p sat 1\n", 1))]
-    bad_header += [(text, "bad header", 1, "more in the line than the header 'p cnf VARIABLES CLAUSES'") for text in
+    bad_header += [(text, "bad header", 1, "unexpected words after the header 'p cnf VARIABLES CLAUSES'") for text in
                    ("p cnf 2 1 1 2 0\n", "p cnf 1 1 c x\n1 0\n", "p cnf 1 1\r1 0\r", "p cnf 1 1 \v\n1 0\n", "p cnf 1 1 1\n1 0\n")]
     return [*no_number, *no_header, *bad_header,
             ("p cnf 2 2\n1 0\n", "too few clauses", 3,
-             "the end, after 1 of the 2 clauses of the header: is the file cut? Else it has to be 'p cnf 2 1'"),
-            ("p cnf 2 1\n1 0\n2 0\n", "too many clauses in line 3", 3, f"{more}, which has to be 'p cnf 2 2'"),
-            ("p cnf 2 1\n1 0\n0\nc\n-2 1\n0 -1 0", "too many clauses in line 3", 3, f"{more}, which has to be 'p cnf 2 4'"),
-            ("p cnf 2 1\n1 0\n2 0\n1 7 0", "too many clauses in line 3", 3, f"{more}, which has to be 'p cnf 7 3'"),
+             "file ends after 1 of 2 clauses; truncated? If not, the header should be 'p cnf 2 1'"),
+            ("p cnf 2 1\n1 0\n2 0\n", "too many clauses in line 3", 3, f"{more}: the header should be 'p cnf 2 2'"),
+            ("p cnf 2 1\n1 0\n0\nc\n-2 1\n0 -1 0", "too many clauses in line 3", 3, f"{more}: the header should be 'p cnf 2 4'"),
+            ("p cnf 2 1\n1 0\n2 0\n1 7 0", "too many clauses in line 3", 3, f"{more}: the header should be 'p cnf 7 3'"),
             ("p cnf 2 1\n1 0\n2 0\n1 x 0", "too many clauses in line 3", 3, more),
             ("p cnf 2 1\n1 0\n2 0\n1", "too many clauses in line 3", 3, more),
             ("p cnf 2 1\n1 -3 0\n", "variable out of range in line 2", 2,
-             "variable 3, above the 2 of the header, which has to be 'p cnf 3 1'"),
+             "variable 3, above the header's 2: the header should be 'p cnf 3 1'"),
             ("p cnf 2 1\n1 0 3 0\n", "variable out of range in line 2", 2,
-             "variable 3, above the 2 of the header, which has to be 'p cnf 3 2'"),
+             "variable 3, above the header's 2: the header should be 'p cnf 3 2'"),
             ("p cnf 2 1\n1 3\n-16777215 0\n9 0\n", "variable out of range in line 2", 2,
-             "variable 3, above the 2 of the header, which has to be 'p cnf 16777215 2'"),
-            ("p cnf 2 1\n1 3 16777216 0\n", "variable out of range in line 2", 2, "variable 3, above the 2 of the header"),
+             "variable 3, above the header's 2: the header should be 'p cnf 16777215 2'"),
+            ("p cnf 2 1\n1 3 16777216 0\n", "variable out of range in line 2", 2, "variable 3, above the header's 2"),
             ("p cnf 2 1\n1 99999999999999999999 0\n", "variable out of range in line 2", 2,
-             "variable 99999999999999999999, above the 2 of the header"),
-            ("p cnf 2 1\n1 2", "open clause", 2, "the last clause has no 0 at its end"),
-            ("p cnf 99999999 1\n1 0\n", "limit", 1, "99999999 variables, and lrupd takes at most 16777215"),
-            ("p cnf 1 16777216\n1 0\n", "limit", 1, "16777216 clauses, and lrupd takes at most 16777215"),
-            ("p cnf 1 1\n" + "1 " * 1048576 + "0\n", "limit", 2, "more than 1048575 literals in a clause, which lrupd doesn't take")]
+             "variable 99999999999999999999, above the header's 2"),
+            ("p cnf 2 1\n1 2", "open clause", 2, "the last clause doesn't end with 0"),
+            ("p cnf 99999999 1\n1 0\n", "limit", 1, "99999999 variables, above lrupd's limit of 16777215"),
+            ("p cnf 1 16777216\n1 0\n", "limit", 1, "16777216 clauses, above lrupd's limit of 16777215"),
+            ("p cnf 1 1\n" + "1 " * 1048576 + "0\n", "limit", 2, "more than 1048575 literals in a clause, lrupd's limit")]
 
 
 def taken_texts() -> List[Row]:
-    """Formulas that are spelled oddly, and taken; and whether they are satisfiable."""
+    """Oddly spelled formulas that are accepted; and whether they are satisfiable."""
     texts = [("p cnf 1 2\n1 0\n-1 0", 20), ("p cnf 1 2\r\n1 0\r\n-1 0\r\n", 20), ("\n \t\r\nc x\n\t p  cnf\t1 2 \t\n1\t0 -1 \r 0\n", 20),
              ("p cnf 2 2\n1\nc 0 2 -2 x\n2 0\n-1 0\n", 10), ("p cnf 2 3\n1 2\n0 -1 0 -2\n\n0", 20), ("p cnf 1 2\n1 0\n-1 0\nc no LF", 20),
              (b"c \0\xff\nc\ncnf 1 1\np cnf 1 2\nc\0\n1 0 -1 0\n", 20), ("p cnf 0 1\n0\n", 20), ("p cnf 0 0", 10), ("p cnf 3 0\n\n", 10),
@@ -634,7 +644,7 @@ SPACED = ": more than the single spaces between its words"
 def refusals() -> List[Row]:
     runs: List[Row] = []
     for words, cause in ((["--nothing", "{formula}"], "--nothing"), (["-vx", "{formula}"], "-vx"),
-                         (["{formula}", "{formula}"], "one word too many"),
+                         (["{formula}", "{formula}"], "unexpected argument"),
                          (["-j"], "no value after -j"), (["-j", "0", "{formula}"], "-j takes 1 to 64, not 0"),
                          (["-j", "65", "{formula}"], "-j takes 1 to 64, not 65"), (["-j", "x", "{formula}"], "not x"),
                          (["--time", "-1", "{formula}"], "--time takes seconds above 0, not -1"),
@@ -656,11 +666,11 @@ def refusals() -> List[Row]:
                          (["{work}/a\nb"], "a\\nb': No such file or directory"),
                          (["--assume", "{work}/none", "{formula}"], "{work}/none: No such file or directory"),
                          (["--proofs", "{work}/new", "{work}/none"], "none: No such file or directory"),
-                         *((["{work}/" + name], f"{name}: compressed: {name} it") for name in COMPRESSED)):
+                         *((["{work}/" + name], f"{name}: compressed: unpack it with {name}") for name in COMPRESSED)):
         runs.append((" ".join(["lrup-solve", *words]), refused, words, cause))
     runs += [(f"refused {text[:20]!r}", refused_by_all, text, *rest) for text, *rest in refused_texts()]
     beyond = "the literal {}, and the formula has the variables 1 to 2"
-    for name, known in (("bad", ": a word that is no number: x"), ("beyond", ": " + beyond.format(-7)), ("spaces", SPACED), ("crlf", ": a CR, and a line ends with LF alone"),
+    for name, known in (("bad", ": not a number: x"), ("beyond", ": " + beyond.format(-7)), ("spaces", SPACED), ("crlf", ": a CR, and a line ends with LF alone"),
                         ("noend", ": no LF at its end"), ("two", ": a second line"), ("blank", SPACED), ("tab", SPACED),
                         ("open", ": no line of literals that ends with 0"), ("least", ": " + beyond.format(-(1 << 63))),
                         ("less", ": " + beyond.format(str(-(1 << 64) - 1)[:20])), ("long", ": " + beyond.format("1" * 20)),
@@ -670,7 +680,7 @@ def refusals() -> List[Row]:
                    ("refused late, satisfiable", refused_late, "p cnf 1 0\n"),
                    ("its reading killed", reading_killed, "p cnf 1 0\n"), ("read late", read_late, dimacs(1, [[1]]), ""),
                    ("read late, what engines refuse", read_late, "p cnf 1 1\n2 0\n",
-                    "line 2: variable 2, above the 1 of the header, which has to be 'p cnf 2 1'")]
+                    "line 2: variable 2, above the header's 1 the header, which has to be 'p cnf 2 1'")]
 
 
 def main() -> int:

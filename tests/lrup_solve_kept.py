@@ -1,13 +1,13 @@
 #!/usr/bin/env python3
-"""Runs lrup-solve with --core and --lrat, and looks at what it keeps of a run.
+"""Runs lrup-solve with --core and --lrat, and checks what it keeps of a run.
 
     lrup_solve_kept.py PROGRAM [FLAGS]
 
-What is written has to be told, and right: the core's clauses are those of the formula, by the numbers beside them, and lrupd refutes it;
-an LRAT checker that shares nothing with the rest takes the text, and so does lrupd. A record's check says where the formula isn't that of
-the run. Of a line that lrupd hasn't taken lrup-explain is called. It builds as lrup_solve.py does. It shows what is off; the last line is
-'N passed, M failed'. The status is 1 where a run failed.
-"""
+The outputs have to be reported, and right: the core's clauses are those of the formula with the
+given numbers, and lrupd refutes the core; an independent LRAT checker accepts the text, and so does
+lrupd. A record's check notices another formula. If lrupd refuses a line, lrup-explain is run. It
+builds like lrup_solve.py. Failures are shown; the last line is 'N passed, M failed'. The status is
+1 if a run failed."""
 import hashlib
 import os
 import re
@@ -35,7 +35,7 @@ ROUNDS = {"SAME_WORDS": 1, "SLICE": 50, "FIRST_WORDS": 4000}
 
 
 def core_of(path: Path, formula: List[Clause]) -> List[Clause]:
-    """Each clause stands behind its number in the formula."""
+    """Each clause comes after its number in the formula."""
     header, *lines = path.read_text().splitlines()
     numbers = [int(line[len("c id "):]) for line in lines[::2]]
     clauses = [list(map(int, line.split()[:-1])) for line in lines[1::2]]
@@ -49,7 +49,8 @@ def left_in(files: Path) -> None:
 
 def kept(words: Sequence[object], formula: Path, work: Path, tested: Optional[Dict[str, object]] = None, verdict: str = PROVED,
          names: Sequence[str] = (), **how: object) -> Answer:
-    """With both outputs, of these names, and nothing left in the folder for temporary files."""
+    """Keeps both outputs, under these names, and leaves nothing in the folder for temporary
+    files."""
     files = work / "temporary"
     files.mkdir(exist_ok=True)
     core, lrat = (work / name for name in names or ("core.cnf", "proof.lrat"))
@@ -85,7 +86,7 @@ def from_a_pipe(work: Path) -> None:
 
 
 def of_a_record(work: Path) -> None:
-    """Both are kept."""
+    """Both are kept, and a record, too."""
     formula = generated("pigeons 6", work)
     kept(["-j", 2, "--proofs", "d", "--re-hint", formula], formula, work)
     check_again(work / "d")
@@ -114,11 +115,11 @@ def there_before(work: Path) -> None:
     written("mine", work, "core")
     answer = solve(["--core", "core", written(FOUR, work)], cwd=work)
     want((answer.said, answer.answers, answer.status, (work / "core").read_text()),
-         ("lrup-solve: core is there, and isn't written over\n", [], 1, "mine"), "the answer")
+         ("lrup-solve: core: exists, not overwritten\n", [], 1, "mine"), "the answer")
 
 
 def programs_beside(tools: Dict[str, str], work: Path) -> Path:
-    """Copies of lrup-solve and lrup-engines, with these in the place of other tools: shell scripts."""
+    """Copies of lrup-solve and lrup-engines, with these shell scripts in place of other tools."""
     (work / "bin").mkdir()
     for name in ("lrup-solve", "lrup-engines"):
         shutil.copy(SOLVE.with_name(name), work / "bin")
@@ -128,7 +129,7 @@ def programs_beside(tools: Dict[str, str], work: Path) -> Path:
 
 
 def with_another(tools: Dict[str, str], said: str, work: Path) -> None:
-    """The answer stays lrupd's; what lrupd doesn't take isn't kept, and the status is 1."""
+    """The answer is still lrupd's; an output that lrupd refuses isn't kept, and the status is 1."""
     program, formula = programs_beside(tools, work), written(FOUR, work)
     done = run([program, "--lrupd", PROGRAM, "-j", 1, "--core", "core", "--lrat", "lrat", formula], cwd=work,
                env={**os.environ, "PATH": "/usr/bin:/bin"})
@@ -154,7 +155,8 @@ ANOTHERS = [("wrong outputs", {"lrup-trim": WRONG_TRIM}, "lrupd hasn't taken lra
 
 
 def another_formula(piped: bool, work: Path) -> None:
-    """The record has the digest of the formula's bytes, as sha256sum writes it; its check, and lrup-trim, find another formula out."""
+    """The record has the SHA-256 of the formula, as sha256sum writes it; its check, and lrup-trim,
+    notice another formula."""
     formula = generated("pigeons 5", work)
     words = ["-j", 1, "--proofs", "d"]
     answer = solve(words, given=formula.read_text(), cwd=work) if piped else solve([*words, formula], cwd=work)
@@ -169,7 +171,8 @@ def another_formula(piped: bool, work: Path) -> None:
 
 
 def moved(words: str, piped: bool, tested: Optional[Dict[str, object]], work: Path) -> None:
-    """A record has names from its own folder: it is checked again wherever it is, from whatever folder, also by its script's name alone."""
+    """A record's names are relative to its folder: it can be checked anywhere, from any folder,
+    also by its script's name alone."""
     formula, options = generated(words, work), ["-j", 2, "--proofs", "d"]
     given = {"given": formula.read_text()} if piped else {}
     want(solve([*options, *([] if piped else [formula])], tested=tested, cwd=work, **given).status, 20, "the status")
@@ -186,7 +189,7 @@ def moved(words: str, piped: bool, tested: Optional[Dict[str, object]], work: Pa
 
 
 def not_there(name: str, piped: bool, work: Path) -> None:
-    """A file that is missing is told as that."""
+    """A missing file is reported as missing."""
     formula, words = generated("pigeons 5", work), ["-j", 1, "--proofs", "d"]
     answer = solve(words, given=formula.read_text(), cwd=work) if piped else solve([*words, formula], cwd=work)
     want(answer.status, 20, "the status")
@@ -197,7 +200,7 @@ def not_there(name: str, piped: bool, work: Path) -> None:
 
 
 def strange_name(work: Path) -> None:
-    """Of a name with a backslash and an LF in it sha256sum writes others."""
+    """sha256sum escapes a name with a backslash and an LF."""
     formula = written(generated("pigeons 5", work).read_bytes(), work, "a\\ b\nc.cnf")
     want(solve(["-j", 1, "--proofs", "d", formula], cwd=work).status, 20, "the status")
     check_again(work / "d")
@@ -209,14 +212,14 @@ def first_line(formula: Path) -> str:
 
 
 def checked_by(words: Sequence[object], work: Path, formula: Path, **how: object) -> None:
-    """It says first which formula it checks."""
+    """The first line names the formula that it checks."""
     done = run(words, cwd=work, **how)
     lines = done.out.splitlines()
     want((lines[:1], lines[-1:], done.err, done.status), ([first_line(formula)], [PROVED], "", 0), f"what {words} says")
 
 
 def names_a_formula(work: Path) -> None:
-    """The record is checked on the formula that is named, and on that alone."""
+    """The record is checked on the named formula, and on that only."""
     formula, here = generated("pigeons 5", work), work / "here"
     here.mkdir()
     want(solve(["-j", 1, "--proofs", "d", formula], cwd=work).status, 20, "the status")
@@ -233,7 +236,8 @@ def names_a_formula(work: Path) -> None:
 
 
 def moved_together(assumes: bool, work: Path) -> None:
-    """The paths from the record come first: where the formula and the assumptions were others lie by now."""
+    """Paths relative to the record come first: other files are now where the formula and the
+    assumptions were."""
     project = work / "project"
     formula = written(generated("pigeons 5", work).read_bytes(), project, "f.cnf")
     cube = written("1 0\n", project / "cubes", "cube")
@@ -256,7 +260,7 @@ def moved_together(assumes: bool, work: Path) -> None:
 
 
 def only_with(tools: Sequence[str], work: Path) -> Dict[str, str]:
-    """A PATH with these programs alone, of those that are there, beside what any script may call."""
+    """A PATH with only those of these programs that are installed, and what any script may call."""
     place = work / "programs"
     place.mkdir()
     for name in [*tools, "sh", "tr", "find", "mktemp", "mkfifo", "ln", "rm", "rmdir", "perl"]:
@@ -267,7 +271,7 @@ def only_with(tools: Sequence[str], work: Path) -> Dict[str, str]:
 
 
 def digests_by(tool: str, work: Path) -> None:
-    """Whatever finds a SHA-256, the formula is looked at; and nothing is checked where nothing does."""
+    """Whichever tool computes SHA-256s, the formula is checked; without one nothing is."""
     if tool:
         needs(tool)
     formula, path = generated("pigeons 5", work), only_with([tool] if tool else [], work)
@@ -285,7 +289,8 @@ PACKERS = {"xz": "xz", "gz": "gzip", "zst": "zstd"}
 
 
 def packed(forms: Sequence[str], tested: Optional[Dict[str, object]], work: Path) -> None:
-    """Streams are unpacked as they are read, each in the form that it has. Nothing is left, and no process."""
+    """Streams are unpacked while they are read, each by its form. Nothing is left, and no
+    process."""
     for form in forms:
         needs(PACKERS[form])
     files, mark = work / "temporary", marked(work)
@@ -317,7 +322,7 @@ def packed(forms: Sequence[str], tested: Optional[Dict[str, object]], work: Path
 
 
 def read_by_tools(formula: Path, work: Path) -> None:
-    """The record in d, as if it weren't packed."""
+    """The tools read the record in d as if it weren't compressed."""
     names = sorted(os.listdir(work / "d"))
     want(run([TRIM, "--lrat", "unpacked.lrat", formula, "d"], cwd=work).status, 0, "the status of lrup-trim")
     want(lrat_fault(read_formula(formula), (work / "unpacked.lrat").read_text()), "", "what the LRAT checker says")
@@ -328,7 +333,7 @@ def read_by_tools(formula: Path, work: Path) -> None:
 
 
 def packed_and_interrupted(number: int, work: Path) -> None:
-    """Those that unpack end, too, also before lrupd has opened their pipes."""
+    """The unpacking programs end, too, also before lrupd has opened their pipes."""
     files, slow, mark = work / "temporary", work / "slow", marked(work)
     files.mkdir()
     needs("xz")
@@ -345,7 +350,7 @@ def packed_and_interrupted(number: int, work: Path) -> None:
 
 
 def lrupd_moved(work: Path) -> None:
-    """The one of the PATH then."""
+    """Then the lrupd of the PATH is used."""
     lrupd = work / "bin" / "lrupd"
     lrupd.parent.mkdir()
     shutil.copy(PROGRAM, lrupd)
@@ -359,7 +364,8 @@ def lrupd_moved(work: Path) -> None:
 
 
 def about(engines: int, given: str, tested: Optional[Dict[str, object]], work: Path) -> None:
-    """What ran, on which words, where and when; and the digest of lrupd, and of each file but the list and itself."""
+    """Versions, arguments, place and time of the run; the SHA-256 of lrupd, and of each file except
+    the list and `about`."""
     formula = written(generated("random 180 3", work).read_bytes(), work, "a formula")
     words = ["-j", engines, "--proofs", "d", *([] if given else ["a formula"])]
     how = {"given": formula.read_text()} if given else {}
@@ -384,19 +390,19 @@ def about(engines: int, given: str, tested: Optional[Dict[str, object]], work: P
 
 
 def first_line_of(name: str, shown: str, work: Path) -> None:
-    """A name makes no line of its own."""
+    """A name can't add a line."""
     formula = written(generated("pigeons 5", work).read_bytes(), work, name)
     want(solve(["-j", 1, "--proofs", "d", formula], cwd=work).status, 20, "the status")
     wanted = first_line(formula).replace(name, shown)
     want(run(["sh", "d/command"], cwd=work).out.splitlines()[0], wanted, "the first line")
 
 
-# Names, and files that aren't what they should be.
+# Strange names and files.
 
 
 def strange_names(names: Tuple[str, str], assumes: bool, tested: Optional[Dict[str, object]], work: Path) -> None:
-    """No shell runs a part of a name: neither the record's command, nor what -v shows, nor what a solver's command has. A program
-    that such names have leaves a mark."""
+    """No shell runs a part of a name: neither in the record's command, nor in the output of -v, nor
+    in a solver's command. A program with such a name would leave a mark."""
     mark, programs, folder = work / "mark", work / "programs", work / names[0].replace("/", "")
     written("#!/bin/sh\n: > \"$MARK\"\n", programs, "ran").chmod(0o755)
     folder.mkdir()
@@ -421,7 +427,7 @@ STRANGE = [("$(ran).cnf", "FORMULA;.cube"), ("`ran`;ran;", "ASSUME "), ("-$(ran)
 
 
 def strange_outputs(core: str, lrat: str, name: str, assumes: bool, work: Path) -> None:
-    """Right ones stay, whatever their names and the formula's are."""
+    """Right outputs are kept, whatever their names and the formula's are."""
     formula, cube = written(generated("pigeons 5", work).read_bytes(), work, name), written("1 0\n", work, f"cube of {name}")
     words = ["-j", 1, *["--assume", cube.name] * assumes, "--", name]
     verdict = PROVED_UNDER if assumes else PROVED
@@ -441,7 +447,7 @@ OUTPUTS = [("-.core", "-.lrat", "-f"), ("a\ncore", "an\nlrat", "a\nformula"),
 
 
 def checked_in_rounds(core: str, lrat: str, name: str, work: Path) -> None:
-    """Where lrup-trim names no row that does, or what it says isn't understood."""
+    """If lrup-trim names no row that suffices, or its output isn't understood."""
     trim = f"{shlex.quote(str(TRIM))} \"$@\" | sed 's/ --lines / -lines /'"
     program = programs_beside({"lrup-trim": trim, "lrup-exact": f"exec {shlex.quote(str(FILTER))} \"$@\""}, work)
     formula = written(generated("pigeons 5", work).read_bytes(), work, name)
@@ -466,7 +472,7 @@ def pipe_in_a_record(name: str, work: Path) -> None:
 
 
 def several_checks(work: Path) -> None:
-    """Two at a time, in a record that is read-only."""
+    """Two at a time, in a read-only record."""
     shutil.copy(PROGRAM, work / "lrupd")
     formula = written(generated("random 180 3", work).read_bytes(), work, "formula.cnf")
     want(solve(["--lrupd", "./lrupd", "-j", 2, "--proofs", "d", formula], tested=SMALL, cwd=work).status, 20, "the status")
@@ -477,7 +483,7 @@ def several_checks(work: Path) -> None:
 
 
 def check_interrupted(number: int, work: Path) -> None:
-    """It ends with its lrupd, leaves nothing, and is as good as another one."""
+    """The check ends with its lrupd, leaves nothing, and can be repeated."""
     files, slow = work / "temporary", work / "slow"
     files.mkdir()
     lrupd = before_lrupd(f"[ ! -e {slow} ] || {{ touch {work}/begun; exec sleep 100; }}", work)
@@ -498,11 +504,11 @@ def check_interrupted(number: int, work: Path) -> None:
     want(os.listdir(files), [], "what is left there")
 
 
-# Room.
+# Space.
 
 
 def shown_sizes(work: Path) -> None:
-    """How much is kept, and what is free, of a record and of what has its place."""
+    """How much is kept and free, for a record or for its temporary replacement."""
     formula = generated("pigeons 6", work)
     answer = solve(["-j", 1, "--proofs", "d", formula], cwd=work)
     found = [re.fullmatch(r"d: ([\d.]+) MB kept, [\d,]+ MB free", line) for line in answer.comments]
@@ -515,7 +521,7 @@ def shown_sizes(work: Path) -> None:
 
 
 def unwritable(words: List[str], said: str, work: Path) -> None:
-    """What can't be written is refused before the run, and nothing is left."""
+    """Outputs that can't be written are refused before the run, and nothing is left."""
     formula = generated("pigeons 6", work)
     (work / "folder").mkdir()
     before = sorted(os.listdir(work))
@@ -526,13 +532,13 @@ def unwritable(words: List[str], said: str, work: Path) -> None:
 
 
 def written_into_a_record(work: Path) -> None:
-    """The folder isn't there before."""
+    """The folder doesn't exist before."""
     formula = generated("pigeons 5", work)
     kept(["-j", 1, "--proofs", "d", formula], formula, work, names=("d/core.cnf", "d/proof.lrat"))
 
 
 def on_a_disk(kilobytes: int, words: List[object], tested: Optional[Dict[str, object]], work: Path) -> Answer:
-    """Of that size, for the record, or for temporary files where there is none."""
+    """A disk of that size for the record, or for temporary files if there is none."""
     (work / "full").mkdir()
     how = ["unshare", "-m" if os.getuid() == 0 else "-rm", "sh", "-c"]
     mounts = f"mount -t tmpfs -o size={kilobytes}k tmpfs full"
@@ -545,7 +551,7 @@ def on_a_disk(kilobytes: int, words: List[object], tested: Optional[Dict[str, ob
 
 
 def on_a_full_disk(kilobytes: int, words: List[object], tested: Optional[Dict[str, object]], said: str, work: Path) -> None:
-    """The record is lost, which is said, and not the verdict."""
+    """The record is lost, which is reported, but not the verdict."""
     answer = on_a_disk(kilobytes, words, tested, work)
     want((answer.answers, answer.status), ([PROVED], 1), f"the answer of\n{answer.out[-3000:]}{answer.said}")
     want(re.fullmatch(f"lrup-solve: {said}: No space left on device\n", answer.said) is not None, True, f"what is said: {answer.said}")
@@ -555,7 +561,7 @@ def on_a_full_disk(kilobytes: int, words: List[object], tested: Optional[Dict[st
 
 
 def full_of_rounds(work: Path) -> None:
-    """lrupd can't save what a round came to: it is said where."""
+    """lrupd can't save a round: the message says where."""
     answer = on_a_disk(16, ["-j", 2], SMALL, work)
     want((answer.answers, answer.status), (["s UNKNOWN"], 0), f"the answer of\n{answer.out[-3000:]}{answer.said}")
     want(f"lrupd ended with status 9: TMPDIR ({work}/full) has 0 MB left" in answer.comments, True, f"whether that is told in\n{answer.out}")
@@ -565,7 +571,7 @@ def full_of_rounds(work: Path) -> None:
 
 
 def explained(with_record: bool, work: Path) -> None:
-    """Of a record whose first line lacks its last hint, where lrupd has said so."""
+    """A record whose first line lacks its last hint is explained if lrupd reports it."""
     formula, record = generated("pigeons 5", work), "d/round-1.stream-1"
     spoils = f"[ ! -f {record} ] || sed -i '1s/ [0-9]* 0$/ 0/' {record}; "
     lrupd = before_lrupd(spoils + "echo 'c stream 1: 0 added, 0 deleted, bad line 1 (no conflict)'; echo s UNKNOWN; exit 3", work)

@@ -1,12 +1,12 @@
 #!/usr/bin/env python3
-"""Runs lrup-solve --mpi in two to eight processes of one host, and breaks what may break between them.
+"""Runs lrup-solve --mpi in two to eight processes on one host, and under failures between them.
 
     lrup_solve_mpi.py PROGRAM [FLAGS [small]]
 
-Each answer, with and without sharing, rows so small that a run goes on for many rounds, the record; what is refused; each kind of
-process killed or stopped, in process 0 and in another one, and mpirun, and the front. The flags, and what is shown, are as of lrup_solve.py;
-with `small` only what takes seconds is run, and it says what is left out. Without MPI, or mpirun, nothing is run.
-"""
+Each answer, with and without sharing, rows so small that a run continues for many rounds, the
+record; refusals; each kind of process killed or stopped, in process 0 and in another one, and
+mpirun, and the front. FLAGS and output are as in lrup_solve.py; with `small` only quick rows run,
+and the output says what is skipped. Without MPI, or mpirun, everything is skipped."""
 import contextlib
 import itertools
 import os
@@ -31,18 +31,18 @@ from solving import Answer, check_again, children_of, command, in_environment, i
 words_given(__doc__, most=3 if sys.argv[3:] == ["small"] else 2)
 ONLY_SMALL = sys.argv[3:] == ["small"]
 SMALL_FORMULAS = (("bmc.cnf", 20), ("pigeonhole.cnf", 20), ("random 200 22 4.2", 10))
-SMALL = {"SAME_WORDS": 1, "SLICE": 100, "EXCHANGING": 50}     # rows that don't grow, and much that is exchanged
-PATIENCE = ["--mca", "odls_base_sigkill_timeout", "3"]      # seconds that mpirun gives to those that it ends, to say why
-ENDED = 30      # seconds, in which a run has to end that can't go on; in ten where nothing else runs
+SMALL = {"SAME_WORDS": 1, "SLICE": 100, "EXCHANGING": 50}     # rows that don't grow, and frequent exchanges
+PATIENCE = ["--mca", "odls_base_sigkill_timeout", "3"]      # seconds that mpirun gives to processes that it ends, to report why
+ENDED = 30      # seconds within which a hopeless run has to end; it takes ten on an idle machine
 LATE = ["sh", "-c", 'test "$OMPI_COMM_WORLD_RANK" != 0 || sleep 2; exec "$@"', "sh"]    # process 0
 BROKEN = "bad line|hasn't taken|hasn't saved"
 ENGINE_KILLED = "the engine ended by a signal: Killed|its filter stopped: .*the proof ends "     # whichever is seen first
-GROWING = 16_000_000    # bytes: two streams with 4 MB on the way, 2 MB that wait, and what is in pipes
+GROWING = 16_000_000    # bytes: two streams with 4 MB on the way, 2 MB waiting, and the pipes
 
 
 def launched(processes: int, words: Sequence[object], tested: Optional[Mapping[str, object]] = None,
              before: Sequence[str] = (), more: Sequence[str] = ()) -> List[str]:
-    """What starts so many on this host, whoever one is. mpirun's own lines are left out."""
+    """Starts that many processes on this host, also as root. mpirun's own lines are left out."""
     as_root = ["--allow-run-as-root"] * (os.getuid() == 0)
     launcher = ["mpirun", "-q", *as_root, "--oversubscribe", "--bind-to", "none", *more, "-n", str(processes), *before]
     return command(["--mpi", shlex.join(launcher), *words], tested)
@@ -62,12 +62,12 @@ def rounds_of(answer: Answer) -> int:
 
 
 def of_processes(answer: Answer, what: str) -> List[int]:
-    """This number of each process."""
+    """That number of each process."""
     return [int(number.replace(",", "")) for number in re.findall(rf"^c process \d+: .*?([\d,]+) {what}", answer.out, re.M)]
 
 
 def alone(work: Path) -> None:
-    """What is sent and placed, without MPI."""
+    """Sends and places clauses without MPI."""
     tool = ROOT / "tools" / "solve"
     outbox = compiled(work / "outbox.o", [tool / "outbox.c"], "-std=c11", "-c")
     sources = [TESTS / "exchange.cpp", tool / "mpi_exchange.cpp", outbox]
@@ -89,7 +89,7 @@ def answers(processes: int, words: str, options: List[str], status: int, work: P
 
 
 def cubes(status: int, words: str, work: Path) -> None:
-    """Each process shares the formula out among its engines; of process 0 that is told."""
+    """Each process divides the formula among its engines; process 0 reports its own."""
     formula = generated(words, work)
     answer = solve(2, ["-v", "-j", "3", formula], {"SLICE": 20})
     want_answer(answer, status, formula)
@@ -97,7 +97,7 @@ def cubes(status: int, words: str, work: Path) -> None:
 
 
 def cubes_of_a_file(processes: int, engines: int, work: Path) -> None:
-    """Engines of all processes take them, and process 0 knows of those that are refuted."""
+    """Engines of all processes take cubes, and process 0 knows which are refuted."""
     formula, kept = generated("random 200 3 4.6", work), work / "kept"
     signs = itertools.product(*((-one, one) for one in range(1, 7)))
     file = written("".join(f"a {' '.join(map(str, cube))} 0\n" for cube in signs), work, "cubes")
@@ -110,7 +110,7 @@ def cubes_of_a_file(processes: int, engines: int, work: Path) -> None:
 
 
 def exchanges(work: Path) -> None:
-    """What goes out comes in or is late; some of it is used. Without sharing nothing goes out."""
+    """Clauses that are sent arrive or are late; some are used. Without sharing none are sent."""
     for options, share in ([], True), (["--no-share"], False):
         answer = solve(3, ["-v", "-j", "1", *options, generated("pigeons 8", work)], {"EXCHANGING": 50})
         want_answer(answer, 20)
@@ -122,7 +122,7 @@ def exchanges(work: Path) -> None:
 
 
 def in_rounds(processes: int, words: str, size: int, options: List[str], status: int, work: Path) -> None:
-    """Several rounds over all processes; the record is checked once more."""
+    """Several rounds in all processes; the record is checked again."""
     formula, kept = named(words, work), work / "a record"
     answer = solve(processes, ["-v", "-j", "1", "--proofs", kept, *options, formula], {**SMALL, "FIRST_WORDS": size})
     want_answer(answer, status, formula)
@@ -133,7 +133,7 @@ def in_rounds(processes: int, words: str, size: int, options: List[str], status:
 
 
 def assuming(work: Path) -> None:
-    """The formula alone is satisfiable."""
+    """The formula without assumptions is satisfiable."""
     clauses = [[9999, *clause] for clause in random_clauses(random.Random(7), 130, 600)]
     formula = written(dimacs(9999, clauses), work)
     for literal, status in (("-9999", 20), ("9999", 10)):
@@ -143,7 +143,7 @@ def assuming(work: Path) -> None:
 
 
 def cores(processes: int, words: str, tested: Optional[Dict[str, object]], work: Path) -> None:
-    """Of the streams of all processes, which process 0 keeps in the folder of the run."""
+    """From the streams of all processes, which process 0 keeps in the run's folder."""
     formula, files = generated(words, work), work / "temporary"
     files.mkdir()
     kept = {"--core": work / "core.cnf", "--lrat": work / "proof.lrat"}
@@ -159,7 +159,8 @@ def cores(processes: int, words: str, tested: Optional[Dict[str, object]], work:
 
 
 def engines_go(work: Path) -> None:
-    """Where a row has no room for the clauses of all, those of another process go, too; the last engine stays."""
+    """If a row has no room for everyone's clauses, engines of other processes end, too; the last
+    engine stays."""
     formula, kept = generated("pigeons 8", work), work / "kept"
     answer = solve(3, ["-v", "-j", "1", "--memory", "20K,100K", "--proofs", kept, formula])
     want_answer(answer, 20)
@@ -180,7 +181,7 @@ def breaks(answer: Answer) -> bool:
 
 
 def rests_on(what: str, late: str, work: Path) -> None:
-    """What comes late breaks nothing, and is dropped. Without it nearly each run breaks."""
+    """Late messages break nothing, and are dropped. Without that rule nearly every run breaks."""
     broken = 0
     for seed in range(3):
         words = ["-v", "-j", "1", generated(f"random 250 {seed} 5", work)]
@@ -193,8 +194,8 @@ def rests_on(what: str, late: str, work: Path) -> None:
 
 
 def lines_first(work: Path) -> None:
-    """The lines of streams come piece by piece once these are whole, and then what follows from them: in a run of one round engine 1
-    gets no gift. Without what holds gifts back it does."""
+    """Streams are sent in pieces once they are whole, and then what follows from them: in a run of
+    one round engine 1 gets no gift. Without the rule it does."""
     for left_out in ({}, {"WITHOUT": "clearing"}):
         tested = {**SMALL, "FIRST_WORDS": 8000000, "EXCHANGING": 10, "LATE": "lines"}
         answer = solve(3, ["-v", "-j", "1", generated("random 220 0 5", work)], {**tested, **left_out})
@@ -203,11 +204,12 @@ def lines_first(work: Path) -> None:
         want(bool(taken) and taken[1] != "0", bool(left_out), f"whether engine 1 takes over any in\n{answer.out}")
 
 
-# Refused.
+# Refusals.
 
 
 def refused(processes: int, words: List[str], said: str, before: Sequence[str], work: Path) -> None:
-    """One line, of process 0, also where it begins after the others. The formula is the last word, if none is given."""
+    """One line, from process 0, even if it starts after the others. The formula is the last
+    argument, if none is given."""
     words = launched(processes, [*(word.format(work=work) for word in words), written(FOUR, work)], before=before)
     answer = Answer(run(words))
     want((answer.out, answer.status), ("", 1), f"the answer, which says {answer.said}")
@@ -215,22 +217,22 @@ def refused(processes: int, words: List[str], said: str, before: Sequence[str], 
 
 
 def shows(word: str, beginning: str, work: Path) -> None:
-    """Once, by the program of MPI's processes."""
+    """Once, by the program that MPI starts."""
     out, said, status = run(launched(3, [word]))
     want((out.count(beginning), out.startswith(beginning), said, status), (1, True, "", 0), f"what is shown: {out}")
 
 
 def bad_formula(work: Path) -> None:
-    """lrupd's words, and what is known of the file."""
+    """lrupd's words, with details of the file."""
     formula = written("p cnf 2 1\n1 3 0\n", work)
-    known = f"({formula}, line 2: variable 3, above the 2 of the header, which has to be 'p cnf 3 1')"
+    known = f"({formula}, line 2: variable 3, above the header's 2: the header should be 'p cnf 3 1')"
     said = f"lrupd: formula refused: variable out of range in line 2 {known}\n"
     answer = solve(2, ["-j", "1", formula])
     want((answer.out, answer.said, answer.status), ("", said, 1), "what is said")
 
 
 def not_started(body: str, end: str, work: Path) -> None:
-    """MPI's command ends before any process is there, as mpirun does where it takes no superuser."""
+    """MPI's command ends before any process exists, like mpirun when it refuses root."""
     answer = Answer(run(command(["--mpi", f"sh -c '{body}' sh", written(FOUR, work)])))
     want((answer.out, answer.said, answer.status), (f"c MPI's command ended {end}\ns UNKNOWN\n", "why\n", 0), "the answer")
 
@@ -239,7 +241,7 @@ def not_started(body: str, end: str, work: Path) -> None:
 
 
 class Running:
-    """A run that takes long, with the ids of what belongs to it: by process, by name."""
+    """A long run, with the ids of its processes: by MPI process, by name."""
 
     def __init__(self, formula: Path, processes: int, tested: Optional[Mapping[str, object]] = None, more: Sequence[str] = ()) -> None:
         words = launched(processes, ["-v", "-j", "1", formula], tested, more=more)
@@ -266,7 +268,7 @@ class Running:
         return len(self.ids) == processes and all(map(set.issubset, names, self.ids)) and "lrupd" in self.ids[0]
 
     def segments(self) -> int:
-        """Open MPI's files for shared memory, in the folders of the processes."""
+        """Open MPI's files for shared memory, in the processes' folders."""
         return len(list(self.folder.glob("lrup-solve-*/vader_segment*")))
 
     def end(self) -> Ran:
@@ -288,7 +290,8 @@ def children_of_all(pid: int) -> List[int]:
 
 
 def ends(process: int, name: str, number: int, cause: str, work: Path) -> None:
-    """Without an answer, and soon. Of those that process 0 has none, the front has started them."""
+    """Without an answer, and soon. The front has started those of process 0's processes that aren't
+    there."""
     running = Running(generated("pigeons 11", work), 2, more=PATIENCE)
     os.kill(running.ids[process][name], number)
     answer = Answer(running.end())
@@ -300,7 +303,7 @@ def ends(process: int, name: str, number: int, cause: str, work: Path) -> None:
 
 
 def files_of_mpi(work: Path) -> None:
-    """They go with the processes, also where all but those that clean up are killed at once."""
+    """Open MPI's files go with the processes, even if all but the cleaners are killed at once."""
     running = Running(generated("pigeons 11", work), 2)
     until("each process has its file", lambda: running.segments() == 2)
     for pid in {pid for one in running.ids for name, pid in one.items() if name != "cleaner"}:
@@ -331,7 +334,7 @@ def stands_still(pids: List[int]) -> bool:
 
 
 def slow_checker(work: Path) -> None:
-    """Where lrupd stands still nothing grows, and all go on when it does."""
+    """While lrupd is stopped nothing grows; when it continues, everything does."""
     running = Running(generated("pigeons 9", work), 2, {"AHEAD": 2000000})
     runs, lrupd = [one["run"] for one in running.ids], running.ids[0]["lrupd"]
     os.kill(lrupd, signal.SIGSTOP)
@@ -383,7 +386,7 @@ def refusals() -> List[Row]:
     return [("65 engines", refused, 5, ["-j", "13"], program + "65 engines in all processes: at most 64\n", []),
             ("no engine", refused, 3, ["-j", "0"], program + "-j takes 1 to 64, not 0\n", []),
             ("no engine, process 0 is late", refused, 3, ["-j", "0"], program + "-j takes 1 to 64, not 0\n", LATE),
-            ("no formula", refused, 3, ["-j", "1", "--", "{work}/none"], program + "one word too many: formula.cnf\n", []),
+            ("no formula", refused, 3, ["-j", "1", "--", "{work}/none"], program + "unexpected argument: formula.cnf\n", []),
             ("a solver", refused, 2, ["--solver", "cadical %formula %proof"],
              program + "--solver and --mpi: a solver shares nothing with engines elsewhere\n", []),
             ("MPI's command ends with 1", not_started, "echo why >&2; exit 1", "with status 1"),
@@ -416,7 +419,7 @@ def deaths() -> List[Row]:
 
 
 def small_rows() -> List[Row]:
-    """Nothing here waits long, or races with the clock."""
+    """Rows without long waits or races."""
     return [("an exchange without MPI", alone), *refusals(),
             *(row for processes in (1, 2, 4) for row in answering(processes, 1, SMALL_FORMULAS)),
             ("a core and LRAT", cores, 2, "pigeons 6", None),

@@ -1,12 +1,13 @@
 #!/usr/bin/env python3
-"""Runs lrup-solve with rows that are so small that a run goes on for many rounds, and breaks what may break there.
+"""Runs lrup-solve with rows so small that a run continues for many rounds, and under failures
+there.
 
     lrup_solve_rounds.py PROGRAM [FLAGS]
 
-One to four engines, with and without sharing, each answer; the record, which lrupd checks once more, and lrup-chain; a child killed
-in a round or in the pause after one, checkpoints that can't be written, signals; that nothing grows from round to round. What sharing
-rests on there is left out, one thing at a time. The flags, and what is shown, are as of lrup_solve.py.
-"""
+One to four engines, with and without sharing, each answer; the record, which lrupd checks again,
+and lrup-chain; a child killed in a round or in the pause after it, checkpoints that can't be
+written, signals; nothing grows from round to round. The rules of sharing between rounds are left
+out one by one. FLAGS and output are as in lrup_solve.py."""
 import contextlib
 import glob
 import os
@@ -44,7 +45,7 @@ def named(words: str, work: Path) -> Path:
 
 
 def in_rounds(words: str, size: int, most: int, options: List[str], status: int, work: Path) -> None:
-    """Several rounds, and what they left is checked once more."""
+    """Several rounds, whose record is checked again."""
     formula, kept = named(words, work), work / "a record"
     answer = solve(["-v", "--proofs", kept, *options, formula], tested={**SMALL, "FIRST_WORDS": size})
     want_answer(answer, status, formula)
@@ -73,8 +74,8 @@ def plainly(options: List[str], work: Path) -> None:
 
 
 def randomly(seed: int, work: Path) -> None:
-    """Any answer but 'unknown', with early inprocessing: an assignment is evaluated here, of the others the record is checked once
-    more."""
+    """Any answer but 'unknown', with early inprocessing: an assignment is evaluated here, and a
+    record is checked again."""
     numbers = random.Random(f"{seed} rounds")
     formula, kept = written(random_formula(seed), work), work / "kept"
     words = ["-v", "--seed", seed, "-j", numbers.randint(1, 4), *["--no-share"] * numbers.choice((0, 0, 0, 1)), "--proofs", kept,
@@ -89,7 +90,8 @@ def randomly(seed: int, work: Path) -> None:
 
 
 def assuming(engines: int, work: Path) -> None:
-    """The clause that contradicts the assumptions comes after some rounds; the formula alone is satisfiable. In the record, too."""
+    """The clause that contradicts the assumptions comes after some rounds; the formula without them
+    is satisfiable. Also in the record."""
     clauses = [[9999, *clause] for clause in random_clauses(random.Random(7), 130, 600)]
     formula = written(dimacs(9999, clauses), work)
     for literal, status in (("-9999", 20), ("9999", 10)):
@@ -103,7 +105,7 @@ def assuming(engines: int, work: Path) -> None:
 
 
 def rows_grow(work: Path) -> None:
-    """Each row is twice the one before, up to what --memory says, with the formula in it."""
+    """Each row is twice the one before, up to --memory, including the formula."""
     answer = solve(["-v", "-j", "2", "--memory", "3200K", generated("random 220 5", work)], tested={"FIRST_WORDS": 10000})
     want_answer(answer, 20)
     rows = [int(row.replace(",", "")) for row in re.findall(r"^c round \d+: .* in a row of ([\d,]+) words", answer.out, re.M)]
@@ -123,21 +125,22 @@ def rows_stay_large(work: Path) -> None:
 
 
 def one_clause(work: Path) -> None:
-    """A row that has no room for one clause: the next one has."""
+    """A row has no room for one clause: the next one has."""
     clauses = [[-k for k in range(1, 400)], *([k, 1000 + k] for k in range(1, 400)), *([k, -1000 - k] for k in range(1, 400))]
     answer = solve(["-j", "1", written(dimacs(1400, clauses), work)], tested={**SMALL, "FIRST_WORDS": 64})
     want_answer(answer, 20)
 
 
 def doubled_literals(work: Path) -> None:
-    """A row has each literal of a clause once: of these four there is room in 1,500 words."""
+    """A row has each literal of a clause once: 1,500 words are enough for these four."""
     formula = written(dimacs(2, [[one] * 300 + [other] * 300 for one in (1, -1) for other in (2, -2)]), work)
     for engines in ("1", "3"):
         want_answer(solve(["-j", engines, "--memory", "12K", formula]), 20)
 
 
 def small_rows(memory: str, words: str, engines: int, work: Path) -> None:
-    """However little --memory says, a row has room for what is live, and as much again. A comment says if it is larger."""
+    """However small --memory is, a row has room for the live clauses, and as much again. A comment
+    says if it is larger."""
     answer = solve(["-v", "-j", engines, "--memory", memory, generated(words, work)])
     want_answer(answer, 20)
     want(answer.lost(), [], "engines that are lost")
@@ -148,7 +151,8 @@ def small_rows(memory: str, words: str, engines: int, work: Path) -> None:
 
 
 def engines_go(engines: int, options: List[str], work: Path) -> None:
-    """Where no row may be larger, one engine after the other ends, and never the last one, whose row may."""
+    """If no row may be larger, engines end one after the other, except the last one, whose row may
+    be larger."""
     kept = work / "kept"
     answer = solve(["-v", "-j", engines, "--memory", "20K,100K", "--proofs", kept, *options, generated("pigeons 8", work)])
     want_answer(answer, 20)
@@ -164,7 +168,7 @@ def engines_go(engines: int, options: List[str], work: Path) -> None:
 
 
 def largest_row(engines: int, work: Path) -> None:
-    """Where lrupd makes no larger row, and one engine is left, there is no answer."""
+    """If lrupd makes no larger row, and one engine is left, there is no answer."""
     answer = solve(["-j", engines, "--memory", "16K,16K", generated("pigeons 10", work)], tested={"LARGEST": 10000, "SLICE": 40})
     want_answer(answer, 0)
     want(len(answer.lost()), engines - 1, f"engines that are lost in\n{answer.out}")
@@ -178,19 +182,20 @@ def largest_formula(work: Path) -> None:
     want_answer(solve(["-j", "2", "--memory", "1K,1K", formula]), 20)
 
 
-# What happens in a round, and between two.
+# Events in a round, and between rounds.
 
 
 class Running:
-    """One that has come to a round: lrupd of that round, or of a later one, is to save round-N.cnf. With `pause` lrupd stands still
-    from then on, and the run has come to the pause at the end of the round, which lasts until `go_on`; slices are long, so that much
-    isn't taken over before. What hasn't ended when the block is left is killed."""
+    """A run in that round: its lrupd, of that round or a later one, will save round-N.cnf. With
+    `pause` lrupd is stopped from then on, and the run is in the pause at the round's end until
+    `go_on`; slices are long, so that little is taken over before. Processes that haven't ended are
+    killed when the block is left."""
 
     def __init__(self, words: Sequence[object], number: int, work: Path, pause: bool = False, **tested: object) -> None:
         self.number, self.work, self.pause, self.folder = number, work, pause, work / "folder"
         self.folder.mkdir(exist_ok=True)
         hooks = {"SLICE": 5000 if pause else 40, "SAME_WORDS": 1, **tested}
-        more = {"TMPDIR": str(self.folder), "ASAN_OPTIONS": "quarantine_size_mb=1"}      # what is freed would be kept
+        more = {"TMPDIR": str(self.folder), "ASAN_OPTIONS": "quarantine_size_mb=1"}      # freed memory would be kept
         self.process = subprocess.Popen(command(["-v", *words], hooks), stdout=subprocess.PIPE, stderr=subprocess.PIPE, text=True,
                                         env=in_environment(hooks, more), start_new_session=True)
         self.children: Dict[str, int] = {}
@@ -210,7 +215,7 @@ class Running:
         end_group(self.process)
 
     def rounds(self, what: str) -> List[int]:
-        """Those that have a file of this name where lrupd goes from round to round."""
+        """Rounds that have a file of this name in lrupd's folder."""
         names = [name for place in (".rounds-*", "lrup-solve-*") for name in glob.glob(f"{self.work}/*/{place}/round-*.{what}")]
         return [int(re.findall(r"\d+", name)[-1]) for name in names]
 
@@ -227,7 +232,7 @@ class Running:
             self.stop_lrupd(signal.SIGCONT)
 
     def end(self, limit: float = LIMIT) -> Answer:
-        """What it said; no child of it is left, and no file."""
+        """The run's output; no child of it is left, and no file."""
         out, said = self.process.communicate(timeout=limit)
         until("its children end", lambda: not any(map(is_alive, self.children.values())))
         until("its files are removed", lambda: not os.listdir(self.folder))
@@ -245,7 +250,7 @@ def want_cause(answer: Answer, cause: str) -> None:
 
 def kill(words: Sequence[object], number: int, pause: bool, first_words: int, names: List[str], status: int, cause: str,
          work: Path) -> None:
-    """Children of a run that has come to that round are killed. Where one had ended before, the run is tried again."""
+    """Kills children of a run in that round. If one had ended before, the run is tried again."""
     formula = generated("random 220 5", work) if status else generated("pigeons 11", work)
     said = []
     for _ in range(TRIES):
@@ -274,7 +279,8 @@ def killed(names: List[str], status: int, cause: str, work: Path) -> None:
 
 
 def killed_in_a_pause(names: List[str], status: int, cause: str, work: Path) -> None:
-    """A filter that dies as it waits for what lrupd saves: what it gave away others may still take over."""
+    """A filter dies while it waits for lrupd to save: others may still take over what it gave
+    away."""
     kill([], 1, True, 150000, names, status, cause, work)
 
 
@@ -292,14 +298,15 @@ def ended_by(number: int, round_number: int, pause: bool, work: Path) -> None:
 
 
 def nobody_looks(pause: bool, work: Path) -> None:
-    """While lrupd stands still filters wait, in the pause for what it saves, and in a round since their streams are far ahead."""
+    """While lrupd is stopped, filters wait: in the pause until it saves, and in a round since their
+    streams are far ahead."""
     with Running(["-j", "2", generated("pigeons 11", work)], 1, work, pause, FIRST_WORDS=150000 if pause else 1 << 24, AHEAD=1000) as running:
         running.stop_lrupd()
         sleep([running.children[name] for name in ("filter 1", "filter 2")])
 
 
 def folder_removed(work: Path) -> None:
-    """Nothing can be created there any more."""
+    """Nothing can be created in the folder any more."""
     with Running(["-j", "2", generated("pigeons 11", work)], 2, work, FIRST_WORDS=50000) as running:
         for folder in running.folder.iterdir():
             while folder.exists():
@@ -319,8 +326,8 @@ def is_whole(path: Path) -> bool:
 
 
 def forged(work: Path) -> None:
-    """A contradiction stands in the place of what lrupd has saved, before anybody has read that: the filters miss their clauses
-    there. lrupd doesn't read it, and no verdict rests on it."""
+    """A contradiction replaces lrupd's checkpoint before anybody has read it: the filters miss
+    their clauses. lrupd doesn't read it, and no verdict depends on it."""
     with Running(["-j", "2", generated("pigeons 11", work)], 1, work, True, FIRST_WORDS=50000) as running:
         os.kill(running.children["lrup-engines"], signal.SIGSTOP)
         running.go_on()
@@ -337,7 +344,8 @@ def forged(work: Path) -> None:
 
 
 def put_in_place(how: str, work: Path) -> None:
-    """A file in the place of a stream of the next round, which a filter is about to open, isn't written to."""
+    """A file that replaces a stream of the next round, just before a filter opens it, isn't written
+    to."""
     mine, kept = written("mine", work, "mine"), work / "kept"
     with Running(["--proofs", kept, "-j", "2", generated("pigeons 11", work)], 1, work, True, FIRST_WORDS=150000) as running:
         os.kill(running.children["filter 1"], signal.SIGSTOP)
@@ -355,7 +363,8 @@ def put_in_place(how: str, work: Path) -> None:
 
 
 def another_folder(work: Path) -> None:
-    """In another folder that has the record's name nothing is written over, and the record is whole where it is by then."""
+    """If another folder takes the record's name, nothing in it is overwritten, and the record is
+    complete where it is now."""
     kept, moved, other = work / "kept", work / "moved", work / "other"
     names = [f"round-{number}.{what}" for number in range(1, 9) for what in ("sizes", "stream-1", "stream-2")]
     names += ["formula.sha256", "report", ".report.new", "command"]
@@ -378,7 +387,8 @@ def no_folder(work: Path) -> None:
 
 
 def full(work: Path) -> None:
-    """A disk that has no room for what is saved: files of 500,000 bytes at most. The streams of a round have room."""
+    """A disk without room for checkpoints: files of at most 500,000 bytes. The streams of a round
+    fit."""
     clauses = random_clauses(random.Random(3), 2000, 30000, (6,))
     formula = written(dimacs(2000, clauses + read(generated("pigeons 11", work))), work)
     limit = lambda: resource.setrlimit(resource.RLIMIT_FSIZE, (500000, 500000))
@@ -393,7 +403,8 @@ def read(path: Path) -> List[List[int]]:
 
 
 def impostor(body: str, status: int, cause: str, work: Path) -> None:
-    """Another program in lrupd's place, which reads the streams of round 1. It may save `$saved`, and wait for the next round."""
+    """Another program in place of lrupd, which reads the streams of round 1. It may save `$saved`,
+    and wait for the next round."""
     path = in_place_of_lrupd("""case "$*" in *' /dev/null') exit 3;; esac
 while [ "$1" != --rounds ]; do shift; done
 next=$2/round-2 formula=$3; shift 3
@@ -406,7 +417,7 @@ saved=$next.cnf
     want(len(found) > 0, True, f"a word on '{cause}' in\n{answer.out}{answer.said}")
 
 
-# Nothing grows from round to round.
+# Memory doesn't grow from round to round.
 
 
 def resident(pid: int) -> int:
@@ -416,7 +427,7 @@ def resident(pid: int) -> int:
 
 
 def in_files(pid: int) -> int:
-    """Kilobytes of files in memory that it has open, which nothing else counts."""
+    """Kilobytes of its open files in memory, which nothing else counts."""
     total = 0
     for link in Path(f"/proc/{pid}/fd").iterdir():
         if os.readlink(link).startswith("/memfd:"):
@@ -425,7 +436,8 @@ def in_files(pid: int) -> int:
 
 
 def stays_small(work: Path) -> None:
-    """From round 10 to round 60, of some 500 KB of streams each, with clauses that the engines soon delete."""
+    """From round 10 to round 60, with streams of some 500 KB each, whose clauses the engines soon
+    delete."""
     tested = {"FIRST_WORDS": 100000, "SET": "reduceint=20 reducetarget=95"}
     with Running(["-j", "2", generated("random 300 5", work)], 10, work, **tested) as running:
         sizes = lambda: {"files": in_files(running.children["lrup-engines"]), "front": resident(running.process.pid),
@@ -440,7 +452,8 @@ def stays_small(work: Path) -> None:
         want(size < 1.3 * before[name] + 6000, True, f"kilobytes of {name}, {before[name]} and then {size}")
 
 
-# What sharing rests on from round to round: left out, it is found out; and with it nothing of the kind happens.
+# Rules of sharing between rounds: leaving one out is noticed, and with it nothing of the kind
+# happens.
 
 
 def rests_on(what: str, found: str, tested: Mapping[str, object], work: Path) -> None:
@@ -501,7 +514,7 @@ def what_happens() -> List[Row]:
                                 ("kill -9 $$", 0, "ended by a signal"),
                                 ("cp $formula $saved; exit 3", 0, untaken),
                                 (waits, 1, "cannot open .*/round-2.cnf"),
-                                (f"echo p cnf 2 1 > $saved; {waits}", 1, "no checkpoint: .*/round-2.cnf"),
+                                (f"echo p cnf 2 1 > $saved; {waits}", 1, ".*/round-2.cnf: not a checkpoint of lrupd"),
                                 (f"cp $formula $saved; {waits}", 0, "lrupd hasn't saved the clause|no engine is left")):
         rows.append((f"another lrupd: {body}", impostor, body, status, cause))
     return rows

@@ -1,14 +1,14 @@
 #!/usr/bin/env python3
-"""Runs lrup-solve with solvers that people have, by --solver, and with scripts in their place that misbehave.
+"""Runs lrup-solve with common solvers by --solver, and with misbehaving scripts.
 
     lrup_solve_solvers.py PROGRAM [FLAGS]
 
-CaDiCaL, CryptoMiniSat and PicoSAT, where they are on the PATH, and the example solver, alone, together and beside engines: known
-formulas, random ones, in one round and in many. A solver that dies, lies, writes nonsense or stands still is lost, and alone gives no
-verdict; beside a good one the answer is the good one's. No process of a command outlives the run. It builds as lrup_solve.py does.
-It shows what is off; the last line is 'N passed, M failed', and ', K skipped' where something isn't there. The status is 1 where
-a run failed.
-"""
+CaDiCaL, CryptoMiniSat and PicoSAT, if they are on the PATH, and the example solver, alone, together
+and beside engines: known formulas, random ones, in one round and in many. A solver that dies, lies,
+writes nonsense or hangs is lost: alone it gives no verdict; beside a good one the answer is the
+good one's. No process of a command outlives the run. It builds like lrup_solve.py. Failures are
+shown; the last line is 'N passed, M failed', and ', K skipped' if something is missing. The status
+is 1 if a run failed."""
 import os
 import random
 import re
@@ -77,7 +77,7 @@ def answers_of(name: str, status: int, commands: List[str], words: List[str], wo
 
 
 def in_rounds(name: str, commands: List[str], words: List[str], work: Path) -> None:
-    """Rows that are so small that a formula takes many; and the record has them all."""
+    """Rows so small that a formula takes many rounds; the record has them all."""
     formula, kept = given(name, work), work / "kept"
     commands = commands or [example_solver(work)]
     answer = solve(["-v", "--proofs", kept, *words, *by(commands), formula], tested=MANY_ROUNDS)
@@ -89,7 +89,8 @@ def in_rounds(name: str, commands: List[str], words: List[str], work: Path) -> N
 
 
 def late(form: str, work: Path) -> None:
-    """The proof begins when rounds have passed, and the engine is still at work. LRAT names the formula's clauses, in order."""
+    """The proof begins after some rounds, and the engine is still running. LRAT names the formula's
+    clauses, in order."""
     formula, commands = given("random 220 5", work), {"DRAT": CADICAL, "DRUP": AS_TEXT, "FRAT": CRYPTOMINISAT, "PicoSAT": PICOSAT}
     if form == "LRAT":
         commands[form] = with_gaps(formula, work)
@@ -104,7 +105,7 @@ def late(form: str, work: Path) -> None:
 
 
 def with_gaps(formula: Path, work: Path) -> str:
-    """A solver that writes LRAT, in which two identities are left out after each clause."""
+    """A solver writes LRAT, and leaves out two identities after each clause."""
     want_answer(solve(["--proofs", work / "exact", *by([CADICAL]), formula], tested={"FIRST_WORDS": 1 << 24}), 20)
     lines = (work / "exact" / "round-1.stream-1").read_text().splitlines()
     first = int(lines[0].split()[0])
@@ -119,8 +120,9 @@ def gaps(work: Path) -> None:
 
 
 def goes_on_sharing(work: Path) -> None:
-    """Engines beside a solver, which reads no outbox: more goes through a small one than it holds, three words or more each. The
-    proof is longer than a pipe, so that engines don't leave their filters behind, which are slow in a build for tests."""
+    """Engines beside a solver, which reads no outbox: more goes through a small outbox than it
+    holds, three words or more each. The proof is longer than a pipe, so that engines don't get
+    ahead of their filters, which are slow in a build for tests."""
     answer = solve(["-v", "-j", "2", *by(["sleep 1000 # %formula %proof"]), given("random 235 3", work)],
                    tested={"OUTBOX": 240, "SLICE": 100})
     want_answer(answer, 20)
@@ -129,7 +131,7 @@ def goes_on_sharing(work: Path) -> None:
 
 
 def renamed(words: List[str], names: Mapping[str, str]) -> List[str]:
-    """Of an addition or a deletion; literals stay."""
+    """Renumbers an addition or a deletion; literals stay."""
     end = words.index("0") if words[1] != "d" else 1
     return [names.get(words[0], words[0]), *words[1:end + 1], *(names.get(word, word) for word in words[end + 1:])]
 
@@ -139,7 +141,7 @@ def by_example(name: str, status: int, work: Path) -> None:
 
 
 def early(seed: int) -> str:
-    """Inprocessing soon, by what this CaDiCaL has of these options."""
+    """Early inprocessing, by the options that this CaDiCaL has."""
     has = run(["cadical", "--help"]).out if shutil.which("cadical") else ""
     options = [option for option in EARLY if option.split("=")[0] + "=" in has]
     return " ".join(["cadical -q", *options, f"--seed={seed} %formula %proof"])
@@ -160,7 +162,8 @@ def randomly(seed: int, work: Path) -> None:
 
 
 def names(work: Path) -> None:
-    """The formula's name is one word for the shell, however it stands between quotes; standard input is a file for the solver."""
+    """The formula's name is one word for the shell, quoted in any way; standard input is a file for
+    the solver."""
     for name in ("it's $a \"formula\"\nof `two` lines", "x$(touch $MADE).cnf", "x`touch $MADE`", "x; touch $MADE; \\", "%proof %formula",
                  "a%proof.cnf", "größe.cnf"):
         formula, made = shutil.copy(example("bmc.cnf"), work / name), work / "made"
@@ -175,7 +178,7 @@ def names(work: Path) -> None:
 
 
 def sealed(work: Path) -> None:
-    """A solver can't write to the copy of a formula that came by a pipe; of this one it would be refuted."""
+    """A solver can't write to the copy of a formula from a pipe, which would then be refuted."""
     text = generated("random 120 7 3.6", work).read_text()
     writing = "(printf 'p cnf 1 2\\n1 0\\n-1 0\\n' > %formula; printf '1 0' 1<> %formula) 2> /dev/null; " + CADICAL
     answer = solve([*by([writing]), "-"], given=text)
@@ -186,7 +189,7 @@ def sealed(work: Path) -> None:
 
 UNFOUNDED = "it says 'satisfiable', and gives no assignment in lines v"
 MODEL = "echo s SATISFIABLE; echo v {}; exit 10"
-# A command; the cause, where it is alone.
+# A command; the cause if it is alone.
 NOTHING = [("exit 1 # %formula %proof", "the solver ended with status 1"),
            ("exit 127 # %formula %proof", "the solver ended with status 127: command not found"),
            ("kill -9 $$ # %formula %proof", "the solver ended by a signal: Killed"),
@@ -225,7 +228,7 @@ STANDING = ["sleep 1000 # %formula %proof", "sleep 1000 > %proof # %formula", "y
 
 
 def wrong(command: str, cause: str, work: Path) -> None:
-    """Alone it gives no verdict, and why; beside a good one that answers."""
+    """Alone it gives no verdict, but the reason; beside a good one that one answers."""
     formula = given("random 120 5", work)
     answer = solve(["--time", "60", *by([command]), formula])
     want_answer(answer, 0)
@@ -235,7 +238,7 @@ def wrong(command: str, cause: str, work: Path) -> None:
 
 
 def nothing_runs(command: str, cause: str, work: Path) -> None:
-    """It ends at its start: alone that is no answer, but a mistake."""
+    """It ends at its start: alone that is an error, not an answer."""
     formula = given("random 120 5", work)
     answer = solve(by([command]) + [formula])
     said = f"lrup-solve: nothing could run: {cause}"
@@ -253,7 +256,7 @@ def beside_others(command: str, formula: Path) -> None:
 
 
 def missing(work: Path) -> None:
-    """Beside a good one: that it is lost is told, and the summary counts who is left."""
+    """Beside a good one: the loss is reported, and the summary counts the remaining ones."""
     answer = solve([*by(["sleep 1; " + CADICAL, "no-such-solver %formula %proof"]), given("random 120 5", work)])
     want_answer(answer, 20)
     said = "solver 2 is lost: the solver ended with status 127: "
@@ -261,7 +264,8 @@ def missing(work: Path) -> None:
 
 
 def after_a_model(work: Path) -> None:
-    """A wrong one is found out, and the others go on; the right one counts, whoever has it. What it leaves out is false."""
+    """A wrong assignment is noticed, and the others continue; a right one counts, whoever has it.
+    Variables that it leaves out are false."""
     formula = written("p cnf 3 3\n1 2 0\n-1 2 0\n-3 1 0\n", work)
     want_answer(solve(by(["echo s SATISFIABLE; echo v 2; echo v 0; exit 10 # %formula %proof"]) + [formula]), 10, formula)
     want_answer(solve(by(["echo s SATISFIABLE; echo v 2 7 -9 0 # %formula %proof"]) + [formula]), 10, formula)
@@ -271,8 +275,8 @@ def after_a_model(work: Path) -> None:
 
 
 def standing(command: str, work: Path) -> None:
-    """It neither reads nor answers, for longer than a run may last. Alone time is up; beside a good one that answers. It is ended,
-    with what it has started."""
+    """It neither reads nor answers, for longer than the run. Alone time is up; beside a good one
+    that answers. It is ended, with its children."""
     mark, formula = marked(work), given("random 120 5", work)
     answer = solve(["--time", "1", *by([command]), formula])
     want((answer.answers, answer.comments[0], answer.status), (["s UNKNOWN"], "time is up", 0), "the answer")
@@ -282,14 +286,15 @@ def standing(command: str, work: Path) -> None:
 
 
 def background(work: Path) -> None:
-    """What a command leaves in the background holds nobody up, and is ended."""
+    """Background processes of a command delay nobody, and are ended."""
     mark = marked(work)
     want_answer(solve([*by(["sleep 1000 & " + CADICAL]), example("bmc.cnf")]), 20)
     none_left(mark)
 
 
 def killed(number: int, whom: str, work: Path) -> None:
-    """The first process or an engine's is ended: nothing of the command is left. The hard formula isn't solved meanwhile."""
+    """The first process or an engine's is killed: nothing of the command is left. The hard formula
+    isn't solved meanwhile."""
     mark, command = marked(work), "sleep 1000 & " + CADICAL
     words = [SOLVE, "--lrupd", PROGRAM, *by([command]), given("pigeons 11", work)]
     with started(words, stdout=subprocess.PIPE, text=True) as running:
@@ -305,7 +310,8 @@ def killed(number: int, whom: str, work: Path) -> None:
 
 
 def stopped(work: Path) -> None:
-    """What stops an engine, as while another's filter catches up, stops the solver; and so with what continues it."""
+    """What stops an engine, as while another's filter catches up, stops the solver; so with what
+    continues it."""
     mark = marked(work)
     with started([SOLVE, "--lrupd", PROGRAM, *by([CADICAL]), given("pigeons 11", work)], stdout=subprocess.PIPE) as running:
         found: Dict[str, int] = {}
@@ -328,7 +334,7 @@ def stopped(work: Path) -> None:
     none_left(mark)
 
 
-# Words.
+# Arguments.
 
 
 def refused(words: List[str], cause: str, work: Path) -> None:
@@ -338,7 +344,7 @@ def refused(words: List[str], cause: str, work: Path) -> None:
 
 
 def told(work: Path) -> None:
-    """-v tells the command; the summary counts engines and solvers."""
+    """-v shows the command; the summary counts engines and solvers."""
     answer = solve(["-v", "-j", "2", *by([CADICAL]), example("bmc.cnf")])
     want_answer(answer, 20)
     commands = [line for line in answer.comments if line.startswith("solver 3: cadical -q ") and "/dev/fd/" in line]
@@ -371,7 +377,7 @@ def rows() -> List[Row]:
         (["--solver", "cadical"], need + "cadical"), (["--solver", ""], need + "''"),
         (["--solver=cadical %formula"], need + "'cadical %formula'"),
         (["--solver", "cadical %proof"], need + "'cadical %proof'"),
-        (["--solver", CADICAL, "--assume", "{cube}"], "--assume and --solver: a solver isn't told of assumptions"),
+        (["--solver", CADICAL, "--assume", "{cube}"], "--assume and --solver: a solver doesn't get the assumptions"),
         (["--solver", CADICAL, "-j", "64"], "more than 64 engines, with those of --solver"),
         (["--solver", CADICAL] * 65, "more than 64 engines, with those of --solver"))]
     return found

@@ -3,9 +3,9 @@
 
     lrup_solve_trusted.py PROGRAM [FLAGS]
 
-A hostile program gets a wrong answer from each front that lacks such a line, and none from the whole one. It builds as lrup_solve.py
-does. It shows what is off; the last line is 'N passed, M failed'. The status is 1 where a run failed.
-"""
+A hostile program gets a wrong answer from each front that lacks such a line, and none from the
+whole front. It builds like lrup_solve.py. Failures are shown; the last line is 'N passed, M
+failed'. The status is 1 if a run failed."""
 import os
 import re
 import shlex
@@ -25,7 +25,7 @@ MARK = re.compile(r"// trusted \(([^)]*)\)")
 LINES = (FOLDER / "front.c").read_text().splitlines(keepends=True)
 MARKED = [number for number, line in enumerate(LINES) if MARK.search(line)]
 UNSATISFIABLE, UNDER = "s UNSATISFIABLE", "s UNSATISFIABLE UNDER ASSUMPTIONS"
-# While the front stands, lrupd ends, and a line is put after its last one.
+# While the front is stopped, lrupd ends, and a line is added after its last one.
 FORGES = """os.kill(int(front), signal.SIGSTOP)
 {end}
 time.sleep(0.3)
@@ -42,12 +42,12 @@ def answer_of(front: Path, work: Path, body: str, words: Sequence[object] = (), 
 
 
 def says(line: str, *how: Any, **more: Any) -> Attack:
-    """The answer to a formula that has a model."""
+    """The answer to a satisfiable formula."""
     return lambda front, work: line in answer_of(front, work, *how, **more).out.splitlines()
 
 
 def gives(signs: str, text: str = SATISFIABLE, variables: int = 3) -> Attack:
-    """An assignment that is none of the formula's."""
+    """An assignment that doesn't satisfy the formula."""
     def attack(front: Path, work: Path) -> bool:
         answer = answer_of(front, work, f"model({signs!r})\ntime.sleep(0.5)", text=text)
         values = {abs(value) for value in answer.values} - {0}
@@ -60,12 +60,13 @@ def assumes(body: str, literals: str) -> Callable[[Path, Path], Answer]:
 
 
 def breaks(literals: str, body: str = "") -> Attack:
-    """An assignment by 1 2 -3 that isn't one under these assumptions; before it is whole this is done."""
+    """The assignment 1 2 -3, which contradicts these assumptions; before it is whole this is
+    done."""
     return lambda front, work: assumes(f"say('v ++-')\n{body}say('model')\ntime.sleep(0.5)", literals)(front, work).status == 10
 
 
 def killed_by_its_status(front: Path, work: Path) -> bool:
-    """SIGFPE has the number of the status of a proof under assumptions."""
+    """SIGFPE has the number of the status for a proof under assumptions."""
     body = "os.mkfifo(folder + '/round-1.stream-1')\ntold('probe')\ncheck()\nopen(folder + '/round-1.stream-1', 'w')\n" + \
         "pid = int(open(f'/proc/{front}/task/{front}/children').read().split()[-1])\n" + \
         FORGES.format(end="os.kill(pid, signal.SIGFPE)", line=UNDER)
@@ -73,7 +74,7 @@ def killed_by_its_status(front: Path, work: Path) -> bool:
 
 
 def planted(work: Path, *names: str) -> Path:
-    """A folder that a user is in."""
+    """The user's current folder, with hostile programs in it."""
     folder = work / "here"
     folder.mkdir()
     in_place_of_lrupd("echo s UNSATISFIABLE", folder)
@@ -83,7 +84,7 @@ def planted(work: Path, *names: str) -> Path:
 
 
 def in_the_current_folder(front: Path, work: Path) -> bool:
-    """Nobody knows where the program is that runs, since it was removed."""
+    """The running program was removed, so its path is unknown."""
     folder, formula, copy = planted(work, "lrup-engines"), written(SATISFIABLE, work), Path(shutil.copy(front, work / "removed"))
     with open(copy) as file:
         copy.unlink()
@@ -105,7 +106,7 @@ def prints(front: Path, work: Path) -> bool:
 
 
 def as_expected(front: Path, work: Path) -> bool:
-    """There is no answer, and the status says that it is the one that is expected."""
+    """There is no answer, but the status says that it is the expected one."""
     return answer_of(front, work, "told('probe')", ["--expect", "unsat"]).status == 0
 
 
@@ -115,14 +116,14 @@ os.truncate(formula, 19)
 stream(1, "3 0 1 2 0\\n")
 check()
 told("lrupd")"""
-# Memory is gone before all assumptions are read.
+# Memory runs out before all assumptions are read.
 STARVES = """told('probe')
 time.sleep(0.3)
 import resource
 resource.prlimit(int(front), resource.RLIMIT_AS, (1 << 20, 1 << 20))
 """
 FORGED = ENDS + FORGES.format(end="feeding.close()", line=UNSATISFIABLE)
-# By the words in the marks.
+# By the words of the marks.
 ATTACKS: Dict[str, Attack] = {
     "current folder": in_the_current_folder, "PATH": looked_up([], f".::{os.environ['PATH']}"),
     "name": looked_up(["--lrupd", "lrupd"], "/usr/bin"), "output": prints, "copy": says(UNSATISFIABLE, CHANGES, given=SATISFIABLE),
@@ -142,7 +143,7 @@ ATTACKS: Dict[str, Attack] = {
 
 
 def front_without(number: int, work: Path) -> Path:
-    """Without this line; -1: with each."""
+    """The front without this line; -1: with each line."""
     folder = work / "front"
     folder.mkdir()
     (folder / "front.c").write_text("".join(line for at, line in enumerate(LINES) if at != number))

@@ -1,11 +1,9 @@
 #!/usr/bin/env python3
-"""Runs the program on the rows below, and compares what it writes on standard output and standard error, and its status, with
-what is wanted.
+"""Runs the program on the rows below, and compares standard output, standard error and the status.
 
     program_answers.py PROGRAM
 
-It shows what is off; the last line is 'N passed, M failed', and the status is 1 where a row failed.
-"""
+Failures are shown; the last line is 'N passed, M failed', and the status is 1 if a row failed."""
 import re
 import socket
 import subprocess
@@ -27,7 +25,8 @@ FILES = {"formula": FOUR, "one": ONE, "two": TWO}
 FOUR_SOLVERS = [f"bmc-four.{number}" for number in range(1, 5)]
 ASSUMED = [example("assumed.cnf"), example("assumed.lrup")]
 CUBE = example("assumed.cube")
-# What is watched, and how many lines are told: the end of each stream in each round, and each round's beginning but the first's.
+# Watched runs, and how many lines --watch prints: the end of each stream in each round, and the
+# start of each round but the first.
 TOLD = [(["--watch", *options, "formula", *["one"] * count], count) for options in ([], ["--serial"]) for count in (1, 5)]
 TOLD += [(["--watch", *options, "--rounds", "d", "formula", "d/round-1.stream-1"], 3) for options in ([], ["--serial"])]
 ADDED = "1 added, 0 deleted, ended"
@@ -44,7 +43,7 @@ def recorded(name: str, options: str, *files: str) -> Named:
 
 
 def streams(name: str, options: str, status: int, *said_and_text: str, formula: str = FOUR) -> Named:
-    """Of each stream what the report says of it, and its text."""
+    """The report's line for each stream, and the streams' texts."""
     said, texts = said_and_text[::2], said_and_text[1::2]
     names = [f"stream{number}" for number in range(1, len(texts) + 1)]
     files = {"formula": formula, **dict(zip(names, texts))}
@@ -57,7 +56,7 @@ def bad(fault: str, text: str, options: str = "") -> Named:
 
 
 def refused(cause: str, status: int, *words: object, shell: str = 'exec "$@"') -> Named:
-    """No report, and the cause."""
+    """No report, but this cause."""
     files = {**FILES, "refused": "p cnf 1\n"}
     return cause, Wanted(words, status, err=f"lrupd: {cause}\n", files=files, shell=shell)
 
@@ -67,7 +66,7 @@ def refused_formula(fault: str, text: str) -> Named:
 
 
 def assumed(name: str, status: int, text: str, options: str) -> Named:
-    """A stream that derives 2 of two clauses, under the assumed literals of this text."""
+    """A stream that derives 2 from two clauses, under the assumptions in this text."""
     words = ["--assume", "cube", *options.split(), *ASSUMED]
     return f"{name} {options}", Wanted(words, status, report([ADDED], status), files={"cube": text})
 
@@ -154,7 +153,8 @@ def several_streams() -> Iterator[Named]:
 
 
 def pipes() -> Iterator[Named]:
-    """Opened in the order of the words, and written while they are checked; a file named twice; a folder."""
+    """Opened in the order of the arguments, and written while they are checked; a file named twice;
+    a folder."""
     both: Dict[str, Pieces] = {"pipe1": [b"5 2 0 1 2 0\n7", 0.2, b" 0 5 6 0\n"], "pipe2": [b"6 -2 0 3", 0.1, b" 4 0\n"]}
     yield "two pipes", Wanted(["--tries", "1000000", "formula", "pipe1", "pipe2"], 0, report([BOTH_ADDED, ADDED], 0),
                               files=FILES, pipes=both)
@@ -169,7 +169,7 @@ def pipes() -> Iterator[Named]:
 
 
 def paths() -> Iterator[Named]:
-    """A path is a file's name as it stands: a hyphen isn't standard input, and spaces are kept."""
+    """A path is taken literally: a hyphen isn't standard input, and spaces are kept."""
     absent = [("a formula at a hyphen that is not there", "lrupd: cannot read formula\n", ["-", "one"]),
               ("a stream at a hyphen that is not there", "lrupd: cannot open stream 1\n", ["formula", "-"])]
     for name, cause, words in absent:
@@ -198,7 +198,7 @@ def refused_formulas() -> Iterator[Named]:
 
 
 def refused_files() -> Iterator[Named]:
-    """The order in which the words, the formula and the streams are looked at."""
+    """The order in which arguments, formula and streams are checked."""
     yield refused("cannot read formula", 5, "absent", "one")
     yield refused("cannot read formula", 5, "absent", "absent")
     yield refused("cannot read formula", 5, ".", "one")
@@ -262,7 +262,8 @@ def refused_assumptions() -> Iterator[Named]:
 
 
 def watched() -> Iterator[Named]:
-    """With --watch standard error has lines while the run goes on, and standard output and the status are the same."""
+    """With --watch standard error has lines during the run; standard output and the status are the
+    same."""
     said = ["0 added, 0 deleted, bad line 1 (spelling)", "0 added, 0 deleted, ended"]
     told = "".join(f"lrupd: stream {number}: {words}\n" for number, words in enumerate(said, 1))
     words = ["--watch", "--serial", "formula", "stream", "/dev/null"]
@@ -275,8 +276,8 @@ def watched() -> Iterator[Named]:
 
 
 def large() -> Iterator[Named]:
-    """The marks of 16,000,000 variables, a set of 1,100,000 dropped identities, and a row with the room of 16,000,000 literals;
-    and streams longer than a ring has items: 200,000 line ends, and 20,000 lines."""
+    """The marks of 16,000,000 variables, a set of 1,100,000 dropped identities, and a row with room
+    for 16,000,000 literals; streams longer than a ring: 200,000 line ends, and 20,000 lines."""
     yield streams("16,000,000 variables", "", 3, ADDED, "2 16000000 0 1 0\n", formula="p cnf 16000000 1\n16000000 0\n")
     drops = "".join(f"5 d {identity} 0\n" for identity in range(6, 2200005, 2))
     yield streams("1,100,000 identities dropped", "--lines 1100000", 3, "0 added, 1100000 deleted, ended", drops,
@@ -289,8 +290,8 @@ def large() -> Iterator[Named]:
 
 
 def largest() -> Iterator[Named]:
-    """Up to 2 GB: a row with the room of 110,000,000 literals, and a formula of more than 1 GB, which is one long comment before
-    the four clauses."""
+    """Up to 2 GB: a row with room for 110,000,000 literals, and a formula of more than 1 GB, which
+    is one long comment before the four clauses."""
     for options in WAYS:
         yield streams(f"a room of 110,000,000 literals {options}", f"--room 110000000 {options}", 0, BOTH_ADDED, TWO)
     pieces = [b"c ", *[b"x" * 1_000_000] * 1_100, f"\n{FOUR}".encode()]
@@ -317,11 +318,11 @@ def full_outputs() -> Iterator[Named]:
         yield name, Wanted(words, status, err=err, files=FILES, shell=shell)
 
 
-# Not compared to the letter.
+# Not compared literally.
 
 
 def usage(program: str, words: List[str], work: Path) -> None:
-    """No report, and help or a usage fault, in words of its own, whose first line comes once."""
+    """No report, but help or a usage fault in its own words, whose first line comes once."""
     out, err, status = answered(program, Wanted(words, 2, files={**FILES, "cube": CUBE.read_text()}), work)
     want((out, status), ("", 2), "the output and the status")
     lines = err.splitlines()
@@ -330,7 +331,7 @@ def usage(program: str, words: List[str], work: Path) -> None:
 
 
 def help_told(program: str, work: Path) -> None:
-    """The options and the sizes, in the words of the manual page, to the letter but for the lines' ends."""
+    """Options and sizes, in the words of the manual page, except for line breaks."""
     err = answered(program, Wanted(["--help"], 2), work).err
     shown = re.findall(r"^ {6}(--.*)\n((?: {10}.*\n)+)", err, re.M)
     want([(re.sub("[<>]", "", head), " ".join(text.split())) for head, text in shown],
@@ -340,7 +341,7 @@ def help_told(program: str, work: Path) -> None:
 
 
 def many_watched(program: str, work: Path) -> None:
-    """Of 64 streams each end has its line, in any order."""
+    """The end of each of 64 streams has a line, in any order."""
     plain = answered(program, Wanted(["formula", *["one"] * 64], 3, files=FILES), work)
     out, err, status = answered(program, Wanted(["--watch", "formula", *["one"] * 64], 3, files=FILES), work)
     told = [line.replace("c ", "lrupd: ", 1) for line in plain.out.splitlines() if line.startswith("c ")]
@@ -348,7 +349,7 @@ def many_watched(program: str, work: Path) -> None:
 
 
 def told_by_lines(program: str, words: Words, lines: int, work: Path) -> None:
-    """Each of so many lines of --watch goes out by one write: a socket of packets keeps writes apart."""
+    """Each line of --watch is one write: a packet socket keeps writes apart."""
     for name, text in {**FILES, "d/round-1.stream-1": ONE, "d/round-2.stream-1": "6 0 5 3 4 0\n"}.items():
         written(text, work, name)
     reader, writer = socket.socketpair(socket.AF_UNIX, socket.SOCK_SEQPACKET)

@@ -1,13 +1,13 @@
 #!/usr/bin/env python3
-"""Runs the program with --checkpoint, and compares what it answers, and what it saved, with what is wanted.
+"""Runs the program with --checkpoint, and compares its answers and checkpoints.
 
     program_checkpoints.py PROGRAM
 
-The rows have the file's bytes; of recorded streams they are worked out by the rules. Where nothing may be created nothing is
-touched; where the saving fails the report is there all the same. What was saved is a formula that the program takes, and a part
-of it, as a full disk leaves it, is none. It shows what is off; the last line is 'N passed, M failed', and ', K skipped' where the
-machine doesn't let something be tried. The status is 1 where a row failed.
-"""
+Rows have the file's bytes; for recorded streams they follow from the rules. If nothing may be
+created, nothing is touched; if saving fails, there is still a report. A checkpoint is a formula
+that the program accepts; a part of it, as a full disk leaves it, isn't. Failures are shown; the
+last line is 'N passed, M failed', and ', K skipped' if the machine doesn't allow a test. The status
+is 1 if a row failed."""
 import os
 import shutil
 import sys
@@ -25,7 +25,7 @@ DROPPING = "5 2 0 1 2 0\n7 d 1 0\n"
 FILES = {"formula": FOUR, "one": ONE, "two": TWO, "dropping": DROPPING}
 ADDED = "1 added, 0 deleted, ended"
 NOTHING = "0 added, 0 deleted, ended"
-# Of the four clauses, and of what the first line derives.
+# The four clauses, and the clause of the first line.
 SAVED_FOUR = "p cnf 2 4\n1 2 0\n-1 2 0\n1 -2 0\n-1 -2 0\n"
 SAVED_ONE = "p cnf 2 5\n1 2 0\n-1 2 0\n1 -2 0\n-1 -2 0\n2 0\n"
 SAVED_DROPPING = "p cnf 2 4\nc id 2\n-1 2 0\nc id 3\n1 -2 0\nc id 4\n-1 -2 0\nc id 5\n2 0\n"
@@ -35,12 +35,12 @@ NO_REPORT = "lrupd: cannot write report\n"
 Named = Tuple[str, Wanted]
 
 
-# Checkpoints that are saved.
+# Saved checkpoints.
 
 
 def saved(name: str, status: int, said: Sequence[str], texts: Sequence[str], wanted: str, formula: str = FOUR,
           options: str = "", serial_too: bool = True) -> Iterator[Named]:
-    """Of streams of these texts, of which the report says this; by threads and by turns."""
+    """Streams with these texts, and their lines in the report; with threads and with --serial."""
     names = [f"stream{number}" for number in range(1, len(texts) + 1)]
     files = {"formula": formula, "cube": "-2 0\n", **dict(zip(names, texts))}
     for way in WAYS if serial_too else WAYS[:1]:
@@ -71,7 +71,7 @@ def one_stream() -> Iterator[Named]:
 
 
 def formulas() -> Iterator[Named]:
-    """Of a formula nothing is kept but its clauses."""
+    """Of a formula only its clauses are kept."""
     yield from saved("no clauses", 3, [NOTHING], [""], "p cnf 0 0\n", formula="p cnf 0 0\n")
     yield from saved("no clauses of many variables", 3, [NOTHING], [""], "p cnf 16777215 0\n", formula="p cnf 16777215 0\n")
     yield from saved("an empty clause", 3, [NOTHING], [""], "p cnf 0 1\n0\n", formula="p cnf 0 1\n0\n")
@@ -87,7 +87,8 @@ def formulas() -> Iterator[Named]:
 
 
 def several_streams() -> Iterator[Named]:
-    """Clauses that all have dropped are left out, those that a few have dropped aren't; identities are in order, whoever has them."""
+    """Clauses that all streams dropped are left out, those that only some dropped aren't;
+    identities are in order, whoever owns them."""
     both = ["5 d 1 2 0\n", "6 d 3 1 0\n"]
     kept = "c id 2\n-1 2 0\nc id 3\n1 -2 0\nc id 4\n-1 -2 0\n"
     yield from saved("what both have dropped", 3, ["0 added, 2 deleted, ended"] * 2, both, "p cnf 2 3\n" + kept)
@@ -108,7 +109,7 @@ def several_streams() -> Iterator[Named]:
     yield from saved("64 streams", 3, ["1 added, 1 deleted, ended"] * 64, many, "p cnf 2 67\n" + kept + derived)
 
 
-# Checkpoints that aren't created; nothing is touched.
+# Checkpoints that aren't created: nothing is touched.
 
 
 def not_created() -> Iterator[Named]:
@@ -122,7 +123,7 @@ def not_created() -> Iterator[Named]:
 
 
 def order_of_work() -> Iterator[Named]:
-    """The file is created after all that is opened, and once there is a layout."""
+    """The file is created after everything is opened, and once there is a layout."""
     refused = {**FILES, "refused": "p cnf 1\n", "cube": "-2  0\n"}
     for cause, status, words in [
             ("cannot read formula", 5, ["absent", "one"]),
@@ -138,7 +139,7 @@ def order_of_work() -> Iterator[Named]:
 
 
 def before_the_check(program: str, way: str, work: Path) -> None:
-    """That it can't be created is said while the stream is still silent."""
+    """If it can't be created, the message comes while the stream is still silent."""
     with held(work / "silent"):
         found = run([program, *way.split(), "--checkpoint", "absent/saved", written(FOUR, work), "silent"], cwd=work)
     want(found, Ran("", NOT_CREATED, 5), "the answer")
@@ -153,11 +154,11 @@ def usage(program: str, words: List[str], work: Path) -> None:
     want((out, status, bool(err), sorted(os.listdir(work))), ("", 2, True, sorted(FILES)), "what is said, and what is there")
 
 
-# Where the saving or the report fails.
+# Saving or the report fails.
 
 
 def watched() -> Iterator[Named]:
-    """--watch says what it says without a checkpoint."""
+    """--watch prints the same lines as without a checkpoint."""
     for way in WAYS:
         yield f"watched {way}", Wanted(["--watch", "--checkpoint", "saved", *way.split(), "formula", "dropping"], 3,
                                        report(["1 added, 1 deleted, ended"], 3), "lrupd: stream 1: 1 added, 1 deleted, ended\n",
@@ -168,7 +169,7 @@ def watched() -> Iterator[Named]:
 
 
 def full() -> Iterator[Named]:
-    """Files of no byte, and a report that can't be written."""
+    """Files without bytes, and a report that can't be written."""
     none = 'trap "" XFSZ; ulimit -f 0; exec "$@"'
     words = ["--checkpoint", "saved", "formula", "one"]
     cube = {**FILES, "cube": "-2 0\n"}
@@ -190,7 +191,8 @@ def full() -> Iterator[Named]:
 
 
 def torn(program: str, way: List[str], limit: Optional[int], work: Path) -> None:
-    """A limit on the size of files, or a disk that is full: what is left is a part of the checkpoint, and no formula."""
+    """A limit on the size of files, or a full disk: a part of the checkpoint is left, which is no
+    formula."""
     formula, whole = example("bmc.cnf"), printed(variables_of(example("bmc.cnf")), live(example("bmc.cnf"), [Path("/dev/null")]))
     path, words = work / "saved", [*way, "--checkpoint", "saved", formula, "/dev/null"]
     if limit is None:
@@ -214,7 +216,7 @@ def torn(program: str, way: List[str], limit: Optional[int], work: Path) -> None
 
 
 def each_beginning(program: str, work: Path) -> None:
-    """But for the last LF, no beginning of a checkpoint is a formula."""
+    """No proper beginning of a checkpoint is a formula, except without the last LF."""
     for size in range(len(SAVED_DROPPING) - 1):
         found = run([program, written(SAVED_DROPPING[:size], work, "torn"), "/dev/null"])
         want((found.out, found.err[:24], found.status), ("", "lrupd: formula refused: ", 4), f"what is said of {size} bytes")
@@ -231,7 +233,7 @@ def without_leave(program: str, work: Path) -> None:
 
 
 def refused(fault: str, count: int, program: str, work: Path) -> None:
-    """The most clauses that a formula has, and one more."""
+    """As many clauses as a formula may have, and one more."""
     formula, clauses = most_clauses(work), MOST_CLAUSES
     stream = written("".join(f"{clauses + number} 1 0 1 0\n" for number in range(1, count + 1)), work, "stream")
     found = run([program, "--lines", "10", "--room", "10", "--checkpoint", work / "saved", formula, stream])
@@ -244,11 +246,12 @@ def refused(fault: str, count: int, program: str, work: Path) -> None:
 
 
 def recorded(program: str, way: str, formula: Path, names: List[str], part: float, work: Path) -> None:
-    """Of the first lines of each, so that none derives the empty clause. What is saved is a formula again, and the same one."""
+    """The first lines of each stream, so that none derives the empty clause. The checkpoint is a
+    formula again, and the same one."""
     streams = []
     for name in names:
         lines = example(name).read_text().splitlines(True)
-        # By turns a line comes after what it cites where all have as many lines.
+        # In turn, a line comes after what it cites if all streams have that many lines.
         count = int(part * min(len(example(other).read_text().splitlines()) for other in names))
         streams.append(written("".join(lines[:count]), work, name))
     entries, saved = live(formula, streams), work / "saved"

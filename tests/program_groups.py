@@ -1,12 +1,11 @@
 #!/usr/bin/env python3
-"""Checks two groups of streams apart from each other, and together.
+"""Checks two groups of streams separately, and together.
 
     program_groups.py PROGRAM
 
-Streams 1 and 2 cite each other, and so do 3 and 4, but neither group the other. So each group is checked by a run of its own,
-with /dev/null in the places of the other's streams, and the reports are compared with that on all four. The status is 1 where
-one isn't as wanted.
-"""
+Streams 1 and 2 cite each other, and so do 3 and 4, but no group cites the other. So each group is
+checked by its own run, with /dev/null in place of the other's streams, and the reports are compared
+with that on all four. The status is 1 if one differs."""
 import sys
 
 sys.dont_write_bytecode = True

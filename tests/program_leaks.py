@@ -1,11 +1,11 @@
 #!/usr/bin/env python3
-"""Runs the program under valgrind, and wants each block of memory given back, and no use of memory that isn't there.
+"""Runs the program under valgrind: each block of memory has to be freed, and no invalid memory
+used.
 
     program_leaks.py PROGRAM
 
-It says 'skipped' where there is no valgrind. The last line is 'leaks: N passed, M failed', and the status is 1 where a run
-failed.
-"""
+It prints 'skipped' if valgrind isn't installed. The last line is 'leaks: N passed, M failed', and
+the status is 1 if a run failed."""
 import shutil
 import sys
 from pathlib import Path
@@ -29,7 +29,8 @@ RUNS: List[Tuple[int, List[object]]] = [
     (4, [FIRST, FIRST]),
     (5, [FOUR, FIRST, example("no such file")]),
 ]
-# Runs in rounds, to the empty clause, without it, to a wrong line and to faults; with the sizes of round 2.
+# Runs in rounds: to the empty clause, without it, to a wrong line and to faults; with sizes of
+# round 2.
 ROUNDS: List[Tuple[int, Texts, str]] = [
     (0, ONE.texts, "1 9 9\n"),
     (0, TWO.texts, "2 9 9\n"),

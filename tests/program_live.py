@@ -1,14 +1,14 @@
 #!/usr/bin/env python3
-"""Four solvers at work, as they were recorded: each writes its lines into a pipe of its own, one after the other at a steady
-pace, and the program checks them all meanwhile. Its report comes as the last solver ends, after some five seconds. Then two
-pipes with --watch: a bad line in the one is reported while both are open. Then the first half of the four solvers' lines, with a
-checkpoint, which stays empty until all of them have ended.
+"""Four recorded solvers: each writes its lines into its own pipe, one after the other at a steady
+pace, and the program checks them all meanwhile. Its report comes when the last solver ends, after
+some five seconds. Then two pipes with --watch: a bad line in one is reported while both are open.
+Then the first half of the four solvers' lines, with a checkpoint, which stays empty until all of
+them have ended.
 
     program_live.py PROGRAM
 
-The status is 1 where the report isn't that in bmc-four.out, where anything is on standard error without the flag, or where the
-line doesn't come.
-"""
+The status is 1 if the report isn't that in bmc-four.out, if anything is on standard error without
+the flag, or if the line doesn't come."""
 import re
 import subprocess
 import sys

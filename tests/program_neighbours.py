@@ -1,12 +1,13 @@
 #!/usr/bin/env python3
-"""Runs the program on a good proof of some thousand lines beside hostile neighbours, one after the other.
+"""Runs the program on a good proof of some thousand lines beside hostile neighbours, one after the
+other.
 
     program_neighbours.py PROGRAM
 
-The proof cites no other stream, so its line of the report has to be the same each time, with threads and with --serial: that of
-a run beside an empty stream. Of some neighbours the line is known too. It shows what is off; the last line is 'N passed, M
-failed', and the status is 1 where a run failed.
-"""
+The proof cites no other stream, so its line in the report has to be the same each time, with
+threads and with --serial: that beside an empty stream. For some neighbours their line is known,
+too. Failures are shown; the last line is 'N passed, M failed', and the status is 1 if a run
+failed."""
 import os
 import random
 import subprocess
@@ -25,12 +26,12 @@ Process = Any
 
 
 def own(identity: int) -> str:
-    """The identity that stream 1 of two has in place of one of a stream alone."""
+    """The identity of stream 1 of two for an identity of a single stream."""
     return str(identity if identity <= CLAUSES else CLAUSES + 1 + 2 * (identity - CLAUSES - 1))
 
 
 def renumbered(line: str) -> str:
-    """A line of a stream alone as a line of stream 1 of two."""
+    """A line of a single stream, as a line of stream 1 of two."""
     words = line.split()
     if words[1] == "d":
         return " ".join([own(int(words[0])), "d", *(own(int(word)) for word in words[2:-1]), "0"]) + "\n"
@@ -46,7 +47,7 @@ def endless(process: Process, serial: bool) -> Pieces:
 
 
 def is_alone(process: Process) -> bool:
-    """Only the program's first thread and the two of one stream are left, for a while."""
+    """Only the program's first thread and stream 1's two threads are left, for a while."""
     for _ in range(20):
         if len(os.listdir(f"/proc/{process.pid}/task")) != 3:
             return False
@@ -55,14 +56,16 @@ def is_alone(process: Process) -> bool:
 
 
 def silent(process: Process, serial: bool) -> Pieces:
-    """Nothing until stream 1 has ended. By turns stream 1 waits for it, so there it is a second."""
+    """Nothing until stream 1 has ended. With --serial stream 1 waits for it, so then it is a
+    second."""
     yield 1.0
     while not serial and process.poll() is None and not is_alone(process):
         yield 0.01
 
 
 def imports(lines: List[str]) -> Iterator[str]:
-    """For each line of the proof an import: of its clause, if that is never deleted, or else of the formula's first clause."""
+    """For each line of the proof an import: of its clause, if that is never deleted, otherwise of
+    the formula's first clause."""
     clause = next(line for line in FORMULA.read_text().splitlines() if line[0] not in "cp").split()
     deleted = {identity for line in lines if line.split()[1] == "d" for identity in line.split()[2:-1]}
     for line in lines:
@@ -74,7 +77,8 @@ def imports(lines: List[str]) -> Iterator[str]:
 
 
 class Neighbour(NamedTuple):
-    """The bytes of its stream or what writes them, the options, and what is said of it, where that is known."""
+    """The bytes of its stream or their writer, the options, and its line in the report, if
+    known."""
     name: str
     what: Union[bytes, Callable[[Process, bool], Pieces]]
     known: Optional[str] = None
@@ -85,7 +89,7 @@ def neighbours(proof: str) -> Iterator[Neighbour]:
     lines = proof.splitlines(keepends=True)
     derived = [line.split()[0] for line in lines if line.split()[1] != "d"]
     first = CLAUSES + 2  # the first identity of stream 2
-    never = int(derived[-1]) + 2_000  # of stream 1, which doesn't come so far
+    never = int(derived[-1]) + 2_000  # of stream 1, which doesn't get that far
     size = 1_000_000
     yield Neighbour("nothing", b"", "0 added, 0 deleted, ended")
     yield Neighbour("endless bytes", endless)
@@ -103,7 +107,7 @@ def neighbours(proof: str) -> Iterator[Neighbour]:
 
 
 def beside(program: str, way: List[str], neighbour: Neighbour, proof: str, wanted: str, work: Path) -> None:
-    """The report on the proof, and on its neighbour where that is known."""
+    """The report on the proof, and on its neighbour if that is known."""
     own, other, what = written(proof, work, "proof"), work / "other", neighbour.what
     if isinstance(what, bytes):
         other.write_bytes(what)

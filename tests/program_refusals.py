@@ -1,16 +1,16 @@
 #!/usr/bin/env python3
-"""Refuses each allocation, read, write, thread, opening, creation of a file and flush of the program in turn, and compares each
-answer, with what was saved, with those that may be.
+"""Refuses each allocation, read, write, thread, open, creation of a file and flush of the program
+in turn, and compares each answer and checkpoint with the permitted ones.
 
     program_refusals.py PROGRAM [RT]
 
-It builds refuse.c, which the loader puts before the C library, and runs PROGRAM with the first call of a kind refused, then
-with the second, and so on until a run meets no refusal; that run has to give the ample answer. Then it does so with a few
-tests, unless RT is left out: runs without the program around them, calls that can be made again, and calls that take no memory.
-They are as `rt ci` built them; where there are none, RT, Rattle's command, makes them. Where a thread isn't started, those that
-were have ended before that is said, and pipes that stay open are left alone, and hold nothing up; a program that waits for no
-thread has to be found wrong. Last, what a store took has to be given back.
-"""
+It builds refuse.c, which the loader puts before the C library, and runs PROGRAM with the first call
+of a kind refused, then the second, and so on until a run meets no refusal; that run has to give the
+normal answer. Then it does so with a few tests, unless RT is left out: runs without the program
+around them, calls that can be repeated, and calls that allocate nothing. They are as `rt ci` built
+them; if there are none, RT, Rattle's command, builds them. If a thread isn't started, the started
+ones have ended before that is reported, and pipes that stay open delay nothing; a program that
+waits for no thread has to be found wrong. Last, the memory of a store has to be given back."""
 import itertools
 import os
 import re
@@ -30,10 +30,10 @@ from rounds import ONE, TWO, Proof
 
 
 class Test(NamedTuple):
-    """A test, its answers where an allocation is refused, and how many streams it starts threads for; whether it reports each
-    refusal, since none of its allocations is made by a call that has no such answer; the last allocation that is refused, where
-    those behind it are for threads of the test's own that wait for each other; and whether it looks itself at what a refusal leads
-    to, and passes."""
+    """A test, its answers if an allocation is refused, and for how many streams it starts threads;
+    whether it reports each refusal, since all its allocations are made by calls with such an
+    answer; the last allocation to refuse, if later ones are for threads of the test that wait for
+    each other; and whether it checks the refusal's effect itself, and passes."""
     crate: str
     name: str
     causes: List[str]
@@ -49,23 +49,24 @@ ERRORS_OF_OPENINGS = ["EACCES", "EMFILE", "ELOOP", "ENOENT"]
 ERRORS_OF_CREATIONS = ["EACCES", "EMFILE", "ENOSPC"]
 ERRORS_OF_FLUSHES = ["EIO", "ENOSPC"]
 MANY = 5_000
-ONE_LINE, MANY_LINES = "a line and an import", f"{MANY} lines and imports"  # as many allocations: lines take none
+ONE_LINE, MANY_LINES = "a line and an import", f"{MANY} lines and imports"  # equally many allocations: lines take none
 BURDENED = " under assumptions, after a drop"
 FEW_CLAUSES, MANY_CLAUSES = "two clauses", f"{MANY} clauses"
-GROWTHS = 100  # how many allocations more the many clauses may take, whose lists double as they grow: some thirty
-MOST = 1_000  # calls of a kind are refused of a run; none makes as many
-HELD = 100  # seconds, after which a run hangs that waits for a pipe
-VERY_LATE = 1000  # milliseconds that a thread of a program takes to begin that has to be found wrong, however late its first one is
+GROWTHS = 100  # how many more allocations the many clauses may take, whose lists double: some thirty
+MOST = 1_000  # the most calls of a kind that are refused; no run makes as many
+HELD = 100  # seconds after which a run that waits for a pipe counts as hanging
+VERY_LATE = 1000  # milliseconds by which threads start late in the program that has to be found wrong
 
 
 def run_twice(machine: Machine, given: Input, refuse: str) -> Tuple[Answer, bool, float]:
-    """Where a clause is missing: a machine may hold a thread up for longer than the tries of another one."""
+    """Again if a clause is missing: a machine may delay a thread for longer than another one's
+    tries."""
     found = machine.run(given.words, refuse, given.out)
     return machine.run(given.words, refuse, given.out) if " (missing " in found[0].out else found
 
 
 def sweep(machine: Machine, given: Input, kind: str, how: str) -> Tuple[int, List[str]]:
-    """How many calls were refused, and the answers that may not be."""
+    """How many calls were refused, and the wrong answers."""
     ample, _, _ = run_twice(machine, given, "")
     wrong: List[str] = []
     answers: List[Answer] = []
@@ -86,7 +87,7 @@ def sweep(machine: Machine, given: Input, kind: str, how: str) -> Tuple[int, Lis
 
 
 def clauses(count: int) -> str:
-    """A formula with as many clauses, short and long ones by turns."""
+    """A formula with that many clauses, short and long ones in turn."""
     return f"p cnf 12 {count}\n" + count // 2 * "1 2 0\n1 2 3 4 5 6 7 8 9 10 11 12 0\n"
 
 
@@ -108,13 +109,13 @@ FILES = {
 ROW_ONE = EXAMPLES / "four-clause.lrup"
 CUBE = EXAMPLES / "assumed.cube"
 ASSUMED = [EXAMPLES / "assumed.cnf", EXAMPLES / "assumed.lrup"]
-# The hints are those of the first line of bmc.lrup; the import is of the first clause of bmc.cnf.
+# The hints of the first line of bmc.lrup; the import of the first clause of bmc.cnf.
 LINES = [f"{number} 101 -107 -108 -109 0 487 490 0\n1 i 13 -1 5 0\n" for number in range(534, 534 + MANY)]
 DROP = "534 d 2 0\n"
 AT_ONCE = "0 added, 0 deleted, out of memory at line 1"
 
 
-# Rounds of which the last one drops a clause, and derives none.
+# The last round drops a clause, and derives none.
 UNKNOWN = Proof([*ONE.texts[:2], ["5 d 2 0\n"]], [*ONE.said[:2], ["0 added, 1 deleted, ended"]],
                 [*ONE.saved[:2], "p cnf 2 3\n1 -2 0\nc id 3\n2 0\nc id 4\n1 0\n"])
 
@@ -124,7 +125,7 @@ def dropped(*said: str, saved: Optional[str] = None) -> List[Answer]:
 
 
 def inputs_of_way(serial: List[str], files: Dict[str, Path], folder: Path) -> Iterator[Input]:
-    """By threads, or by turns."""
+    """With threads, or with --serial."""
     kind = "".join(" " + word for word in serial)
     yield Input("two streams" + kind, [*serial, FOUR_CLAUSE, files["one"], files["other"]], 2)
     yield Input("a dropped clause" + kind, [*serial, FOUR_CLAUSE, files["dropping"]], 1, dropped(AT_ONCE))
@@ -135,7 +136,7 @@ def inputs_of_way(serial: List[str], files: Dict[str, Path], folder: Path) -> It
                 dropped("1 added, 1 deleted, out of memory at line 2"))
     yield Input("row 1" + kind, [*serial, FOUR_CLAUSE, ROW_ONE], 1)
     yield Input("a dropped clause, watched" + kind, [*serial, "--watch", FOUR_CLAUSE, files["dropping"]], 1, dropped(AT_ONCE))
-    # These tries take a third of a second, where the other stream fails.
+    # These tries take a third of a second if the other stream fails.
     few = serial or ["--tries", "5000", "--lines", "100", "--room", "100"]
     yield Input("imports" + kind, [*few, FOUR_CLAUSE, files["importing"], files["other_importing"]], 2)
     yield Input("assumptions" + kind, [*few, "--assume", CUBE, *ASSUMED], 1)
@@ -151,7 +152,7 @@ def inputs_of_way(serial: List[str], files: Dict[str, Path], folder: Path) -> It
 
 
 def checkpoints(serial: List[str], files: Dict[str, Path], folder: Path) -> Iterator[Input]:
-    """Runs that save something, and some that have nothing to save, or nowhere."""
+    """Runs that save something, and some that have nothing to save, or nowhere to save it."""
     kind = "".join(" " + word for word in serial)
     words = [*(serial or ["--tries", "5000", "--lines", "100", "--room", "100"]), "--checkpoint", folder / "saved"]
     one = FOUR.replace("2 4", "2 5") + "2 0\n"
@@ -175,7 +176,7 @@ def in_rounds(serial: List[str], folder: Path) -> Iterator[Input]:
 
 
 def inputs(folder: Path) -> Iterator[Input]:
-    """The inputs that are swept."""
+    """The inputs of the sweep."""
     files = {name: written(text, folder, name) for name, text in FILES.items()}
     for options in "", "--serial":
         yield from in_rounds(options.split(), folder)
@@ -209,8 +210,8 @@ def kinds(given: Input) -> Iterator[Tuple[str, str]]:
 
 
 def tests() -> Iterator[Test]:
-    """The tests that are swept. Each cause that one may answer with has to come."""
-    memory = ["AllocError", "Memory"]  # of what the test makes by itself, and of the run's
+    """The tests of the sweep. Each cause that a test may report has to occur."""
+    memory = ["AllocError", "Memory"]  # the test's own, and the run's
 
     def reported(added: int, ending: str) -> str:
         return f"Report {{ added: {added}, deleted: 0, empty: false, within: false, ending: {ending} }}"
@@ -222,7 +223,7 @@ def tests() -> Iterator[Test]:
         starts = [f"Spawn({number})" for number in range(1, streams + 1)]
         yield Test("portfolio", f"memory::{name}_by_threads", memory + starts + reports, streams)
         yield Test("portfolio", f"memory::{name}_by_turns", memory + reports)
-    # Calls that can be made again.
+    # Calls that can be repeated.
     yield Test("lrup_model", "a_refused_push_changes_nothing", [])
     yield Test("lrup_model", "a_refused_open_can_be_made_again", [])
     yield Test("lrup_model", "a_refused_cube_can_be_made_again", [])
@@ -231,13 +232,14 @@ def tests() -> Iterator[Test]:
     yield Test("checkpoint", "worked::a_refused_save_can_be_made_again", ["AllocError"])
     yield Test("stream_threads", "ring::a_refused_ring_can_be_made_again", [])
     yield Test("stream_threads", "jobs::refused_jobs_can_be_made_again", ["AllocError"], last=20)
-    # Some allocations are the test's own; each later one is for the set of dropped identities, and ends the stream.
+    # Some allocations are the test's own; each later one is for the set of dropped identities, and
+    # ends the stream.
     yield Test("stream_check", "memory::a_refused_growth_ends_the_reading", ["AllocError"])
     # The last allocation is the test's own, and comes after a thousand calls of each kind.
     yield Test("propagate", "the_ninth_allocation_comes_after_all_calls", ["AllocError", "AllocFailed { .. }"],
                always=True)
     yield Test("clause_store", "memory::the_last_allocation_comes_after_all_calls", ["AllocError"], always=True)
-    # What was created is kept or discarded.
+    # A created file is kept or discarded.
     yield Test("command", "checkpoints::memory_that_runs_out", [], 2, looks=True)
     yield Test("command", "rounds::refusals::rounds_that_are_refused_memory", [], 4, looks=True)
 
@@ -251,13 +253,13 @@ def program_of_tests(crate: str, rt: str) -> str:
 
 
 def cause_of(answer: Answer) -> str:
-    """The cause that a test gives which failed; nothing where it passed."""
+    """The cause that a failed test gives; empty if it passed."""
     found = re.fullmatch(r"error: (.*)\nthe test failed: its result gives status 1\n", answer.err)
     return "" if answer.status == 0 else found[1] if found else str(answer)
 
 
 def sweep_test(machine: Machine, test: Test, kind: str) -> Tuple[int, List[str]]:
-    """How many calls were refused, and the wrong answers of the test."""
+    """How many calls were refused, and the test's wrong answers."""
     wrong: List[str] = []
     causes: Set[str] = set()
     for number in itertools.count(1):
@@ -285,7 +287,7 @@ def sweep_test(machine: Machine, test: Test, kind: str) -> Tuple[int, List[str]]
 
 
 def unjoined(folder: Path) -> List[str]:
-    """A complaint where a program that waits for none of its threads isn't found wrong, wherever some were started."""
+    """A complaint if a program that waits for none of its threads isn't found wrong."""
     program = compiled(folder / "unjoined", [TESTS / "unjoined.c"], "-std=gnu11", "-pthread")
     machine, found = Machine(str(program), folder, VERY_LATE), []
     for number in range(1, 7):
@@ -296,7 +298,8 @@ def unjoined(folder: Path) -> List[str]:
 
 
 def leave(machine: Machine, folder: Path, count: int) -> Tuple[int, List[str]]:
-    """How many threads were refused beside a number of pipes that stay open after their first line, and what went wrong.
+    """How many threads were refused beside a number of pipes that stay open after their first line,
+    and what went wrong.
 
     The run ends all the same, and reads none of them.
     """
@@ -319,11 +322,9 @@ def leave(machine: Machine, folder: Path, count: int) -> Tuple[int, List[str]]:
 
 
 def kept(rt: str) -> List[str]:
-    """The complaint of a test on a store of 16 million words that is opened and dropped four times, where it doesn't pass.
-
-    An opening takes 128,000,000 bytes for the row, and as much again until it returns. Here are 307,200,000, and a second list
-    that is still there would want 384,000,000.
-    """
+    """The complaint of a test that opens and drops a store of 16 million words four times, unless
+    it passes. Opening takes 128,000,000 bytes for the row, and as much again until it returns. Here
+    are 307,200,000; a second list that is still there would need 384,000,000."""
     name, most = "memory::a_large_store_is_given_back", 307_200_000
     ran = run([program_of_tests("clause_store", rt), f"tests::{name}"],
               preexec_fn=lambda: resource.setrlimit(resource.RLIMIT_AS, (most, most)))
@@ -343,7 +344,7 @@ def allocations_that_differ(allocations: Dict[str, int]) -> Iterator[str]:
 
 
 class Count:
-    """How many calls of each kind were refused, and the answers that may not be."""
+    """How many calls of each kind were refused, and the wrong answers."""
 
     def __init__(self) -> None:
         self.refused: Dict[str, int] = {}

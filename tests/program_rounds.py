@@ -1,13 +1,13 @@
 #!/usr/bin/env python3
-"""Runs the program with --rounds, and compares what it answers, and what it saved, with what is wanted.
+"""Runs the program with --rounds, and compares its answers and checkpoints.
 
     program_rounds.py PROGRAM
 
-Each row is run by threads and by turns. Rounds end by each verdict, by wrong lines, and by each fault, in the first one and in
-later ones; sizes are spelled in each wrong way; streams and sizes are files and pipes, and what was saved is replaced between two
-rounds. It shows what is off; the last line is 'N passed, M failed', and ', K skipped' where the machine doesn't let something be
-tried. The status is 1 where a row failed.
-"""
+Each row runs with threads and with --serial. Rounds end by each verdict, by wrong lines, and by
+each fault, in the first one and in later ones; sizes are spelled in each wrong way; streams and
+sizes are files and pipes, and a checkpoint is replaced between two rounds. Failures are shown; the
+last line is 'N passed, M failed', and ', K skipped' if the machine doesn't allow a test. The status
+is 1 if a row failed."""
 import re
 import shutil
 import subprocess
@@ -29,21 +29,22 @@ DERIVING, REFUTING = "5 2 0 1 2 0\n", "5 2 0 1 2 0\n6 0 5 3 4 0\n"     # of the 
 BAD, BAD_SAID = "5 1 0 0\n", "0 added, 0 deleted, bad line 1 (no conflict)"
 UNREAD = "0 added, 0 deleted, read failed at line 1"
 SAVED_ONE = FOUR.replace("2 4", "2 5") + "2 0\n"
-OTHER = "p cnf 2 2\n2 0\n-2 0\n"    # another formula, and what refutes it and nothing else
+OTHER = "p cnf 2 2\n2 0\n-2 0\n"    # another formula, and streams that refute only it
 REFUTING_OTHER = "5 0 1 2 0\n"
 NO_REPORT = "lrupd: cannot write report\n"
 HEARD: Dict[str, Any] = {"stdout": subprocess.PIPE, "stderr": subprocess.PIPE, "text": True}
-LEFT = range(2, 7)  # the rounds whose formulas are looked for in the end
+LEFT = range(2, 7)  # rounds whose formulas are looked for at the end
 Named = Tuple[str, Wanted]
 
 
 def rounds(name: str, status: int, texts: Texts, out: str = "", err: str = "", saved: Sequence[str] = (), options: str = "",
            others: Mapping[str, str] = {}, gone: Sequence[str] = (), do: str = "", how: str = "",
            pipes: Mapping[str, Pieces] = {}) -> Iterator[Named]:
-    """Streams of these texts, and what was saved behind each round; no other formula of a round is there, and no file has changed.
+    """Streams of these texts, and what was saved behind each round; no other formula of a round is
+    there, and no file has changed.
 
-    Before, the shell does that; the streams that are gone, or that are pipes, are no files in the end.
-    """
+    Before, the shell does that; the streams that are gone, or that are pipes, are no files in the
+    end. """
     given = {name: text for name, text in {**round_files(texts), **others}.items() if name not in pipes}
     formulas: Dict[str, Optional[str]] = {saved_name(number): None for number in LEFT}
     left = {**formulas, **given, **{saved_name(number): text for number, text in enumerate(saved, 2)}, **dict.fromkeys(gone)}
@@ -58,13 +59,13 @@ def sized(number: int, text: str) -> Dict[str, str]:
 
 
 def rm(number: int, stream: int) -> Dict[str, Any]:
-    """For a row, without that stream."""
+    """For a row without that stream."""
     name = stream_name(number, stream)
     return {"do": f"rm {name}; ", "gone": [name]}
 
 
 def plain(text: str) -> str:
-    """What is saved of a formula that was saved, where nothing is derived or dropped."""
+    """The checkpoint of a saved formula if nothing is derived or dropped."""
     return "".join(line for line in text.splitlines(True) if not line.startswith("c"))
 
 
@@ -88,7 +89,7 @@ def ends() -> Iterator[Named]:
     yield from rounds("nothing", 3, [[""]] * 3, last(3, [NOTHING], 3), saved=[FOUR] * 3)
     yield from rounds("a stream that isn't one of the round's", 0, texts, end, saved=saved,
                       others={stream_name(2, 2): BAD, stream_name(3, 0): BAD, "d/round-2.stream-01": BAD})
-    # What is of round 1 comes by words; and what is of no round isn't looked at.
+    # Files of round 1 are given as arguments; files of no round are ignored.
     yield from rounds("sizes and a formula of round 1, and sizes of round 5", 0, texts, end, saved=saved,
                       others={"d/round-1.sizes": "x", "d/round-1.cnf": OTHER, "d/round-5.sizes": "x", "d/round-02.sizes": "x"})
     yield from rounds("stream 1 leads nowhere", 3, texts[:1], last(1, said[0], 3), saved=saved[:1],
@@ -96,7 +97,7 @@ def ends() -> Iterator[Named]:
 
 
 def places() -> Iterator[Named]:
-    """The folder is a path as any other, and so are the words of round 1."""
+    """The folder is a path like any other, and so are the arguments of round 1."""
     texts, said, saved = ONE
     given = round_files(texts)
     for folder, do in ("d/", ""), ("./d", ""), ("d//", ""), ("link", "ln -s d link; "), ("../$(basename $PWD)/d", ""):
@@ -118,7 +119,8 @@ def places() -> Iterator[Named]:
 
 
 def formulas() -> Iterator[Named]:
-    """Nothing but the clauses and the header's variables goes on; the next identities come after the places of what was saved."""
+    """Only the clauses and the header's variables are carried over; the next identities follow the
+    places of the checkpoint."""
     def formula(text: str) -> Dict[str, str]:
         return {"formula": text}
 
@@ -145,7 +147,7 @@ def formulas() -> Iterator[Named]:
                       last(2, ["0 added, 0 deleted, bad line 1 (missing 5)"], 3), saved=[FOUR] * 2)
     yield from rounds("clauses of the round before imported", 3, [ONE.texts[0], ["4 i 2 2 0\n1 i 2 -1 0\n"]],
                       last(2, [NOTHING], 3), saved=[SAVED, plain(SAVED)])
-    # Nobody owns what was saved: each stream drops it for itself.
+    # No stream owns saved clauses: each drops them for itself.
     yield from rounds("what one of two drops", 3, [[DERIVING, ""], ["5 d 5 0\n", ""]],
                       last(2, ["0 added, 1 deleted, ended", NOTHING], 3), saved=[SAVED_ONE] * 2)
     seven = FOUR.replace("2 4", "2 7") + "2 0\n-2 0\n2 0\n"
@@ -155,7 +157,7 @@ def formulas() -> Iterator[Named]:
 
 
 def assumptions() -> Iterator[Named]:
-    """They hold in each round; one that ends under them is the last."""
+    """They hold in each round; a round that ends under them is the last."""
     def under(name: str, cube: str, *more: Any, **most: Any) -> Iterator[Named]:
         yield from rounds(f"under {name}", *more, options=f"{TRIES} --assume cube", others={"cube": cube}, **most)
 
@@ -180,7 +182,7 @@ def assumptions() -> Iterator[Named]:
 
 
 def wrong_lines() -> Iterator[Named]:
-    """The round with a wrong line is the last one; what was saved of it is there."""
+    """The round with a wrong line is the last one, and its checkpoint is there."""
     for number in 1, 2, 3:
         before = [FOUR, *ONE.saved][number - 1]
         saved = [*ONE.saved[:number - 1], plain(before)]
@@ -206,12 +208,12 @@ def wrong_lines() -> Iterator[Named]:
 
 
 def dropped_first(text: str) -> str:
-    """What is saved of a formula of four clauses behind a line that drops the first of them."""
+    """The checkpoint of a formula of four clauses after a line that drops the first one."""
     clauses = plain(text).splitlines(True)[2:]
     return "p cnf 2 3\n" + "".join(f"c id {identity}\n{clause}" for identity, clause in enumerate(clauses, 2))
 
 
-# Faults, in each round: there is no report, and what was saved before stays.
+# Faults in each round: there is no report, and earlier checkpoints stay.
 
 
 def stopped(number: int, cause: str, status: int, why: str = "", proof: str = "two", **how: Any) -> Iterator[Named]:
@@ -237,7 +239,8 @@ def unopened() -> Iterator[Named]:
         for device in "null", "zero":
             if number > 1:
                 yield from stopped(number, "sizes", 2, f"which are /dev/{device}", do=f"ln -s /dev/{device} {name}; ")
-    # Of 4,095 bytes in a path that of round 2's formula has 4,095, or 4,093 and that of its sizes 4,095.
+    # Of at most 4,095 bytes in a path, that of round 2's formula has 4,095, or 4,093 and that of
+    # its sizes 4,095.
     for cause, times in ("cannot read sizes", 2041), ("cannot open stream 1", 2040):
         for way in WAYS:
             words = [*way.split(), "--rounds", "d" + "/." * times, "formula", stream_name(1)]
@@ -246,7 +249,7 @@ def unopened() -> Iterator[Named]:
 
 
 def in_the_way() -> Iterator[Named]:
-    """Where a checkpoint can't be created nothing is touched."""
+    """If a checkpoint can't be created, nothing is touched."""
     for number in 1, 2, 3:
         name, cause = saved_name(number + 1), "cannot create checkpoint"
         yield from stopped(number, cause, 5, "a formula is there", others={name: OTHER})
@@ -269,7 +272,7 @@ def in_the_way() -> Iterator[Named]:
 
 
 def order_of_work() -> Iterator[Named]:
-    """The sizes, the streams, the layout, and then the checkpoint; what is found first is said."""
+    """The sizes, the streams, the layout, and then the checkpoint: the first fault is reported."""
     texts, said, saved = TWO
     for number in 2, 3:
         end = last(number - 1, said[number - 2], 3)
@@ -306,7 +309,7 @@ def two_ways_to_save() -> Iterator[Named]:
         for options in ["--checkpoint", "saved", "--rounds", "d"], ["--rounds=d", "--checkpoint=saved"]:
             yield f"{options} {way}", Wanted([*way.split(), *options, *names], 2, err=fault(1, cause), files=given,
                                              left={**given, "saved": None, saved_name(2): None})
-            # It is a fault of the words, so no file is opened.
+            # A fault of the command line, so no file is opened.
             yield f"{options} {way}, and no formula", Wanted([*way.split(), *options, "absent", stream_name(1)], 2, err=fault(1, cause),
                                                              files=given, left={**given, "saved": None, saved_name(2): None})
 
@@ -321,12 +324,12 @@ WRONG_SIZES = [
     # Signs, and leading zeros.
     "+1 1 1\n", "1 +1 1\n", "1 1 +1\n", "-1 1 1\n", "1 -1 1\n", "1 1 -1\n", "1 -0 1\n", "1 1 -0\n", "01 1 1\n", "1 01 1\n",
     "1 1 01\n", "1 00 1\n", "1 1 00\n", "00 1 1\n", "1 0000000001 1\n",
-    # Beyond what an option takes, and what would be 1 if it were cut to 32 or to 64 bits.
+    # Above an option's limit, and numbers that are 1 modulo 2^32 or 2^64.
     "0 1 1\n", "65 1 1\n", "100 1 1\n", "257 1 1\n", "1 268435457 1\n", "1 1 268435457\n", "1 268435460 1\n", "1 300000000 1\n",
     "1 1000000000 1\n", "1 1 1000000000\n", "4294967297 1 1\n", "1 4294967297 1\n", "1 1 4294967297\n",
     "18446744073709551617 1 1\n", "1 18446744073709551617 1\n", "1 1 18446744073709551617\n",
     "1 340282366920938463463374607431768211457 1\n",
-    # Of no more than 64 bytes the end is read, and of more of them it isn't.
+    # The end of at most 64 bytes is read, and of more it isn't.
     *("1 1 1\n".ljust(length, fill) for fill in "\n1 \0" for length in (63, 64, 65, 66, 127, 128, 129, 1_000_000)),
     *("1 1 1\n".rjust(length, fill) for fill in "0 \n" for length in (63, 64, 65, 66, 128)),
     "1 1 " + "1" * 60, "1 1 " + "1" * 59 + "\n", "1 1 " + "1" * 60 + "\n", "1 1 " + "9" * 1_000_000 + "\n",
@@ -340,7 +343,7 @@ def wrong_sizes() -> Iterator[Named]:
         yield from stopped(3, "sizes", 2, repr(text), "one", others={**sized(2, "1 1 1\n"), **sized(3, text)})
 
 
-# Of the four clauses, two lines with three literals, 2 and 2 1.
+# From the four clauses, two lines with three literals, 2 and 2 1.
 LINES, LINES_SAID = "5 2 0 1 2 0\n6 2 1 0 5 0\n", "2 added, 0 deleted, ended"
 LINES_SAVED = FOUR.replace("2 4", "2 6") + "2 0\n2 1 0\n"
 NO_LINE = "1 added, 0 deleted, bad line 2 (identity)"
@@ -348,7 +351,7 @@ NO_ROOM = "1 added, 0 deleted, bad line 2 (no room)"
 
 
 def sizes() -> Iterator[Named]:
-    """Each limit from both sides; where there are no sizes those of the round before count."""
+    """Each limit from both sides; without sizes those of the round before hold."""
     def second(text: str, said: str, saved: str, options: str = "") -> Iterator[Named]:
         """Those two lines in round 2, with sizes of this text."""
         yield from rounds(f"sizes {text!r} {options}", 3, [[""], [LINES]], last(2, [said], 3), saved=[FOUR, saved], options=options,
@@ -370,10 +373,10 @@ def sizes() -> Iterator[Named]:
     yield from second("", NO_ROOM, SAVED_ONE, "--room 2")
     yield from second("1 2 3\n", LINES_SAID, LINES_SAVED, "--lines 0 --room 0")
     yield from second("1 1 3\n", NO_LINE, SAVED_ONE, "--lines 2 --room 3")
-    # The options' limits are within what may stand there, and beyond a row.
+    # The options' limits are allowed there, and exceed a row.
     for text in "1 268435456 0\n", "1 0 268435456\n", "1 268435456 268435456\n":
         yield from too_long(text)
-    # The formula has 4 clauses and 8 literals; all is at most 268,435,455 together.
+    # The formula has 4 clauses and 8 literals; the total is at most 268,435,455.
     yield from too_long("1 1 268435443\n")
     yield from too_long("1 268435443 1\n")
     again, third = LINES_SAVED.replace("2 6", "2 7"), ["7 2 0 5 0\n8 2 0 5 0\n"]
@@ -413,16 +416,16 @@ def counts() -> Iterator[Named]:
                           saved=[FOUR], others=sized(2, f"{count} 1 1\n"))
     yield from rounds("1 of 2 streams that stay", 5, [["", ""], [""]], err=fault(2, "cannot open stream 2"), saved=[FOUR])
     yield from rounds("65 streams", 2, [[""], [""] * 65], "", fault(2, "sizes"), [FOUR], others=sized(2, "65 1 1\n"))
-    # Two of three streams drop clause 1 in round 1; then there is one.
+    # Two of three streams drop clause 1 in round 1; then there is one stream.
     yield from rounds("what two of three have dropped", 3, [["1 d 1 0\n", "1 d 1 0\n", ""], ["1 d 1 0\n"]],
                       last(2, ["0 added, 1 deleted, ended"], 3), saved=[FOUR, dropped_first(FOUR)], others=sized(2, "1 1 1\n"))
 
 
-# Where the saving or the report fails.
+# Saving or the report fails.
 
 
 def full() -> Iterator[Named]:
-    """Files of no byte, and a report that can't be written."""
+    """Files without bytes, and a report that can't be written."""
     none, unwritten = 'trap "" XFSZ; ulimit -f 0; ', fault(1, "checkpoint not written")
     texts, said, saved = TWO
     yield from rounds("a full disk", 9, texts, last(1, said[0], 3), unwritten, [""], do=none)
@@ -446,7 +449,8 @@ def full() -> Iterator[Named]:
 
 
 def little_memory() -> Iterator[Named]:
-    """In a small address space, with stacks of 8 MB. A row that isn't too long by one word, and wants a gigabyte."""
+    """In a small address space, with stacks of 8 MB. A row just below the limit takes a
+    gigabyte."""
     do = "ulimit -s 8192 && ulimit -v 1000000 && "
     yield from rounds("out of memory in round 1", 6, ONE.texts, "", fault(1, "out of memory"), [""], "--room 268000000", do=do)
     yield from rounds("out of memory in round 2", 6, [[""], [LINES]], err=fault(2, "out of memory"), saved=[FOUR, ""], do=do,
@@ -454,12 +458,12 @@ def little_memory() -> Iterator[Named]:
 
 
 def want_checkpoints(count: int, work: Path) -> None:
-    """So many rounds have created one."""
+    """That many rounds have created one."""
     want(sorted((work / "d").glob("*.cnf")), [work / saved_name(number) for number in range(2, count + 2)], "the checkpoints")
 
 
 def torn(number: int, assumed: bool, program: str, way: List[str], work: Path) -> None:
-    """What is saved behind this round is larger than what was saved before, and than what a file may have."""
+    """The checkpoint after this round is larger than those before, and than the limit on files."""
     texts = [[""]] * (number - 1) + [["".join(f"{identity} 2 0 1 2 0\n" for identity in range(5, 25))], [REFUTING]]
     for name, text in {**round_files(texts), "cube": "-2 0\n"}.items():
         written(text, work, name)
@@ -486,7 +490,8 @@ def without_leave(which: str, cause: str, program: str, work: Path) -> None:
 
 
 def too_many_clauses(number: int, program: str, way: List[str], work: Path) -> None:
-    """The most clauses that a formula has go on, and in this round there is one more."""
+    """As many clauses as a formula may have are carried over, and in this round there is one
+    more."""
     clauses = MOST_CLAUSES
     texts = [[""]] * (number - 1) + [[f"{clauses + 1} 1 0 1 0\n"], [BAD]]
     for name, text in round_files(texts).items():
@@ -524,8 +529,8 @@ def pipes() -> Iterator[Named]:
 
 
 def late(name: str, text: str, seconds: float = 0.3) -> str:
-    """For the shell: there is a pipe in the place of the file, and it is opened for writing late. If there was a file it has that
-    one's text, and else this one."""
+    """For the shell: a pipe replaces the file, and is opened for writing late. It gets the file's
+    text, or this one if there was no file."""
     return f"[ -e {name} ] || echo {text} > {name}; mv {name} late; mkfifo {name}; (sleep {seconds}; cat late > {name}) & "
 
 
@@ -536,8 +541,8 @@ def lay(texts: Texts, work: Path) -> None:
 
 
 def whole_when_opened(program: str, way: List[str], work: Path) -> None:
-    """A producer that makes the pipe of a round's sizes before the round before ends: once it is read what was saved is whole, and
-    then the streams of the round are made."""
+    """A producer makes the pipe of a round's sizes before the previous round ends: once it is read,
+    the checkpoint is whole, and then the round's streams are made."""
     texts, said, saved = TWO
     lay(texts[:1], work)
     seen, number = [], 2
@@ -574,8 +579,8 @@ FORGERIES: Dict[str, Callable[[Path], None]] = {"another is moved there": rename
 
 
 def forged(forge: Callable[[Path], None], at: str, program: str, way: List[str], work: Path) -> None:
-    """What is in the place of the formulas of rounds 1 and 2 while round 2 is held back has no effect: neither on a right proof,
-    nor on one that refutes what is there."""
+    """Replacing the formulas of rounds 1 and 2 while round 2 is held back has no effect: neither on
+    a right proof, nor on one that refutes the replacement."""
     unproved = ["0 added, 0 deleted, bad line 1 (not unit 1)", NOTHING]
     for texts, out, status in ((TWO.texts, last(3, TWO.said[2], 0), 0),
                                ([TWO.texts[0], [REFUTING_OTHER, ""]], last(2, unproved, 3), 3)):
@@ -596,7 +601,7 @@ def forged(forge: Callable[[Path], None], at: str, program: str, way: List[str],
 
 
 def unended_sizes(size: int, program: str, way: List[str], work: Path) -> None:
-    """A pipe of sizes that stays open behind 64 bytes holds nothing up, and no more of it is read."""
+    """A pipe of sizes that stays open after 64 bytes delays nothing, and no more of it is read."""
     lay(ONE.texts, work)
     with held(work / "d/round-2.sizes") as pipe:
         pipe.write(b"1 1 1\n".ljust(size, b"\n"))
@@ -606,7 +611,7 @@ def unended_sizes(size: int, program: str, way: List[str], work: Path) -> None:
 
 
 def killed(program: str, way: List[str], work: Path) -> None:
-    """A run that is killed in round 2 leaves what round 1 saved, and another one goes on with that."""
+    """A run killed in round 2 leaves round 1's checkpoint, and another run continues with it."""
     texts, said, saved = TWO
     lay([texts[0], ["", texts[1][1]]], work)
     (work / stream_name(2)).unlink()
@@ -622,7 +627,7 @@ def killed(program: str, way: List[str], work: Path) -> None:
     want((work / "next" / saved_name(2)).read_text(), saved[1], "what it saved")
 
 
-# While it goes on.
+# Reports during the run.
 
 
 def told(texts: Texts, out: str, lines: Sequence[str], program: str, way: List[str], work: Path) -> None:
@@ -649,7 +654,7 @@ def lines_of(said: Sequence[str]) -> List[str]:
 
 
 def pause(program: str, way: List[str], work: Path) -> None:
-    """Where a round is held back that is told."""
+    """With --watch a round that is held back is reported."""
     texts, said, _ = ONE
     lay(texts, work)
     piped(work / "d/round-2.sizes")
@@ -669,8 +674,9 @@ def pause(program: str, way: List[str], work: Path) -> None:
 
 
 def many(count: int, limits: str, options: str, program: str, way: List[str], work: Path) -> None:
-    """Of x1, and that each variable implies the next one, and not the last: round R derives the next one, and drops what that took.
-    No file stays open, and no memory is kept: there is enough for a few rounds."""
+    """x1, and each variable implies the next, and not the last: round R derives the next one, and
+    drops what it used. No file stays open, and no memory is kept: there is enough for a few
+    rounds."""
     texts, saved = [], []
     for number in range(1, count):
         clauses = count + 2 - number
@@ -689,7 +695,7 @@ def many(count: int, limits: str, options: str, program: str, way: List[str], wo
 
 
 def special_rows(way: List[str]) -> Iterator[Row]:
-    """Those that aren't tables; each ends with the program and the way."""
+    """Rows that aren't tables; each ends with the program and the way."""
     for number in 1, 2, 3:
         for assumed in False, True:
             yield f"a full disk in round {number}" + ", under assumptions" * assumed, torn, number, assumed

@@ -1,12 +1,11 @@
 #!/usr/bin/env python3
-"""Runs the program with --rounds, and each of these rounds alone, with --checkpoint on what the one before saved: the last report
-is that of the last run, and each file has the same bytes.
+"""Runs the program with --rounds, and each of these rounds separately, with --checkpoint on the
+checkpoint before: the last report is that of the last run, and each file has the same bytes.
 
     program_rounds_alone.py PROGRAM
 
-Recorded streams are cut into rounds, and random ones are derived as it goes, with some wrong lines. It shows what is off; the last
-line is 'N passed, M failed', and the status is 1 where a row failed.
-"""
+Recorded streams are cut into rounds, and random ones are derived on the way, with some wrong lines.
+Failures are shown; the last line is 'N passed, M failed', and the status is 1 if a row failed."""
 import random
 import shutil
 import sys
@@ -20,7 +19,7 @@ from rounds import first_words, saved_name, stream_name
 
 TRIES = ["--tries", "1000000"]
 WAYS: List[List[str]] = [[], ["--serial"]]
-# Each with how many rounds.
+# Each with its number of rounds.
 RECORDED = [("four-clause.cnf", ["four-clause.lrup"], (1, 2)), ("pigeonhole.cnf", ["pigeonhole.lrup"], (2, 7)),
             ("bmc.cnf", ["bmc.lrup"], (3, 9)), ("pigeonhole.cnf", ["pigeonhole-two.1", "pigeonhole-two.2"], (3,)),
             ("bmc.cnf", [f"bmc-four.{number}" for number in range(1, 5)], (2, 7)),
@@ -39,13 +38,13 @@ def options_of(sizes: Optional[Sizes]) -> List[object]:
 
 
 class Alone(NamedTuple):
-    """The answers of runs of a round each, and what each of them saved."""
+    """The answers of runs of one round each, and their checkpoints."""
     answers: List[Ran]
     saved: List[bytes]
 
 
 def round_alone(program: str, options: Sequence[object], number: int, streams: int, work: Path, alone: Alone) -> bool:
-    """Whether it would be followed by another one."""
+    """Whether another round would follow."""
     formula = work / (f"alone-{number}" if number > 1 else "formula")
     saved = work / f"alone-{number + 1}"
     words = [work / stream_name(number, stream) for stream in range(1, streams + 1)]
@@ -57,7 +56,7 @@ def round_alone(program: str, options: Sequence[object], number: int, streams: i
 
 
 def want_same(program: str, options: Sequence[object], streams: int, work: Path, alone: Alone) -> None:
-    """The run in rounds, of streams that are there in the folder d."""
+    """The run in rounds, over the streams in the folder d."""
     found, count = run([program, *options, *first_words([[""] * streams])], cwd=work), len(alone.answers)
     last = alone.answers[-1]
     want(found, last._replace(out=f"c round {count}\n" * (count > 1) + last.out), "the answer")
@@ -90,8 +89,8 @@ class Writer:
         self.lines: List[str] = []
 
     def resolvent(self) -> Optional[Tuple[Clause, List[int]]]:
-        """Of two clauses that clash in one variable: the first becomes unit, and the second the conflict. It is a short one of
-        several."""
+        """Of two clauses that clash in one variable: the first becomes unit, and the second the
+        conflict. A short one of several."""
         found: List[Tuple[Clause, List[int]]] = []
         for _ in range(50):
             first, second = self.numbers.sample(sorted(self.clauses), 2)
@@ -108,13 +107,13 @@ class Writer:
 
     def write_line(self) -> None:
         kind, live = self.numbers.random(), sorted(self.clauses)
-        if kind < 0.004:    # wrong in most cases; what another stream derives isn't cited, whose turn nobody knows
+        if kind < 0.004:    # usually wrong; clauses of other streams aren't cited, since their timing is unknown
             self.lines.append(f"{self.next} {self.numbers.choice((1, -2, 99))} 0 {self.numbers.choice([*live, 10 ** 9])} 0")
         elif len(live) < 4 or kind < 0.1:
             chosen = self.numbers.choice(live)
             self.add(self.clauses[chosen], [chosen])
         elif kind < 0.2:
-            chosen = min(live)      # one of the formula: an own one can't be imported
+            chosen = min(live)      # a clause of the formula: an own one can't be imported
             literals = self.numbers.sample(self.clauses[chosen], len(self.clauses[chosen]))
             self.lines.append(" ".join(map(str, [chosen, "i", *literals, 0])))
         elif kind < 0.3:
@@ -134,7 +133,8 @@ class Writer:
 
 
 def random_rounds(seed: int, program: str, way: List[str], work: Path) -> None:
-    """Up to eight rounds of one to three streams, with sizes that are enough or not; in some under assumptions."""
+    """Up to eight rounds of one to three streams, with sizes that suffice or don't; some under
+    assumptions."""
     numbers, alone = random.Random(seed), Alone([], [])
     variables = numbers.randint(3, 7)
     clauses = random_clauses(numbers, variables, numbers.randint(3 * variables, 5 * variables), (2, 3, 3))

@@ -1,4 +1,4 @@
-"""Proofs in each form that the filter reads, written from the steps of a stream."""
+"""Proofs in each form that the filter reads, made from the steps of a stream."""
 import random
 from pathlib import Path
 from typing import Callable, Dict, Iterable, Iterator, List, NamedTuple, Tuple, Union
@@ -7,7 +7,7 @@ Clause = List[int]
 
 
 class Step(NamedTuple):
-    """Of a deletion the hints are the identities; an import has none."""
+    """For a deletion the hints are the identities; an import has none."""
     kind: str
     identity: int
     literals: Clause
@@ -15,7 +15,7 @@ class Step(NamedTuple):
 
 
 def read_formula(path: Path) -> List[Clause]:
-    """The clauses, as they are written."""
+    """The clauses, as written."""
     with open(path) as file:
         words = [word for line in file if not line.startswith(("c", "p")) for word in line.split()]
     clauses: List[Clause] = []
@@ -65,7 +65,7 @@ def varint(number: int) -> bytes:
 
 
 def code(number: int) -> bytes:
-    """Of a literal, and of an identity."""
+    """The code of a literal, or of an identity."""
     return varint(2 * abs(number) + (number < 0))
 
 
@@ -74,7 +74,7 @@ def codes(numbers: Iterable[int]) -> bytes:
 
 
 def binary_lrat(step: Step, identity: Callable[[int], bytes] = code) -> bytes:
-    """Some solvers write identities as literals, and some as they are."""
+    """Some solvers write identities as literals, others as plain numbers."""
     hints = b"".join(map(identity, step.hints)) + b"\0"
     return b"d" + hints if step.kind == "d" else b"a" + identity(step.identity) + codes(step.literals) + hints
 
@@ -104,7 +104,8 @@ def binary_drat(formula: List[Clause], steps: List[Step]) -> List[bytes]:
 
 
 class Frat:
-    """Identities of its own, in no order and with gaps; the clauses of the formula come in another order, and so do their literals."""
+    """Identities of its own, unordered and with gaps; the formula's clauses, and their literals,
+    come in another order."""
 
     def __init__(self, formula: List[Clause], steps: List[Step], seed: int, hinted: float, gap: int = 3) -> None:
         self.numbers = random.Random(seed)
@@ -136,11 +137,11 @@ class Frat:
 
 
 def frat(formula: List[Clause], steps: List[Step], seed: int, hinted: float, gap: int = 3) -> List[bytes]:
-    """`hinted` is the part of the additions that have hints; of so many numbers one is a name."""
+    """`hinted` is the share of additions with hints; one number in `gap` is a name."""
     return Frat(formula, steps, seed, hinted, gap).lines
 
 
-# The forms, with the word that --format has for each.
+# The forms, with the argument of --format for each.
 Form = Tuple[str, Callable[[List[Clause], List[Step]], List[bytes]]]
 FORMS: Dict[str, Form] = {
     "LRAT text": ("lrat", lambda formula, steps: [lrat(step) for step in steps]),

@@ -1,16 +1,16 @@
-/* Refuses one call of the program that the loader puts it before (LD_PRELOAD), and leaves the file MARK where it did.
-   REFUSE is KIND:N or KIND:N:HOW, with N from 1: the N-th call of that kind.
-     allocate:N     malloc, calloc, realloc and their like give nothing
-     thread:N       pthread_create says EAGAIN. Each thread that was started begins LATE milliseconds later, so whoever doesn't wait
-                    for its end goes on before it has begun; and where something is written the next time, MARK gets three
-                    numbers: how many threads were started, how many of them had begun, and how many ended, ten seconds later at most
+/* Loaded before a program's libraries (LD_PRELOAD), this refuses one of its calls, and then creates the file MARK.
+   REFUSE is KIND:N or KIND:N:HOW: the N-th call of that kind, counted from 1.
+     allocate:N     malloc, calloc, realloc and the like return NULL
+     thread:N       pthread_create returns EAGAIN. Each started thread begins LATE milliseconds later, so a program that
+                    doesn't wait for it goes on before it has begun. At the next write MARK gets three numbers: how many
+                    threads were started, how many of them had begun, and how many ended within ten seconds
      read:N:HOW     read; HOW is EIO, EINTR, or short or half: one byte, or half of those asked for
      write:N:HOW    write; HOW is EIO, ENOSPC, EPIPE, or short or half
      open:N:HOW     an open without O_CREAT; HOW is EACCES, EMFILE, ENOENT or ELOOP
      create:N:HOW   an open with O_EXCL; HOW is EACCES, EMFILE or ENOSPC
-     hold:N:HOW     one of the openings of /dev/null that come before all others; HOW is EMFILE
+     hold:N:HOW     an open of /dev/null before any other file is opened; HOW is EMFILE
      sync:N:HOW     fsync and fdatasync; HOW is EIO or ENOSPC
-   A test's tool, and no part of the program. */
+   A tool for tests, not part of the program. */
 #define _GNU_SOURCE
 #include <dlfcn.h>
 #include <errno.h>
@@ -52,7 +52,7 @@ __attribute__((constructor)) static void begin(void) {
     }
 }
 
-/* True of the call that is to be refused. */
+/* Whether this call has to be refused. */
 static int is_refused(enum kind kind) {
     if (kind != refused || atomic_fetch_add(&calls, 1) + 1 != number) return 0;
     close(open(mark, O_CREAT | O_WRONLY | O_CLOEXEC, 0600));
@@ -111,8 +111,8 @@ int pthread_create(pthread_t *thread, const pthread_attr_t *attributes, void *(*
     return error;
 }
 
-/* Says once, behind a start that was refused, what has become of the threads that were started. Whoever waits for a thread may go on
-   a moment before the system has ended it. */
+/* Reports once, after a refused start, what has become of the started threads. A program that waits for a thread may go on a
+   moment before the system has ended the thread. */
 static void tell_threads(void) {
     if (!atomic_exchange(&to_be_told, 0)) return;
     long had_begun = atomic_load(&begun);
@@ -124,7 +124,7 @@ static void tell_threads(void) {
     close(file);
 }
 
-/* How many bytes the call may move, or -1 with errno. */
+/* How many bytes the call may transfer, or -1 with errno. */
 static ssize_t allowed(size_t size) {
     static const struct { const char *name; int error; } errors[] = {
         {"EIO", EIO}, {"EINTR", EINTR}, {"ENOSPC", ENOSPC}, {"EPIPE", EPIPE}, {"EACCES", EACCES}, {"EMFILE", EMFILE},
@@ -149,7 +149,7 @@ ssize_t write(int file, const void *bytes, size_t size) {
     return most < 0 ? -1 : __write(file, bytes, (size_t)most);
 }
 
-/* True while nothing but /dev/null was opened. */
+/* True while only /dev/null was opened. */
 static int is_before_all(const char *path) {
     static atomic_int others;
     return strcmp(path, "/dev/null") == 0 && atomic_load(&others) == 0 ? 1 : (atomic_store(&others, 1), 0);

@@ -1,8 +1,8 @@
-// Refuses one call of those that lrup-solve's front and supervisor make. The linker puts these
-// functions before the library's: --wrap=NAME for each NAME of the table. In the environment
-// REFUSE is NAME:K:HOW. The K-th call of NAME fails, counted over the front and what it forks; HOW
-// is the number of an error, or `short`: one byte is read or written. MARK is a file that then exists.
-// A test's tool, and no part of the program.
+// Refuses one call of lrup-solve's front or supervisor. The linker puts these functions before the
+// library's: --wrap=NAME for each NAME of the table. In the environment REFUSE is NAME:K:HOW. The
+// K-th call of NAME fails, counted over the front and its children; HOW is the number of an error,
+// or `short`: one byte is read or written. Then the file MARK is created.
+// A tool for tests, not part of the program.
 #define _GNU_SOURCE
 #include <errno.h>
 #include <fcntl.h>
@@ -13,13 +13,13 @@
 #include <string.h>
 #include <sys/mman.h>
 
-// Each argument is a whole number or a pointer, and so is each result: on Linux that is a register.
+// Each argument and result is an integer or a pointer, and on Linux in one register.
 #define SIX(type) type a, type b, type c, type d, type e, type f
 #define GIVEN a, b, c, d, e, f
 #define REAL(name) __real_##name(GIVEN)
 
-// What a call that fails gives back, beside the error. Of a library that lacks a function this has
-// no address, and nobody calls it.
+// What a failing call returns, besides the error. If the library lacks a function, its __real_
+// function has no address, and isn't called.
 #define TABLE(CALL) \
     CALL(access, -1) CALL(calloc, 0) CALL(close, (REAL(close), -1)) CALL(dprintf, -1) \
     CALL(dup2, -1) CALL(execv, -1) CALL(fclose, (REAL(fclose), -1)) CALL(fcntl, -1) \
@@ -37,7 +37,7 @@
     long __wrap_##name(SIX(long));
 TABLE(DECLARE)
 
-static atomic_long *calls;      // of the function; shared with what is forked
+static atomic_long *calls;      // of the function; shared with children
 static const char *refused, *mark;
 static long number, error;      // 0: short
 
@@ -60,7 +60,7 @@ static bool is_refused(const char *name) {
     return true;
 }
 
-// As on a device that is full from now on.
+// From now on writes fail as on a full device.
 static long full(void) {
     int device = (int)__real_open((long)"/dev/full", O_WRONLY | O_CLOEXEC, 0, 0, 0, 0);
     __real_dup2(device, 1, 0, 0, 0, 0);

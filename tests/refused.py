@@ -1,4 +1,5 @@
-"""What the program may answer where a call of the system is refused, and a machine that refuses one."""
+"""The permitted answers of the program when a call of the system is refused, and a machine that
+refuses one."""
 import itertools
 import os
 import re
@@ -14,7 +15,8 @@ Saved = Union[None, str, Tuple[Optional[str], ...]]
 
 
 class Answer(NamedTuple):
-    """The two outputs, the status, and the text of the checkpoint, if one was created; in rounds those of all of them."""
+    """The two outputs, the status, and the text of the checkpoint, if one was created; in rounds
+    the texts of all."""
     out: str
     err: str
     status: Optional[int]
@@ -34,28 +36,29 @@ NOT_WRITTEN = "lrupd: checkpoint not written\n"
 NO_MEMORY_TO_SAVE = "lrupd: checkpoint not written: out of memory\n"
 ERRORS_OF_READS = ["EIO", "EINTR"]
 SHORT = ["short", "half"]
-EACH = ["thread", "open", "create", "hold", "sync"]  # kinds of which each call has an answer of its own
-HELD = 3  # openings of /dev/null, for standard streams that are closed
-SECONDS = 20  # within which a run ends whose thread isn't started, and not a minute later, when the others' tries are over
-HANGS = 300  # seconds, after which a run hangs
-LATE = 50  # milliseconds that a thread takes to begin, where one isn't started
+EACH = ["thread", "open", "create", "hold", "sync"]  # kinds in which each call has its own answer
+HELD = 3  # opens of /dev/null, for closed standard streams
+SECONDS = 20  # within which a run ends if a thread isn't started; the others' tries would take a minute
+HANGS = 300  # seconds after which a run counts as hanging
+LATE = 50  # milliseconds that threads take to begin, if one isn't started
 
 
 class Input:
-    """Words, which end with the streams, and what else than the ample answer may be said where something is refused."""
+    """Arguments, which end with the streams, and the permitted answers besides the normal one when
+    something is refused."""
 
     def __init__(self, name: str, words: Words, streams: int = 0, dropped: Sequence[Answer] = (), waits: bool = False,
                  out: Optional[str] = None) -> None:
         self.name, self.words, self.streams, self.out = name, list(map(str, words)), streams, out
-        self.dropped = dropped  # reports where the growth for a dropped identity is refused
-        self.waits = waits  # for a minute, where a stream that others cite fails
+        self.dropped = dropped  # reports if the growth for a dropped identity is refused
+        self.waits = waits  # for a minute, if a stream that others cite fails
         self.assumes = "--assume" in self.words
         self.checkpoint = Path(self.words[self.words.index("--checkpoint") + 1]) if "--checkpoint" in self.words else None
-        self.created = "" if self.checkpoint else None  # what the checkpoint has before something is saved
+        self.created = "" if self.checkpoint else None  # the checkpoint before something is saved
 
 
 class InRounds(Input):
-    """A run in rounds, with the sizes of each in a file."""
+    """A run in rounds, with each round's sizes in a file."""
 
     def __init__(self, name: str, options: Sequence[str], proof: Proof, work: Path) -> None:
         self.proof, self.count, self.folder = proof, len(proof.texts), work / "d"
@@ -70,12 +73,12 @@ class InRounds(Input):
         self.status = 3 if proof.saved[-1] else 0
         self.reports = [last(number, said, 3) for number, said in enumerate(proof.said[:-1], 1)]
         self.reports.append(last(self.count, proof.said[-1], self.status))
-        self.reached = self.count + (self.status == 3)  # the last round that something is opened of
+        self.reached = self.count + (self.status == 3)  # the last round with a file that is opened
         self.singles = work / "saved"
         self.told = 0 if "--watch" not in options else sum(map(len, proof.texts)) + self.count - 1  # lines of --watch
 
     def before(self, number: int, *more: str) -> Saved:
-        """What was saved before a round, and what it created itself."""
+        """What was saved before a round, and the file that it created itself."""
         found = [*self.proof.saved[:number - 1], *more]
         return tuple(found + [None] * (MOST_SAVED - len(found)))
 
@@ -99,7 +102,7 @@ MOST_SAVED = 4  # checkpoints of a run in rounds that are looked for
 
 
 def places_of(words: Sequence[str]) -> List[Path]:
-    """Where something may be saved."""
+    """The paths at which something may be saved."""
     if "--rounds" in words:
         folder = Path(words[words.index("--rounds") + 1])
         return [folder.parent / saved_name(number) for number in range(2, 2 + MOST_SAVED)]
@@ -107,7 +110,7 @@ def places_of(words: Sequence[str]) -> List[Path]:
 
 
 class Machine:
-    """Runs the program, with a call refused."""
+    """Runs the program, with one call refused."""
 
     def __init__(self, program: str, folder: Path, late: int = LATE) -> None:
         self.program, self.mark, self.stump, self.late = program, folder / "mark", folder / "stump", late
@@ -116,8 +119,8 @@ class Machine:
 
     def run(self, words: Sequence[str], refuse: str = "", out: Optional[str] = None,
             limit: float = HANGS) -> Tuple[Answer, bool, float]:
-        """The answer, whether a call was refused, and the seconds that it took. The lines of `--watch` are compared with the
-        report, and aren't in the answer where they are right."""
+        """The answer, whether a call was refused, and how many seconds it took. Right lines of
+        `--watch` are compared with the report, and left out of the answer."""
         checkpoints = places_of(words)
         for path in [self.mark, *checkpoints]:
             if path.is_file():
@@ -139,16 +142,19 @@ class Machine:
         return answer, self.mark.exists(), time.monotonic() - began
 
     def threads(self) -> str:
-        """How many threads that were started before the one that was refused had begun, and had ended, in words."""
+        """How many threads that were started before the refused one had begun, and had ended, in
+        words."""
         counts = self.mark.read_text().split() if self.mark.exists() else []
         return "; of {} threads {} had begun, and {} ended".format(*counts) if counts else ""
 
     def has_waited_for(self, count: int) -> bool:
-        """Were as many threads started before the one that was refused, and had they all begun, and ended, when that was said?"""
+        """Whether that many threads were started before the refused one, and had all begun, and
+        ended, when it was reported."""
         return self.mark.read_text().split() == [str(count)] * 3
 
     def answer_without(self, given: Input, number: int, line: int, cause: str = "read failed") -> Answer:
-        """The answer where a stream fails in a line, as where it isn't read: the one of a stream that ends before that line."""
+        """The answer if a stream fails in a line, as if unread: that for a stream that ends before
+        the line."""
         if (given.name, number, line, cause) not in self.ends:
             words, place = list(given.words), number - 1 - given.streams
             before = Path(words[place]).read_bytes().splitlines(keepends=True)[:line - 1]
@@ -162,7 +168,8 @@ class Machine:
 
 
 def mixtures(lines: Sequence[str], how: str) -> Iterator[str]:
-    """Lines of threads, one of which the system took a part of at first, so that others went out before its rest."""
+    """Lines of threads, one of which was written in part at first, so that others came before its
+    rest."""
     for cut, line in enumerate(lines):
         length = 1 if how == "short" else len(line) // 2
         for last in range(cut + 1, len(lines)):
@@ -178,9 +185,9 @@ def unmixed(err: str, watched: Set[str], how: str) -> str:
 
 
 def without_watched_ends(answer: Answer, refuse: str, mixes: bool) -> Answer:
-    """Without the lines of --watch on how each stream ended, where they say what the report does; else no answer. A report that is
-    cut may say less, and so may these lines where a write fails. Those of several threads may mix where the system takes a part of
-    a write, and only there."""
+    """Removes the lines of --watch on how each stream ended, if they agree with the report;
+    otherwise no answer. A truncated report may say less, and so may these lines if a write fails.
+    Lines of several threads may mix only if the system writes a part."""
     kind, _, how = (refuse.split(":") + ["", ""])[:3]
     is_short, fails = kind == "write" and how in SHORT, kind == "write" and how not in SHORT
     reported = {re.sub("^c", "lrupd:", line) for line in answer.out.splitlines(keepends=True) if line.startswith("c stream ")}
@@ -192,26 +199,26 @@ def without_watched_ends(answer: Answer, refuse: str, mixes: bool) -> Answer:
 
 
 def without_lines(answer: Answer) -> Answer:
-    """Without the lines of --watch on streams and on rounds, each of them whole."""
+    """Without the lines of --watch on streams and rounds, each of them whole."""
     told = r"^lrupd: (stream \d+: .*|round \d+: \d+ clauses, \d+ literals, paused for \d+ ms)\n"
     return answer._replace(err=re.sub(told, "", answer.err, flags=re.M))
 
 
 def is_cut(answer: Answer, ample: Answer) -> bool:
-    """The report couldn't be written: what went out is a beginning of it. The checkpoint was there before."""
+    """The report couldn't be written: its beginning is there. The checkpoint was there before."""
     return (answer.status == 7 and answer.err == "lrupd: cannot write report\n" and ample.out.startswith(answer.out)
             and answer.saved == ample.saved)
 
 
 def is_unsaved(answer: Answer, ample: Answer, cause: str) -> bool:
-    """The checkpoint couldn't be written: a beginning of it is there, and the report is as ever."""
+    """The checkpoint couldn't be written: its beginning is there, and the report is as usual."""
     wanted = ample._replace(err=cause + ample.err, status=7 if ample.status == 7 else 9, saved=answer.saved)
     return (ample.status in [3, 7, 8] and answer == wanted and isinstance(answer.saved, str) and isinstance(ample.saved, str)
             and ample.saved.startswith(answer.saved))
 
 
 def openings(given: Input) -> List[Answer]:
-    """The answers to each opening that is refused, in their order."""
+    """The answers to each refused open, in order."""
     streams = [stopped(5, f"cannot open stream {number}") for number in range(1, given.streams + 1)]
     return [NO_FORMULA, *[NO_ASSUMPTIONS] * given.assumes, *streams]
 
@@ -229,8 +236,9 @@ def is_unstarted(answer: Answer, given: Input) -> bool:
 
 
 def calls(kind: str, ample: Answer, given: Input) -> int:
-    """How many threads a run starts: the checking thread of each stream in turn, and then the reading threads likewise; how many
-    files it opens; how often it opens /dev/null before them; how many checkpoints it creates; and how often it flushes one."""
+    """How many threads a run starts: each stream's checking thread in turn, then the reading
+    threads; how many files it opens; how often it opens /dev/null before; how many checkpoints it
+    creates; and how often it flushes one."""
     goes_on = ample.status in [0, 3, 7, 8]
     if kind == "hold":
         return HELD
@@ -252,7 +260,8 @@ def is_refused_allocation(answer: Answer, ample: Answer, given: Input) -> bool:
 
 
 def is_failed_read(answer: Answer, given: Input, machine: Machine) -> bool:
-    """The formula or the assumptions weren't read; or one stream fails, and the others are as without the rest of it."""
+    """The formula or the assumptions weren't read; or one stream fails, and the others are as if
+    its rest were missing."""
     if answer == NO_FORMULA or answer == NO_ASSUMPTIONS and given.assumes:
         return True
     failed = re.findall(r"^c stream (\d+): .*, read failed at line (\d+)$", answer.out, re.M)
@@ -260,21 +269,22 @@ def is_failed_read(answer: Answer, given: Input, machine: Machine) -> bool:
 
 
 def is_failed_write(answer: Answer, ample: Answer) -> bool:
-    """The checkpoint, standard output, or standard error fails, which changes no status."""
+    """The checkpoint, standard output, or standard error fails; the latter changes no status."""
     return is_cut(answer, ample) or is_unsaved(answer, ample, NOT_WRITTEN) and answer.saved != ample.saved or (
         answer == ample._replace(err=answer.err) and ample.err.startswith(answer.err))
 
 
 def may_be_ample(kind: str, how: str, ample: Answer, given: Input) -> bool:
-    """May the answer be as if nothing had been refused? A call that fails is reported, but for a read of what follows a bad line,
-    and where the report goes to a full device anyway."""
+    """Whether the answer may be as if nothing had been refused. A failed call is reported, except a
+    read of what follows a bad line, or if the report goes to a full device anyway."""
     if how in SHORT or kind == "allocate":
         return True
     return kind == "read" and "bad line" in ample.out or kind in ["read", "write"] and given.out is not None
 
 
 def are_due(kind: str, ample: Answer, given: Input) -> bool:
-    """Must there be such calls? Each run that gets to the formula reads, and each that says something writes."""
+    """Whether there must be such calls. Each run that gets to the formula reads, and each that
+    reports something writes."""
     return kind in ["allocate", "write"] or kind == "read" and given.streams > 0 and ample != NO_ASSUMPTIONS
 
 
@@ -306,14 +316,15 @@ def is_right(kind: str, how: str, number: int, answer: Answer, ample: Answer, gi
 
 
 def failed_opening(number: int, stream: int, how: str, given: InRounds) -> Answer:
-    """A stream 1 of a later round that isn't there ends the run; each other cause, and each other stream, is a fault."""
+    """If stream 1 of a later round doesn't exist, the run ends; every other cause, and every other
+    stream, is a fault."""
     if how == "ENOENT" and stream == 1 and number > 1:
         return given.ended(number - 1)
     return given.stopped(number, f"cannot open stream {stream}", 5)
 
 
 def in_turn(kind: str, how: str, given: InRounds) -> List[Answer]:
-    """The answers to each call of such a kind that is refused."""
+    """The answers to each refused call of such a kind."""
     numbers, streams = range(1, given.count + 1), range(1, given.streams + 1)
     if kind == "thread":
         started = [] if "--serial" in given.words else [*streams, *streams]
@@ -327,14 +338,14 @@ def in_turn(kind: str, how: str, given: InRounds) -> List[Answer]:
     found = [given.stopped(1, "cannot read formula", 5)]
     for number in range(1, given.reached + 1):
         if number > 1:
-            # Where there are none those of the round before stay, and they are the same.
+            # Without sizes those of the round before hold, which are the same.
             found.append(given.ended(given.count) if how == "ENOENT" else given.stopped(number, "cannot read sizes", 5))
         found += [failed_opening(number, stream, how, given) for stream in streams if number <= given.count or stream == 1]
     return found
 
 
 def parts(given: InRounds, cause: str) -> Iterator[Answer]:
-    """Where the saving fails: what is there is a beginning."""
+    """Saving fails: a beginning is there."""
     for number in given.saving():
         text = given.proof.saved[number - 1]
         yield from (given.unsaved(number, cause, text[:length]) for length in range(len(text)))
@@ -354,8 +365,8 @@ def without_memory(given: InRounds) -> Iterator[Answer]:
 
 
 def is_failed_stream(answer: Answer, cause: str, given: InRounds, machine: Machine) -> bool:
-    """One stream ends for this cause in a line: then the answer, and what is saved, is that of a run of the round alone, with the
-    stream as it is before that line; and no round comes after it."""
+    """One stream ends with this cause in a line: the answer and the checkpoint are those of a run
+    of this round, with the stream up to that line; and no round follows."""
     failed = re.findall(rf"^c stream (\d+): .*, {cause} at line (\d+)$", answer.out, re.M)
     number = int((re.findall(r"^c round (\d+)$", answer.out, re.M) or [1])[0])
     if len(failed) != 1 or number > given.count:
@@ -391,7 +402,7 @@ def is_right_in_rounds(kind: str, how: str, number: int, answer: Answer, ample: 
 
 
 def due_in_rounds(kind: str, how: str, given: InRounds) -> Set[str]:
-    """What standard error has to have said where these calls were refused."""
+    """What standard error must have reported if these calls were refused."""
     numbers = range(1, given.count + 1)
     if how in SHORT:
         return set()
@@ -420,7 +431,8 @@ def complaints_in_rounds(kind: str, how: str, ample: Answer, answers: List[Answe
 
 
 def are_in_order(causes: List[str], ample: Answer, given: Input) -> bool:
-    """The files that standard error names for the first reads: the formula, then the assumptions, then none."""
+    """The files that standard error names for the first reads: the formula, then the assumptions,
+    then none."""
     wanted = [NO_FORMULA.err] + [NO_ASSUMPTIONS.err] * given.assumes + [ample.err]
     found = [cause for cause, _ in itertools.groupby(causes)]
     reads_assumptions = given.assumes and ample != NO_ASSUMPTIONS
@@ -428,7 +440,7 @@ def are_in_order(causes: List[str], ample: Answer, given: Input) -> bool:
 
 
 def complaints(kind: str, how: str, ample: Answer, answers: List[Answer], given: Input) -> Iterator[str]:
-    """Where too few or too many calls were refused, or not all that there are."""
+    """If too few or too many calls were refused, or not all that exist."""
     causes = [answer.err for answer in answers]
     if not answers and are_due(kind, ample, given):
         yield "nothing of this kind is ever refused"

@@ -1,10 +1,10 @@
 #!/usr/bin/env python3
-"""Writes to files in place, while other programs read them, until it is killed, or a minute is over.
+"""Writes to files in place, while other programs read them, until it is killed, or a minute has
+passed.
 
     rewriting.py SEED FILE...
 
-It begins once it has said so. What it changes is as it was a moment later, so a reader may go on.
-"""
+It prints a line when it begins. A change is undone a moment later, so a reader may go on."""
 import contextlib
 import os
 import random
@@ -21,11 +21,12 @@ FILLINGS = b" 0123456789\n\0-di"
 WITHOUT_ENDS, WITHOUT_SPACES = bytes.maketrans(b"\n", b" "), bytes.maketrans(b" ", b"1")
 PAUSES = (0, 0.0002, 0.001)     # seconds
 LINES = 30000
-CUT = "a file was cut while it was read\n"
+CUT = "a file was truncated while it was read\n"
 
 
 def changed(text: bytes, numbers: random.Random) -> bytes:
-    """Numbers are others; all lines are one, or all numbers; one byte stands everywhere, or any."""
+    """Numbers are replaced; all lines, or all numbers, become one; one byte is everywhere, or any
+    bytes."""
     digits = bytes(numbers.sample(b"123456789", 9))
     kinds: List[Callable[[], bytes]] = [
         lambda: text.translate(bytes.maketrans(b"123456789", digits)),
@@ -57,7 +58,7 @@ def rewrite(paths: Sequence[str], numbers: random.Random) -> None:
 
 @contextlib.contextmanager
 def rewritten(seed: int, paths: Sequence[Path]) -> Iterator[None]:
-    """While the block runs."""
+    """Rewrites them while the block runs."""
     words = [sys.executable, __file__, seed, *paths]
     with started(words, stdout=subprocess.PIPE, text=True) as process:
         want(process.stdout and process.stdout.readline(), "begins\n", "what is said first")
@@ -65,8 +66,8 @@ def rewritten(seed: int, paths: Sequence[Path]) -> Iterator[None]:
 
 
 def chained(streams: int, lines: int, work: Path) -> List[Path]:
-    """Over the four clauses: each line cites the one before, which is of the stream before. A stream
-    leaves out each second of its identities. The last line is the empty clause."""
+    """Over the four clauses: each line cites the one before, which is in the stream before. A
+    stream leaves out every second of its identities. The last line is the empty clause."""
     identities = [5 + 2 * (place - place % streams) + place % streams for place in range(lines)]
     texts = ["5 1 2 0 1 0\n"]
     texts += [f"{now} 1 2 0 {before} 0\n" for before, now in zip(identities, identities[1:-2])]
@@ -78,8 +79,9 @@ def chained(streams: int, lines: int, work: Path) -> List[Path]:
 
 def withstands(command: Callable[[int, Path], Words], statuses: Sequence[int], runs: int, seed: int,
                work: Path) -> List[Tuple[int, Path]]:
-    """Runs a program over streams that are rewritten, with a folder for each run. What it says
-    doesn't matter, but that it ends with one of these statuses. The statuses and the folders."""
+    """Runs a program over streams that are rewritten, with a folder for each run. Its output
+    doesn't matter, but it has to end with one of these statuses. Returns the statuses and the
+    folders."""
     paths, formula, ended = chained(1 + seed % 2, LINES, work), written(FOUR, work), []
     with rewritten(seed, paths):
         for number in range(runs):
@@ -94,7 +96,7 @@ def withstands(command: Callable[[int, Path], Words], statuses: Sequence[int], r
 
 
 def cut_while_read(command: Words, name: str, work: Path) -> None:
-    """Nothing is left. A run that ends before its stream is cut is tried again."""
+    """Nothing is left. A run that ends before its stream is truncated is tried again."""
     formula, found = written(FOUR, work), []
     for number in range(20):
         stream, = chained(1, 10 * LINES, work)

@@ -1,14 +1,14 @@
 #!/usr/bin/env python3
-"""Runs the commands that pages show, each page's from its first to its last one, in one shell and one folder.
+"""Runs the commands that pages show, in order, with one shell and one folder for each page.
 
     shown.py PROGRAM [FLAGS]
 
-A command stands behind '$ ' in a block that is indented by four spaces or more. If its line ends with a backslash, a bar or '&&', it
-goes on in the next one. What stands below is what it has to write, standard error too: a line '..' stands for any lines, and in a line
-with the time that lrup-solve took each number for any other. If nothing stands below, it may write what it likes. Some commands aren't
-run, since they'd prove the program: NOT_RUN has them. Then the examples' scripts get words, files and answers that are wrong. It shows what
-is off; the last line is 'N passed, M failed'.
-"""
+A command comes after '$ ' in a block that is indented by four spaces or more. If its line ends with
+a backslash, a bar or '&&', it continues in the next one. The text below is its expected output,
+standard error, too: a line '..' stands for any lines, and in a line with lrup-solve's times each
+number for any other. If there is no text, any output will do. Some commands aren't run, since they
+would prove the program: see NOT_RUN. Then the examples' scripts get wrong arguments, files and
+answers. Failures are shown; the last line is 'N passed, M failed'."""
 import os
 import re
 import shutil
@@ -21,9 +21,10 @@ sys.dont_write_bytecode = True
 from harness import EXAMPLES, EXPLAIN, FILTER, LRUP_CHAIN, ROOT, TRIM, Failure, Row, generated, missing, needs, run, want
 from solving import PROGRAM, SOLVE, run_built
 
-LIMIT = 120  # seconds, for all of a page
+LIMIT = 120  # seconds for a page
 NOT_RUN = ["make try", "make install PREFIX=$HOME/.local", "sudo make packages && make test"]
-# What a page's commands find in their folder, beside examples: copies, and formulas of the generator's. And what packages they want.
+# Files in a page's folder, besides the examples: copies, and generated formulas. And the packages
+# that its commands need.
 PAGES: List[Tuple[str, Sequence[str], Sequence[str]]] = [
     ("README.md", ["random 150 1 > formula.cnf"], ["cadical"]),
     ("docs/USING.md", ["random 150 1 > formula.cnf"], ["cadical", "cryptominisat5"]),
@@ -65,12 +66,12 @@ def commands_of(page: Path) -> Iterator[Command]:
 
 
 def pattern(wanted: Sequence[str]) -> str:
-    """What is written has to match this."""
+    """A regular expression for the expected output."""
     return "".join(r"(.*\n)*" if line == ".." else (timed(line) if is_timed(line) else re.escape(line)) + "\n" for line in wanted)
 
 
 def timed(line: str) -> str:
-    """With other numbers, and of one engine, too."""
+    """The line with other numbers, also for one engine."""
     return re.sub(r"\b(engine|clause)s\b", r"\1s?", re.sub(r"\d(\\?[.,\d])*", r"[\\d.,]+", re.escape(line)))
 
 
@@ -79,7 +80,7 @@ def is_timed(line: str) -> bool:
 
 
 def shown(name: str, files: Sequence[str], packages: Sequence[str], work: Path) -> None:
-    """The page's commands write what stands there."""
+    """The page's commands print what the page shows."""
     for package in packages:
         if package != "python3-z3":
             needs(package)
@@ -114,7 +115,7 @@ PROGRAMS = {"lrupd": Path(PROGRAM), "lrup-solve": SOLVE, "lrup-check": SOLVE.wit
 
 
 def all_known() -> List[Row]:
-    """Each command that isn't run stands on a page."""
+    """Each command that isn't run is on a page."""
     texts = {command.text for name, *_ in PAGES for command in commands_of(ROOT / name)}
     return [(f"not run: {text}", unknown, text) for text in NOT_RUN if text not in texts]
 
@@ -123,7 +124,7 @@ def unknown(text: str, work: Path) -> None:
     raise Failure(f"no page shows {text}")
 
 
-# Scripts of examples, with what is wrong: one line, and nothing on standard output.
+# Scripts of examples with wrong input: one line on standard error, and nothing on standard output.
 
 
 def refused(script: str, words: Sequence[str], given: bytes, said: str, status: int, work: Path) -> None:
@@ -132,7 +133,7 @@ def refused(script: str, words: Sequence[str], given: bytes, said: str, status: 
 
 
 def wrong_answers(script: str, words: Sequence[str], what: str) -> Iterator[Row]:
-    """To a question that has an assignment. One that is too short isn't of its formula."""
+    """To a question that has an assignment. One that is too short isn't for its formula."""
     name, cause = Path(script).name, "the answer isn't s SATISFIABLE with an assignment of this formula"
     for given in (b"s UNSATISFIABLE\n", b"", b"c time is up\ns UNKNOWN\n", b"\0garbage\n\377", b"s SATISFIABLE\nv 1 2 0\n"):
         yield f"{name}, {given!r}", refused, script, ["--show", *words], given, f"{name}: no {what}: {cause}", 1
@@ -166,10 +167,10 @@ def scripts() -> Iterator[Row]:
     for words, given, cause in (
             ([domain, "none"], b"", "DOMAIN, PROBLEM or answer can't be read: [Errno 2] No such file or directory: 'none'"),
             ([domain, "/dev/stdin"], b"(define (problem empty))", "DOMAIN, PROBLEM or answer can't be read: ':init'"),
-            (["/dev/stdin", problem], b"(define (domain d) (:predicates (p ?x - t)))", "/dev/stdin: no domain in PDDL with STRIPS alone"),
-            ([problem, domain], b"", f"{problem}: no domain in PDDL with STRIPS alone"),
-            ([domain, domain], b"", f"{domain}: no problem in PDDL with STRIPS alone"),
-            ([domain, "/dev/null"], b"", "/dev/null: no problem in PDDL with STRIPS alone")):
+            (["/dev/stdin", problem], b"(define (domain d) (:predicates (p ?x - t)))", "/dev/stdin: not a domain in PDDL with only STRIPS"),
+            ([problem, domain], b"", f"{problem}: not a domain in PDDL with only STRIPS"),
+            ([domain, domain], b"", f"{domain}: not a problem in PDDL with only STRIPS"),
+            ([domain, "/dev/null"], b"", "/dev/null: not a problem in PDDL with only STRIPS")):
         yield f"plan.py {words}", refused, plan, [*words, "3"], given, f"plan.py: {cause}", 1
 
 

@@ -1,8 +1,8 @@
-"""What the tests of lrup-solve share: its two builds, runs, and what an answer has to be.
+"""Shared by the tests of lrup-solve: its two builds, runs, and the expected answers.
 
-Their command line is PROGRAM [FLAGS]. `make` builds both, with the compilers' flags where they are said, in a folder of these
-flags: several scripts run at once, and the first one builds what is older than its sources.
-"""
+Their command line is PROGRAM [FLAGS]. `make` builds both, with FLAGS for the compilers if given, in
+a folder for these flags: several scripts run at once, and the first one builds what is out of
+date."""
 import contextlib
 import fcntl
 import os
@@ -32,7 +32,7 @@ ANSWERS = {0: VERDICTS[3], 10: "s SATISFIABLE", 20: VERDICTS[0]}
 
 
 class Answer:
-    """What a run wrote, and its status."""
+    """A run's outputs and status."""
 
     def __init__(self, done: Ran) -> None:
         self.out, self.said, self.status = done
@@ -46,19 +46,19 @@ class Answer:
 
 
 def command(words: Sequence[object], tested: Optional[Mapping[str, object]] = None) -> List[str]:
-    """With `tested`, of a build for tests, and `in_environment` has the words for it."""
+    """With `tested`, a build for tests, whose hooks are in `in_environment`."""
     return [str(word) for word in (TESTED if tested is not None else SOLVE, "--lrupd", PROGRAM, *words)]
 
 
 def hooks(tested: Mapping[str, object]) -> str:
-    """As `tools/solve/test_hooks.h` has them; of WITHOUT and LATE the word is a part of the name."""
+    """As in `tools/solve/test_hooks.h`; WITHOUT and LATE are followed by a part of the name."""
     named = {f"{name}_{word}" if name in ("WITHOUT", "LATE") else name: 1 if name in ("WITHOUT", "LATE") else word
              for name, word in tested.items()}
     return ";".join(f"{name.lower()}={word}" for name, word in named.items())
 
 
 def in_environment(tested: Optional[Mapping[str, object]] = None, more: Optional[Mapping[str, str]] = None) -> Dict[str, str]:
-    """Of a build for tests all engines start at once."""
+    """In a build for tests all engines start at once."""
     given = {} if tested is None else {"LRUP_SOLVE_HOOKS": hooks({"AT_ONCE": 1, **tested})}
     return {**os.environ, **(more or {}), **given}
 
@@ -69,7 +69,8 @@ def solve(words: Sequence[object], tested: Optional[Mapping[str, object]] = None
 
 
 def want_answer(answer: Answer, status: Optional[int], formula: Optional[Path] = None, verdict: Optional[str] = None) -> None:
-    """The status and its line; of a satisfiable formula's, an assignment that makes each clause true."""
+    """The status and its line; for a satisfiable formula, an assignment that makes each clause
+    true."""
     assert status is not None
     wanted = ([verdict or ANSWERS[status]], status, "")
     want((answer.answers, answer.status, answer.said), wanted, f"the answer of\n{answer.out[-2000:]}")
@@ -93,8 +94,8 @@ def random_formula(seed: int) -> str:
 
 
 def check_again(kept: Path, env_more: Optional[Mapping[str, str]] = None) -> None:
-    """The record is enough to have the streams checked once more, by its command, in any folder. The last report is the same, and
-    nothing is written."""
+    """The record's command checks the streams again, in any folder. The last report is the same,
+    and nothing is written."""
     before = {path: path.lstat().st_mtime_ns for path in [kept, *kept.iterdir()]}
     done, report = run(["sh", kept / "command"], cwd="/", env=in_environment(more=env_more)), (kept / "report").read_text()
     want((done.out[-len(report):], done.status), (report, 0), f"the streams, checked again, with {done.err}")
@@ -113,7 +114,7 @@ def in_place_of_lrupd(body: str, work: Path) -> Path:
 
 
 def before_lrupd(what: str, work: Path) -> Path:
-    """A program that does this, but where lrupd only has to read the formula, and goes on as lrupd."""
+    """A program that does this before it becomes lrupd, except in the probe."""
     return in_place_of_lrupd(f"case \"$*\" in *' /dev/null') ;; *) {what};; esac\nexec {shlex.quote(PROGRAM)} \"$@\"", work)
 
 
@@ -121,7 +122,7 @@ def before_lrupd(what: str, work: Path) -> Path:
 
 
 def of_process(pid: int, name: str) -> str:
-    """What the system tells of it; nothing where it isn't there."""
+    """What /proc has about it; empty if it doesn't exist."""
     try:
         return Path(f"/proc/{pid}/{name}").read_text()
     except OSError:
@@ -129,7 +130,8 @@ def of_process(pid: int, name: str) -> str:
 
 
 def children_of(pid: int) -> Dict[str, int]:
-    """Their names, with the ids, and so what the front has started has. Of two lrupd the one counts that reads streams."""
+    """Their names and ids, with the front's children. Of two lrupds the one that reads streams
+    counts."""
     found = {}
     for child in map(int, of_process(pid, f"task/{pid}/children").split()):
         title = of_process(child, "comm").strip()
@@ -141,7 +143,7 @@ def children_of(pid: int) -> Dict[str, int]:
 
 
 def processes_of_run(pid: int) -> Dict[str, int]:
-    """With the front, and what only reads the formula."""
+    """With the front and the probe."""
     found = {**children_of(pid), FRONT: pid}
     for child in map(int, of_process(pid, f"task/{pid}/children").split()):
         title, words = of_process(child, "comm").strip(), of_process(child, "cmdline")
@@ -151,7 +153,7 @@ def processes_of_run(pid: int) -> Dict[str, int]:
 
 
 def end_group(process: "subprocess.Popen[Any]") -> None:
-    """It began a session of its own: whatever it has left is ended, too."""
+    """Ends everything in its session."""
     with contextlib.suppress(ProcessLookupError):
         os.killpg(process.pid, signal.SIGKILL)
     process.wait()
@@ -164,7 +166,8 @@ def waits_of(pid: int) -> int:
 
 
 def sleep(pids: Sequence[int]) -> None:
-    """None of them wakes for a second, as soon as nothing is left to do. The system counts each of their waits."""
+    """None of them wakes up for a second, once nothing is left to do. The system counts their
+    waits."""
     def all_slept() -> bool:
         before = [waits_of(pid) for pid in pids]
         time.sleep(1)
@@ -173,7 +176,7 @@ def sleep(pids: Sequence[int]) -> None:
 
 
 def goes_on(process: "subprocess.Popen[Any]") -> None:
-    """Until it has come back to its loop several times, each of which waits, or has ended."""
+    """Waits until it has passed its loop several times, each with a wait, or has ended."""
     looping = children_of(process.pid).get("lrup-engines", 0)
     before = waits_of(looping)
     until("the program goes on", lambda: process.poll() is not None or waits_of(looping) > before + 10)
@@ -185,7 +188,7 @@ def is_alive(pid: int) -> bool:
 
 
 def marked(work: Path) -> str:
-    """What the environment of all has that is started from now on."""
+    """Marks the environment of everything started from now on."""
     os.environ["LRUP_MARK"] = work.name
     return f"LRUP_MARK={work.name}"
 
@@ -206,7 +209,8 @@ def none_left(mark: str) -> None:
 
 
 def end_all(mark: str) -> None:
-    """Those of a run that may leave some, once its front has ended. Some may be stopped."""
+    """Ends the processes of a run that may leave some, once its front has ended. Some may be
+    stopped."""
     for number in (signal.SIGCONT, signal.SIGKILL):
         for pid in processes_of(mark):
             with contextlib.suppress(ProcessLookupError):
@@ -214,7 +218,7 @@ def end_all(mark: str) -> None:
 
 
 def kill_children(children: Mapping[str, int], names: Sequence[str], number: int = signal.SIGKILL) -> None:
-    """ProcessLookupError where one has ended before."""
+    """Raises ProcessLookupError if one has already ended."""
     for name in names:
         pid = children.get(name, 0)
         if not is_alive(pid):
@@ -226,14 +230,14 @@ def kill_children(children: Mapping[str, int], names: Sequence[str], number: int
 
 
 def is_built(path: Path) -> bool:
-    """Whether it is younger than what it is made of."""
+    """Whether it is newer than its sources."""
     sources = [ROOT / "Makefile", ROOT / "VERSION", ROOT / "tools" / "lrup-chain", *ROOT.glob("tools/solve/**/*.[ch]*"),
                *ROOT.glob("tools/exact/*.*")]
     return path.exists() and path.stat().st_mtime > max(file.stat().st_mtime for file in sources)
 
 
 def build(target: str, for_tests: bool) -> Optional[str]:
-    """None, or why there is nothing to be tested."""
+    """None, or why nothing can be tested."""
     TESTED.parent.mkdir(parents=True, exist_ok=True)
     with (OUT / "lock").open("w") as lock:
         fcntl.flock(lock, fcntl.LOCK_EX)
@@ -253,4 +257,4 @@ def run_built(rows: Sequence[Row], title: str = "", target: str = "solve", for_t
     cause = build(target, for_tests)
     if cause:
         return left_out(f"all of lrup-{target}: {cause}")
-    return run_all(rows, title, tries=3)      # solvers race with each other and with what kills them
+    return run_all(rows, title, tries=3)      # solvers race with each other and with signals

@@ -1,16 +1,17 @@
 #!/usr/bin/env python3
-"""Runs lrup-trim, and over what it writes lrupd and a checker of LRAT that shares nothing with it.
+"""Runs lrup-trim, and lrupd and an independent LRAT checker on its output.
 
     trim.py PROGRAM [COUNT]
 
-COUNT is 300: random runs of one to five solvers, with and without imports, in one to seven rounds, some under an assumption, some with
-other hints; and as many garbled records. The core has to be clauses of the formula, lines have to be numbered densely, each has to be
-cited, and deleted right after that. lrupd has to take the lines over the core and over the formula, by the words that are told; where
-streams are garbled, either both or none, as the checker of LRAT does; and none where the formula is satisfiable. Records of lrup-solve
-are trimmed where CaDiCaL's library is there. While streams are rewritten and cut, all is written or
-nothing. lrup-trim is built for tests, with -fsanitize=address,undefined where the compiler can. It
-shows what is off; the last line is 'N passed, M failed', and ', K skipped' where something isn't there. The status is 1 where a run failed.
-"""
+COUNT is 300: random runs of one to five solvers, with and without imports, in one to seven rounds,
+some under an assumption, some with new hints; and as many garbled records. The core has to have
+clauses of the formula; lines have to be numbered densely, each has to be cited, and deleted right
+after that. With the commands that lrup-trim prints, lrupd has to accept the lines over the core and
+over the formula; of garbled streams, both or none, as the LRAT checker does; and none if the
+formula is satisfiable. Records of lrup-solve are trimmed if CaDiCaL's library is installed. While
+streams are rewritten and truncated, everything is written or nothing. lrup-trim is built for tests,
+with -fsanitize=address,undefined if the compiler can. Failures are shown; the last line is 'N
+passed, M failed', and ', K skipped' if something is missing. The status is 1 if a run failed."""
 import hashlib
 import mmap
 import os
@@ -22,7 +23,7 @@ from pathlib import Path
 from typing import Dict, List, NamedTuple, Optional, Sequence, Tuple
 
 PROGRAM = os.path.abspath(sys.argv[1]) if len(sys.argv) > 1 else ""
-COUNT = int(sys.argv.pop(2)) if len(sys.argv) > 2 else 300      # the next word would be flags for lrup-solve
+COUNT = int(sys.argv.pop(2)) if len(sys.argv) > 2 else 300      # a second argument would be flags for lrup-solve
 
 sys.dont_write_bytecode = True
 from harness import (COMPRESSED, EXAMPLES, FILTER, FOUR, GENERATOR, ROOT, SANITIZED_TRIM, SANITIZING, TRIM, VERDICTS, Failure,
@@ -50,11 +51,11 @@ def outputs_of(work: Path, names: Sequence[str] = OUTPUTS) -> List[object]:
     return [word for name in names for word in (f"--{name}", work / name)]
 
 
-# What is written.
+# Outputs.
 
 
 def core_of(path: Path) -> Tuple[int, List[int], List[Clause]]:
-    """The header's variables, and the number and the literals of each clause: a line for each."""
+    """The header's variables, and each clause's number and literals: a line for each."""
     header, *lines = path.read_text().splitlines()
     numbers = [int(line[len("c id "):]) for line in lines[::2] if line.startswith("c id ")]
     clauses = [[int(word) for word in line.split()] for line in lines[1::2]]
@@ -64,7 +65,8 @@ def core_of(path: Path) -> Tuple[int, List[int], List[Clause]]:
 
 
 def is_tight(steps: Sequence[Step], clauses: int) -> None:
-    """Numbered densely, and each clause is deleted right after the line that cites it last; all are cited but the last one."""
+    """Numbered densely, each clause deleted right after the line that cites it last; all but the
+    last one are cited."""
     last: Dict[int, int] = {}
     for step in steps:
         last.update({hint: step.identity for hint in step.hints if step.kind == "a"})
@@ -85,14 +87,14 @@ def over_formula(steps: Sequence[Step], core: List[int], clauses: int) -> List[S
 
 
 def verdicts(said: str, work: Path) -> List[Ran]:
-    """Of lrupd, by the words that are told for each output."""
+    """lrupd's verdicts on each output, with the printed arguments."""
     told = re.findall(r"^c \S+: \d+ bytes of \d+: lrupd (.*)$", said, re.M)
     want(len(told), 2, f"the commands in\n{said}")
     return [run([PROGRAM, *shlex.split(words)], cwd=work) for words in told]
 
 
 def are_right(formula: Path, said: str, work: Path, status: int = 0) -> None:
-    """All three outputs, beside what is told."""
+    """All three outputs, and the printed lines."""
     clauses = read_formula(formula)
     variables, core, literals = core_of(work / "core")
     want((literals, variables), ([clauses[k - 1] for k in core], int(formula.read_text().split()[2])), "the core's clauses")
@@ -111,7 +113,7 @@ def are_right(formula: Path, said: str, work: Path, status: int = 0) -> None:
 
 
 def trimmed(formula: Path, proof: Sequence[Path], work: Path, assumptions: Optional[Path] = None, rehints: bool = False) -> str:
-    """What is told."""
+    """The printed lines."""
     words = [*(["--assume", assumptions] if assumptions else []), *["--re-hint"] * rehints]
     done = trim([*outputs_of(work), *words, formula, *proof], work)
     want((done.err, done.status, (work / "lrat.re-hint").exists()), ("", 0, False), "what is said, and whether a file is left")
@@ -127,7 +129,7 @@ def recorded(formula: str, streams: Sequence[str], rounds: int, work: Path) -> N
 
 
 def proof_in_rounds(formula: Path, streams: List[Path], rounds: int, work: Path) -> List[Path]:
-    """The streams, or a folder of so many rounds."""
+    """The streams, or a folder of that many rounds."""
     if rounds == 0:
         return streams
     want(run([sys.executable, CHAIN, rounds, formula, work / "rounds", *streams]), Ran("", "", 0), "what chain.py says")
@@ -135,7 +137,7 @@ def proof_in_rounds(formula: Path, streams: List[Path], rounds: int, work: Path)
 
 
 def selected(path: Path, literal: int) -> None:
-    """Each clause gets this literal, of a new variable: then it is what the streams derive."""
+    """Each clause gets this literal of a new variable, so the streams derive it."""
     lines = []
     for line in path.read_text().splitlines():
         words = line.split()
@@ -148,7 +150,7 @@ def selected(path: Path, literal: int) -> None:
 
 
 def at_random(seed: int, work: Path) -> None:
-    """One to five solvers, in no round or one to seven."""
+    """One to five solvers, in one run or in one to seven rounds."""
     numbers = random.Random(f"{seed} trim")
     options = ["--seed", seed, "--share", numbers.choice((0, 2, 4, 100)), *["--imports"] * (seed % 2)]
     formula, streams = refuted(numbers, 1 + seed % 5, options, work)
@@ -160,7 +162,7 @@ def at_random(seed: int, work: Path) -> None:
 
 
 def longer_than_a_row(output: str, formula: str, work: Path) -> None:
-    """What is told of such an output, but that the filter's rows are small here."""
+    """The printed line for such an output, checked with small rows of the filter."""
     trimmed(example("bmc.cnf"), [example("bmc.lrup")], work)
     os.symlink(example("bmc.cnf"), work / "bmc.cnf")
     told = f'"$1" --rounds live --memory 48K {formula} {output} | {{ read ready && "$2" --rounds live {formula} live/round-1.stream-1; }}'
@@ -170,7 +172,8 @@ def longer_than_a_row(output: str, formula: str, work: Path) -> None:
 
 
 def two_halves(count: int, rounds: int, work: Path) -> None:
-    """A formula of pigeons, and one over other variables that is satisfiable: the core is of the first alone."""
+    """A pigeonhole formula, and a satisfiable one over other variables: the core is of the first
+    only."""
     pigeons = written(run([sys.executable, GENERATOR, "pigeons", "5"]).out, work, "pigeons")
     first, numbers = read_formula(pigeons), random.Random(count)
     below = max(abs(literal) for clause in first for literal in clause)
@@ -186,13 +189,13 @@ def two_halves(count: int, rounds: int, work: Path) -> None:
 
 
 def of_a_group(work: Path) -> None:
-    """Two streams of four, which cite each other alone."""
+    """Two streams of four, which cite only each other."""
     streams = [example("two-groups.1"), example("two-groups.2"), Path("/dev/null"), Path("/dev/null")]
     trimmed(example("two-groups.cnf"), streams, work)
 
 
 def whole_pages(work: Path) -> None:
-    """Files that end where a page does."""
+    """Files that end at a page boundary."""
     lines = "5 2 0 1 2 0\n6 0 5 3 4 0\n"
     for pages in (1, 2, 16):
         rest = pages * mmap.PAGESIZE - len(lines)
@@ -239,7 +242,8 @@ def few_in_rounds(proof: Proof, stream: str, work: Path) -> None:
 
 
 def fewer_streams(work: Path) -> None:
-    """In round 2, by its sizes; a file of another stream isn't looked at, nor is one behind the empty clause."""
+    """In round 2, by its sizes; a file of another stream is ignored, and so is one after the empty
+    clause."""
     files = {"round-1.stream-1": "5 2 0 1 2 0\n5 d 1 0\n", "round-1.stream-2": "6 d 4 1 0\n", "round-2.sizes": "1 9 9\n",
              "round-2.stream-1": "5 1 0 4 2 0\n6 0 5 4 3 0\n", "round-2.stream-2": "x", "round-3.stream-1": "x"}
     for name, text in files.items():
@@ -252,7 +256,7 @@ def fewer_streams(work: Path) -> None:
 
 
 def assuming(work: Path) -> None:
-    """A line behind the clause that contradicts the assumptions isn't needed, nor is one before."""
+    """Lines after the clause that contradicts the assumptions, and some before, aren't needed."""
     stream = written("3 2 1 0 1 0\n4 2 0 1 2 0\n5 1 2 0 4 0\n", work, "a stream")
     trimmed(example("assumed.cnf"), [stream], work, example("assumed.cube"))
     want((work / "stream").read_text(), "3 2 0 1 2 0\n", "the stream")
@@ -271,11 +275,11 @@ FEW = [("four clauses", ["5 2 0 1 2 0\n6 0 5 3 4 0\n"], CORE, BEGINS + "6 0 5 3 
         "p cnf 0 1\n0\n")]
 
 
-# Streams that aren't right.
+# Wrong streams.
 
 
 class Garbled(NamedTuple):
-    """The formula, and the files of a record of rounds, or of a run, by name."""
+    """The formula, and the files, by name, of a record of rounds, or of a run."""
     formula: Path
     files: Dict[str, str]
 
@@ -297,13 +301,14 @@ def base(number: int, work: Path) -> Garbled:
 
 FAULTY_LINE = (r"spelling|too long|truncated|rat hint|identity|an identity above that of the last addition|missing \d+|"
                r"a circle of lines that cite each other: \d+")
-FAULT = (rf"lrup-trim: (\S+, line \d+: ({FAULTY_LINE})|no line derives the empty clause|the run ends in round \d+, with that line|"
-         r"of the lines that are needed, number \d+: (no conflict by unit propagation: .*|a variable that the formula doesn't have)|"
-         r"\S+: not STREAMS LINES ROOM|\S+: compressed: \w+ it|\S+ isn't there)")
+FAULT = (rf"lrup-trim: (\S+, line \d+: ({FAULTY_LINE})|no line derives the empty clause|the run ends in round \d+, at that line|"
+         r"needed line \d+: (no conflict by unit propagation: .*|a variable that the formula doesn't have)|"
+         r"\S+: not STREAMS LINES ROOM|\S+: compressed: unpack it with \w+|\S+: No such file or directory)")
 
 
 def garbled_trim(found: Garbled, formula: Path, rehints: bool, work: Path) -> Optional[Tuple[bool, List[Ran]]]:
-    """What the LRAT checker says, and lrupd of both; None where nothing is written, and why is told."""
+    """The LRAT checker's verdict, and lrupd's on both outputs; None if nothing is written, with a
+    message."""
     for name, text in found.files.items():
         (work / "rounds" / name).write_bytes(text.encode("latin-1"))
     is_record = any("sizes" in name for name in found.files)
@@ -321,7 +326,7 @@ def garbled_trim(found: Garbled, formula: Path, rehints: bool, work: Path) -> Op
 
 
 def garbled(number: int, work: Path) -> None:
-    """lrupd takes both outputs, and the LRAT checker the one, or none does."""
+    """lrupd accepts both outputs, and the LRAT checker its one, or none does."""
     numbers = random.Random(f"{number} garbled")
     found = base(number, work)
     for name in numbers.sample(sorted(found.files), numbers.randint(1, min(2, len(found.files)))):
@@ -333,7 +338,7 @@ def garbled(number: int, work: Path) -> None:
 
 
 def no_hints(work: Path) -> None:
-    """A line that cites nothing is copied as it is, and lrupd doesn't take it."""
+    """A line that cites nothing is copied, and lrupd refuses it."""
     formula, stream = written(FOUR, work), written("5 0 0\n", work, "stream")
     done = trim(["--lrat", "lrat", formula, stream], work)
     lines = "4 d 1 2 3 4 0\n5 0 0\n"
@@ -342,8 +347,8 @@ def no_hints(work: Path) -> None:
 
 
 def satisfiable(number: int, work: Path) -> None:
-    """Streams of another formula, garbled or not: of a clause that it needs there is another one twice. Nothing is taken; the filter finds
-    no hints."""
+    """Streams of another formula, garbled or not: a needed clause is replaced by a copy of another
+    one. Nothing is accepted; the filter finds no hints."""
     numbers = random.Random(f"{number} satisfiable")
     found = base(number % 6, work)      # all clauses are needed
     clauses = read_formula(found.formula)
@@ -363,7 +368,7 @@ def satisfiable(number: int, work: Path) -> None:
 
 
 def fault(streams: Sequence[str], said: Sequence[str], work: Path) -> None:
-    """Nothing refutes the four clauses then."""
+    """Then nothing refutes the four clauses."""
     for number, text in enumerate(streams, 1):
         written(text, work, f"f{number}")
     done = trim([*outputs_of(work), written(FOUR, work), *(f"f{number}" for number in range(1, len(streams) + 1))], work)
@@ -412,15 +417,16 @@ def bad_round(files: Dict[str, str], said: str, work: Path) -> None:
 
 
 ROUND = {"round-1.stream-1": FIRST, "round-2.stream-1": "6 0 5 3 4 0\n"}
-BAD_ROUNDS = [("no round", {"other": ""}, "d/round-1.stream-1 isn't there"),
-              ("a fault", {**ROUND, "round-1.stream-1": FIRST + "x\n"}, "the run ends in round 1, with that line"),
-              ("no stream 2", {**ROUND, "round-2.sizes": "2 1 1\n"}, "cannot open d/round-2.stream-2: No such file or directory")]
+BAD_ROUNDS = [("no round", {"other": ""}, "d/round-1.stream-1: No such file or directory"),
+              ("a fault", {**ROUND, "round-1.stream-1": FIRST + "x\n"}, "the run ends in round 1, at that line"),
+              ("no stream 2", {**ROUND, "round-2.sizes": "2 1 1\n"}, "d/round-2.stream-2: No such file or directory")]
 BAD_ROUNDS += [(f"sizes '{text[:9]}'", {**ROUND, "round-2.sizes": text}, "d/round-2.sizes: not STREAMS LINES ROOM")
                for text in ("", "1 2", "1 2\n", "1 2 3 4\n", "0 2 3\n", "65 2 3\n", "x 2 3\n", "1 2 3\n\n", "-1 2 3\n", "1  2 3\n")]
 
 
 def digests(work: Path) -> None:
-    """Of a formula of each length up to some blocks, beside what it has to be; another one isn't taken."""
+    """Of formulas of each length up to some blocks, against expected values; another formula is
+    refused."""
     for name, text in ROUND.items():
         written(text, work, f"d/{name}")
     for length in [*range(9, 75), 140, 65535, 65536, 65537]:
@@ -435,12 +441,12 @@ def digests(work: Path) -> None:
 CHANGED = "lrup-trim: {} isn't the formula of d, or was changed since: its digest isn't that of d/formula.sha256\n"
 
 
-# Files, and the command line.
+# Files and the command line.
 
 
 def refuses(words: str, status: int, said: str, work: Path) -> None:
-    """In a folder with a formula f, a stream s, a pipe p, a folder d without rounds, files there and r.re-hint, and one that is
-    compressed, z."""
+    """In a folder with a formula f, a stream s, a pipe p, a folder d without rounds, files there
+    and r.re-hint, and a compressed file z."""
     files = {"f": FOUR.encode(), "s": FIRST.encode(), "there": b"mine", "r.re-hint": b"", "z": COMPRESSED["zcat"]}
     for name, text in files.items():
         written(text, work, name)
@@ -455,20 +461,20 @@ REFUSED = [("", 2, "error: no FORMULA"), ("f", 2, "error: no DIR or STREAM"), ("
            ("--core", 2, "error: no value after --core"), ("--stream x f s", 2, "error: --stream without --core"),
            ("--core x --core y f s", 2, "error: given twice: --core"), ("f" + " s" * 65, 2, "error: more than 64 streams, from s"),
            ("-x f s", 2, "error: no such option: -x"),
-           ("--core there f s", 1, "there is there, and isn't written over"), ("--lrat f f s", 1, "f is there, and isn't written over"),
-           ("--core x --stream=s f s", 1, "s is there, and isn't written over"),
-           ("f d s", 1, "d is a folder, and goes alone"), ("f d", 1, "d/round-1.stream-1 isn't there"),
-           ("f p", 1, "p: it is read more than once, so it has to be a file"),
-           ("p s", 1, "p: it is read more than once, so it has to be a file"),
-           ("f none", 1, "cannot open none: No such file or directory"), ("none s", 1, "cannot open none: No such file or directory"),
-           ("f z", 1, "z: compressed: zcat it"), ("z s", 1, "z: compressed: zcat it"), ("f s", 1, "no line derives the empty clause"),
-           ("s s", 1, "s, line 1: no header 'p cnf VARIABLES CLAUSES', with which a formula in DIMACS CNF begins"),
-           ("--assume none f s", 1, "cannot open none: No such file or directory"),
-           ("--assume there f s", 1, "there: no line of literals of FORMULA's variables, and 0, with single spaces"),
+           ("--core there f s", 1, "there: exists, not overwritten"), ("--lrat f f s", 1, "f: exists, not overwritten"),
+           ("--core x --stream=s f s", 1, "s: exists, not overwritten"),
+           ("f d s", 1, "d: a folder has to be the only input"), ("f d", 1, "d/round-1.stream-1: No such file or directory"),
+           ("f p", 1, "p: not a regular file, but it is read more than once"),
+           ("p s", 1, "p: not a regular file, but it is read more than once"),
+           ("f none", 1, "none: No such file or directory"), ("none s", 1, "none: No such file or directory"),
+           ("f z", 1, "z: compressed: unpack it with zcat"), ("z s", 1, "z: compressed: unpack it with zcat"), ("f s", 1, "no line derives the empty clause"),
+           ("s s", 1, "s, line 1: no header 'p cnf VARIABLES CLAUSES': not DIMACS CNF"),
+           ("--assume none f s", 1, "none: No such file or directory"),
+           ("--assume there f s", 1, "there: not a line of literals of FORMULA's variables and 0, with single spaces"),
            ("--lrat d/none/x f s", 1, "no line derives the empty clause"),
            ("--re-hint f s", 2, "error: --re-hint without --core or --lrat"),
            ("--re-hint=1 f s", 2, "error: no such option: --re-hint=1"),
-           ("--re-hint --core r f s", 1, "r.re-hint is there, and isn't written over")]
+           ("--re-hint --core r f s", 1, "r.re-hint: exists, not overwritten")]
 
 
 def cut(work: Path) -> None:
@@ -484,18 +490,18 @@ def while_rewritten(seed: int, work: Path) -> None:
 
 
 def no_place(work: Path) -> None:
-    """A folder that isn't there, and one name for two outputs: what was made before is removed."""
+    """A missing folder, and one name for two outputs: what was made before is removed."""
     for name, cause in (("none/x", "No such file or directory"), ("core", "File exists")):
         done = trim(["--core", "core", "--stream", "stream", "--lrat", name, example("four-clause.cnf"), example("four-clause.lrup")], work)
         name = "core" if name == "core" else name
-        want((done.out, done.err, done.status, os.listdir(work)), ("", f"lrup-trim: cannot make {name}: {cause}\n", 1, []), name)
+        want((done.out, done.err, done.status, os.listdir(work)), ("", f"lrup-trim: {name}: {cause}\n", 1, []), name)
 
 
 def full(limit: int, options: Sequence[object], work: Path) -> None:
-    """A file can't have more bytes: no beginning of one is left."""
+    """A limit on the size of files: no part of one is left."""
     words = [*outputs_of(work), *options, example("bmc.cnf"), example("bmc.lrup")]
     done = trim(words, work, preexec_fn=lambda: within(limit))
-    found = re.fullmatch(r"lrup-trim: cannot write \S+/(core|stream|lrat)(\.re-hint)?: File too large\n", done.err)
+    found = re.fullmatch(r"lrup-trim: \S+/(core|stream|lrat)(\.re-hint)?: File too large\n", done.err)
     want((done.out, found is not None, done.status, os.listdir(work)), ("", True, 1, []), done.err)
 
 
@@ -507,7 +513,7 @@ def help_of(work: Path) -> None:
     want(run([TRIM, "--version"]), Ran(f"lrup-trim {version}\n", "", 0), "--version")
 
 
-# What users do.
+# Records of lrup-solve.
 
 
 def of_lrup_solve(words: Sequence[str], tested: Dict[str, object], generated: str, assumed: bool, work: Path) -> None:

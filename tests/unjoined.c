@@ -1,5 +1,5 @@
-/* The sweep has to find this wrong: a program that starts six threads, as lrupd does for three streams, and where one isn't started
-   says so without having waited for the others. A test's test, and no part of the program. */
+/* The sweep has to find this program wrong: it starts six threads, as lrupd does for three streams, and if one isn't started, it
+   says so without waiting for the others. A test of the tests, not part of the program. */
 #include <pthread.h>
 #include <stdio.h>
 #include <unistd.h>

@@ -1,9 +1,9 @@
 #!/bin/sh
-# For each program in a folder, completion in bash of the options that its --help names:
+# Writes bash completions of the options that each program's --help names:
 #
 #     sh tools/completions.sh PROGRAMS FOLDER
 #
-# If the word isn't an option, bash completes the name of a file.
+# For other words bash completes file names.
 set -eu
 [ $# -eq 2 ] || { echo "usage: sh $0 PROGRAMS FOLDER" >&2; exit 2; }
 for program in "$1"/lrup*; do

@@ -1,5 +1,5 @@
 #!/bin/sh
-# Makes a Debian package of the programs that were installed below ROOT with PREFIX=/usr, and leaves it beside ROOT:
+# Makes a Debian package of the programs installed below ROOT with PREFIX=/usr, and puts it beside ROOT:
 #
 #     sh tools/deb.sh ROOT VERSION
 #
@@ -22,7 +22,7 @@ cp "$top/README.md" "$top"/docs/USING.md "$top"/docs/FORMAT.md "$top"/docs/EMITT
 cp "$top"/examples/README.md "$top"/examples/*.cnf "$top"/examples/*.cube "$top"/examples/*.lrup "$top"/examples/*.[1-4] \
     "$top"/examples/*.out "$top"/examples/chain.py "$top"/examples/acl2.py "$top"/examples/*.awk "$documents/examples"
 gzip -9nc "$top/CHANGELOG.md" > "$documents/changelog.gz"
-# Pages lie in one folder here, and a link to a file that isn't in the package becomes its text.
+# All pages are in one folder here, and a link to a file that isn't in the package becomes plain text.
 sed -i -e 's#](\(\.\./\)*docs/#](#g' -e 's#](\.\./#](#g' "$documents"/*.md
 for target in $(grep -ohE '\]\([^)#]+' "$documents"/*.md "$documents"/examples/*.md | sed 's/^](//' | sort -u); do
     for page in "$documents"/*.md "$documents"/examples/*.md; do
@@ -35,7 +35,7 @@ for file in "$top"/LICENSE* "$top"/COPYING* "$top"/copyright; do
 done
 gzip -9nf "$root"/usr/share/man/man1/*.1
 
-# dpkg-shlibdeps wants a source package around it, and no script.
+# dpkg-shlibdeps needs a source package around it, and no scripts.
 mkdir "$work/debian"
 printf 'Source: lrupd\n\nPackage: lrupd\nArchitecture: any\n' > "$work/debian/control"
 depends=$(cd "$work" && find "$root/usr" -path "$root/usr/share" -prune -o ! -name lrup-chain -type f -exec dpkg-shlibdeps -O {} + | sed -n 's/^shlibs:Depends=//p')
@@ -49,12 +49,12 @@ Priority: optional
 Depends: $depends
 Installed-Size: $(du -sk --exclude=DEBIAN "$root" | cut -f1)
 Description: proved checker of the proofs of SAT solvers that share clauses
- lrupd checks streams of LRAT lines of one or more SAT solvers while they are
- written, and answers 's UNSATISFIABLE' only if no assignment satisfies the
- formula, which is proved of it. lrup-exact, a filter that nobody has to trust,
- makes such streams of DRUP, DRAT, LRAT and FRAT proofs. lrup-chain has proofs
- of any length checked in rounds. lrup-trim makes unsatisfiable cores, smaller
- proofs and LRAT of recorded streams, and lrup-explain says why a line of one is
- bad. lrup-solve, where it was built, solves a formula and has the answer checked.
+ lrupd checks the LRAT lines of one or more SAT solvers while they are written,
+ and is proved to answer 's UNSATISFIABLE' only if no assignment satisfies the
+ formula. lrup-exact, an untrusted filter, makes such streams from DRUP, DRAT,
+ LRAT and FRAT proofs. lrup-chain checks proofs of any length in rounds.
+ lrup-trim makes unsatisfiable cores, smaller proofs and LRAT from recorded
+ streams, and lrup-explain says why a line is bad. lrup-solve, if it was built,
+ solves a formula and has the answer checked.
 END
 dpkg-deb --root-owner-group --build "$root" "$root/../lrupd_${version}_$(dpkg --print-architecture).deb"

@@ -1,11 +1,11 @@
 #!/usr/bin/env python3
 """measure.py [--rounds N] [--clauses N] [--literals N] [--programs FOLDER]
 
-How long a checkpoint of a formula's clauses takes, from the plain map and from a desk at the clause store, beside a C program that
-prints the same clauses from an array. All run by turns; a round counts the best pass of each, and the figures are the medians of the
-rounds. All have to write the same file. Programs that stand in FOLDER are taken from there, and else left there. Wants the
-toolchain's `rt`, and `cc`.
-"""
+Times the saving of a checkpoint of a formula's clauses, from the plain map and from a desk at the
+clause store, and a C program that prints the same clauses from an array. They run in turn; each
+round takes the best pass of each, and the figures are medians over the rounds. All have to write
+the same file. The programs in FOLDER are used if they exist, and otherwise built there. Needs the
+toolchain's `rt`, and `cc`."""
 
 import argparse
 import filecmp
@@ -31,7 +31,7 @@ CRATES = {
 
 
 def build(folder):
-    """The two programs, from the folder where they stand there."""
+    """The two programs: those in the folder, or new ones."""
     programs = [os.path.join(folder, name) for name in ("saving", "printing")]
     if not all(map(os.path.exists, programs)):
         with tempfile.TemporaryDirectory() as work:
@@ -52,7 +52,7 @@ def write_formula(path, clauses, literals):
 
 
 def best(program, formula, out):
-    """The best pass of each way, in milliseconds."""
+    """For each way of saving the best pass, in milliseconds."""
     lines = subprocess.run([program, formula, out], check=True, capture_output=True, text=True).stdout.splitlines()
     found = {}
     for way, saved, nanoseconds, _ in map(str.split, lines):

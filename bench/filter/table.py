@@ -1,13 +1,14 @@
 #!/usr/bin/env python3
-"""Times the filter tools/exact beside a checker of exact hints and beside the solver, and prints their ratios.
+"""Compares the filter's time with a checker's and with the solver's, and prints the ratios.
 
     ./table.py [--rounds N] [--work FOLDER] FILTER
 
-The formulas are random 3-SAT, pigeonholes, and the bounded model check of examples/. CaDiCaL refutes each of them, and the filter
-makes a stream of its proof; check.c of bench/program checks that stream, and the filter reads it again, as it is, with its hints
-shuffled, and with as many more. All of this runs by turns, N times, 5 if not said, with files from memory; the least processor
-time of each counts. Wants Python 3, a C compiler and `cadical` on the PATH.
-"""
+The formulas are random 3-SAT, pigeonholes, and the bounded model check of examples/. CaDiCaL
+refutes each of them, and the filter makes a stream of its proof. Then, N times (5 by default),
+check.c of bench/program checks the stream, and the filter reads it as it is, with its hints
+shuffled and with as many wrong ones added, and the solver's proof as text and in binary. All files
+are cached; the least processor time of each counts. Needs Python 3, a C compiler and `cadical` on
+the PATH."""
 import argparse
 import os
 import random
@@ -24,7 +25,7 @@ ROOT = os.path.join(HERE, "..", "..")
 GENERATOR = os.path.join(ROOT, "examples", "solver", "generate.py")
 FORMULAS = [("random 200 2", "random 3-SAT, 200 variables"), ("random 200 3", "random 3-SAT, another"),
             ("pigeons 8", "pigeonholes, 8"), ("bmc.cnf", "the bounded model check")]
-REFUTED = 20 << 8       # the status of a solver, as wait gives it
+REFUTED = 20 << 8       # a solver's status, as wait returns it
 
 
 def make_formula(words, path):
@@ -36,7 +37,8 @@ def make_formula(words, path):
 
 
 def with_other_hints(stream, more, out):
-    """The stream, with the hints of each line shuffled, and as many more where that is said."""
+    """Writes the stream with the hints of each line shuffled, and if `more` as many random ones
+    added."""
     numbers = random.Random(1)
     with open(stream) as lines, open(out, "w") as file:
         for line in lines:
@@ -52,7 +54,8 @@ def with_other_hints(stream, more, out):
 
 
 def wanted(words, status):
-    """The output of a program that has to end so."""
+    """Runs the command, which has to end with the status. Returns its processor time and its
+    output."""
     _, seconds, _, (out, found) = run(words)
     if found != status:
         sys.exit(f"status {found}: {' '.join(words)}")
@@ -66,7 +69,7 @@ def write(path, data):
 
 
 def commands_of(given, words, work):
-    """Each with its status, by its name."""
+    """By name, each command with its status; and the number of the stream's lines."""
     name = os.path.join(work, words.replace(" ", "-").replace(".cnf", ""))
     formula = make_formula(words, name + ".cnf")
     solver = ["cadical", "-q", formula, name + ".binary"]

@@ -1,15 +1,15 @@
 #!/usr/bin/env python3
-"""Has ACL2's verified LRAT checkers judge what lrupd judges: good proofs, faulty ones, and two satisfiable formulas.
+"""Compares lrupd with ACL2's verified LRAT checkers, in time and in what they accept.
 
     peers.py [--rounds N] [--work FOLDER] PROGRAM TRIM SOLVE
 
-Proofs are made by SOLVE, lrup-solve with two engines, and TRIM, lrup-trim; FOLDER keeps them. All of them have to be accepted, by
-lrupd, by both checkers of ACL2 and by check.c, an unverified one; each runs N times, 3 if not said, in turn, and the least user
-time counts. With 0 nothing is timed. Then one fault each is put into copies of an LRAT proof. The tables of RESULTS are printed.
-The status is 1 if a good proof is refused, if lrupd accepts a faulty one that both others refuse, except one with a literal twice,
-or if lrupd accepts a proof for a satisfiable formula. It needs Python 3, a C compiler, and Debian's acl2, acl2-books and
-acl2-books-certs.
-"""
+SOLVE, lrup-solve with two engines, and TRIM, lrup-trim, make the proofs, which FOLDER keeps. lrupd,
+both checkers of ACL2, and check.c, an unverified one, have to accept all of them; each runs N times
+in turn, 3 by default, and the least user time counts. With 0 nothing is timed. Then one fault each
+is put into copies of an LRAT proof. The tables of RESULTS are printed. The status is 1 if a good
+proof is refused, if lrupd accepts a faulty one that both others refuse, except one with a literal
+twice, or if lrupd accepts a proof for a satisfiable formula. It needs Python 3, a C compiler, and
+Debian's acl2, acl2-books and acl2-books-certs."""
 import argparse
 import collections
 import os
@@ -35,7 +35,7 @@ FORMULAS = ("pigeons 8", "random 200 8", "commute 6", "squares 7", "pipeline 4 8
             "divide 12", "commute 7", "pigeons 9", "sort 6 4")
 FAULTY = 50
 SHORTEST = 0.05     # seconds
-# ACL2's incremental checker doesn't see the literal after a line end or a tab.
+# ACL2's incremental checker skips a literal after a line end or a tab.
 SATISFIABLE = {"a clause over two lines": "p cnf 2 2\n1\n2 0\n-1 0\n", "a tab in a clause": "p cnf 2 2\n1\t2 0\n-1 0\n"}
 ITS_PROOF = "3 0 1 2 0\n"
 
@@ -44,7 +44,7 @@ ITS_PROOF = "3 0 1 2 0\n"
 
 
 def output_of(words):
-    """What a tool says; it has to end well."""
+    """A tool's output; its status has to be 0 or 20."""
     done = subprocess.run(words, stdout=subprocess.PIPE, text=True)
     if done.returncode not in (0, 20):
         sys.exit(f"status {done.returncode}: {shlex.join(words)}")
@@ -52,7 +52,7 @@ def output_of(words):
 
 
 def trimmed(given, formula, streams, proof):
-    """The words for lrupd that lrup-trim names."""
+    """lrupd's command on the trimmed proof."""
     if os.path.exists(proof):
         os.unlink(proof)
     said = output_of([given.trim, "--lrat", proof, formula, *streams])
@@ -60,7 +60,7 @@ def trimmed(given, formula, streams, proof):
 
 
 def solved(given, words, work):
-    """The formula, its LRAT proof, and the words for lrupd."""
+    """The formula, its LRAT proof, and lrupd's command."""
     name = os.path.join(work, words.replace(" ", "-"))
     formula, kept = name + ".cnf", name + ".kept"
     with open(formula, "w") as out:
@@ -76,7 +76,7 @@ def solved(given, words, work):
 
 
 def user_time(words):
-    """Of a checker that accepts, and its most memory in MiB."""
+    """The user time of a checker that has to accept, and its peak memory in MiB."""
     before = resource.getrusage(resource.RUSAGE_CHILDREN).ru_utime
     _, _, memory, (out, status) = run(words)
     if status != 0 or b"s UNSATISFIABLE" not in out:
@@ -92,12 +92,12 @@ def verified_time(kind, formula, proof):
 
 
 def ratio(seconds, others):
-    """None of a time that the system's ticks don't show well."""
+    """The ratio as text; '-' if the divisor is too short for the system's ticks."""
     return f"{seconds / others:.1f}" if others >= SHORTEST else "-"
 
 
 def time_formula(given, words, work):
-    """A row of the table."""
+    """Prints a row of the table."""
     formula, proof, lrupd = solved(given, words, work)
     own = {kind: acl2.converted(kind, formula, proof, os.path.join(work, kind)) for kind in KINDS}
     c = [os.path.join(work, "check"), *lrupd[1:3], formula, proof]
@@ -118,7 +118,7 @@ def time_formula(given, words, work):
 
 
 class Line:
-    """An addition of LRAT; a deletion is kept as it is."""
+    """A line of LRAT. A deletion keeps its text."""
 
     def __init__(self, text):
         self.text, words = text, text.split()
@@ -142,7 +142,7 @@ def negated(word):
     return word[1:] if word[0] == "-" else "-" + word
 
 
-# Each changes a line that has literals and two hints at least, before the last line.
+# Each changes a line with literals and at least two hints, not the last line.
 FAULTS = {
     "a hint left out": lambda line, numbers: line.hints.pop(place(numbers, line.hints)),
     "two hints in another order": lambda line, numbers: line.hints.insert(place(numbers, line.hints[1:]), line.hints.pop()),
@@ -154,7 +154,7 @@ FAULTS = {
     "a literal twice": lambda line, numbers: line.literals.append(numbers.choice(line.literals)),
     "an id that was used": lambda line, numbers: setattr(line, "identity", other_clause(numbers, line)),
 }
-# Each changes the list, at a line's place.
+# Each changes the list at a line's place.
 LIST_FAULTS = {
     "a line left out": lambda lines, at, numbers: lines.pop(at),
     "a line twice": lambda lines, at, numbers: lines.insert(at, lines[at]),
@@ -176,7 +176,7 @@ def faulty_proof(text, kind, numbers):
 
 
 def verdicts(lrupd, formula, proofs, work):
-    """Of lrupd and both others: which proofs they accept."""
+    """For each proof whether lrupd and the two others accept it."""
     ended = [subprocess.run([*lrupd[:-2], formula, proof], stdout=subprocess.PIPE, stderr=subprocess.PIPE) for proof in proofs]
     found = [[done.returncode == 0 for done in ended]]
     for kind in KINDS:
@@ -190,10 +190,10 @@ def verdicts(lrupd, formula, proofs, work):
 
 
 def judge_faulty(given, work):
-    """Of the recorded streams of four solvers, so that each run has the same proofs."""
+    """Uses the recorded streams of four solvers, so that each run has the same proofs."""
     formula, proof = os.path.join(EXAMPLES, "bmc.cnf"), os.path.join(work, "bmc.lrat")
     lrupd = trimmed(given, formula, [os.path.join(EXAMPLES, f"bmc-four.{number}") for number in range(1, 5)], proof)
-    lrupd[1:5] = []     # the usual sizes, which have room for a line more
+    lrupd[1:5] = []     # the default sizes, with room for one more line
     with open(proof) as file:
         text = file.read()
     kinds, proofs, found = [*FAULTS, *LIST_FAULTS], [], collections.defaultdict(list)
@@ -217,7 +217,7 @@ def judge_faulty(given, work):
 
 
 def judge_satisfiable(given, work):
-    """The bytes as they are, since it is the parser that matters."""
+    """ACL2's checkers get the formula's bytes as they are, since this tests the parsers."""
     print("\n| A satisfiable formula, with | `lrupd` | incremental | stobj-based |\n|---|---|---|---|")
     for name, text in SATISFIABLE.items():
         for path, content in (("satisfiable", text), ("its-proof", ITS_PROOF)):
@@ -240,7 +240,7 @@ def main():
         arguments.add_argument(name, type=os.path.abspath)
     given = arguments.parse_args()
     if not shutil.which("acl2"):
-        sys.exit(f"peers.py: there is no acl2 on the PATH: {acl2.PACKAGES}")
+        sys.exit(f"peers.py: no acl2 on the PATH: {acl2.PACKAGES}")
     with tempfile.TemporaryDirectory() as temporary:
         work = os.path.abspath(given.work or temporary)
         for kind in KINDS:

@@ -1,11 +1,13 @@
-// Unverified: checks the streams of a formula as lrupd does, to be timed beside it. No part of lrupd.
+// An unverified checker of a formula's streams, for comparison with lrupd; no part of it.
 //
 //     check [--threads] [--lines N] FORMULA STREAM...
 //
-// Without --threads all streams are checked on one thread, a line of each by turns. With it each has a thread, and a hint of
-// another stream is looked up a million times, a microsecond later each time. All share one array of pointers to clauses; a
-// pointer's lowest bit says that the clause was retired. N identities a stream, 65,536 if not said; there is no limit of room.
-// It prints what lrupd prints of good streams; of a bad line it names the fault of a hint, and else 'not taken'.
+// Without --threads it checks all streams on one thread, one line of each in turn. With it each
+// stream has a thread, and a hint of another stream is tried a million times, a microsecond apart.
+// All share one array of pointers to clauses; a pointer's lowest bit means that the clause was
+// retired. Each stream has N identities, 65,536 by default; room has no limit. For good streams it
+// prints the same as lrupd; for a bad line it names a hint's fault, and otherwise prints 'not
+// taken'.
 #include <fcntl.h>
 #include <stdatomic.h>
 #include <stdint.h>
@@ -18,7 +20,8 @@
 
 enum { PIECE = 65536, BLOCK = 1 << 20, MOST_STREAMS = 64, TRIES = 1000000 };
 
-typedef struct { uint32_t len; uint32_t codes[]; } Clause;    // the code of a literal is 2 v, or 2 v + 1 if negative
+// the code of a literal is 2 v, or 2 v + 1 if negative
+typedef struct { uint32_t len; uint32_t codes[]; } Clause;
 
 typedef struct { int file; uint32_t at, len; unsigned char bytes[PIECE]; } Reader;
 
@@ -30,7 +33,7 @@ typedef struct {
     List literals, hints;
     uint32_t *trail, trail_len;    // the codes that are false
     unsigned char *is_false, *dropped;
-    char *block;                   // where clauses are kept
+    char *block;                   // the memory for the next clauses
     size_t block_left;
     int empty, over;
     char end[64];
@@ -81,7 +84,8 @@ static inline uint32_t code(int64_t literal) {
     return literal < 0 ? (uint32_t)(-literal) * 2 + 1 : (uint32_t)literal * 2;
 }
 
-// A number and the byte after it; the byte before it, if any, was read already.
+// Reads a number of which the first byte was read already. Returns the byte after it, or -2 without
+// a number.
 static inline int number(Reader *reader, int byte, int64_t *value) {
     int negative = byte == '-';
     if (negative) byte = next(reader);
@@ -95,7 +99,7 @@ static inline int number(Reader *reader, int byte, int64_t *value) {
     return byte;
 }
 
-// Numbers with a space after each, up to 0; the byte after that.
+// Reads numbers with a space after each, up to 0. Returns the byte after the 0.
 static inline int numbers(Reader *reader, List *list) {
     list->len = 0;
     for (;;) {
@@ -107,7 +111,7 @@ static inline int numbers(Reader *reader, List *list) {
     }
 }
 
-// The distinct literals whose codes are on the trail, as a clause.
+// Makes a clause of the trail's literals, which are distinct.
 static Clause *keep(Stream *s, uint32_t len) {
     size_t size = (sizeof(Clause) + len * sizeof(uint32_t) + 7) & ~(size_t)7;
     if (size > s->block_left) {
@@ -138,7 +142,7 @@ static inline int owns(const Stream *s, uint64_t id) {
     return id > clauses && id <= last_identity && (id - clauses - 1) % streams == s->number - 1;
 }
 
-// The clause under an identity: 0 where there is none, in time.
+// An identity's clause: 0 if there is none, also after all tries.
 static inline uintptr_t look(const Stream *s, uint64_t id) {
     if (id == 0 || id > last_identity) return 0;
     uintptr_t found = atomic_load_explicit(&clause_at[id], memory_order_acquire);
@@ -161,7 +165,7 @@ static void bad(Stream *s, const char *fault, int64_t id) {
     else snprintf(s->end, sizeof s->end, "bad line %lu (%s)", s->line, fault);
 }
 
-// Redoes the hints. True where they show the clause.
+// Propagates the hints. True if they lead to a conflict.
 static inline int shown(Stream *s) {
     for (size_t k = 0; k < s->hints.len; k++) {
         int64_t id = s->hints.items[k];
@@ -245,12 +249,12 @@ static int work(void *given) {
     return 0;
 }
 
-// A number of the formula, after blanks and line ends.
+// Reads a number of the formula, after blanks and line ends.
 static int64_t of_formula(Reader *reader) {
     int byte = next(reader);
     while (byte == ' ' || byte == '\n' || byte == '\t' || byte == '\r') byte = next(reader);
     int64_t value;
-    if (number(reader, byte, &value) == -2) fail("the formula isn't read");
+    if (number(reader, byte, &value) == -2) fail("the formula has a word that isn't a number");
     return value;
 }
 
@@ -287,7 +291,7 @@ int main(int count, char **words) {
         else if (strcmp(words[at], "--lines") == 0 && at + 1 < count) lines = strtoull(words[++at], NULL, 10);
         else fail("no such option");
     }
-    if (count - at < 2 || count - at - 1 > MOST_STREAMS) fail("wants FORMULA STREAM...");
+    if (count - at < 2 || count - at - 1 > MOST_STREAMS) fail("usage: check [--threads] [--lines N] FORMULA STREAM...");
     streams = (uint64_t)(count - at - 1);
     Stream *formula = zeroed(1, sizeof *formula);
     read_formula(words[at], formula);

@@ -1,12 +1,12 @@
 #!/usr/bin/env python3
-"""Measures what the program costs while its streams are slow, and how soon it has checked what comes.
+"""Measures the program's processor time while its streams are slow, and how soon it checks a line.
 
     live.py PROGRAM
 
-It prints the processor time of 64 silent pipes; of a hint that is tried 1,000,000 times and never comes, with nothing behind it
-and with more than its ring holds; from a line after silence to the report; and of lines that trickle, 1,000 and 10,000 a second,
-the processor time of each and from the last of them to the report.
-"""
+It prints the processor time of 64 silent pipes; of a hint that is tried 1,000,000 times and never
+comes, with nothing after it and with more than its ring holds; the time from a line after silence
+to the report; and for 1,000 and 10,000 lines a second the processor time of a line, and the time
+from the last one to the report."""
 import os
 import statistics
 import subprocess
@@ -21,13 +21,13 @@ SECONDS = 8
 
 
 def busy(process):
-    """The processor time that it has taken so far, in seconds."""
+    """The process's processor time so far, in seconds."""
     fields = Path(f"/proc/{process.pid}/stat").read_text().rsplit(")", 1)[1].split()
     return (int(fields[11]) + int(fields[12])) / os.sysconf("SC_CLK_TCK")
 
 
 def busy_meanwhile(process):
-    """The processor time of some seconds, once it has been started a second ago."""
+    """The processor time during SECONDS, which begin after one second."""
     time.sleep(1)
     before = busy(process)
     time.sleep(SECONDS)
@@ -35,7 +35,7 @@ def busy_meanwhile(process):
 
 
 class Run:
-    """The program at pipes, and their writing ends."""
+    """The program with pipes as streams, and their writing ends."""
 
     def __init__(self, folder, count, *options):
         pipes = [f"{folder}/{number}" for number in range(count)]
@@ -50,7 +50,8 @@ class Run:
         os.write(self.ends[0], text.encode())
 
     def report_after(self, began):
-        """Closes the pipes. The milliseconds until the report came, and the processor time of the whole run in seconds."""
+        """Closes the pipes. Returns the milliseconds until the report came, and the whole run's
+        processor time in seconds."""
         for end in self.ends:
             os.close(end)
         self.process.stdout.read()
@@ -67,11 +68,13 @@ def silent(folder):
 
 
 def behind_a_hint(folder, behind):
-    """Stream 1 cites a clause of stream 2, which writes none, and has this number of bytes behind it."""
+    """The processor time while stream 1 waits for a clause of stream 2, which writes none, with
+    this number of bytes after the hint."""
     run = Run(folder, 2, "--tries", "1000000")
     run.write("5 0 6 0\n")
     if behind:
-        # The pipe takes only part of it while the hint is tried: the rest of the write ends with the program.
+        # The pipe holds only part of it while the hint is tried; the write fails when the program
+        # ends.
         threading.Thread(target=lambda: run.write("\n" * behind), daemon=True).start()
     taken = busy_meanwhile(run.process)
     run.process.kill()
@@ -88,7 +91,8 @@ def after_silence(folder):
 
 
 def trickling(folder, rate):
-    """The milliseconds from the last line to the report, and the processor time of a line in microseconds."""
+    """The milliseconds from the last line to the report, and the processor time of a line in
+    microseconds."""
     run = Run(folder, 1, "--lines", "200000", "--room", "200000")
     count, due = 2 * rate, time.monotonic()
     for number in range(5, 5 + count):
@@ -106,14 +110,14 @@ def spread(times):
 def main():
     if len(sys.argv) != 2:
         sys.exit(__doc__)
-    # A write to a pipe whose reader was killed fails, and ends its thread.
+    # A write to a pipe whose reader was killed fails, and ends the writing thread.
     threading.excepthook = lambda _: None
     print(f"load {os.getloadavg()[0]:.1f}", flush=True)
     with tempfile.TemporaryDirectory() as folder:
         print(f"64 silent pipes: {silent(folder):.2f} s of processor time in {SECONDS} s", flush=True)
         for behind in [0, 300_000]:
             taken = behind_a_hint(folder, behind)
-            print(f"a hint that never comes, {behind:,} bytes behind it: {taken:.2f} s in {SECONDS} s", flush=True)
+            print(f"a hint that never comes, {behind:,} bytes after it: {taken:.2f} s in {SECONDS} s", flush=True)
         late = [after_silence(folder) for _ in range(30)]
         print(f"from a line after 0.2 s of silence to the report: {spread(late)}", flush=True)
         for rate in [1_000, 10_000]:

@@ -1,12 +1,11 @@
 #!/usr/bin/env python3
-"""Runs two commands by turns, and compares their times and memory.
+"""Runs two commands in turn, and compares their times and memory.
 
     ./measure.py [--rounds N] 'COMMAND' 'OTHER COMMAND'
 
-Prints for each the median of wall time and of processor time in seconds, and of the most memory in MiB, and the ratios of the
-first to the second. Standard output has to be the same in each run of both, and so has the status. Only the ratios of one
-run mean something on a machine that does other work too.
-"""
+Prints the medians of each command's wall and processor time in seconds and of its peak memory in
+MiB, and the ratios of the first to the second. Both commands have to print the same and end with
+the same status in every run. On a busy machine only the ratios within one run count."""
 import argparse
 import os
 import shlex
@@ -17,7 +16,7 @@ import time
 
 
 def run(words):
-    """Wall seconds, processor seconds, MiB at the peak, and what was printed with the status."""
+    """Wall seconds, processor seconds, peak MiB, and the output with the status."""
     with tempfile.TemporaryFile() as out:
         start = time.perf_counter()
         child = os.fork()

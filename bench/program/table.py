@@ -1,12 +1,12 @@
 #!/usr/bin/env python3
-"""Times lrupd beside check.c, an unverified checker, on streams of the example solver, and prints their ratios.
+"""Compares lrupd's time with an unverified checker's, check.c, on the example solver's streams.
 
     ./table.py [--rounds N] [--work FOLDER] PROGRAM SOLVER
 
-Makes the formulas and the streams first, unless they are in FOLDER from a run before. Then, for each set, the program and the
-checker run by turns, with a thread a stream and, where it comes to the same end, on one thread. The medians' ratios are printed.
-The outputs have to be the same. Wants Python 3 and a C compiler.
-"""
+It makes the formulas and the streams first, unless FOLDER has them from an earlier run. Then, for
+each set, the program and the checker run in turn, with a thread for each stream, and on one thread
+if all streams are accepted so. It prints the ratios of the medians. The outputs have to be the
+same. Needs Python 3 and a C compiler."""
 import argparse
 import os
 import statistics
@@ -32,7 +32,7 @@ SETS = [
 
 
 def make(work, solver, words, count):
-    """The formula's file and those of the streams."""
+    """The paths of the formula and of the streams."""
     name = os.path.join(work, words.replace(" ", "-"))
     formula, streams = name + ".cnf", [f"{name}-{count}.{number}" for number in range(1, count + 1)]
     if not os.path.exists(formula):
@@ -66,7 +66,7 @@ def sizes(formula, streams):
 
 
 def compare(ours, theirs, rounds):
-    """The medians of wall time, processor time and memory of each, and the output with the status."""
+    """For each command the medians of wall time, processor time and memory."""
     results = [], []
     for _ in range(rounds):
         for command, found in zip((ours, theirs), results):
@@ -98,7 +98,7 @@ def main():
             program = [os.path.abspath(given.program), "--lines", str(lines), "--room", str(room)]
             files, checker = [formula] + streams, [check, "--lines", str(lines)]
             one = "-"
-            # Streams that cite each other were written side by side, and by turns a clause may come too late.
+            # The solvers ran at the same time, so with --serial a cited clause may come too late.
             if run(program + ["--serial"] + files)[3][0].count(b", ended\n") == count:
                 ours, theirs = compare(program + ["--serial"] + files, checker + files, given.rounds)
                 one = f"{ours[0] / theirs[0]:.2f}"

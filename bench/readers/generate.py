@@ -1,21 +1,20 @@
 #!/usr/bin/env python3
 """generate.py KIND [MEGABYTES]
 
-Writes a formula or a stream of additions to measure with, 40 MB unless said, the same bytes each time.
+Writes a formula or a stream of additions for measuring, 40 MB by default, the same bytes each time.
 
     random  a formula of random clauses of three literals
     wide    a formula of clauses of 100,000 literals
     short   a stream with 1 to 3 literals and 1 to 5 hints a line
     long    a stream with 20 to 100 literals and 40 to 200 hints a line
-    huge    a stream with 100 literals and 50,000 hints a line, some 380 KB: longer than a piece of a stream
-"""
+    huge    a stream with 100 literals and 50,000 hints a line, some 380 KB, more than a piece"""
 
 import random
 import sys
 
-# literals and hints of a line, least and most
+# the least and the most literals of a line, and hints
 STREAMS = {"short": ((1, 3), (1, 5)), "long": ((20, 100), (40, 200)), "huge": ((100, 100), (50_000, 50_000))}
-# literals of a clause, some bytes that it takes, and the number of variables by that of clauses
+# literals of a clause, its approximate bytes, and the number of variables for a number of clauses
 FORMULAS = {
     "random": (3, 25.5, lambda clauses: max(3, int(clauses / 4.26))),
     "wide": (100_000, 840_000, lambda clauses: 2_000_000),

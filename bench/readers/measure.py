@@ -1,11 +1,10 @@
 #!/usr/bin/env python3
 """measure.py [--rounds N] FILE..
 
-How fast `dimacs` reads these formulas (FILE.cnf) and `lrup_text` these streams (any other file), beside a C
-program that only adds up their numbers: a formula is whole in memory, a stream comes in pieces of 65,536 bytes.
-The two run by turns; a round counts the best pass of each, and the figures are the medians of the rounds.
-Wants the toolchain's `rt`, and `cc`.
-"""
+Times `dimacs` on formulas (FILE.cnf), `lrup_text` on streams (any other file), and a C program that
+only adds up their numbers. A formula is read as a whole, a stream in pieces of 65,536 bytes. The
+two run in turn; each round takes the best pass of each, and the figures are medians over the
+rounds. Needs the toolchain's `rt`, and `cc`."""
 
 import argparse
 import os

@@ -1,10 +1,10 @@
 #!/usr/bin/env python3
 """measure.py [--rounds N] [--programs FOLDER]
 
-What a byte costs through the ring between two threads (`stream_threads`), and what a pair costs whose stream is silent or trickles:
-elapsed time and processor time of a program that does nothing else. The figures are the medians of the rounds.
-A program that stands in FOLDER is taken from there, and else left there. Wants the toolchain's `rt`.
-"""
+Measures what a byte costs through the ring between two threads (`stream_threads`), and what a
+silent or slow stream costs: wall time and processor time of a program that does nothing else. The
+figures are medians over the rounds. The program in FOLDER is used if it exists, and otherwise built
+there. Needs the toolchain's `rt`."""
 
 import argparse
 import os
@@ -33,7 +33,7 @@ def build(folder):
 
 
 def run(program, pieces, size, micros, pushed=4096):
-    """Elapsed seconds, and the processor's."""
+    """Wall seconds, and processor seconds."""
     began = time.monotonic()
     words = [program, *map(str, (pieces, size, micros, pushed))]
     child = subprocess.Popen(words, stdout=subprocess.PIPE, text=True)

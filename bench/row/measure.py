@@ -1,12 +1,13 @@
 #!/usr/bin/env python3
 """measure.py [--rounds N] [--programs FOLDER]
 
-How fast the row of words (`idwords`) and the clause store over it (`clause_store`, through its desks) publish and read clauses,
-on one thread and on four, beside a C program with the same words in plain memory and C's sequentially consistent loads, stores
-and exchanges; and how long a row takes to open, beside zeroed memory with each page touched.
-All run by turns; a round counts the best pass of each, and the figures are the medians of the rounds. All have to find the same.
-Programs that stand in FOLDER are taken from there, and else left there. Wants the toolchain's `rt`, `cc`, and 5 GiB of memory.
-"""
+Measures how fast the row of words (`idwords`) and the clause store over it (`clause_store`, through
+its desks) publish and read clauses, on one thread and on four, and a C program with the same words
+in plain memory and C's sequentially consistent loads, stores and exchanges; and how long it takes
+to open a row, and to touch each page of as much zeroed memory. They run in turn; each round takes
+the best pass of each, and the figures are medians over the rounds. All have to find the same sums.
+The programs in FOLDER are used if they exist, and otherwise built there. Needs the toolchain's
+`rt`, `cc`, and 5 GiB of memory."""
 
 import argparse
 import os
@@ -24,7 +25,7 @@ CRATES = {"lrup_model": "", "idwords": "lrup_model atomic_table", "clause_store"
 # Three empty clauses, and four streams: 4 + 4 * (lines + room) is 2^27 words.
 LINES, ROOM, LOOKS = 6_710_886, 26_843_545, 262_144
 
-# Clauses of five literals besides, lines and room of each stream.
+# The number of further clauses, of five literals each; and each stream's lines and room.
 ROWS = {
     "2^27 words, all of streams": (0, 1, 2**25 - 2),
     "2^27 words, longest formula": (16_777_212, 1, 8_388_612),
@@ -34,7 +35,7 @@ ROWS = {
 
 
 def build(folder):
-    """The two programs, from the folder where they stand there."""
+    """The two programs: those in the folder, or new ones."""
     programs = [os.path.join(folder, name) for name in ("row", "row_in_c")]
     if not all(map(os.path.exists, programs)):
         with tempfile.TemporaryDirectory() as work:
@@ -44,7 +45,7 @@ def build(folder):
 
 
 def run(*words):
-    """For each part the best pass in milliseconds, and what was found; the most memory in MiB."""
+    """For each part the best pass in milliseconds, and the sums; and the peak memory in MiB."""
     child = subprocess.Popen(list(map(str, words)), stdout=subprocess.PIPE, text=True)
     lines = [line.split() for line in child.stdout]
     _, status, usage = os.wait4(child.pid, 0)
@@ -62,7 +63,7 @@ def medians(runs):
 
 
 def measure_parts(ours, theirs, rounds):
-    """Publishing and reading."""
+    """Prints the times of publishing and reading."""
     words = {"the row": (ours, "words"), "C": (theirs, "store"), "a desk": (ours, "desk")}
     runs = {who: [] for who in words}
     for _ in range(rounds):

@@ -1,6 +1,6 @@
-/* row store LINES ROOM LOOKS: the words of the store in a row of plain memory, with C's sequentially consistent loads, stores and
+/* row store LINES ROOM LOOKS: keeps the store's words in plain memory, with C's sequentially consistent loads, stores and
  * exchanges. Four streams publish clauses of 3 to 5 literals, and then all clauses are read, in order and at random places.
- * row open WORDS: zeroed memory for a row, with each page touched.
+ * row open WORDS: touches each page of zeroed memory for a row.
  * Prints the nanoseconds and a checksum of each pass. */
 #include <pthread.h>
 #include <stdint.h>
@@ -15,7 +15,7 @@ static const uint64_t SEED = 88172645463325252;
 
 static uint64_t lines, room, looks, last;
 
-/* Each in cache lines of its own. */
+/* Each worker has its own cache lines. */
 struct worker {
     _Alignas(128) uint64_t *row;
     uint64_t place, top, room, sum;
@@ -33,14 +33,14 @@ static inline uint64_t load(const uint64_t *row, uint64_t place) {
     return __atomic_load_n(&row[place], __ATOMIC_SEQ_CST);
 }
 
-/* The clause of an identity: the codes of its literals, and how many of them count. */
+/* The clause of an identity: sets five codes of literals, and returns how many of them the clause has. */
 static inline uint64_t clause_of(uint64_t id, uint32_t *clause) {
     uint32_t first = (uint32_t)(id & 0x1fffff) + 1;
     for (uint32_t k = 0; k < LONGEST; k++) clause[k] = 2 * (first + k * 0x200000);
     return 3 + (id >> 2 & 1) + (id >> 3 & 1);
 }
 
-/* Stores a clause's literals above the top, two a word, and makes the identity's word live. */
+/* Stores a clause's literals from `top` on, two in a word, and makes the identity's word live. */
 static inline int publish(struct worker *worker, uint64_t id, const uint32_t *clause, uint64_t len) {
     uint64_t *row = worker->row, vacant = 0, top = worker->top;
     for (uint64_t k = 0; k + 1 < len; k += 2)
@@ -53,7 +53,7 @@ static inline int publish(struct worker *worker, uint64_t id, const uint32_t *cl
     return 1;
 }
 
-/* The sum of the codes of an identity's clause, where it is live. */
+/* The sum of the codes of an identity's clause, if it is live. */
 static inline uint64_t sum_of(const uint64_t *row, uint64_t id) {
     uint64_t word = load(row, id), sum = 0;
     if ((word & 3) != 1) return 0;
@@ -95,7 +95,7 @@ static uint64_t read_at_random(const uint64_t *row, uint64_t last, uint64_t seed
     return sum;
 }
 
-/* A part of the measurement: the lines that are published, or the seed of random places. */
+/* A part of the measurement: the lines to publish, or the seed for random places. */
 static uint64_t first_line, end_line, part_seed;
 
 static void *publish_part(void *at) {
@@ -117,7 +117,7 @@ static void *at_random(void *at) {
     return NULL;
 }
 
-/* Has all streams' workers take a part, on that number of threads, and prints the time and the sum. */
+/* Runs a part for all streams on that number of threads, and prints the time and the sum. */
 static void measure(const char *name, void *(*act)(void *), int threads) {
     pthread_t started[STREAMS];
     uint64_t sum = 0;
@@ -133,7 +133,7 @@ static void measure(const char *name, void *(*act)(void *), int threads) {
     printf("%s-%d %lld %llu\n", name, threads, (long long)(now() - start), (unsigned long long)sum);
 }
 
-/* All passes over each part, on one thread and on four. */
+/* Runs all passes of each part, on one thread and on four. */
 static void measure_all(void) {
     uint64_t slice = lines / (2 * PASSES);
     for (int round = 0; round < 2; round++) {
@@ -152,7 +152,7 @@ static void measure_all(void) {
     }
 }
 
-/* A zeroed row, with each page touched. */
+/* Allocates a zeroed row, and touches each page. */
 static uint64_t *open_row(uint64_t words) {
     int64_t start = now();
     uint64_t *row = calloc(words, 8);

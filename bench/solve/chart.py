@@ -8,11 +8,11 @@ LEFT, WIDTH, GAP, TOP, ROW = 235, 205, 30, 62, 17
 
 class Row(NamedTuple):
     title: str
-    ratios: List[Dict[int, float]]      # of each panel, by the number of engines; none for the heading of a family
+    ratios: List[Dict[int, float]]      # for each panel, by number of engines; empty for a family's heading
 
 
 class Panel:
-    """Of one measure, with an axis by logarithms, from a power of two to another."""
+    """The dots of one measure, on a logarithmic axis between two powers of two."""
 
     def __init__(self, place: int, title: str, rows: List[Row]) -> None:
         ratios = [ratio for row in rows if row.ratios for ratio in row.ratios[place].values()]
@@ -65,5 +65,5 @@ def chart(rows: List[Row], titles: List[str], engines: List[int], note: str) -> 
         lines.append(f'<text x="{end}" y="{y + 4}" text-anchor="{anchor}" font-weight="{weight}">{row.title}</text>')
         if row.ratios:
             lines += [dot for panel in panels for dot in panel.dots(row, y)]
-    lines.append(f'<text x="{LEFT}" y="{bottom + 18}" font-size="11" fill="#d00000">1: as CaDiCaL alone, which proves nothing</text>')
+    lines.append(f'<text x="{LEFT}" y="{bottom + 18}" font-size="11" fill="#d00000">1: CaDiCaL alone, without a proof</text>')
     return "\n".join([*lines, "</svg>", ""])

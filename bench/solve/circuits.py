@@ -1,4 +1,4 @@
-"""Circuits, as clauses. Each function makes two that do the same, and asks for words by which they differ."""
+"""Circuits, as clauses. Each function but `factor` makes two equal ones, and asks for a difference."""
 
 
 class Circuit:
@@ -39,11 +39,11 @@ class Circuit:
         return out
 
     def choose(self, condition, then, other):
-        """The one word or the other."""
+        """The first word if the condition is true, and otherwise the second."""
         return [self.either(self.both(condition, a), self.both(-condition, b)) for a, b in zip(then, other)]
 
     def sum(self, one, other, carry):
-        """As many bits, and the carry."""
+        """The sum, of as many bits, and the carry."""
         bits = []
         for a, b in zip(one, other):
             half = self.differ(a, b)
@@ -52,11 +52,11 @@ class Circuit:
         return bits, carry
 
     def difference(self, one, other):
-        """As many bits, and whether it isn't below zero."""
+        """The difference, of as many bits, and whether it is at least zero."""
         return self.sum(one, [-bit for bit in other], self.true)
 
     def product(self, one, other, width=None):
-        """By rows: all bits of it, or the lowest."""
+        """The product row by row: all its bits, or the lowest ones."""
         width = width or len(one) + len(other)
         total = [-self.true] * width
         for place, factor in enumerate(other):
@@ -123,7 +123,8 @@ def sort(count, bits):
 
 
 def pipeline(steps, bits, registers=4):
-    """Each step puts the sum, or the exclusive or, of two of the registers into one. The pipeline writes two steps later."""
+    """Each step writes the sum, or the exclusive or, of two registers into a register. The pipeline
+    writes it two steps later."""
     circuit = Circuit()
     start = [circuit.word(bits) for _ in range(registers)]
     code = [(circuit.fresh(), circuit.word(2), circuit.word(2), circuit.word(2)) for _ in range(steps)]
@@ -159,7 +160,7 @@ def pipeline(steps, bits, registers=4):
 
 
 def factor(number):
-    """The number as a product, of two factors above 1: no two circuits, but one, and its word."""
+    """Asks for two factors of the number, both above 1, with one multiplier."""
     circuit = Circuit()
     bits = number.bit_length()
     small = (bits + 1) // 2

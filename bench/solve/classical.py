@@ -1,4 +1,4 @@
-"""Formulas of combinatorics: the number of variables, and clauses."""
+"""Combinatorial formulas: the number of variables, and the clauses."""
 from itertools import combinations
 from typing import Dict, List, Tuple
 
@@ -24,7 +24,8 @@ def chessboard(size: int) -> Tuple[int, Clauses]:
 
 
 def waerden(first: int, second: int, count: int) -> Tuple[int, Clauses]:
-    """The numbers from 1 have two colours, without so many of the first at equal distances, nor so many of the second."""
+    """The numbers up to `count` have two colours, without `first` evenly spaced ones of the first
+    colour, and `second` of the second."""
     clauses: Clauses = []
     for length, sign in ((first, -1), (second, 1)):
         for distance in range(1, (count - 1) // (length - 1) + 1):

@@ -1,14 +1,19 @@
 #!/usr/bin/env python3
-"""Writes a formula in DIMACS CNF on standard output that is large and easily refuted. In words: reversed, the last clause comes first.
+"""Writes a large, easily refuted formula in DIMACS CNF to standard output.
 
-    easy.py units VARIABLES [reversed]      a chain of units: each variable implies the next one, the first holds, and the last doesn't
-    easy.py failed STEPS [reversed]         one failed literal: no unit, and one literal implies a conflict by a chain of so many steps
-    easy.py corridor CELLS HORIZON [reversed]   a plan to walk to the last cell of a corridor; refuted where the horizon is below CELLS
-    easy.py lfsr BITS STEPS [reversed]      a feedback shift register that starts in one state, and wouldn't come to the one where it does
-    easy.py simulation STEPS                the same register, of 32 bits, in Verilog, as yosys unrolls it; wants yosys
+    easy.py units VARIABLES [reversed]
+        a chain: each variable implies the next one, the first holds, and the last doesn't
+    easy.py failed STEPS [reversed]
+        a failed literal: no unit clause, and one literal implies a conflict in STEPS steps
+    easy.py corridor CELLS HORIZON [reversed]
+        a plan to walk to the last cell of a corridor; refuted if HORIZON is below CELLS
+    easy.py lfsr BITS STEPS [reversed]
+        a feedback shift register, from a known state, doesn't end where it does
+    easy.py simulation STEPS
+        a register of 32 bits in Verilog, unrolled by yosys, becomes 0 in STEPS steps; needs yosys
 
-Unit propagation alone refutes all but that of the failed literal.
-"""
+With 'reversed' the last clause comes first. Unit propagation refutes all of them except the failed
+literal's."""
 import subprocess
 import sys
 import tempfile
@@ -21,26 +26,28 @@ module register(input clk, output reg [31:0] state, output wrong);
   assign wrong = state == 0;
 endmodule
 """
-# What table.py times.
+# The formulas that table.py times.
 FORMULAS = ["units 60000", "units 60000 reversed", "failed 70000", "corridor 300 250", "lfsr 32 20000 reversed", "simulation 400"]
 SCRIPT = "read_verilog {folder}/register.v; prep -top register; sat -timeout 1 -seq {steps} -set-at {steps} wrong 1 -dump_cnf {folder}/cnf"
 
 
 def units(variables):
-    """Unit propagation goes along all variables."""
+    """Unit propagation visits all variables in a row."""
     steps = [(-variable, variable + 1) for variable in range(1, variables)]
     return variables, [(1,), *steps, (-variables,)]
 
 
 def failed(steps):
-    """The variable 1 implies as many others, the last two of which clash; where it is false two clauses clash at once."""
+    """Variable 1 implies variables 2 to `steps`, and the last of them a conflict; if variable 1 is
+    false, two clauses conflict at once."""
     last, other = steps + 1, steps + 2
     chain = [(-variable, variable + 1) for variable in range(1, steps)]
     return other, [*chain, (-steps, last), (-steps, -last), (1, other), (1, -other)]
 
 
 def corridor(cells, horizon):
-    """Where one is at a time, one was before, or has walked there; a step begins where one is."""
+    """To be in a cell at a time, one was there before, or walked there; a step begins in the cell
+    where one is."""
     width = 3 * (cells + 1)
 
     def at(cell, time):
@@ -65,7 +72,7 @@ def corridor(cells, horizon):
 
 
 def lfsr(bits, steps):
-    """Each step shifts, and puts in the exclusive or of two bits: of the first and the last variable of the state."""
+    """Each step shifts the state, and adds the exclusive or of its first and its last bit."""
     state, value = list(range(1, bits + 1)), [1] + [0] * (bits - 1)
     variables, clauses = bits, [(variable if bit else -variable,) for variable, bit in zip(state, value)]
     for _ in range(steps):
@@ -79,7 +86,7 @@ def lfsr(bits, steps):
 
 
 def simulation(steps):
-    """As text: what yosys writes."""
+    """The formula as text, from yosys."""
     with tempfile.TemporaryDirectory() as name:
         folder = Path(name)
         (folder / "register.v").write_text(VERILOG)
@@ -91,7 +98,7 @@ KINDS = {"units": (units, 1), "failed": (failed, 1), "corridor": (corridor, 2), 
 
 
 def dimacs(kind, *numbers, backwards=False):
-    """The text of a formula."""
+    """The formula's text."""
     variables, clauses = KINDS[kind][0](*numbers)
     lines = [" ".join(map(str, clause)) + " 0" for clause in (reversed(clauses) if backwards else clauses)]
     return "\n".join([f"p cnf {variables} {len(lines)}", *lines, ""])

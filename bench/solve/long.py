@@ -1,12 +1,11 @@
 #!/usr/bin/env python3
-"""Runs lrup-solve for a long time, and shows what it takes from round to round.
+"""Runs lrup-solve for a long time, and shows each round's figures.
 
     long.py [--time SECONDS] [--memory SIZE] [--engines N] [--svg FILE] SOLVE LRUPD FORMULA
 
-It prints a line for each round: the row, the clauses that were derived and those that were carried over, and the pause; then the
-share of the pauses, and the most memory of its own that each process had, in MB. --svg draws both: clauses that each round carried
-over, and memory by time.
-"""
+It prints a line for each round: the row, the clauses that were derived and those that were carried
+over, and the pause; and each process's peak memory of its own, in MB. --svg draws the clauses that
+each round carried over, and the memory over time."""
 import argparse
 import re
 import subprocess
@@ -29,7 +28,7 @@ class Round(NamedTuple):
     pause: float
 
 
-Samples = Dict[str, List[Tuple[float, float]]]      # by name: seconds, and MB
+Samples = Dict[str, List[Tuple[float, float]]]      # by the process's name: seconds, and MB
 
 
 def rounds_of(text: str) -> List[Round]:
@@ -38,7 +37,7 @@ def rounds_of(text: str) -> List[Round]:
 
 
 def children_of(pid: str) -> List[str]:
-    """And theirs."""
+    """The process's children, and their children."""
     children = Path(f"/proc/{pid}/task/{pid}/children").read_text().split()
     return children + [other for child in children for other in children_of(child)]
 

@@ -1,7 +1,7 @@
-"""Plans, as a classical planner asks a SAT solver for them: facts and actions of each step, and too few steps for the goal.
+"""Plans, encoded for a SAT solver: facts and actions of each step, with too few steps for the goal.
 
-All actions of a step may happen in any order. A fact only changes by an action (Kautz and Selman's explanatory frame axioms).
-"""
+All actions of a step may happen in any order. Only an action changes a fact (Kautz and Selman's
+explanatory frame axioms)."""
 from collections import defaultdict
 from itertools import permutations
 from typing import Dict, FrozenSet, Hashable, Iterable, List, NamedTuple, Set, Tuple
@@ -21,7 +21,7 @@ def action(needs: Iterable[Fact], adds: Iterable[Fact], removes: Iterable[Fact])
 
 
 def collisions(actions: List[Action]) -> Set[Tuple[int, int]]:
-    """Pairs of which one removes what the other needs."""
+    """Pairs of actions of which one removes what the other needs."""
     needed = defaultdict(list)
     for place, one in enumerate(actions):
         for fact in one.needs:
@@ -31,7 +31,7 @@ def collisions(actions: List[Action]) -> Set[Tuple[int, int]]:
 
 
 class Steps:
-    """Numbers facts and actions of each step."""
+    """Numbers the facts and actions of each step."""
 
     def __init__(self, facts: Iterable[Fact], actions: List[Action]) -> None:
         self.facts: Dict[Fact, int] = {fact: place for place, fact in enumerate(dict.fromkeys(facts))}
@@ -44,7 +44,7 @@ class Steps:
         return step * self.size + len(self.facts) + place + 1
 
     def change(self, step: int) -> Clauses:
-        """What an action needs and does, and that a fact changes by an action only."""
+        """Clauses for what an action needs and does, and that only an action changes a fact."""
         clauses: Clauses = []
         adding, removing = defaultdict(list), defaultdict(list)
         for place, one in enumerate(self.actions):
@@ -63,8 +63,8 @@ class Steps:
 
 
 def plan(actions: List[Action], start: Set[Fact], goal: Iterable[Fact], count: int) -> Tuple[int, Clauses]:
-    """The number of variables, and clauses that some plan of so many steps meets."""
-    # Sorted, since sets have no order that stays.
+    """The number of variables, and the clauses: there is a plan of `count` steps."""
+    # Sorted, since the order of sets varies between runs.
     steps = Steps(sorted(start.union(*(one.needs | one.adds | one.removes for one in actions)), key=str), actions)
     clauses: Clauses = [(steps.fact(0, fact) if fact in start else -steps.fact(0, fact),) for fact in steps.facts]
     pairs = sorted(collisions(actions))
@@ -76,7 +76,8 @@ def plan(actions: List[Action], start: Set[Fact], goal: Iterable[Fact], count: i
 
 
 def gripper(balls: int, count: int) -> Tuple[int, Clauses]:
-    """A robot with two hands brings balls from one room to the other: take two, go, put them down, go back."""
+    """A robot with two hands brings balls from one room to the other: take two, go, put them down,
+    go back."""
     rooms, hands = ("here", "there"), ("left", "right")
     actions = [action([("robot", one)], [("robot", other)], [("robot", one)]) for one, other in permutations(rooms)]
     for ball in range(balls):
@@ -90,7 +91,7 @@ def gripper(balls: int, count: int) -> Tuple[int, Clauses]:
 
 
 def tiles(count: int) -> Tuple[int, Clauses]:
-    """The puzzle of eight tiles, from one of the two positions that take most moves, 31."""
+    """The puzzle of eight tiles, from one of the two positions that take the most moves, 31."""
     start, places = (8, 6, 7, 2, 5, 4, 3, 0, 1), range(9)
     near = [(one, other) for one in places for other in places if abs(one // 3 - other // 3) + abs(one % 3 - other % 3) == 1]
     actions = [action([(tile, one), (0, other)], [(tile, other), (0, one)], [(tile, one), (0, other)])

@@ -1,4 +1,4 @@
-"""Runs CaDiCaL and lrup-solve on formulas by turns, and keeps what each run took as a line of a file, for a later call to go on with."""
+"""Runs CaDiCaL and lrup-solve on formulas, and keeps each run's result as a line of a file."""
 import hashlib
 import json
 import os
@@ -12,9 +12,9 @@ import time
 from pathlib import Path
 from typing import Any, Dict, List, NamedTuple, Tuple
 
-ALONE = 0               # in the place of a number of engines
+ALONE = 0               # in place of a number of engines
 UNSATISFIABLE = 20
-MOMENT = 0.5            # seconds for which nothing of ours runs, to see what else does
+MOMENT = 0.5            # seconds without a run of ours, to measure other work
 TICKS = os.sysconf("SC_CLK_TCK")
 
 
@@ -25,21 +25,23 @@ class Formula(NamedTuple):
 
 
 class Result(NamedTuple):
-    """Of one run. Seconds, but `others`: how many cores other processes had, on average. A status that isn't 20 is no answer in time."""
+    """One run. Times are in seconds; `filters` and `lrupd` are ratios to the engines' processor
+    time, and `others` is how many cores other processes used on average. A status other than 20
+    means no answer in time."""
     words: str
     engines: int
     status: int
     others: float
     clock: float
     processor: float        # of all processes
-    path: float             # of the engine or filter that took most
-    filters: float          # by that of the engines, as lrupd
+    path: float             # of the engine or filter that took the most
+    filters: float          # processor time, relative to the engines'
     lrupd: float
-    verdict: float          # by the clock, after the answer of an engine
+    verdict: float          # by the clock, after an engine's answer
 
 
 def busy_seconds() -> float:
-    """Of all cores together, since the machine started."""
+    """Busy seconds of all cores together, since the machine started."""
     words = Path("/proc/stat").read_text().split("\n", 1)[0].split()[1:]
     idle = int(words[3]) + int(words[4])
     return (sum(map(int, words[:8])) - idle) / TICKS
@@ -51,14 +53,14 @@ def own_seconds() -> float:
 
 
 def others_now() -> float:
-    """How many cores are busy while nothing of ours runs."""
+    """How many cores are busy while none of our processes runs."""
     before = busy_seconds()
     time.sleep(MOMENT)
     return (busy_seconds() - before) / MOMENT
 
 
 def run(command: List[str]) -> Tuple[int, str]:
-    """Leaves nothing behind where it is interrupted."""
+    """Runs the command, and ends it if this script is interrupted."""
     process = subprocess.Popen(command, stdout=subprocess.PIPE, stderr=subprocess.STDOUT, text=True)
     try:
         said, _ = process.communicate()
@@ -77,17 +79,17 @@ def numbers(pattern: str, text: str) -> List[float]:
 
 
 def parts_of(said: str) -> Dict[str, float]:
-    """What `lrup-solve -v` says of its processes."""
+    """The parts of processor time that `lrup-solve -v` prints."""
     pairs = re.findall(r"^c engine \d+: ([\d.]+) s, its filter ([\d.]+) s", said, re.M)
     engines, filters, lrupd = numbers(r"s of processor time: engines ([\d.]+), filters ([\d.]+), lrupd ([\d.]+)", said)
     verdict, = numbers(r"the verdict came ([\d.]+) s after", said)
-    most = max(engines, 0.01)       # as much as is told of it
+    most = max(engines, 0.01)       # the least time that is printed
     path = max(float(part) for pair in pairs for part in pair)
     return {"path": path, "filters": filters / most, "lrupd": lrupd / most, "verdict": verdict}
 
 
 class Bench:
-    """The programs, and the results of all runs of them so far."""
+    """The programs, and the results of all their runs so far."""
 
     def __init__(self, solve: str, lrupd: str, limit: int, results: str) -> None:
         self.solve, self.lrupd, self.limit, self.path = solve, lrupd, limit, results
@@ -104,7 +106,7 @@ class Bench:
         first, *lines = text.split("\n")
         if json.loads(first) != self.programs:
             sys.exit(f"{self.path} has the results of other programs: name another file")
-        # The last may have no end.
+        # The last line may be cut off.
         self.results = [Result(**json.loads(line)) for line in lines if line.endswith("}")]
         if not text.endswith("\n"):
             with open(self.path, "a") as out:
@@ -127,7 +129,7 @@ class Bench:
         began, busy, own = time.monotonic(), busy_seconds(), own_seconds()
         status, said = run(self.command(path, engines))
         clock, processor = time.monotonic() - began, own_seconds() - own
-        others = max(0.0, (busy_seconds() - busy - processor) / max(clock, MOMENT))      # both are counted in hundredths of a second
+        others = max(0.0, (busy_seconds() - busy - processor) / max(clock, MOMENT))      # both are in hundredths of a second
         parts = {"path": processor, "filters": 0.0, "lrupd": 0.0, "verdict": 0.0}
         if engines != ALONE and status == UNSATISFIABLE:
             parts = parts_of(said)
@@ -140,6 +142,7 @@ class Bench:
 
 
 def stop_gently() -> None:
-    """What runs is ended, too."""
+    """Lets SIGTERM and SIGINT end the script with an exception, so that the running command is
+    ended, too."""
     for number in (signal.SIGTERM, signal.SIGINT):
         signal.signal(number, lambda *_: sys.exit("stopped"))

@@ -1,24 +1,23 @@
 #!/usr/bin/env python3
-"""Times lrup-solve beside CaDiCaL alone, and prints their ratios as tables in Markdown.
+"""Compares lrup-solve's time with CaDiCaL's, and prints the ratios as tables in Markdown.
 
     table.py [OPTIONS] SOLVE LRUPD
 
-    --rounds N              how often each runs, 3 if not said; the medians count. 0 measures nothing, and prints what FILE has
-    --results FILE          keep each run's result there, and go on with those that it has. A call may be stopped at any time
-    --formulas NAME,..      only these: names of families, or the words of a formula, or their first
-    --engines N,..          only so many engines; 1,2,4 if not said
-    --others CORES          runs beside which other work had more cores than that don't count, and are measured again; and wait
-                            for a quiet moment before each turn
-    --limit SECONDS         for each run, 600 if not said
-    --svg FILE              draw what the first table has
+    --rounds N              how often each runs, 3 by default; the medians count. 0 only prints FILE's results
+    --results FILE          keep each run's result there, and continue from those that it has. A call may be stopped at any time
+    --formulas NAME,..      only these: a family's name, a formula's words, or its first word
+    --engines N,..          the numbers of engines, 1,2,4 by default
+    --others CORES          repeat runs during which other work used more cores, and wait for a quieter moment before each turn
+    --limit SECONDS         the time limit of a run, 600 by default
+    --svg FILE              draw the first table
     --easy                  easy.py's formulas, which CaDiCaL refutes at once
     --work FOLDER           keep the formulas there
 
-`cadical -q` solves each formula without a proof, and lrup-solve with so many engines; all run by turns. Time by the clock says little
-where other work has the cores, so the last column says how many it had, at most. 'Longest part' is the processor time of the engine or
-filter that took most: no run takes less, on however many cores. 'All' is that of all processes together. Each is beside CaDiCaL's.
-Wants Python 3 on Linux, and `cadical` on the PATH.
-"""
+`cadical -q` solves each formula without a proof, and lrup-solve with each number of engines, in
+turn. Time by the clock means little if other work uses the cores, so the last column has the most
+cores that other work used. 'Longest part' is the processor time of the engine or filter that took
+the most: no run takes less, on any number of cores. 'All' is that of all processes together. Both
+are relative to CaDiCaL's. Needs Python 3 on Linux, and `cadical` on the PATH."""
 import argparse
 import math
 import os
@@ -38,7 +37,7 @@ from runs import ALONE, UNSATISFIABLE, Bench, Formula, Result, others_now, stop_
 HERE = os.path.dirname(os.path.abspath(__file__))
 CORES = os.cpu_count() or 1
 EASY = "easy"
-TIMES, SECONDS = 3, 0.2     # as long as CaDiCaL, and more: what easy formulas may take
+TIMES, SECONDS = 3, 0.2     # the limit for easy formulas: CaDiCaL's time, times TIMES, plus SECONDS
 MEASURES = {"By the clock": "clock", "Longest part": "path", "All": "processor"}
 SHARES = {"Verdict after, s": "verdict", "`lrupd` by engines": "lrupd", "Filters by engines": "filters"}
 Medians = Dict[int, Optional[Result]]
@@ -73,7 +72,7 @@ def chosen(given: argparse.Namespace) -> List[Formula]:
 
 @lru_cache
 def make(formula: Formula, folder: str) -> str:
-    """The path; none where it can't be made, as without yosys."""
+    """The formula's path; empty if it can't be made, e.g. without yosys."""
     path = os.path.join(folder, formula.words.replace(" ", "-") + ".cnf")
     script = "easy.py" if formula.family == EASY else "formulas.py"
     with open(path, "w") as out:
@@ -82,7 +81,7 @@ def make(formula: Formula, folder: str) -> str:
 
 
 def wait_for_quiet(most: float) -> float:
-    """How many cores other work has."""
+    """Waits until other work uses at most `most` cores. Returns how many it uses."""
     others = others_now()
     if others > most:
         print(f"other work has {others:.1f} of {CORES} cores: waiting", file=sys.stderr)
@@ -110,7 +109,7 @@ def measure(given: argparse.Namespace, bench: Bench, every: List[Formula], folde
 
 
 def median(results: List[Result]) -> Optional[Result]:
-    """None where a run didn't answer, or there is none."""
+    """The medians of the runs; none if there is no run, or one found no answer."""
     if not results or any(result.status != UNSATISFIABLE for result in results):
         return None
     middle = {name: statistics.median(getattr(result, name) for result in results) for name in Result._fields[2:]}
@@ -145,7 +144,7 @@ def mean(medians: List[Medians], engines: int, name: str) -> Optional[float]:
 
 
 def over_all(rows: List[Cells], of: Callable[[List[float]], float]) -> List[str]:
-    """Of each column."""
+    """The figure of each column, over all rows."""
     columns = [[value for value in column if value is not None] for column in zip(*rows)]
     return [shown(of(column) if column else None) for column in columns]
 
@@ -168,7 +167,8 @@ def times(engines: List[int], every: List[Formula], medians: List[Medians]) -> N
 
 
 def shares(engines: List[int], every: List[Formula], medians: List[Medians]) -> None:
-    """How late the verdict comes, and the processor time of filters and lrupd beside the engines'; for each number of engines."""
+    """Prints how late the verdict comes, and the processor time of filters and lrupd relative to
+    the engines', for each number of engines."""
     head(f"Formula; engines: {', '.join(map(str, engines))}", *SHARES)
     rows: List[Cells] = []
     for formula, its in zip(every, medians):
@@ -180,7 +180,7 @@ def shares(engines: List[int], every: List[Formula], medians: List[Medians]) -> 
 
 
 def together(cells: List[str], count: int) -> List[str]:
-    """So many to a cell."""
+    """Joins each `count` cells to one."""
     return [", ".join(cells[place:place + count]) for place in range(0, len(cells), count)]
 
 
@@ -189,7 +189,7 @@ def cheap(alone: Optional[Result], its: Optional[Result]) -> bool:
 
 
 def easy_times(engines: List[int], every: List[Formula], medians: List[Medians]) -> None:
-    """In seconds, since ratios say little below a tenth of one."""
+    """Prints seconds, since ratios mean little below a tenth of one."""
     head("Formula", "CaDiCaL alone: processor time, s", *(f"{counted(count)}: all processes, s" for count in engines),
          *(f"{counted(count)}: by the clock, s" for count in engines), "Other work, cores")
     for formula, its in zip(every, medians):
@@ -202,7 +202,7 @@ def easy_times(engines: List[int], every: List[Formula], medians: List[Medians])
 
 
 def note(given: argparse.Namespace, bench: Bench, every: List[Formula], medians: List[Medians]) -> str:
-    """What the medians are of."""
+    """Describes the runs of which the table shows medians."""
     counts = [len(bench.of(formula, engines, given.others)) for formula in every for engines in (ALONE, *given.engines)]
     runs = f"{max(counts)} runs" if min(counts) == max(counts) else f"{min(counts)} to {max(counts)} runs"
     others = max(most_others(its) or 0 for its in medians)
@@ -210,7 +210,7 @@ def note(given: argparse.Namespace, bench: Bench, every: List[Formula], medians:
 
 
 def panels_of(engines: List[int], of: Callable[[int, str], Optional[float]]) -> List[Dict[int, float]]:
-    """A dot for each number of engines that has a value, for each measure."""
+    """For each measure a dot for each number of engines that has a value."""
     panels = [{count: of(count, name) for count in engines} for name in MEASURES.values()]
     return [{count: value for count, value in panel.items() if value is not None} for panel in panels]
 

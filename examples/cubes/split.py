@@ -3,9 +3,9 @@
 
     split.py COUNT FORMULA > CUBES
 
-There are COUNT cubes at least, unless the formula has too few variables. The cubes that unit propagation refutes are left out, since it
-refutes them in any solver. A splitter that looks ahead, as march_cu, makes better ones, in the same form.
-"""
+There are at least COUNT cubes, unless the formula has too few variables. Cubes that unit
+propagation refutes are left out, since any solver refutes them so. Look-ahead splitters such as
+march_cu make better cubes, in the same form. """
 import sys
 from collections import Counter
 from typing import Dict, List, Optional, Set
@@ -32,7 +32,7 @@ class Formula:
                 self.places.setdefault(literal, []).append(place)
 
     def variables(self) -> List[int]:
-        """The most frequent first; short clauses count for more."""
+        """The most frequent first; short clauses count more."""
         weights: Dict[int, int] = Counter()
         for clause in self.clauses:
             for literal in clause:
@@ -40,7 +40,7 @@ class Formula:
         return sorted(weights, key=lambda variable: -weights[variable])
 
     def propagated(self, cube: List[int]) -> Optional[Set[int]]:
-        """What is true then; None where the cube is refuted."""
+        """The literals that are true under the cube; None if it is refuted."""
         true, next_one = set(cube), list(cube)
         while next_one:
             for place in self.places.get(-next_one.pop(), []):
@@ -57,7 +57,7 @@ class Formula:
 
 
 def split(formula: Formula, count: int) -> List[List[int]]:
-    """Each time the shortest cube is split, by the most frequent variable that has no value there."""
+    """Repeatedly splits the shortest cube, by the most frequent variable without a value there."""
     order = formula.variables()
     cubes: List[List[int]] = [[]]
     while cubes and len(cubes) < count:

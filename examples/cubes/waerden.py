@@ -1,17 +1,17 @@
 #!/usr/bin/env python3
-"""Writes a formula of van der Waerden: are there two colours for 1 to N without K equidistant numbers of the one, and L of the other?
+"""Writes a van der Waerden formula: can 1 to N have two colours without K equidistant numbers of
+the first, or L of the second?
 
     waerden.py K L N
 
-Variable k is true if the number k has the first colour. W(4, 6) is 73: `waerden.py 4 6 73` writes an unsatisfiable formula, and with 72 it
-is satisfiable.
-"""
+Variable k is true if the number k has the first colour. W(4, 6) is 73: `waerden.py 4 6 73` writes
+an unsatisfiable formula; with 72 it is satisfiable. """
 import sys
 from typing import List
 
 
 def progressions(length: int, last: int, sign: int) -> List[str]:
-    """A clause for each: not all of its numbers have the colour."""
+    """A clause for each progression: not all of its numbers have the colour."""
     steps = range(1, (last - 1) // (length - 1) + 1)
     return [" ".join(str(sign * (first + step * k)) for k in range(length)) + " 0\n"
             for step in steps for first in range(1, last - step * (length - 1) + 1)]

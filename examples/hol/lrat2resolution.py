@@ -3,14 +3,14 @@
 
     lrat2resolution.py FORMULA PROOF.lrat > PROOF
 
-The formula's clauses come first, sorted and without tautologies. Then each step is a chain: the clauses of its hints are resolved,
-from the conflict back to the first hint. The clause that results may be shorter than the step's; later chains take it as it is.
-"""
+The formula's clauses come first, sorted and without tautologies. Then each step is a chain: the
+clauses of its hints are resolved, from the conflict back to the first hint. The resulting clause
+may be shorter than the step's; later chains use it as it is. """
 import sys
 from typing import Dict, Iterator, List, Set, Tuple
 
 Clause = Set[int]
-Chain = List[Tuple[int, int]]       # a clause's id, and the variable on which it is resolved; of the first one none
+Chain = List[Tuple[int, int]]       # a clause's id, and the variable on which it is resolved, none for the first
 
 
 def coded(value: int) -> bytes:
@@ -20,7 +20,7 @@ def coded(value: int) -> bytes:
     for more, mark in ((1, 0x80), (2, 0xA0), (3, 0xC0)):
         if value < 0x20 << 8 * more:
             return (mark << 8 * more | value).to_bytes(more + 1, "big")
-    sys.exit("lrat2resolution.py: too long a proof")
+    sys.exit("lrat2resolution.py: the proof is too long")
 
 
 def clauses_of(path: str) -> Iterator[Clause]:

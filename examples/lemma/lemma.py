@@ -2,10 +2,11 @@
 """Asks, as DIMACS CNF, whether a lemma on bit vectors has a counterexample.
 
     lemma.py WIDTH LEMMA > lemma.cnf
-    lemma.py --show WIDTH LEMMA < answer        prints the counterexample that the lines `v` of an answer stand for
+    lemma.py --show WIDTH LEMMA < answer        prints the counterexample in the lines `v` of an answer
 
-LEMMA is a Python expression over the unsigned numbers a, b, c, d of WIDTH bits and constants: + - & | ^ ~, << and >> by a constant,
-and == < <=. Sums and differences wrap. `when(P, Q)` is 'if P then Q', `both(P, Q)` is 'P and Q'."""
+LEMMA is a Python expression over the unsigned numbers a, b, c, d of WIDTH bits and constants: + - &
+| ^ ~, << and >> by a constant, and == < <=. Sums and differences wrap. `when(P, Q)` is 'if P then
+Q', `both(P, Q)` is 'P and Q'."""
 import itertools
 import re
 import sys
@@ -15,7 +16,8 @@ clauses, fresh = [[TRUE]], itertools.count(TRUE + 1)
 
 
 def gate(truth, inputs):
-    """A variable that is this function of the inputs: Tseitin's clauses, one for each row of its table."""
+    """A variable that is this function of the inputs: Tseitin's clauses, one for each row of its
+    truth table."""
     output = next(fresh)
     for values in itertools.product((0, 1), repeat=len(inputs)):
         clauses.append([-x if value else x for x, value in zip(inputs, values)] + [output if truth(*values) else -output])
@@ -23,7 +25,7 @@ def gate(truth, inputs):
 
 
 def total(one, other, carry):
-    """The sum of two lists of bits, and the carry behind it."""
+    """The sum of two lists of bits, and the carry after it."""
     found = []
     for x, y in zip(one, other, strict=True):
         found.append(gate(lambda x, y, c: x ^ y ^ c, [x, y, carry]))

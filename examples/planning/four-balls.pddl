@@ -1,4 +1,4 @@
-; Four balls are to come from the kitchen to the hall.
+; Bring four balls from the kitchen to the hall.
 (define (problem four-balls)
   (:domain gripper)
   (:objects kitchen hall left right one two three four)

@@ -1,10 +1,12 @@
 #!/usr/bin/env python3
-"""Asks, as DIMACS CNF, whether a planning problem has a plan of at most so many steps, one action each.
+"""Asks, as DIMACS CNF, whether a planning problem has a plan of at most STEPS steps, one action
+each.
 
     plan.py DOMAIN PROBLEM STEPS > plan.cnf
-    plan.py --show DOMAIN PROBLEM STEPS < answer    prints the plan that the lines `v` of an answer stand for
+    plan.py --show DOMAIN PROBLEM STEPS < answer    prints the plan in the lines `v` of an answer
 
-DOMAIN and PROBLEM are PDDL with STRIPS alone: conjunctions, and `not` in effects; no types, no equality."""
+DOMAIN and PROBLEM are PDDL with only STRIPS: conjunctions, and `not` in effects; no types, no
+equality."""
 import ast
 import itertools
 import re
@@ -12,10 +14,11 @@ import sys
 
 
 def read(path, kind):
-    """The nested lists of a file that is (define (domain ..) ..) or (define (problem ..) ..), by way of Python's notation of lists."""
+    """The nested lists of a file (define (domain ..) ..) or (define (problem ..) ..), parsed as
+    Python lists."""
     text = re.sub(r";.*", "", open(path, errors="replace").read().lower())
     if not re.match(rf"\s*\(\s*define\s*\(\s*{kind}\s", text) or re.search(r"\s-\s|\(\s*=\s", text):
-        sys.exit(f"plan.py: {path}: no {kind} in PDDL with STRIPS alone")
+        sys.exit(f"plan.py: {path}: not a {kind} in PDDL with only STRIPS")
     lists = re.sub(r"[^\s()]+", lambda word: f"{word[0]!r},", text).replace("(", "[").replace(")", "],")
     return ast.literal_eval(f"[{lists}]")[0]
 
@@ -25,8 +28,8 @@ def parts(expression):
 
 
 def ground(domain, problem):
-    """The initial facts, the goal's, and of each action its name, and what it wants, adds and deletes. Facts that no action changes
-    have to hold initially, and are dropped."""
+    """The initial facts, the goal's, and for each action its name, and the facts that it needs,
+    adds and deletes. Facts that no action changes have to hold initially, and are dropped."""
     sections = {entry[0]: entry[1:] for entry in problem[2:]}
     schemas = [dict(zip(entry[2::2], entry[3::2]), name=entry[1]) for entry in domain[2:] if entry[0] == ":action"]
     changing = {fact[1][0] if fact[0] == "not" else fact[0] for schema in schemas for fact in parts(schema[":effect"])}
@@ -48,7 +51,7 @@ def ground(domain, problem):
 def main(shows, domain, problem, steps):
     facts, goal, actions = ground(read(domain, "domain"), read(problem, "problem"))
     fluents = sorted(goal.union(*(wants + adds + deletes for _, wants, adds, deletes in actions)))
-    fresh = itertools.count(1)      # at each step a variable for each fact, and for each action's number
+    fresh = itertools.count(1)      # for each step a variable for each fact, and for each action's number
     at = [{what: next(fresh) for what in [*fluents, *range(len(actions))]} for _ in range(steps + 1)]
     clauses = [[at[0][fact] if fact in facts else -at[0][fact]] for fact in fluents] + [[at[steps][fact]] for fact in sorted(goal)]
     for now, later in zip(at, at[1:]):
@@ -57,7 +60,7 @@ def main(shows, domain, problem, steps):
             clauses += [[-now[a], later[fact]] for fact in adds]
             clauses += [[-now[a], -later[fact]] for fact in deletes]
             clauses += [[-now[a], -now[other]] for other in range(a)]
-        for fact in fluents:        # what changes was changed by an action
+        for fact in fluents:        # only actions change facts
             clauses.append([now[fact], -later[fact]] + [now[a] for a, x in enumerate(actions) if fact in x[2]])
             clauses.append([-now[fact], later[fact]] + [now[a] for a, x in enumerate(actions) if fact in x[3]])
     if shows:

@@ -1,10 +1,11 @@
 #!/bin/sh
-# Solves one formula in as many jobs of Slurm as it takes, one after the other, each with a limit of time:
+# Solves one formula in as many Slurm jobs as it takes, one after the other, each with a time limit:
 #
 #     sbatch examples/resume/slurm.sh formula.cnf /scratch/kept
 #
-# A minute before its limit Slurm sends SIGTERM to this script alone (B:), which hands it on, so that the round in hand is saved. A job
-# that is killed loses what came after the last round that was saved. Once there is an answer, it is in /scratch/kept.answer.
+# A minute before the limit Slurm sends SIGTERM to this script only (B:), which forwards it, so that
+# the current round is saved. A job that is killed loses everything after the last saved round. The
+# answer is in /scratch/kept.answer at the end.
 #SBATCH --array=1-100%1
 #SBATCH --time=4:00:00
 #SBATCH --signal=B:TERM@60
@@ -12,7 +13,7 @@
 [ "$#" -eq 2 ] || { echo "usage: sbatch $0 FORMULA RECORD" >&2; exit 2; }
 formula=$1 record=$2 job='' asked=''
 if [ -e "$record.answer" ]; then exit 0; fi
-if [ -e "$record/command" ]; then       # the job before was killed once it had the proof
+if [ -e "$record/command" ]; then       # the last job was killed after it had the proof
     sh "$record/command" "$formula" > "$record.out" && mv "$record.out" "$record.answer"
     exit
 fi
@@ -24,7 +25,7 @@ job=$!
 [ -z "$asked" ] || kill -TERM "$job"
 wait "$job"
 status=$?
-while kill -0 "$job" 2> /dev/null; do   # the signal ended the wait
+while kill -0 "$job" 2> /dev/null; do   # the signal interrupted the wait
     wait "$job"
     status=$?
 done

@@ -1,10 +1,10 @@
 #!/usr/bin/python3
-"""Turns a problem of bit vectors in SMT-LIB (QF_BV) into DIMACS CNF, by Z3's bit-blaster.
+"""Turns a bit-vector problem in SMT-LIB (QF_BV) into DIMACS CNF, by Z3's bit-blaster.
 
     smt2cnf.py PROBLEM.smt2 > FORMULA.cnf
 
-The formula is satisfiable exactly if the problem is, if Z3 is right. It needs Debian's package python3-z3.
-"""
+The formula is satisfiable exactly if the problem is, if Z3 is right. It needs Debian's package
+python3-z3. """
 import sys
 
 try:

@@ -1,12 +1,11 @@
 #!/usr/bin/env python3
-"""Four solvers that share their clauses, and lrupd beside them, through FIFOs.
+"""Four solvers that share clauses, checked by lrupd through FIFOs while they run.
 
     demo.py PROGRAM SOLVER [FORMULA]
 
-Shows once a second how many lines each stream has, and what lrupd says meanwhile; then what the solvers say, the report, and
-how long after the solvers' last byte it came. Without FORMULA it is random 3-SAT that takes some ten seconds. The status is the
-program's.
-"""
+Shows once a second how many lines each stream has, and lrupd's messages; then the solvers' output,
+the report, and how long after the solvers' last byte it came. Without FORMULA it is a random 3-SAT
+formula that takes some ten seconds. The status is lrupd's. """
 import os
 import subprocess
 import sys
@@ -19,7 +18,7 @@ OPTIONS = ["--tries", "1000000", "--lines", "500000", "--room", "10000000", "--w
 
 
 def show(lines, begin, times):
-    """Shows each line as it comes, with the seconds since the beginning, and keeps when it came."""
+    """Shows each line when it comes, with the seconds since the start, and keeps the time."""
     for line in lines:
         times.append(time.monotonic())
         print("%5.1f s  %s" % (times[-1] - begin, line.rstrip("\n")), flush=True)
@@ -57,7 +56,7 @@ def main():
             shows.join()
         print("\nThe solvers:", "".join(line for line in said.splitlines(True) if line[0] != "v"), sep="\n")
         early = sum(moment < last_byte for moment in times)
-        print("Of %d lines that lrupd said, %d came before the last byte." % (len(times), early))
+        print("Of %d messages of lrupd, %d came before the last byte." % (len(times), early))
         print("The report, %.3f s after the last byte:" % waited, report, sep="\n")
         print("status", checker.returncode)
         return checker.returncode

@@ -1,8 +1,9 @@
-// Unverified, as all of this solver; lrupd redoes each chain. From a conflict to a learnt clause and its hints.
+// Unverified, like the whole solver; lrupd checks each chain. From a conflict to a learnt clause
+// and its hints.
 #include "solver.h"
 
 enum { UNMARKED, SEEN, REMOVABLE, KEPT, IN_CLAUSE, RESOLVED };
-enum { DEEPEST = 500 };     // how far minimisation goes from reason to reason
+enum { DEEPEST = 500 };     // the deepest recursion of minimisation
 
 static void mark(Solver *solver, int variable, unsigned char what) {
     if (solver->marks[variable] == UNMARKED) PUSH(&solver->marked, variable);
@@ -14,7 +15,8 @@ static void clear_marks(Solver *solver) {
     solver->marked.length = 0;
 }
 
-// How many of a clause's literals are of the last level and weren't seen before; those of levels between go to the clause.
+// How many of a clause's literals are of the last level and weren't seen before; those of levels
+// between go into the learnt clause.
 static int look_at(Solver *solver, const Clause *clause) {
     int found = 0;
     for (unsigned k = 0; k < clause->length; k++) {
@@ -29,7 +31,8 @@ static int look_at(Solver *solver, const Clause *clause) {
     return found;
 }
 
-// The first unique implication point: resolves back along the trail until one literal of the last level is left.
+// The first unique implication point: resolves back along the trail until one literal of the last
+// level is left.
 static void analyse(Solver *solver, const Clause *conflict) {
     solver->learnt.length = 0;
     PUSH(&solver->learnt, 0);
@@ -46,7 +49,7 @@ static void analyse(Solver *solver, const Clause *conflict) {
     }
 }
 
-// Is the literal false wherever the clause's others are, by the reasons on the trail?
+// Whether the clause's other literals imply that this one is false, by reasons on the trail.
 static bool redundant(Solver *solver, Literal literal, int depth) {
     int variable = variable_of(literal), seen = solver->marks[variable];
     const Clause *reason = solver->reasons[variable];
@@ -71,9 +74,10 @@ static void minimise(Solver *solver) {
     clear_marks(solver);
 }
 
-// A clause of the chain is false but for the literal that it gave. So what makes each of its other literals false has to come
-// before it: nothing where the literal is in the learnt clause, which is false at first; at level 0 its unit clause; or else its
-// reason, which then is one more clause of the chain. Says how many such reasons are new.
+// In a clause of the chain all literals are false except the one that it implied. So something that
+// makes each other literal false has to come before it: nothing if the literal is in the learnt
+// clause, which is false at first; at level 0 its unit clause; otherwise its reason, which is then
+// another clause of the chain. Returns how many such reasons are new.
 static int need(Solver *solver, const Clause *clause, Identities *level_zero) {
     int found = 0;
     for (unsigned k = 0; k < clause->length; k++) {
@@ -86,11 +90,12 @@ static int need(Solver *solver, const Clause *clause, Identities *level_zero) {
     return found;
 }
 
-// The exact chain of the learnt clause, collected from its end: the conflict is the last hint, since none may follow it. Before
-// it come the reasons that analysis resolved and those of what minimisation took out, in the order of the trail, which is the
-// order in which they become unit; so we go back along the trail, and turn the list round. A reason isn't a hint where its
-// literal is in the learnt clause: it would have no literal left, and be a conflict too early. The unit clauses of level 0
-// stand at the beginning, in any order: they are unit from the first.
+// Collects the exact chain of the learnt clause, from its end: the conflict is the last hint, since
+// none may follow it. Before it come the reasons that analysis resolved, and those of literals that
+// minimisation removed, in the order of the trail, which is the order in which they become unit; so
+// we go back along the trail, and reverse the list. The reason of a literal in the learnt clause is
+// no hint: it would have no literal left, and be a conflict too early. The unit clauses of level 0
+// come first, in any order: they are unit at once.
 static void find_hints(Solver *solver, const Clause *conflict) {
     Identities *hints = &solver->hints, level_zero = {0};
     for (size_t k = 0; k < solver->learnt.length; k++)
@@ -127,7 +132,7 @@ unsigned lbd_of(Solver *solver, const Literals *literals) {
     return count;
 }
 
-// The unit clauses of a clause's literals but the first `skipped`, and then the clause itself.
+// The unit clauses of a clause's literals, without the first `skipped`, and then the clause itself.
 static void hint_at_level_zero(Solver *solver, const Clause *clause, unsigned skipped) {
     solver->hints.length = 0;
     for (unsigned k = skipped; k < clause->length; k++)
@@ -135,8 +140,9 @@ static void hint_at_level_zero(Solver *solver, const Clause *clause, unsigned sk
     PUSH(&solver->hints, clause->identity);
 }
 
-// Each literal that is true at level 0 gets a unit clause with a line of its own, in the order of the trail. With it the literal
-// takes one hint in a chain, and not all reasons behind it; and its reason may be deleted.
+// Gives each literal that is true at level 0 a unit clause with its own line, in the order of the
+// trail. Then the literal takes one hint in a chain, not its whole derivation, and its reason may
+// be deleted.
 void name_units(Solver *solver) {
     for (; solver->named < solver->trail.length; solver->named++) {
         Literal literal = solver->trail.items[solver->named];

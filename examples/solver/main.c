@@ -1,12 +1,14 @@
-// Unverified: several solvers that share their clauses, and write a stream each for lrupd. An example, and no part of lrupd.
+// Unverified: several solvers that share clauses, and each write a stream for lrupd. An example,
+// not part of lrupd.
 //
 //     solver [--share LBD] [--imports] [--seed N] [--first S --streams N] [--progress] FORMULA STREAM...
 //
-// One thread for each STREAM. They are the streams 1, 2, .. of lrupd's command line; or, with --first and --streams, S, S + 1, ..
-// of N, where other processes write the rest. Clauses of at most that LBD are given to the other threads (4; 0: none). With
-// --imports a stream has a line for each clause of another thread that its own took over.
-// Standard output: what each stream has, the answer, and if the formula is satisfiable an assignment, which was checked.
-// The status is 20 if the formula is refuted, 10 if it is satisfied, 1 if something failed.
+// One thread for each STREAM. They are the streams 1, 2, .. of lrupd's command line; or, with
+// --first and --streams, S, S + 1, .. of N, and other processes write the rest. Clauses of at most
+// that LBD (default 4; 0: none) are given to the other threads. With --imports a stream has a line
+// for each clause that its thread took over. Standard output has the size of each stream, the
+// answer, and for a satisfiable formula a checked assignment. The status is 20 if the formula is
+// refuted, 10 if it is satisfied, 1 if something failed.
 #include <signal.h>
 #include <stdio.h>
 #include <stdlib.h>
@@ -28,7 +30,7 @@ static double seconds(void) {
     return (double)now.tv_sec + (double)now.tv_nsec * 1e-9;
 }
 
-// Once a second, how many lines each stream has.
+// Shows once a second how many lines each stream has.
 static int show_progress(void *argument) {
     Portfolio *portfolio = argument;
     const struct timespec pause = { .tv_sec = 1 };
@@ -51,7 +53,7 @@ static uint64_t number_of(char **words) {
     char *end;
     if (words[1] == NULL) fail("no number after", words[0]);
     unsigned long long number = strtoull(words[1], &end, 10);
-    if (*words[1] < '0' || *words[1] > '9' || *end != 0) fail("no number:", words[1]);
+    if (*words[1] < '0' || *words[1] > '9' || *end != 0) fail("not a number:", words[1]);
     return number;
 }
 
@@ -69,7 +71,7 @@ static char **read_options(Portfolio *portfolio, char **words, bool *progress) {
     return words;
 }
 
-// The streams are opened one after the other, as lrupd opens them: with FIFOs each side waits for the other.
+// Opens the streams in lrupd's order: with FIFOs each side waits for the other.
 static void open_all(Portfolio *portfolio, char **paths) {
     for (int k = 0; k < portfolio->solvers; k++) {
         Solver *solver = &portfolio->solver[k];
@@ -127,7 +129,7 @@ int main(int count, char **words) {
     if (portfolio.solvers < 1 || portfolio.first < 1 || portfolio.first + portfolio.solvers - 1 > portfolio.streams)
         fail("usage: solver [--share LBD] [--imports] [--seed N] [--first S --streams N] [--progress]", "FORMULA STREAM...");
     if (portfolio.solvers == 1) portfolio.share = 0;
-    signal(SIGPIPE, SIG_IGN);       // a reader that went away is reported as a write that failed
+    signal(SIGPIPE, SIG_IGN);       // a write fails instead once the reader has closed its end
     formula_read(&portfolio.formula, paths[0]);
     portfolio.solver = zeroed((size_t)portfolio.solvers, sizeof *portfolio.solver);
     open_all(&portfolio, paths + 1);

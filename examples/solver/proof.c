@@ -1,4 +1,4 @@
-// Unverified, as all of this solver; lrupd redoes each line. Writes the stream of one solver.
+// Unverified, like the whole solver; lrupd checks each line. Writes the stream of one solver.
 #include <errno.h>
 #include <fcntl.h>
 #include <string.h>
@@ -8,12 +8,12 @@
 #include "solver.h"
 #include "stream.h"
 
-// With m clauses in the formula and n streams, line k of stream s, from 0, has the identity m + s + k n. So each solver counts
-// for itself, and an identity says whose it is.
+// With m clauses in the formula and n streams, line k of stream s, from 0, has the identity m + s +
+// k n. So each solver counts on its own, and an identity shows its owner.
 void proof_open(Proof *proof, const char *path, uint64_t clauses, int stream, int streams) {
     proof->path = path;
-    proof->file = open(path, O_WRONLY | O_CREAT | O_TRUNC, 0666);   // waits for the reader of a FIFO
-    if (proof->file < 0) fail("cannot open", path);
+    proof->file = open(path, O_WRONLY | O_CREAT | O_TRUNC, 0666);  // waits for the reader of a FIFO
+    if (proof->file < 0) fail_file(path, strerror(errno));
     proof->next = clauses + (uint64_t)stream;
     proof->step = (uint64_t)streams;
     proof->last = 1;
@@ -23,7 +23,7 @@ void proof_flush(Proof *proof) {
     size_t written = 0;
     while (written < proof->used) {
         ssize_t count = write(proof->file, proof->buffer + written, proof->used - written);
-        if (count < 0 && errno != EINTR) fail("cannot write", proof->path);
+        if (count < 0 && errno != EINTR) fail_file(proof->path, strerror(errno));
         if (count > 0) written += (size_t)count;
     }
     proof->bytes += written;
@@ -90,7 +90,8 @@ void proof_delete(Proof *proof, const Identities *identities) {
     proof->deleted += identities->length;
 }
 
-// "id i literals 0": this solver took over that clause of another one, whose line was flushed before. It takes no identity.
+// "id i literals 0": this solver took over that clause of another one, whose line was flushed
+// before. An import uses no identity of its own.
 void proof_import(Proof *proof, uint64_t identity, const Literal *literals, size_t length) {
     put_number(proof, identity);
     put_byte(proof, ' ');
@@ -103,5 +104,5 @@ void proof_import(Proof *proof, uint64_t identity, const Literal *literals, size
 
 void proof_close(Proof *proof) {
     proof_flush(proof);
-    if (close(proof->file) != 0) fail("cannot write", proof->path);
+    if (close(proof->file) != 0) fail_file(proof->path, strerror(errno));
 }

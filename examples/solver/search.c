@@ -1,4 +1,5 @@
-// Unverified, as all of this solver. The search: decisions, propagation by two watched literals, restarts, exchange, reduction.
+// Unverified, like the whole solver. The search: decisions, propagation with two watched literals,
+// restarts, exchange, reduction.
 #include <stdlib.h>
 #include <string.h>
 
@@ -104,7 +105,7 @@ static void watch(Solver *solver, Clause *clause) {
         PUSH(&solver->watches[clause->literals[k]], ((Watch){ clause, clause->literals[1 - k] }));
 }
 
-// A literal to watch in the place of the second one, which is false; or none.
+// A literal to watch instead of the second one, which is false; or none.
 static bool watch_another(Solver *solver, Clause *clause) {
     for (unsigned k = 2; k < clause->length; k++) {
         Literal literal = clause->literals[k];
@@ -117,7 +118,8 @@ static bool watch_another(Solver *solver, Clause *clause) {
     return false;
 }
 
-// The clauses that watch a literal which has become false. Each gives its other watch, or is the conflict.
+// Visits the clauses that watch a literal which has become false. Each implies its other watch, or
+// is the conflict.
 static Clause *visit(Solver *solver, Literal falsified) {
     Watches *list = &solver->watches[falsified];
     Clause *conflict = NULL;
@@ -146,7 +148,8 @@ static Clause *propagate(Solver *solver) {
     return conflict;
 }
 
-// A clause at level 0, watched at literals that aren't false. Returns it where there is none.
+// Adds a clause at level 0, watched by literals that aren't false. Returns the clause if it has
+// none.
 static Clause *install(Solver *solver, Clause *clause) {
     unsigned open = 0;
     for (unsigned k = 0; k < clause->length && open < 2; k++) {
@@ -161,7 +164,8 @@ static Clause *install(Solver *solver, Clause *clause) {
     return NULL;
 }
 
-// The formula's clauses. One with a literal and its complement is never unit, and never a hint: it is left out.
+// Adds the formula's clauses. A clause with a literal and its complement is never unit, and never a
+// hint, so it is left out.
 static Clause *install_formula(Solver *solver) {
     const Formula *formula = &solver->portfolio->formula;
     Literals literals = {0};
@@ -177,8 +181,8 @@ static Clause *install_formula(Solver *solver) {
 
 // Exchange, at level 0.
 
-// The lines of what is given away go out before, all of them with one flush: the others may cite a clause as soon as they have
-// it, and lrupd then looks for its line.
+// Flushes the lines of clauses before they are given away, all at once: the others may cite a
+// clause as soon as they have it, and lrupd then looks for its line.
 static void give(Solver *solver) {
     if (solver->gifts.length == 0) return;
     proof_flush(&solver->proof);
@@ -186,8 +190,8 @@ static void give(Solver *solver) {
     solver->gifts.length = 0;
 }
 
-// A clause of another solver keeps its identity, and so needs no line here; with an import the stream says that it came, and
-// with which literals. One that is true at level 0 isn't taken over.
+// A clause of another solver keeps its identity, and needs no line here; an import states its
+// literals in the stream. A clause that is true at level 0 isn't taken over.
 static Clause *take_over(Solver *solver, const Gift *gift) {
     for (unsigned k = 0; k < gift->length; k++)
         if (solver->values[gift->literals[k]] > 0) return NULL;
@@ -227,8 +231,9 @@ static void forget_watches(Solver *solver) {
     }
 }
 
-// The worse half goes. A clause of one's own that others have stays in the stream, without a line: they may cite it still. Of
-// the others' clauses the line says only that this stream won't cite them again.
+// Deletes the worse half. An own clause that others have gets no deletion in the stream: they may
+// still cite it. For other solvers' clauses the line only says that this stream won't cite them
+// again.
 static void reduce(Solver *solver) {
     Clauses *clauses = &solver->clauses;
     Identities *deleted = &solver->hints;
@@ -268,7 +273,8 @@ static Clause *restart(Solver *solver) {
     return take(solver);
 }
 
-// The learnt clause, whose first literal is the only one of the last level; the second is to be of the next one below.
+// Adds the learnt clause, whose first literal is the only one of the last level; the second has to
+// be of the next level below.
 static void learn(Solver *solver, Clause *conflict) {
     find_clause(solver, conflict);
     Literal *literals = solver->learnt.items;
@@ -296,7 +302,7 @@ static void learn(Solver *solver, Clause *conflict) {
     assign(solver, literals[0], clause);
 }
 
-// False where every variable has a value.
+// False if every variable has a value.
 static bool decide(Solver *solver) {
     while (solver->heap_length > 0) {
         int variable = heap_pop(solver);
@@ -322,7 +328,7 @@ static void tell_refutation(Solver *solver, const Clause *conflict) {
     atomic_compare_exchange_strong(&solver->portfolio->answer, &wanted, UNSATISFIABLE);
 }
 
-// Where another solver has the answer the stream ends as well, after a whole line.
+// If another solver has the answer, the stream ends, too, after a whole line.
 void solver_run(Solver *solver) {
     Clause *conflict = install_formula(solver);
     while (atomic_load_explicit(&solver->portfolio->answer, memory_order_relaxed) == UNKNOWN) {
@@ -346,7 +352,7 @@ void solver_run(Solver *solver) {
     proof_close(&solver->proof);
 }
 
-// Each solver begins with another order of the variables, and other values for them.
+// Each solver begins with another order of the variables, and other values.
 void solver_open(Solver *solver) {
     size_t variables = (size_t)solver->portfolio->formula.variables;
     solver->random = (solver->portfolio->seed + 1) * 0x9E3779B97F4A7C15u + (uint64_t)solver->place * 0xBF58476D1CE4E5B9u;

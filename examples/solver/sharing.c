@@ -1,4 +1,5 @@
-// Unverified, as all of this solver. What one solver gives to the others: one writer and many readers of a list, without a lock.
+// Unverified, like the whole solver. What one solver gives to the others: a lock-free list with one
+// writer and many readers.
 #include <string.h>
 
 #include "solver.h"
@@ -16,7 +17,7 @@ void outbox_open(Outbox *outbox) {
     outbox->first = outbox->last = zeroed(1, sizeof *outbox->first);
 }
 
-// The count comes last: who sees it sees the gift, too, and the page that it lies on.
+// The count is stored last: a reader that sees it also sees the gift, and its page.
 void outbox_give(Outbox *outbox, Gift *gift) {
     size_t given = atomic_load_explicit(&outbox->given, memory_order_relaxed);
     if (given > 0 && given % GIFTS_OF_A_PAGE == 0) {

@@ -1,4 +1,5 @@
-// Unverified: an example of solvers that write streams for lrupd, and no part of it. What its files have in common.
+// Unverified: an example of solvers that write streams for lrupd, not part of it. Common to its
+// files.
 #ifndef SOLVER_H
 #define SOLVER_H
 
@@ -13,7 +14,7 @@
 typedef struct {
     int file;
     const char *path;
-    uint64_t next, step;            // the identity of the next line, and from one to the next
+    uint64_t next, step;  // the identity of the next line; the distance between identities
     uint64_t last;                  // the identity of the last line
     size_t used;
     char buffer[1 << 16];
@@ -27,7 +28,7 @@ void proof_import(Proof *proof, uint64_t identity, const Literal *literals, size
 void proof_flush(Proof *proof);
 void proof_close(Proof *proof);
 
-// sharing.c: what one solver gives to all others, in an outbox that each of them reads at its own pace.
+// sharing.c: what one solver gives to all others, in an outbox that each reads at its own pace.
 typedef struct {
     uint64_t identity;
     unsigned lbd, length;
@@ -51,10 +52,10 @@ Gift *gift_of(uint64_t identity, unsigned lbd, const Literal *literals, size_t l
 typedef struct Clause {
     uint64_t identity;
     unsigned length;
-    unsigned lbd;               // the levels that its literals had when it was learnt; 0 for the formula's
+    unsigned lbd;  // the number of its literals' levels when it was learnt; 0 for the formula's
     bool given;                 // other solvers may cite it
     bool removed;
-    Literal literals[];         // the first two are watched; a reason's first literal is the one that it gave
+    Literal literals[];  // the first two are watched; a reason's first literal is the implied one
 } Clause;
 
 typedef struct { Clause *clause; Literal other; } Watch;
@@ -67,14 +68,14 @@ typedef enum { UNKNOWN = 0, SATISFIABLE = 10, UNSATISFIABLE = 20 } Answer;
 // Shared by all solvers of the process.
 typedef struct Portfolio {
     Formula formula;
-    int solvers;                // threads here, each with its stream
-    int streams, first;         // streams in all, and which of them is the first one here
+    int solvers;                // threads, each with its stream
+    int streams, first;         // streams in all, and the first one here
     unsigned share;             // clauses of at most this LBD are given away; 0: none
     uint64_t seed;
     bool imports;
     struct Solver *solver;
     atomic_int answer;
-    signed char *model;         // by variable, where satisfiable
+    signed char *model;         // by variable, if satisfiable
 } Portfolio;
 
 typedef struct Solver {
@@ -83,15 +84,18 @@ typedef struct Solver {
     Proof proof;
     Outbox outbox;
     Inbox *inboxes;
-    Gifts gifts;                // written, and not yet given away
+    Gifts gifts;                // written, but not yet given away
 
     signed char *values;        // by literal: 1 true, -1 false, 0 open
-    signed char *phases;        // by variable: the value that it had last
+    signed char *phases;        // by variable: its last value
     int *levels;                // by variable
-    Clause **reasons;           // by variable: the clause that gave its value; none of a decision, and none at level 0
-    uint64_t *units;            // by variable: the identity of the unit clause that gives its value at level 0
-    Literals trail, decisions;  // the true literals in order; of each level the length of the trail before it
-    size_t propagated, named;   // of the trail: whose watches were looked at; whose unit clauses are written
+    // by variable: the clause that implied its value; none for decisions, and at level 0
+    Clause **reasons;
+    uint64_t *units;            // by variable: the identity of its unit clause at level 0
+    // the true literals in order; for each level the trail's length before it
+    Literals trail, decisions;
+    // how far the trail is propagated; how far its unit clauses are written
+    size_t propagated, named;
     Watches *watches;           // by literal
     Clauses clauses;            // learnt here or taken over
 
@@ -108,7 +112,8 @@ typedef struct Solver {
 } Solver;
 
 // learn.c
-void find_clause(Solver *solver, Clause *conflict);     // leaves it in `learnt`, and its chain in `hints`
+// leaves it in `learnt`, and its chain in `hints`
+void find_clause(Solver *solver, Clause *conflict);
 unsigned lbd_of(Solver *solver, const Literals *literals);
 void name_units(Solver *solver);
 void refute(Solver *solver, const Clause *conflict);

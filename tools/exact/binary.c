@@ -1,21 +1,22 @@
-// Unverified, as all of this filter. DRAT and LRAT in their binary forms. A number has seven bits in a byte, the lowest first, and
-// the eighth where more follow; a literal is twice its variable, and one more if negative. Lists end with 0.
+// Unverified, like the whole filter. Reads binary DRAT and LRAT. A byte has seven bits of a number,
+// the lowest first; its eighth bit says that more follow. A literal is twice its variable, plus one
+// if negative. Lists end with 0.
 //
 //     a literals                 an addition of DRAT          a id literals hints     of LRAT
 //     d literals                 a deletion of DRAT           d ids                   of LRAT
 //
-// An engine that shares clauses writes DRAT with two steps more:
+// An engine that shares clauses writes DRAT with three more steps:
 //
-//     i engine position literals     it took over the clause that this engine gave away there
-//     r engine position              it takes over none that was given away before
-//     x                              a mark before the addition of a clause that may be given away; two: it refutes a cube
+//     i engine position literals     it took over the clause that ENGINE gave away at POSITION
+//     r engine position              it won't take over what ENGINE gave away before POSITION
+//     x                              the next addition may be given away; twice: it refutes a cube
 #include "errors.h"
 #include "readers.h"
 #include "stream.h"
 
-enum { MOST_SHIFT = 56, MOST_NUMBERS = 1 << 25 };     // of a step: no proof has more
+enum { MOST_SHIFT = 56, MOST_NUMBERS = 1 << 25 };     // of a step; a longer one is refused
 
-// An identity of LRAT is written as a literal by some, and as it is by others.
+// Some solvers write an identity of LRAT as a literal, others as a plain number.
 typedef enum { UNDECIDED, PLAIN, DOUBLED } Coding;
 
 static uint64_t number(Input *input) {
@@ -26,15 +27,15 @@ static uint64_t number(Input *input) {
         value |= (uint64_t)(byte & 127) << shift;
         if (byte < 128) return value;
     }
-    stop("a number that is too large");
+    stop("number too large");
 }
 
 static int64_t as_literal(uint64_t number) {
-    if (number >> 1 == 0 || number >> 1 > LAST_IDENTITY) stop("a number that is no literal and no identity");
+    if (number >> 1 == 0 || number >> 1 > LAST_IDENTITY) stop("neither a literal nor an identity");
     return number & 1 ? -(int64_t)(number >> 1) : (int64_t)(number >> 1);
 }
 
-// Up to 0.
+// Reads numbers up to 0.
 static void numbers(Input *input, Numbers *list) {
     for (uint64_t found; (found = number(input)) != 0;) {
         if (list->length == MOST_NUMBERS) stop("a step of more than %d numbers", MOST_NUMBERS);
@@ -45,7 +46,7 @@ static void numbers(Input *input, Numbers *list) {
 static void decode(Numbers *list, size_t start, size_t end, Coding coding) {
     for (size_t k = start; k < end; k++) {
         if (coding != PLAIN) list->items[k] = as_literal((uint64_t)list->items[k]);
-        else if (list->items[k] > (int64_t)LAST_IDENTITY) stop("a number that is too large");
+        else if (list->items[k] > (int64_t)LAST_IDENTITY) stop("number too large");
     }
 }
 
@@ -73,8 +74,9 @@ static bool has_odd(const Numbers *list, size_t start) {
     return false;
 }
 
-// A solver's first clause has an identity above the formula's, and there are no negative ones among hints that do: so mostly the
-// first addition decides, and of a deletion before it an odd number does.
+// Identities that are written as literals are even numbers, since those of RUP steps aren't
+// negative. So an odd number decides. Otherwise the first addition does: its identity is above the
+// formula's.
 static Coding coding_of(const Filter *filter, const Numbers *list, size_t hints, bool addition) {
     int64_t first = addition ? list->items[0] : 0, formula = (int64_t)filter->formula.clauses;
     if (first & 1 || has_odd(list, hints)) return PLAIN;
@@ -92,7 +94,7 @@ static void lrat_step(Filter *filter, Input *input, int letter, Numbers *list, C
     }
     numbers(input, list);
     if (*coding == UNDECIDED) *coding = coding_of(filter, list, hints, addition);
-    if (*coding == UNDECIDED) return;       // leaving a deletion out is never wrong
+    if (*coding == UNDECIDED) return;       // leaving out a deletion is never wrong
     decode(list, 0, addition, *coding);
     decode(list, addition, hints, DOUBLED);
     decode(list, hints, list->length, *coding);
@@ -113,7 +115,7 @@ void binary_run(Filter *filter, Input *input, Form form) {
         list.length = 0;
         if (form == SHARING_DRAT && letter == 'x') filter->marked++;
         else if (form == SHARING_DRAT && (letter == 'i' || letter == 'r')) sharing_step(filter, input, letter, &list);
-        else if (letter != 'a' && letter != 'd') stop("no step of a binary proof, which begins with a or d");
+        else if (letter != 'a' && letter != 'd') stop("not a step of a binary proof, which begins with a or d");
         else if (form == BINARY_LRAT) lrat_step(filter, input, letter, &list, &coding);
         else drat_step(filter, input, letter, &list);
     }

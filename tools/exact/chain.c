@@ -1,7 +1,8 @@
-// Unverified, as all of this filter. --rounds: a stream for each round of lrupd --rounds, through FIFOs. That of the next round is
-// there before a stream ends, since lrupd looks for it then. Once lrupd has opened it, nothing looks for its name or its sizes again,
-// and both are removed, as is what lrupd has saved once it is read. So the folder has files of a round that isn't over only while
-// lrupd is awaited.
+// Unverified, like the whole filter. Option --rounds: writes a stream for each round of lrupd
+// --rounds, through FIFOs. A FIFO exists before the stream of the round before it ends, since lrupd
+// then looks for it. Once lrupd has opened it, the FIFO and the file of sizes are removed, and so
+// is a checkpoint once it is read. So the folder has files of an unfinished round only while this
+// program waits for lrupd.
 #define _XOPEN_SOURCE 700
 #include <dirent.h>
 #include <errno.h>
@@ -22,68 +23,71 @@
 #include "write.h"
 
 enum { LONGEST_PATH = 4096, LONGEST_NAME = 64, PAUSE = 5 };     // milliseconds
-enum { USUAL_LINES = 65536 };       // lrupd's without words; a first row's room is never above lrupd's
+enum { USUAL_LINES = 65536 };  // lrupd's default in round 1; the room never exceeds lrupd's default
 #define OF_A_ROUND "round-"
-#define ANOTHER_FILE "somebody has put another file in the place of"
+#define ANOTHER_FILE "another file is in its place"
 
 static const char *folder;
-static int held;                            // the folder, whatever has its name by now
+static int held;                            // the open folder, even if it is renamed
 static Filter *filter;
 static Rows rows;
-static Row used;                            // of this round's row
+static Row used;                            // of the round's row
 static uint64_t round_number;               // from 1
 static char sizes[LONGEST_PATH], stream[LONGEST_PATH];      // paths
-static volatile sig_atomic_t is_awaited;    // lrupd, at the FIFO
+static volatile sig_atomic_t is_awaited;    // whether the program waits for lrupd
 static int file;
 static struct stat made;                    // the FIFO
 
-// No other run has the folder until this process ends, however it does; where the system has no locks nobody is told. Others may
-// not remove files there and make new ones.
+// Locks the folder until this process ends; a file system without locks is used unlocked. Other
+// users must not be able to replace files in it.
 static void lock_folder(void) {
     held = open(folder, O_RDONLY | O_DIRECTORY | O_CLOEXEC);
-    if (held < 0) fail("cannot read the folder", folder);
-    if (others_may_write(held)) fail("others may write to the folder", folder);
-    if (flock(held, LOCK_EX | LOCK_NB) != 0 && errno == EWOULDBLOCK) fail("another run that goes on has its files in", folder);
+    if (held < 0) fail_file(folder, strerror(errno));
+    if (others_may_write(held)) fail_file(folder, "other users may write to this folder");
+    if (flock(held, LOCK_EX | LOCK_NB) != 0 && errno == EWOULDBLOCK)
+        fail_file(folder, "another run uses this folder");
 }
 
-// The folder. Any file of a round is in the way: lrupd would take it, or not write over it.
+// Opens the folder. It must have no file of a round: lrupd would read it, or refuse to overwrite
+// it.
 void chain_open(const char *path) {
     folder = path;
-    if (strlen(folder) > LONGEST_PATH - LONGEST_NAME) fail("too long a name:", folder);
-    if (mkdir(folder, 0775) != 0 && errno != EEXIST) fail("cannot make the folder", folder);
+    if (strlen(folder) > LONGEST_PATH - LONGEST_NAME) fail_file(folder, "name too long");
+    if (mkdir(folder, 0775) != 0 && errno != EEXIST) fail_file(folder, strerror(errno));
     lock_folder();
     int listed = openat(held, ".", O_RDONLY | O_DIRECTORY | O_CLOEXEC);
     DIR *list = listed < 0 ? NULL : fdopendir(listed);
-    if (list == NULL) fail("cannot read the folder", folder);
+    if (list == NULL) fail_file(folder, strerror(errno));
     for (const struct dirent *entry; (entry = readdir(list)) != NULL;) {
         if (strncmp(entry->d_name, OF_A_ROUND, strlen(OF_A_ROUND)) != 0) continue;
         snprintf(stream, sizeof stream, "%s/%s", folder, entry->d_name);
-        fail("--rounds takes a folder without files of rounds; there is", stream);
+        fail_file(stream, "exists, but --rounds needs a folder without files of rounds");
     }
     closedir(list);
 }
 
-// Of the folder.
+// The file's name in the folder.
 static const char *name_in(const char *path) { return strrchr(path, '/') + 1; }
 
 static void name_file(char path[LONGEST_PATH], const char *what) {
     snprintf(path, LONGEST_PATH, "%s/" OF_A_ROUND "%llu.%s", folder, (unsigned long long)round_number, what);
 }
 
-// The sizes come first: lrupd takes them as soon as there is a stream.
+// The sizes come first: lrupd reads them as soon as the stream exists.
 static void make_files(void) {
     char text[LONGEST_NAME];
     int length = snprintf(text, sizeof text, "1 %llu %llu\n", (unsigned long long)rows.row.lines, (unsigned long long)rows.row.room);
     name_file(sizes, "sizes");
     name_file(stream, "stream-1");
     int out = openat(held, name_in(sizes), O_WRONLY | O_CREAT | O_EXCL, 0666);
-    if (out < 0) fail("cannot make", sizes);
+    if (out < 0) fail_file(sizes, strerror(errno));
     bool written = write_whole(out, text, (size_t)length);
     is_awaited = 1;
     if (close(out) == 0 && written && mkfifoat(held, name_in(stream), 0666) == 0 &&
         fstatat(held, name_in(stream), &made, AT_SYMLINK_NOFOLLOW) == 0) return;
+    int error = errno;
     unlinkat(held, name_in(sizes), 0);
-    fail("cannot make", stream);
+    fail_file(stream, strerror(error));
 }
 
 static void remove_files(void) {
@@ -92,10 +96,10 @@ static void remove_files(void) {
     is_awaited = 0;
 }
 
-// Where lrupd waits at the FIFO, or is about to, it gets an empty stream, or none.
+// If lrupd waits at the FIFO, or is about to, it gets an empty stream, or finds none.
 static void end_by_signal(int number) {
     if (is_awaited) {
-        openat(held, name_in(stream), O_RDWR | O_NONBLOCK | O_NOFOLLOW);    // until this process has ended
+        openat(held, name_in(stream), O_RDWR | O_NONBLOCK | O_NOFOLLOW);  // until this process ends
         remove_files();
     }
     signal(number, SIG_DFL);
@@ -108,21 +112,23 @@ static void take_signals(void) {
         if (signal(numbers[k], end_by_signal) == SIG_IGN) signal(numbers[k], SIG_IGN);
 }
 
-// Waits until lrupd opens it, too. Where standard output is a pipe whose reader, which runs lrupd, has ended, it never will.
+// Waits until lrupd opens the FIFO, too. lrupd never will if standard output is a pipe and its
+// reader, which runs lrupd, has ended.
 static void open_stream(void) {
     struct pollfd reader = { .fd = STDOUT_FILENO };
     struct stat found;
     while ((file = openat(held, name_in(stream), O_WRONLY | O_NONBLOCK | O_NOFOLLOW)) < 0) {
-        if (errno == ELOOP) fail(ANOTHER_FILE, stream);
-        if (errno != ENXIO && errno != EINTR) fail("cannot open", stream);
+        if (errno == ELOOP) fail_file(stream, ANOTHER_FILE);
+        if (errno != ENXIO && errno != EINTR) fail_file(stream, strerror(errno));
         if (poll(&reader, 1, PAUSE) <= 0) continue;
         if (reader.revents & POLLERR) {
             remove_files();
-            stop("the reader of standard output, which runs lrupd, has ended before it read %s", stream);
+            stop("the reader of standard output, which runs lrupd, ended before it read %s", stream);
         }
         reader.fd = -1;
     }
-    if (fstat(file, &found) != 0 || found.st_dev != made.st_dev || found.st_ino != made.st_ino) fail(ANOTHER_FILE, stream);
+    if (fstat(file, &found) != 0 || found.st_dev != made.st_dev || found.st_ino != made.st_ino)
+        fail_file(stream, ANOTHER_FILE);
     fcntl(file, F_SETFL, 0);
     remove_files();
 }
@@ -177,7 +183,7 @@ static void derived(const Filter *one) {
 
 static bool never_ends(void) { return false; }
 
-// After the formula is read. Standard output says when lrupd may begin.
+// Call after the formula is read. Prints the path of the first stream once lrupd may start.
 void chain_begin(Filter *one, uint64_t memory) {
     static const Hooks hooks = { .ends = never_ends, .derives = derives, .derived = derived };
     filter = one;

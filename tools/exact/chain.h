@@ -1,4 +1,4 @@
-// Unverified: a stream for each round of lrupd --rounds.
+// Unverified: writes a stream for each round of lrupd --rounds.
 #ifndef CHAIN_H
 #define CHAIN_H
 

@@ -1,5 +1,5 @@
-// Unverified, as all of this filter. Reads what a run of lrupd has saved. A comment before a clause has the identity that it had, unless
-// that was its place.
+// Unverified, like the whole filter. Reads a checkpoint of lrupd. A comment before a clause has its
+// previous identity, unless that was its place.
 #include "checkpoint.h"
 #include "errors.h"
 #include "input.h"
@@ -28,14 +28,14 @@ void checkpoint_read(Checkpoint *checkpoint, const char *path) {
         else if (*line.start == 'c') named = last_number(line);
         else {
             uint64_t identity = named ? named : checkpoint->old.length + 1;
-            if (identity <= last) fail("no checkpoint:", path);
+            if (identity <= last) fail_file(path, "not a checkpoint of lrupd");
             PUSH(&checkpoint->old, identity);
             checkpoint->literals += spaces_in(line);
             last = identity;
             named = 0;
         }
     }
-    if (checkpoint->old.length != wanted) fail("no checkpoint:", path);
+    if (checkpoint->old.length != wanted) fail_file(path, "not a checkpoint of lrupd");
     input_close(&input);
 }
 

@@ -1,4 +1,4 @@
-// Unverified: what a run of lrupd has saved for the next one.
+// Unverified: reads a checkpoint, which a run of lrupd saved for the next run.
 #ifndef CHECKPOINT_H
 #define CHECKPOINT_H
 
@@ -10,14 +10,15 @@
 extern "C" {
 #endif
 
-// Of each clause the identity that it had before, in rising order. Its new one is its place, counted from 1.
+// The previous identity of each clause, in rising order. Its new identity is its place, counted
+// from 1.
 typedef struct {
     Identities old;
     uint64_t literals;
 } Checkpoint;
 
 void checkpoint_read(Checkpoint *checkpoint, const char *path);
-uint64_t checkpoint_place(const Checkpoint *checkpoint, uint64_t identity);     // 0: it isn't there
+uint64_t checkpoint_place(const Checkpoint *checkpoint, uint64_t identity);     // 0: not saved
 void checkpoint_free(Checkpoint *checkpoint);
 
 #ifdef __cplusplus

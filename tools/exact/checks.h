@@ -1,5 +1,5 @@
-// Unverified: what always holds, looked at in builds for tests (-DCHECKED), and in no others: by `assert`, or, where it goes through a
-// whole structure, by a function that CHECK calls.
+// Unverified: invariants, checked in builds for tests only (-DCHECKED): by `assert`, or, if the
+// check goes through a whole structure, by a function that CHECK calls.
 #ifndef CHECKS_H
 #define CHECKS_H
 

@@ -1,4 +1,5 @@
-// Unverified: clauses in one row, by references into it, the names that the proof has for them, and deletion by literals.
+// Unverified: clauses in one row of words, the names that the proof gives them, and deletion by
+// literals.
 #ifndef CLAUSES_H
 #define CLAUSES_H
 
@@ -8,32 +9,35 @@
 
 #include "literals.h"
 
-typedef uint32_t ClauseRef;             // 0: none
+typedef uint32_t ClauseRef;             // a place in the row; 0: none
 typedef struct { ClauseRef *items; size_t length, capacity; } ClauseRefs;
 
-enum { MANY = 1024 };                   // literals, beyond which a clause is a long one
-enum { DEAD = 1, TAUTOLOGY = 2, AGE = 4, RECENT = 3 * AGE, LONG = 16 };     // a clause is recent while one of these bits is set
+enum { MANY = 1024 };                   // a clause with more literals is long
+// a clause is recent while a bit of RECENT is set
+enum { DEAD = 1, TAUTOLOGY = 2, AGE = 4, RECENT = 3 * AGE, LONG = 16 };
 
 enum { LENGTH_BITS = 27, FLAG_BITS = 5 };
 
+// The literals are distinct, and the two watched ones come first. In a long clause a number follows
+// them: where the search for another literal to watch begins.
 typedef struct {
     uint64_t identity;                  // in the stream
     uint32_t length : LENGTH_BITS, flags : FLAG_BITS;
-    ClauseRef next;                     // of those whose sets have the same place in `sets`
-    Literal literals[];                 // each once; where it is watched, these are the first two. Behind those of a long one stands
-} Clause;                               // the place from which on another one to watch is looked for
+    ClauseRef next;                     // the next clause with the same place in `sets`
+    Literal literals[];
+} Clause;
 
 typedef struct { uint64_t name; ClauseRef clause; } Named;
 
 typedef struct {
     uint64_t *row;
-    size_t used, capacity, dead;        // words; those of clauses that were deleted
-    ClauseRef *near;                    // the clauses of names that are small for their number
+    size_t used, capacity, dead;        // in words; dead: those of deleted clauses
+    ClauseRef *near;                    // by name, as long as names are dense
     size_t near_length;
-    Named *far;                         // the others, hashed
+    Named *far;                         // a hash table of the other names
     size_t far_length, far_capacity;
     size_t names;                       // given so far
-    ClauseRef *sets;                    // NULL: not needed so far
+    ClauseRef *sets;                    // a hash table; NULL: not needed so far
     size_t sets_length, sets_capacity;
 } Clauses;
 
@@ -47,14 +51,16 @@ static inline ClauseRef clauses_named(const Clauses *clauses, uint64_t name) {
 }
 void clauses_name(Clauses *clauses, uint64_t name, ClauseRef ref);
 void clauses_forget_name(Clauses *clauses, uint64_t name);
-void clauses_keep_sets(Clauses *clauses);       // of those that are there, too
+void clauses_keep_sets(Clauses *clauses);       // from now on, and of the clauses present
 void clauses_keep_set(Clauses *clauses, ClauseRef ref);
 ClauseRef clauses_take_set(Clauses *clauses, const Literal *literals, size_t length, const unsigned char *marks);
 void clauses_delete(Clauses *clauses, ClauseRef ref);
-ClauseRef clauses_after(const Clauses *clauses, ClauseRef ref); // the next one that is there, or 0; after 0 the first
+// the next clause that isn't deleted, or 0; after 0 the first
+ClauseRef clauses_after(const Clauses *clauses, ClauseRef ref);
 void clauses_age(Clauses *clauses);
-uint64_t *clauses_begin_move(Clauses *clauses);         // to a new row, without the dead; the old one is returned
-ClauseRef clauses_moved(const uint64_t *old, ClauseRef ref);  // 0 for a dead one
+// to a new row, without deleted clauses; returns the old row
+uint64_t *clauses_begin_move(Clauses *clauses);
+ClauseRef clauses_moved(const uint64_t *old, ClauseRef ref);  // 0 for a deleted clause
 void clauses_end_move(Clauses *clauses, uint64_t *old);
 void clauses_check(const Clauses *clauses);
 

@@ -1,4 +1,5 @@
-// Unverified, as all of this filter. Finds out the form of a proof by its first bytes, and reads no further than it needs.
+// Unverified, like the whole filter. Finds out the form of a proof by its first bytes, and reads no
+// further than it needs.
 #include "detect.h"
 #include "errors.h"
 
@@ -16,7 +17,7 @@ static size_t skip_line(Input *input, size_t at) {
     return at + (byte == '\n');
 }
 
-// From there to the end of the line: only numbers, or the letter of FRAT's hints, at least one, and "0" last.
+// Whether the line goes on with numbers only, or the letter of FRAT's hints, and ends with "0".
 static bool numbers_follow(Input *input, size_t at) {
     bool ends = false;
     for (;;) {
@@ -46,8 +47,9 @@ static uint64_t number_ahead(Input *input, size_t *at) {
     return value;
 }
 
-// The first addition of DRAT begins with a literal of the formula, and that of LRAT with an identity above the formula's, as it
-// is or twice. A number may be both. Deletions before it decide where they name what is no literal.
+// DRAT's first addition begins with a literal of the formula, and LRAT's with an identity above the
+// formula's, plain or doubled. A number may be both. A deletion before it decides if it has a
+// number that is no literal.
 static Form binary_form(Input *input, const Formula *formula) {
     uint64_t last_literal = 2 * (uint64_t)formula->variables + 1, found;
     for (size_t at = 0;;) {
@@ -63,17 +65,17 @@ static Form binary_form(Input *input, const Formula *formula) {
     }
 }
 
-// No proof begins as a compressed file does.
+// No proof begins like a compressed file.
 void check_plain(Input *input) {
     int first = input_ahead(input, 0);
     if (is_space(first) || (first >= '0' && first <= '9') || (first >= 'a' && first <= 'z')) return;
     const char *program = unpacked_by(first, input_ahead(input, 1));
     if (program == NULL) return;
     position_set("byte", 1);
-    stop("compressed: %s it", program);
+    stop("compressed: unpack it with %s", program);
 }
 
-// Of LRAT, DRUP and DRAT text the steps decide which it is.
+// Whether a text is LRAT or DRUP and DRAT, its steps decide.
 Form form_of(Input *input, const Formula *formula) {
     position_set("byte", 1);
     int first = input_ahead(input, 0);

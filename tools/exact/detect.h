@@ -6,7 +6,7 @@
 #include "formula.h"
 #include "input.h"
 
-void check_plain(Input *input);                             // stops where it is compressed
+void check_plain(Input *input);                             // stops if the input is compressed
 Form form_of(Input *input, const Formula *formula);
 
 #endif

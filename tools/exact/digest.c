@@ -1,4 +1,4 @@
-// Unverified, as all of this filter. SHA-256, as FIPS 180-4 has it.
+// Unverified, like the whole filter. SHA-256, by FIPS 180-4.
 #include <errno.h>
 #include <stdio.h>
 #include <string.h>
@@ -30,7 +30,7 @@ static void take_block(uint32_t state[WORDS], const unsigned char *block) {
     }
     memcpy(now, state, sizeof now);
 #pragma GCC unroll 8
-    for (unsigned k = 0; k < ROUNDS; k++) {      // each word stands a place further after each round
+    for (unsigned k = 0; k < ROUNDS; k++) {      // each round moves each word one place on
         uint32_t a = now[-k % WORDS], e = now[(4 - k) % WORDS], *d = &now[(3 - k) % WORDS], *h = &now[(7 - k) % WORDS];
         uint32_t choice = (e & now[(5 - k) % WORDS]) ^ (~e & now[(6 - k) % WORDS]);
         uint32_t majority = (a & now[(1 - k) % WORDS]) ^ (a & now[(2 - k) % WORDS]) ^ (now[(1 - k) % WORDS] & now[(2 - k) % WORDS]);
@@ -64,7 +64,7 @@ void digest_add(Digest *digest, const void *bytes, size_t count) {
     if (count > 0) memcpy(digest->rest, at, count);
 }
 
-// Behind the last bytes a bit that is 1, zeros, and how many bits there were.
+// After the last byte come a 1 bit, zeros, and the number of bits.
 void digest_end(Digest *digest, char text[DIGEST_DIGITS + 1]) {
     unsigned char end[2 * BLOCK] = { 0 };
     size_t length = digest->length % BLOCK;
@@ -83,7 +83,7 @@ void digest_file(int file, const char *path, char text[DIGEST_DIGITS + 1]) {
     digest_begin(&digest);
     for (ssize_t count; (count = read(file, bytes, PIECE)) != 0;) {
         if (count > 0) digest_add(&digest, bytes, (size_t)count);
-        else if (errno != EINTR) stop("cannot read %s: %s", path, strerror(errno));
+        else if (errno != EINTR) stop("%s: %s", path, strerror(errno));
     }
     digest_end(&digest, text);
 }

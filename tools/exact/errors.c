@@ -1,11 +1,11 @@
-// Unverified, as all that includes it. What ends a program.
+// Unverified, like everything that includes it. Fatal errors.
 #include <stdarg.h>
 #include <stdio.h>
 #include <stdlib.h>
 
 #include "errors.h"
 
-enum { LONGEST_TEXT = 1 << 14 };        // with two paths
+enum { LONGEST_TEXT = 1 << 14 };        // room for two paths
 
 static const char *position_unit;
 static uint64_t position_number;
@@ -45,4 +45,10 @@ _Noreturn void fail(const char *cause, const char *object) {
     snprintf(text, sizeof text, "%s %s", cause, object);
     told(text);
     abort();
+}
+
+_Noreturn void fail_file(const char *path, const char *cause) {
+    char where[LONGEST_TEXT];
+    snprintf(where, sizeof where, "%s:", path);
+    fail(where, cause);
 }

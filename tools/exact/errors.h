@@ -1,4 +1,4 @@
-// Unverified: what ends a program that has found a fault. It is told by the program's handler, which is installed at its start.
+// Unverified: fatal errors. Each program installs its own handler at start-up.
 #ifndef ERRORS_H
 #define ERRORS_H
 
@@ -9,14 +9,18 @@
 extern "C" {
 #endif
 
-void errors_handle(void (*handler)(const char *cause));    // which doesn't return; without one a line goes to standard error
-void position_set(const char *unit, uint64_t number);      // where the proof is read; NULL: nowhere
-_Noreturn void stop(const char *cause, ...) __attribute__((format(printf, 1, 2)));     // at that position
-_Noreturn void fail(const char *cause, const char *object);                             // at none
-_Noreturn void show_text(const char *text);     // the end of a program that is asked for this alone
+// must not return; by default a line goes to standard error
+void errors_handle(void (*handler)(const char *cause));
+// where the proof is being read; NULL: nowhere
+void position_set(const char *unit, uint64_t number);
+// the message begins with the position
+_Noreturn void stop(const char *cause, ...) __attribute__((format(printf, 1, 2)));
+_Noreturn void fail(const char *cause, const char *object);  // without the position
+_Noreturn void fail_file(const char *path, const char *cause);  // 'PATH: CAUSE', likewise
+_Noreturn void show_text(const char *text);     // prints --help or --version, and exits
 
 #ifndef VERSION
-#define VERSION "unknown"       // by make it is known
+#define VERSION "unknown"       // make passes the version
 #endif
 
 #ifdef __cplusplus

@@ -1,4 +1,5 @@
-// Unverified, as all of this filter. What each step of a proof comes to: a line of the stream, none, or the end.
+// Unverified, like the whole filter. Turns each step of a proof into lines of the stream, or into
+// none, or ends the program.
 #include <stdio.h>
 
 #include "errors.h"
@@ -7,18 +8,19 @@
 #include "stream.h"
 #include "write.h"
 
-enum { DEAD_WORDS = 1 << 15 };      // so many at least are given back
-enum { WORDS_OF_A_STEP = 1 << 11 };  // that filter_check goes through
+enum { DEAD_WORDS = 1 << 15 };      // fewer aren't given back
+enum { WORDS_OF_A_STEP = 1 << 11 };  // that filter_check may visit for each step
 
-// One that is a tautology is never unit.
+// A tautology is never unit, nor a conflict.
 static void make_known(Filter *filter, ClauseRef ref) {
     if (clause_at(&filter->clauses, ref)->flags & TAUTOLOGY) return;
     PUSH(&filter->propagation.waiting, ref);
     if (!filter->frat) clauses_keep_set(&filter->clauses, ref);
 }
 
-// With FRAT the formula's clauses have names as the proof tells them, and else by their order. Of the formula two numbers stay. In
-// rounds gaps between identities would count towards the row's lines.
+// In FRAT the proof names the formula's clauses; otherwise their order does. Of the formula only
+// its two counts are kept. LRAT's identities aren't used in rounds, since gaps between them would
+// count towards the row's lines.
 void filter_open(Filter *filter, bool frat) {
     Formula *formula = &filter->formula;
     Literals *literals = &filter->literals;
@@ -51,7 +53,8 @@ static uint64_t owner(const Filter *filter, uint64_t identity) {
     return (identity - filter->formula.clauses - 1) % filter->streams + 1;
 }
 
-// The literals of a step, each once, and marked. False where the formula doesn't have one of the variables.
+// Reads the literals of a step, each once, and marks them. False if the formula lacks one of the
+// variables.
 static bool mark_literals(Filter *filter, const int64_t *numbers, size_t length, bool *tautology) {
     unsigned char *marks = filter->hints.marks;
     int64_t variables = filter->formula.variables;
@@ -80,7 +83,7 @@ static bool mark_or_stop(Filter *filter, const int64_t *numbers, size_t length) 
     return tautology;
 }
 
-// The clause of this name, where another stream derived it, or 0.
+// The clause of this name if another stream derived it, or 0.
 static ClauseRef find_other(Filter *filter, int64_t name) {
     uint64_t identity = (uint64_t)name;
     if (filter->frat || name <= (int64_t)filter->formula.clauses) return 0;
@@ -115,7 +118,8 @@ uint64_t filter_next_identity(const Filter *filter) {
     return identity;
 }
 
-// The next one of the stream; or LRAT's own, where the stream is alone, or others cite it.
+// The stream's next identity; or LRAT's own, if there is one stream only, or other streams may cite
+// it.
 static uint64_t new_identity(const Filter *filter, const Addition *addition) {
     int64_t formula = (int64_t)filter->formula.clauses, name = addition->name;
     if (addition->named && filter->keeps_identities && !filter->frat) {
@@ -126,7 +130,8 @@ static uint64_t new_identity(const Filter *filter, const Addition *addition) {
     return filter_next_identity(filter);
 }
 
-// Whether there are identities for lines that the proof doesn't have. Streams of LRAT that may cite each other have none to spare.
+// Whether lines that the proof doesn't have can get identities. LRAT streams that may cite each
+// other have none to spare.
 static bool has_identities(const Filter *filter, const Addition *addition) {
     bool is_alone = (filter->hooks || filter->streams == 1) && filter->others.length == 0;
     return !addition->named || filter->frat || is_alone || (filter->renumbered && !filter->keeps_identities);
@@ -163,7 +168,8 @@ static void write_addition(Filter *filter, const Addition *addition, Found found
     write_line(filter);
 }
 
-// Adds the other literals of the clause to those of the step. False if both have a literal and its complement besides the pivot.
+// Adds the other literals of the clause to those of the step. False if both have a literal and its
+// complement besides the pivot.
 static bool resolve(Filter *filter, const Clause *clause, Literal complement) {
     for (unsigned k = 0; k < clause->length; k++) {
         Literal literal = clause->literals[k];
@@ -180,7 +186,8 @@ static bool has_literal(const Clause *clause, Literal literal) {
     return false;
 }
 
-// Whether the clause, which isn't RUP, is RAT on its first literal: each resolvent with another clause follows. The run ends then.
+// Whether the clause, which isn't RUP, is RAT on its first literal: each resolvent with another
+// clause follows. Used for a message only, since the program then ends.
 static bool is_rat(Filter *filter) {
     Literals *literals = &filter->literals;
     size_t length = literals->length;
@@ -209,7 +216,7 @@ static _Noreturn void stop_without_cause(Filter *filter, const char *none) {
     stop("%s: the clause %s doesn't follow from those that weren't deleted, and it isn't RAT", none, clause);
 }
 
-// Most likely for want of a clause that the step cites, if it cites one that isn't there.
+// If the step cites a clause that isn't there, this is the most likely reason.
 static _Noreturn void stop_without_conflict(Filter *filter, const Addition *addition) {
     static const char none[] = "no conflict by unit propagation";
     int64_t missing = 0;
@@ -221,15 +228,15 @@ static _Noreturn void stop_without_conflict(Filter *filter, const Addition *addi
     bool may_be_shared = !is_alone && missing > (int64_t)filter->formula.clauses;
     unsigned long long stream = may_be_shared ? owner(filter, (uint64_t)missing) : filter->stream;
     if (may_be_shared && filter->streams == 1)
-        stop("%s, and the step cites the clause %lld, which isn't there: one of another stream wants --streams and --other", none, name);
+        stop("%s, and the step cites the clause %lld, which isn't there: if it is another stream's, use --streams and --other", none, name);
     if (stream == filter->stream || clauses_named(&filter->dropped, (uint64_t)missing) != 0)
         stop("%s, and the step cites the clause %lld, which isn't there", none, name);
     if (others_find(&filter->others, stream))
         stop("%s, and the step cites the clause %lld, which isn't in --other %llu", none, name, stream);
-    stop("%s, and the step cites the clause %lld of stream %llu: it wants an import, or --other %llu=STREAM", none, name, stream, stream);
+    stop("%s, and the step cites the clause %lld of stream %llu: it needs an import, or --other %llu=STREAM", none, name, stream, stream);
 }
 
-// A chain by unit propagation. A round may end at each line that comes before it.
+// Finds a chain by unit propagation. A round may end at each lemma that is written for it.
 static void look_for_chain(Filter *filter, const Addition *addition, bool has_lemmas) {
     Propagation *propagation = &filter->propagation;
     ClauseRef conflict = propagation_conflict(propagation, &filter->literals);
@@ -249,7 +256,8 @@ static void look_for_chain(Filter *filter, const Addition *addition, bool has_le
     propagation_take_back(propagation);
 }
 
-// A chain of the hints, or else by unit propagation. NO_CHAIN where the stream has the empty clause in the place of this one.
+// Makes a chain of the hints, or else by unit propagation. NO_CHAIN if the empty clause was derived
+// instead of this one.
 static Found find_chain(Filter *filter, const Addition *addition) {
     bool has_lemmas = has_identities(filter, addition);
     Found found = addition->hinted > 0 ? try_hints(filter, addition) : NO_CHAIN;
@@ -282,21 +290,21 @@ static void derive(Filter *filter, const Addition *addition) {
     forget_lemmas(filter);
 }
 
-// A tautology is of no use, and refused by lrupd.
+// A tautology is of no use, and lrupd refuses it.
 void filter_add(Filter *filter, const Addition *addition) {
     int64_t least = 0;
     for (size_t k = 0; k < addition->hinted; k++) least = addition->hints[k] < least ? addition->hints[k] : least;
     if (least < 0) stop("a RAT step (negative hints), which lrupd doesn't check: switch off the techniques that make them");
     bool tautology = mark_or_stop(filter, addition->literals, addition->length);
     if (addition->named && clauses_named(&filter->clauses, (uint64_t)addition->name) != 0)
-        stop("the identity %lld a second time", (long long)addition->name);
+        stop("the identity %lld is used twice", (long long)addition->name);
     if (!tautology && !filter->refuted) derive(filter, addition);
     filter->marked = 0;
     unmark_literals(filter);
     CHECK(filter_check(filter));
 }
 
-// The literals that are marked are those of the clause.
+// Whether the marked literals are those of the clause.
 static bool same_literals(const Filter *filter, const Clause *clause) {
     if (clause->length != filter->literals.length) return false;
     for (unsigned k = 0; k < clause->length; k++)
@@ -314,17 +322,17 @@ static void write_import(uint64_t identity, const int64_t *literals, size_t leng
     write_bytes("0\n", 2);
 }
 
-// The clause is known from now on.
+// From now on steps may use the clause.
 void filter_import(Filter *filter, int64_t identity, const int64_t *literals, size_t length) {
     int64_t formula = (int64_t)filter->formula.clauses;
-    if (filter->hooks && filter->others.length == 0) stop("an import, of a solver that shares nothing");
+    if (filter->hooks && filter->others.length == 0) stop("an import, but the solver shares nothing");
     if (filter->refuted) return;
     if (identity < 1 || (identity > formula && owner(filter, (uint64_t)identity) == filter->stream))
         stop("an import of %lld, which is no clause of the formula or of another stream", (long long)identity);
     bool tautology = mark_or_stop(filter, literals, length);
     if (length > LITERALS_OF_A_LINE) stop("longer than a line may be");
     if (identity > formula && filter->renumbered && !filter->keeps_identities)
-        stop("an import, and the proof's identities aren't those of its stream");
+        stop("an import, but the proof's identities aren't those of its stream");
     filter->keeps_identities |= identity > formula;
     ClauseRef ref = find(filter, identity);
     if (clauses_named(&filter->dropped, (uint64_t)identity) != 0 || (ref == 0 && identity <= formula))
@@ -340,7 +348,7 @@ void filter_import(Filter *filter, int64_t identity, const int64_t *literals, si
     write_import((uint64_t)identity, literals, length);
 }
 
-// As an import, but that the proof has no name for the clause.
+// Like an import, but the proof has no name for the clause.
 void filter_take_over(Filter *filter, uint64_t identity, const int64_t *literals, size_t length) {
     bool tautology = mark_or_stop(filter, literals, length);
     if (length > LITERALS_OF_A_LINE) stop("longer than a line may be");
@@ -351,7 +359,8 @@ void filter_take_over(Filter *filter, uint64_t identity, const int64_t *literals
 
 // Deletions.
 
-// The memory of the dead, where it is half of all, and much for what a move goes through.
+// Gives back the memory of deleted clauses if it is half of all, and a lot compared to what a move
+// visits.
 static void give_back(Filter *filter) {
     Clauses *clauses = &filter->clauses;
     if (filter->busy) return;
@@ -362,7 +371,7 @@ static void give_back(Filter *filter) {
     clauses_end_move(clauses, old);
 }
 
-// One that literals rest on for good may be needed again, and stays.
+// Callers keep a clause that is the reason of a literal at the root: it may be needed again.
 static void delete(Filter *filter, ClauseRef ref) {
     uint64_t identity = clause_at(&filter->clauses, ref)->identity;
     clauses_delete(&filter->clauses, ref);
@@ -382,7 +391,7 @@ void filter_write_deletion(Filter *filter) {
     give_back(filter);
 }
 
-// Those of the line that is written.
+// Deletes the lemmas of the line that was just written.
 static void forget_lemmas(Filter *filter) {
     if (filter->lemmas.length == 0) return;
     filter->chain.length = 0;
@@ -391,7 +400,7 @@ static void forget_lemmas(Filter *filter) {
     filter_write_deletion(filter);
 }
 
-// Of clauses that are there. FRAT may use a name again.
+// Names without clauses are skipped. FRAT may use a name again.
 void filter_delete(Filter *filter, const int64_t *names, size_t length) {
     if (filter->refuted) return;
     if (filter->propagation.used) propagation_settle(&filter->propagation);
@@ -406,7 +415,7 @@ void filter_delete(Filter *filter, const int64_t *names, size_t length) {
     filter_write_deletion(filter);
 }
 
-// The clause of these literals that isn't taken already, or 0.
+// A clause with these literals that wasn't taken before, or 0.
 static ClauseRef take_set(Filter *filter, const int64_t *literals, size_t length) {
     bool tautology;
     ClauseRef ref = 0;
@@ -427,16 +436,16 @@ void filter_delete_literals(Filter *filter, const int64_t *literals, size_t leng
     filter_write_deletion(filter);
 }
 
-// What FRAT alone has.
+// Steps that only FRAT has.
 
 void filter_original(Filter *filter, int64_t name, const int64_t *literals, size_t length) {
-    if (clauses_named(&filter->clauses, (uint64_t)name) != 0) stop("the identity %lld a second time", (long long)name);
+    if (clauses_named(&filter->clauses, (uint64_t)name) != 0) stop("the identity %lld is used twice", (long long)name);
     ClauseRef ref = take_set(filter, literals, length);
-    if (ref == 0) stop("an original clause that the formula doesn't have, or not so often");
+    if (ref == 0) stop("an original clause that the formula lacks, or has less often");
     clauses_name(&filter->clauses, (uint64_t)name, ref);
 }
 
-// Pairs of an old name and a new one, all at once.
+// Pairs of an old name and a new one; all change at once.
 void filter_rename(Filter *filter, const int64_t *pairs, size_t length) {
     ClauseRefs *given = &filter->given;
     given->length = 0;
@@ -446,15 +455,15 @@ void filter_rename(Filter *filter, const int64_t *pairs, size_t length) {
     }
     for (size_t k = 0; k < given->length; k++) {
         int64_t name = pairs[2 * k + 1];
-        if (clauses_named(&filter->clauses, (uint64_t)name) != 0) stop("the identity %lld a second time", (long long)name);
+        if (clauses_named(&filter->clauses, (uint64_t)name) != 0) stop("the identity %lld is used twice", (long long)name);
         if (given->items[k] != 0) clauses_name(&filter->clauses, (uint64_t)name, given->items[k]);
     }
 }
 
 #ifdef CHECKED
-// What always holds.
+// Invariants.
 
-// An identity that the proof names is the stream's, as long as it gave no other one.
+// Unless a clause was renumbered, each name is the clause's identity in the stream.
 static void identities_check(const Filter *filter) {
     const Clauses *clauses = &filter->clauses;
     for (ClauseRef ref = 0; (ref = clauses_after(clauses, ref)) != 0;) {
@@ -467,7 +476,7 @@ static void identities_check(const Filter *filter) {
 }
 
 void filter_check(const Filter *filter) {
-    static size_t taken;        // by the steps since the last time
+    static size_t taken;        // by steps since the last check
     if ((taken += WORDS_OF_A_STEP) < filter->clauses.used + (size_t)filter->formula.variables || filter->refuted) return;
     taken = 0;
     assert(filter->literals.length == 0 && filter->lemmas.length == 0 && filter->left.length == 0 && !filter->busy);

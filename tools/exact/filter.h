@@ -1,5 +1,5 @@
-// Unverified: the filter, which makes exact streams for lrupd of the proofs that solvers write, from steps to lines. lrupd checks these
-// as it checks any stream.
+// Unverified: the filter turns the proofs that solvers write into exact streams for lrupd. lrupd
+// checks these like any other stream.
 #ifndef FILTER_H
 #define FILTER_H
 
@@ -17,44 +17,49 @@
 
 typedef struct Filter Filter;
 
-// Of a program that has the filter as a part of its own: what it is told, and what it says.
+// Callbacks of a program that contains the filter.
 typedef struct {
-    bool (*ends)(void);                     // before each step: whether no more of the proof is read
-    void (*derives)(const Filter *filter);  // before a chain is looked for: the clause's literals
-    void (*derived)(const Filter *filter);  // once the line is written, but not yet out: its identity is the last one
-    uint64_t (*gift)(uint64_t engine, uint64_t position);       // what this engine gave away there: the identity
-    void (*passed)(uint64_t engine, uint64_t position);         // nothing before it will be taken over
-    bool (*lacks)(uint64_t clause, uint64_t length);            // whether the solver begins without this one; NULL: it has all
+    bool (*ends)(void);                     // before each step: whether to stop reading the proof
+    // before the search for a chain; the clause: filter->literals
+    void (*derives)(const Filter *filter);
+    // once the line is in the buffer; its identity: filter->last
+    void (*derived)(const Filter *filter);
+    // the identity of the clause given away there
+    uint64_t (*gift)(uint64_t engine, uint64_t position);
+    void (*passed)(uint64_t engine, uint64_t position);  // no earlier clause will be taken over
+    // whether the solver starts without it; NULL: it has all
+    bool (*lacks)(uint64_t clause, uint64_t length);
 } Hooks;
 
-// Of a literal that a chain needs: by how many clauses of it, and how many hints show it, if it has no lemma.
+// For a literal that a chain needs: how many clauses of the chain use it, and how many hints derive
+// it without a lemma.
 typedef struct { uint32_t uses, hints; } Weight;
 
 struct Filter {
     Formula formula;
     uint64_t stream, streams;
     uint64_t last;                  // the identity of the last line written
-    uint64_t spared;                // so many of the formula's clauses, from the first one on, no round leaves out
-    bool keeps_identities;          // those of LRAT
-    bool renumbered;                // some clause has another identity in the stream than in the proof
-    bool frat;                      // names aren't identities, not even the formula's
-    bool keeps_clauses;             // deletions aren't written, so what others were given stays
-    bool ignores_deletions;         // those of the proof
-    int marked;                     // how often the proof has marked the addition that comes next
-    bool refuted;                   // the empty clause is in the stream: nothing more has to be
-    bool busy;                      // a chain is looked for: no clause moves
-    const Hooks *hooks;             // NULL: nobody asks
+    uint64_t spared;                // the formula's first `spared` clauses are in each round
+    bool keeps_identities;          // the stream has LRAT's identities
+    bool renumbered;  // some clause has another identity in the stream than in the proof
+    bool frat;                      // the proof's names aren't identities, not even the formula's
+    bool keeps_clauses;             // deletions aren't written, so shared clauses stay
+    bool ignores_deletions;         // the proof's deletions
+    int marked;                     // how many marks precede the next addition
+    bool refuted;                   // the stream has the empty clause, and needs nothing more
+    bool busy;                      // a chain is being built: no clause may move
+    const Hooks *hooks;             // NULL: none
     Others others;
     Clauses clauses;
     Propagation propagation;
     Hints hints;
-    Clauses dropped;                // names alone, of clauses of other streams that were deleted
+    Clauses dropped;                // names only: the deleted clauses of other streams
     Literals literals;              // of the step, each once
     ClauseRefs given;
     Identities chain;
-    Literals spare, left;           // of a lemma; of a clause, what it isn't rid of
-    ClauseRefs lemmas;              // that only the line that comes next needs
-    Weight *weights;                // by variable; all 0 but while a chain is split. NULL: none was
+    Literals spare, left;           // a lemma's literals; those that a shortened clause keeps
+    ClauseRefs lemmas;              // lemmas that only the next line needs
+    Weight *weights;                // by variable; all 0 except while a chain is split; NULL before
 };
 
 typedef struct {
@@ -62,10 +67,11 @@ typedef struct {
     int64_t name;
     const int64_t *literals, *hints;
     size_t length, hinted;
-    const Line *line;               // where it is spelled as in a stream
+    const Line *line;               // if it is spelled as in a stream, else NULL
 } Addition;
 
-void filter_check(const Filter *filter);       // between two steps; so seldom that it takes no longer than they do
+// between steps; rarely enough to take no longer than they do
+void filter_check(const Filter *filter);
 
 static inline bool filter_ends(const Filter *filter) {
     CHECK(filter_check(filter));
@@ -73,7 +79,8 @@ static inline bool filter_ends(const Filter *filter) {
 }
 
 void filter_open(Filter *filter, bool frat);
-void filter_name_formula(Filter *filter);      // after it was opened for FRAT, and before the first step, where the proof isn't that
+// before the first step, if it was opened for FRAT and the proof has another form
+void filter_name_formula(Filter *filter);
 void filter_add(Filter *filter, const Addition *addition);
 void filter_import(Filter *filter, int64_t identity, const int64_t *literals, size_t length);
 void filter_take_over(Filter *filter, uint64_t identity, const int64_t *literals, size_t length);
@@ -81,8 +88,9 @@ void filter_delete(Filter *filter, const int64_t *names, size_t length);
 void filter_delete_literals(Filter *filter, const int64_t *literals, size_t length);
 void filter_original(Filter *filter, int64_t name, const int64_t *literals, size_t length);
 void filter_rename(Filter *filter, const int64_t *pairs, size_t length);
-void filter_write_deletion(Filter *filter);                     // of the identities of the chain
-ClauseRef filter_write_line(Filter *filter, uint64_t identity); // of the literals and the chain: the clause
+void filter_write_deletion(Filter *filter);  // of the identities in filter->chain
+// of filter->literals and filter->chain
+ClauseRef filter_write_line(Filter *filter, uint64_t identity);
 uint64_t filter_next_identity(const Filter *filter);
 
 #endif

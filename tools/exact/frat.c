@@ -1,4 +1,5 @@
-// Unverified, as all of this filter. FRAT text. Its identities are its own: the stream gives new ones.
+// Unverified, like the whole filter. Reads FRAT text. Clauses get new identities in the stream,
+// since FRAT numbers them in its own way.
 //
 //     o id literals 0                 a clause of the formula
 //     a id literals 0 [l hints 0]     an addition
@@ -9,11 +10,11 @@
 #include "readers.h"
 #include "words.h"
 
-// The place after the list that begins there, which ends with 0.
+// The place after the list that begins at `start` and ends with 0.
 static size_t end_of(const Words *words, size_t start) {
     size_t end = start;
     while (end < words->numbers.length && words->numbers.items[end] != 0) end++;
-    if (end >= words->numbers.length) stop("no step of FRAT text: a list without 0 at its end");
+    if (end >= words->numbers.length) stop("not a step of FRAT text: a list doesn't end with 0");
     words_check(words, start, end);
     return end + 1;
 }
@@ -23,7 +24,7 @@ static void add(Filter *filter, const Words *words, size_t end) {
     size_t length = words->numbers.length;
     Addition addition = { .named = true, .name = numbers[1], .literals = numbers + 2, .length = end - 3 };
     if (end < length) {
-        if (numbers[end] != LETTER('l') || end_of(words, end + 1) != length) stop("no step of FRAT text");
+        if (numbers[end] != LETTER('l') || end_of(words, end + 1) != length) stop("not a step of FRAT text");
         addition.hints = numbers + end + 1;
         addition.hinted = length - end - 2;
     }
@@ -34,16 +35,16 @@ static void step(Filter *filter, const Words *words) {
     const int64_t *numbers = words->numbers.items;
     size_t length = words->numbers.length;
     char letter = numbers[0] > LETTER('a') - 1 && numbers[0] <= LETTER('z') ? (char)(numbers[0] - INT64_MIN) : ' ';
-    if (letter != 'o' && letter != 'a' && letter != 'd' && letter != 'f' && letter != 'r') stop("no step of FRAT text");
+    if (letter != 'o' && letter != 'a' && letter != 'd' && letter != 'f' && letter != 'r') stop("not a step of FRAT text");
     if (letter == 'r') {
-        if (end_of(words, 1) != length || length % 2 != 0) stop("no step of FRAT text");
+        if (end_of(words, 1) != length || length % 2 != 0) stop("not a step of FRAT text");
         filter_rename(filter, numbers + 1, length - 2);
         return;
     }
     words_check(words, 1, length > 1 ? 2 : 1);
     size_t end = end_of(words, 2);
     if (letter == 'a') add(filter, words, end);
-    else if (end != length) stop("no step of FRAT text");
+    else if (end != length) stop("not a step of FRAT text");
     else if (letter == 'o') filter_original(filter, numbers[1], numbers + 2, length - 3);
     else if (letter == 'd') filter_delete(filter, numbers + 1, 1);
 }

@@ -1,4 +1,4 @@
-// Unverified: numbers that look like chance, of numbers and of sets of literals.
+// Unverified: hash functions for numbers and for sets of literals.
 #ifndef HASH_H
 #define HASH_H
 
@@ -13,7 +13,7 @@ static inline uint64_t hash_number(uint64_t number) {
     return number ^ number >> 32;
 }
 
-// In any order.
+// The order of the literals doesn't matter.
 static inline uint64_t hash_literals(const Literal *literals, size_t length) {
     uint64_t sum = length;
     for (size_t k = 0; k < length; k++) sum += hash_number((uint64_t)literals[k] + 1);

@@ -1,4 +1,4 @@
-// Unverified: an exact chain of given hints.
+// Unverified: makes an exact chain from given hints.
 #ifndef HINTS_H
 #define HINTS_H
 
@@ -7,15 +7,16 @@
 
 #include "clauses.h"
 
-enum { OPEN, GIVEN, TOUCHED, WANTED };      // of a literal that isn't open, that it is false
+enum { OPEN, GIVEN, TOUCHED, WANTED };      // marks of literals; all but OPEN: it is false
 
-typedef struct { ClauseRef clause; Literal literal; } Step; // unit: the literal is false from there on
+// the clause became unit, which made the literal false
+typedef struct { ClauseRef clause; Literal literal; } Step;
 typedef struct { ClauseRef clause; uint32_t cursor, next[2]; Literal watched[2]; } Held;
 
 typedef struct {
     const Clauses *clauses;
-    unsigned char *marks;       // by literal; all OPEN but while a chain is looked for
-    uint32_t *heads;            // by literal, of the list of clauses that are held for it
+    unsigned char *marks;       // by literal; all OPEN between two steps
+    uint32_t *heads;            // by literal: the list of clauses held by it
     struct { Step *items; size_t length, capacity; } steps;
     struct { Held *items; size_t length, capacity; } held;
     Literals headed;
@@ -25,6 +26,6 @@ typedef enum { NO_CHAIN, SOME_CHAIN, SAME_CHAIN } Found;
 
 void hints_open(Hints *hints, const Clauses *clauses, int variables);
 Found hints_chain(Hints *hints, const ClauseRefs *given, Identities *chain);
-void hints_check(const Hints *hints, int variables);         // while no step is looked at
+void hints_check(const Hints *hints, int variables);         // between two steps
 
 #endif

@@ -1,4 +1,4 @@
-// Unverified: the bytes of a file or a pipe. Before a read that would wait, what is written goes out.
+// Unverified: reads a file or a pipe. Flushes the output before a read that would block.
 #ifndef INPUT_H
 #define INPUT_H
 
@@ -6,23 +6,25 @@
 #include <stddef.h>
 #include <stdint.h>
 
-enum { LONGEST_STEP = 1 << 28 };        // bytes of a step of text: no proof has more
+enum { LONGEST_STEP = 1 << 28 };        // bytes of a text step; a longer one is refused
 
 typedef struct {
     int file;
     const char *path;
     bool ended;
-    void (*await)(int file);            // NULL, or what waits in the place of a read that would
-    unsigned char *bytes;               // some more than the capacity, which are 0
-    size_t at, length, capacity;        // unread: those from `at` on
-    uint64_t passed;                    // the bytes that came before the first of these
+    void (*await)(int file);            // NULL, or a function that waits instead of a blocking read
+    unsigned char *bytes;               // some zeros follow the last byte read
+    size_t at, length, capacity;        // unread: from `at` up to `length`
+    uint64_t passed;                    // how many bytes came before bytes[0]
 } Input;
 
-typedef struct { unsigned char *start, *end; bool ends; } Line;    // the byte at the end is LF; one that ends has it in the file
+// *end is LF; ends: the file has it, too
+typedef struct { unsigned char *start, *end; bool ends; } Line;
 
 void input_open(Input *input, const char *path);        // NULL: standard input
 bool input_read(Input *input);
-int input_ahead(Input *input, size_t place);            // the byte at that place after `at`, from 0; -1 at the end
+// the byte at `at` + `place`, which stays unread; -1 at the end
+int input_ahead(Input *input, size_t place);
 bool input_line(Input *input, Line *line);
 static inline int input_byte(Input *input) {
     if (input->at == input->length && !input_read(input)) return -1;

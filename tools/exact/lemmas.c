@@ -1,22 +1,25 @@
-// Unverified, as all of this filter. Lines that the proof doesn't have. A literal that holds for good gets a unit clause once a chain
-// needs it, so that no chain goes along the trail again. A chain that is longer than a line may be is cut, from its end on: a lemma
-// says that the literals which are needed there don't all hold, and takes the part of the conflict. If these are too many for a clause,
-// the chain is split by literals: a lemma says that one of them holds, or one of the clause's own literals does.
+// Unverified, like the whole filter. Lemmas, lines that the proof doesn't have. A literal at the
+// root gets a unit clause once a chain needs it, so that no chain derives it again. A chain that is
+// too long for a line is cut, from its end on: a lemma says that the literals needed there don't
+// all hold, and replaces the conflict. If these are too many for a clause, the chain is split by
+// literals: a lemma says that such a literal holds, or one of the clause's own literals does.
 #include "errors.h"
 #include "lemmas.h"
 #include "stream.h"
 
-enum { MOST_NEEDED = IDENTITIES_OF_A_LINE - 1 };        // of one clause's literals, each by a hint
-enum { WORTH_A_LEMMA = 16 };                            // hints, and as many more as the clause has literals
+enum { MOST_NEEDED = IDENTITIES_OF_A_LINE - 1 };        // literals of one clause, with a hint each
+enum { WORTH_A_LEMMA = 16 };  // hints, and one more for each literal of the clause
 enum { NONE = -1 };
 
 _Static_assert((int)MOST_NEEDED <= (int)LITERALS_OF_A_LINE, "a lemma has as many literals as a clause may need");
 
-// Of a conflict's chain, from its end back to a position on the trail: hints, and the literals that are needed before it, which a lemma
-// would have. Those of the clause itself are met, and the others open. How many variables were marked so far.
+// The end of a conflict's chain, from a position on the trail: its hints, and the literals that it
+// needs from before, which a lemma would have. `met` counts the clause's own literals, `open` the
+// others, and `marked` the variables marked so far.
 typedef struct { size_t position, hints, open, met, marked; } Cut;
 
-// What follows from the clause and all that it rests on, but for what is assumed: in a line of its own.
+// Writes the lemma that a clause and all its reasons imply: its literals are the assumed ones that
+// they depend on.
 static ClauseRef write_lemma(Filter *filter, ClauseRef ref) {
     Propagation *propagation = &filter->propagation;
     Literals literals = filter->literals;
@@ -38,7 +41,8 @@ static ClauseRef write_lemma(Filter *filter, ClauseRef ref) {
     return lemma;
 }
 
-// The reason of this variable's literal from now on. What holds for good, holds in all that follows.
+// Writes a lemma, which becomes the reason of this variable's literal. The lemma of a literal at
+// the root is kept.
 static void give_lemma(Filter *filter, int variable) {
     Propagation *propagation = &filter->propagation;
     propagation->seen[variable] = ASSUMED;
@@ -48,7 +52,7 @@ static void give_lemma(Filter *filter, int variable) {
     if (propagation->positions[variable] >= propagation->root) PUSH(&filter->lemmas, lemma);
 }
 
-// What follows from the clause where some literals are left to it, as the lemma's own.
+// Writes the lemma that a clause implies if it keeps the literals in `left`.
 static ClauseRef write_shorter(Filter *filter, ClauseRef ref) {
     Literals *left = &filter->left;
     propagation_see(&filter->propagation, left, ASSUMED);
@@ -59,7 +63,8 @@ static ClauseRef write_shorter(Filter *filter, ClauseRef ref) {
     return shorter;
 }
 
-// The clause without as many of its false literals as a line has hints for. Each of them has a lemma; its own literal is true.
+// Removes as many false literals from the clause as a line has hints for. Each of them has a lemma.
+// The literal of `own` is true, and stays.
 static ClauseRef shorten(Filter *filter, ClauseRef ref, int own) {
     Propagation *propagation = &filter->propagation;
     const Clause *clause = clause_at(&filter->clauses, ref);
@@ -78,7 +83,8 @@ static bool has_unit(const Filter *filter, int variable) {
     return clause_at(&filter->clauses, filter->propagation.reasons[variable])->length == 1;
 }
 
-// One more clause: what it needs that nothing behind it did. A unit clause is a hint in each line that needs it.
+// Adds a clause to the cut, and what it needs unless later clauses need it. A unit clause is a hint
+// in each line that needs it.
 static void extend(Filter *filter, ClauseRef ref, Cut *cut) {
     Propagation *propagation = &filter->propagation;
     const Clause *clause = clause_at(&filter->clauses, ref);
@@ -96,15 +102,17 @@ static void extend(Filter *filter, ClauseRef ref, Cut *cut) {
     cut->marked = propagation->marked.length;
 }
 
-// The best has fewest literals for a hint. It has half of a line's hints, and not more literals than these may be: so a chain's lemmas
-// have at most twice as many literals as it has hints, and few clauses are gone through twice.
+// The best cut has the fewest literals per hint. It has more than half of a line's hints, and at
+// most MOST_NEEDED literals. So a chain's lemmas have at most twice as many literals as it has
+// hints, and few clauses are visited twice.
 static bool is_better(const Cut *cut, const Cut *best) {
     size_t literals = cut->open + cut->met;
     if (cut->hints <= IDENTITIES_OF_A_LINE / 2 || literals > MOST_NEEDED) return false;
     return literals * best->hints <= (best->open + best->met) * cut->hints;
 }
 
-// From there back along the trail. True where all fits into one line, and else there is a best cut, or none, without hints.
+// Goes back along the trail from the position. True if all fits into one line; if not, `best` is
+// the best cut, without hints if there is none.
 static bool find_cut(Filter *filter, ClauseRef conflict, size_t position, Cut *best) {
     const Propagation *propagation = &filter->propagation;
     Cut cut = { .position = position };
@@ -140,7 +148,8 @@ static void forget_marks(Propagation *propagation) {
     propagation->marked.length = 0;
 }
 
-// The conflict, or a shorter one. False where what is left of the chain doesn't fit into a line.
+// Replaces the conflict by a shorter one as often as a cut is found. False if the rest of the chain
+// doesn't fit into a line.
 static bool cut_chain(Filter *filter, ClauseRef *conflict) {
     Cut best = { .position = filter->propagation.trail.length };
     for (;;) {
@@ -152,9 +161,10 @@ static bool cut_chain(Filter *filter, ClauseRef *conflict) {
     }
 }
 
-// Lemmas of literals.
+// Lemmas for literals.
 
-// On how many literals the clause rests, and how many hints show all of them, and the clause.
+// How many hints derive all literals that the clause needs, and the clause; and how many literals
+// these are.
 static uint64_t hints_for(const Filter *filter, ClauseRef ref, int own, size_t floor, size_t *needed) {
     const Propagation *propagation = &filter->propagation;
     const Clause *clause = clause_at(&filter->clauses, ref);
@@ -169,8 +179,8 @@ static uint64_t hints_for(const Filter *filter, ClauseRef ref, int own, size_t f
     return hints;
 }
 
-// The clause, or a shorter one, after lemmas for what takes too many hints: so all fits into a line. What lies below the floor has unit
-// clauses.
+// Makes the clause's chain fit into a line: writes lemmas for literals that take too many hints,
+// and then shortens the clause. Literals below the floor have unit clauses.
 static ClauseRef fit(Filter *filter, ClauseRef ref, int own, size_t floor, uint32_t *hints) {
     const Propagation *propagation = &filter->propagation;
     size_t needed;
@@ -200,7 +210,7 @@ static void use(Filter *filter, ClauseRef ref, int own, size_t floor) {
     }
 }
 
-// Of all that the conflict needs on the trail from the floor on.
+// Counts the uses of all literals from the floor on that the conflict needs.
 static void count_uses(Filter *filter, ClauseRef conflict, size_t floor) {
     const Propagation *propagation = &filter->propagation;
     use(filter, conflict, NONE, floor);
@@ -210,7 +220,8 @@ static void count_uses(Filter *filter, ClauseRef conflict, size_t floor) {
     }
 }
 
-// Along the trail. What several clauses need gets a lemma, unless it is shown as quickly again: so few hints are written twice.
+// Goes along the trail. A literal that several clauses need gets a lemma, unless deriving it again
+// is as short. So few hints are written twice.
 static void weigh(Filter *filter, size_t floor, size_t worth) {
     Propagation *propagation = &filter->propagation;
     for (size_t position = floor; position < propagation->trail.length; position++) {
@@ -224,7 +235,7 @@ static void weigh(Filter *filter, size_t floor, size_t worth) {
     }
 }
 
-// The conflict, or a shorter one, whose chain fits into a line.
+// Returns the conflict, or a shorter one, whose chain fits into a line.
 static ClauseRef split(Filter *filter, ClauseRef conflict, size_t floor, size_t worth) {
     const Propagation *propagation = &filter->propagation;
     uint32_t hints;
@@ -238,7 +249,8 @@ static ClauseRef split(Filter *filter, ClauseRef conflict, size_t floor, size_t 
     return conflict;
 }
 
-// For what the trace missed, and what that rests on, in the order of the trail.
+// Gives unit clauses to the literals that the trace missed, and to those that they depend on, in
+// the order of the trail.
 static void give_units(Filter *filter) {
     Propagation *propagation = &filter->propagation;
     Positions *missing = &propagation->missing, *needed = &propagation->needed;
@@ -259,7 +271,7 @@ static void give_units(Filter *filter) {
     }
 }
 
-// After a trace.
+// Call after a trace.
 ClauseRef lemmas_for(Filter *filter, ClauseRef conflict) {
     Propagation *propagation = &filter->propagation;
     size_t hints = filter->chain.length + propagation->missing.length;
@@ -271,7 +283,8 @@ ClauseRef lemmas_for(Filter *filter, ClauseRef conflict) {
     return conflict;
 }
 
-// The empty clause is all that is needed. What it rests on gets no more unit clauses than it takes.
+// Only the empty clause is needed now, so no literal gets a unit clause that its chain can do
+// without.
 void lemmas_refute(Filter *filter) {
     filter->busy = true;
     write_lemma(filter, split(filter, filter->propagation.conflict, 0, WORTH_A_LEMMA));

@@ -1,4 +1,4 @@
-// Unverified, as all that includes it. Memory, and lists that grow.
+// Unverified, like everything that includes it. Memory, and growing lists.
 #include <stdlib.h>
 
 #include "errors.h"

@@ -1,4 +1,4 @@
-// Unverified: lists that grow, and memory.
+// Unverified: growing lists, and memory.
 #ifndef LISTS_H
 #define LISTS_H
 
@@ -22,7 +22,7 @@ typedef struct { int64_t *items; size_t length, capacity; } Numbers;
         (list)->items[(list)->length++] = (item);                                           \
     } while (0)
 
-// Room for so many items of a list.
+// Makes room for `count` items in all.
 #define RESERVE(list, count)                                                                \
     do {                                                                                    \
         if ((list)->capacity < (count)) {                                                   \
@@ -31,8 +31,8 @@ typedef struct { int64_t *items; size_t length, capacity; } Numbers;
         }                                                                                   \
     } while (0)
 
-void *grow(void *memory, size_t bytes);         // realloc, or the end; nothing is kept of no bytes
-void *zeroed(size_t count, size_t bytes);       // calloc, or the end
+void *grow(void *memory, size_t bytes);         // realloc, or the program ends; 0 bytes: free
+void *zeroed(size_t count, size_t bytes);       // calloc, or the program ends
 void identities_reverse(Identities *list);
 
 #ifdef __cplusplus

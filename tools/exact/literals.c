@@ -1,9 +1,9 @@
-// Unverified, as all that includes it. Sorts the literals of a clause.
+// Unverified, like everything that includes it. Sorts the literals of a clause.
 #include <stdlib.h>
 
 #include "literals.h"
 
-enum { FEW = 16 };              // literals, that are sorted without a call for each two
+enum { FEW = 16 };              // up to this many are sorted without qsort
 
 static int by_number(const void *one, const void *other) {
     return *(const Literal *)one - *(const Literal *)other;

@@ -1,4 +1,4 @@
-// Unverified: literals, and what one clause has of them.
+// Unverified: literals, and the literals of a clause.
 #ifndef LITERALS_H
 #define LITERALS_H
 
@@ -22,8 +22,10 @@ static inline int as_written(Literal literal) {
 
 typedef struct { Literal *items; size_t length, capacity; } Literals;
 
-size_t literals_sort(Literal *literals, size_t length);         // each once: how many are left
-bool literals_clash(const Literal *literals, size_t length);    // one and its complement, where they are sorted
+// removes repeated ones; returns how many are left
+size_t literals_sort(Literal *literals, size_t length);
+// sorted ones: is one the complement of another?
+bool literals_clash(const Literal *literals, size_t length);
 
 #ifdef __cplusplus
 }

@@ -1,13 +1,15 @@
-// Unverified, and nothing here is trusted: lrupd checks what comes out as it checks any stream. Makes a stream for lrupd of a proof
-// whose hints are missing, or not exact.
+// Unverified and untrusted: lrupd checks the output like any other stream. Makes a stream for lrupd
+// from a proof whose hints are missing or not exact.
 //
 //     lrup-exact [--stream S --streams N] [--other T=STREAM]... [OPTIONS] FORMULA [PROOF]
 //     lrup-exact --rounds DIR [--memory SIZE] [OPTIONS] FORMULA [PROOF]
 //
-// PROOF, or standard input, is LRAT, DRUP, DRAT or FRAT text, or binary LRAT or DRAT. The stream goes to standard output, with
-// the identities of stream S of N (1 of 1). The hints that are given are tried first, in any order. Where they don't do, a chain is
-// looked for by unit propagation among all clauses that the proof has at that point. A clause of another stream has an import in
-// the proof, or is read where it is cited, as --other 2=proof2. With --rounds there is a stream for each round of lrupd.
+// PROOF, or standard input, is LRAT, DRUP, DRAT or FRAT text, or binary LRAT or DRAT. The stream
+// goes to standard output, with the identities of stream S of N (by default 1 of 1). The proof's
+// hints are tried first, in any order. If they don't suffice, unit propagation over all clauses
+// that the proof has at that point finds a chain. For a clause of another stream, the proof has an
+// import, or --other 2=proof2 names the file with it. With --rounds there is a stream for each
+// round of lrupd.
 #include <errno.h>
 #include <fcntl.h>
 #include <signal.h>
@@ -25,7 +27,7 @@
 #include "row.h"
 #include "write.h"
 
-// What was written before goes out first.
+// Flushes the stream first.
 static void end(const char *cause) {
     write_flush();
     fprintf(stderr, "lrup-exact: %s\n", cause);
@@ -39,7 +41,7 @@ static const char usage[] =
     "       lrup-exact --rounds DIR [--memory SIZE] [OPTIONS] FORMULA [PROOF]\n"
     "       lrup-exact --help | --version\n"
     "OPTIONS are --format FORM, and --ignore-deletions, which keeps all clauses that the proof deletes.\n"
-    "FORM is lrat, drat, frat, binary-lrat or binary-drat; without it the first bytes of the proof tell the form.\n"
+    "FORM is lrat, drat, frat, binary-lrat or binary-drat; by default the first bytes of the proof decide.\n"
     "lrupd --rounds DIR FORMULA DIR/round-1.stream-1 reads what --rounds writes; SIZE is the most that lrupd may take for a round,\n"
     "as 500M or 2G.\n";
 
@@ -53,10 +55,10 @@ static Form form_named(const char *word) {
                                          [BINARY_DRAT] = "binary-drat" };
     for (Form form = LRAT; form <= BINARY_DRAT; form++)
         if (strcmp(word, names[form]) == 0) return form;
-    refuse("no form of a proof:", word);
+    refuse("unknown form:", word);
 }
 
-// What stands behind the number, of nine digits at most; NULL where there is none.
+// What follows the number, which has at most nine digits; NULL if there is no number.
 static char *behind_number(char *word, uint64_t *number) {
     char *at = word;
     *number = 0;
@@ -67,7 +69,7 @@ static char *behind_number(char *word, uint64_t *number) {
 static uint64_t number_of(char *word) {
     uint64_t number;
     const char *rest = behind_number(word, &number);
-    if (!rest || *rest != 0) refuse("no number of a stream:", word);
+    if (!rest || *rest != 0) refuse("not a stream's number:", word);
     return number;
 }
 
@@ -76,14 +78,14 @@ typedef struct { uint64_t number; const char *path; } OtherStream;
 static OtherStream other_of(char *word) {
     OtherStream other;
     const char *rest = behind_number(word, &other.number);
-    if (!rest || rest[0] != '=' || rest[1] == 0) refuse("no T=STREAM:", word);
+    if (!rest || rest[0] != '=' || rest[1] == 0) refuse("not T=STREAM:", word);
     other.path = rest + 1;
     return other;
 }
 
 static uint64_t memory_of(const char *word) {
     uint64_t bytes = memory_read(word);
-    if (bytes == 0) refuse("no size, as 500000000, 500M or 2G:", word);
+    if (bytes == 0) refuse("not a size as 500000000, 500M or 2G:", word);
     if (bytes > MOST_MEMORY) refuse("more than 2147483648 bytes:", word);
     return bytes;
 }
@@ -120,7 +122,7 @@ static void read_word(CommandLine *given, char ***words) {
     else if ((value = value_of(words, "--memory")) != NULL) given->memory = memory_of(value);
     else if (strcmp(**words, "--ignore-deletions") == 0) given->ignores_deletions = true;
     else if (***words == '-') refuse("no such option:", **words);
-    else if (given->files_length == 2) refuse("one word too many:", **words);
+    else if (given->files_length == 2) refuse("unexpected argument:", **words);
     else given->files[given->files_length++] = **words;
 }
 
@@ -138,7 +140,7 @@ static void run(Filter *filter, Input *input, Form form) {
     else check_plain(input);
     if (form == UNKNOWN_FORM) {
         position_set("byte", 1);
-        stop("the first bytes don't tell the form: say it, --format lrat|drat|frat|binary-lrat|binary-drat");
+        stop("the first bytes don't show the form: use --format lrat|drat|frat|binary-lrat|binary-drat");
     }
     filter_open(filter, form == FRAT);
     if (form == FRAT) frat_run(filter, input);
@@ -147,7 +149,8 @@ static void run(Filter *filter, Input *input, Form form) {
     write_flush();
 }
 
-// Where the caller has closed one of the first three files, no other one takes its place.
+// Occupies descriptors 0 to 2, so that no file opened later is mistaken for a closed standard
+// stream.
 static void hold_first_files(void) {
     for (int file = 0; file <= 2; file++)
         if (fcntl(file, F_GETFD) < 0 && open("/dev/null", O_RDONLY) != file) _exit(1);
@@ -162,7 +165,7 @@ int main(int count, char **words) {
     given.others = zeroed((size_t)count + 1, sizeof *given.others);
     for (char **word = words + 1; word < words + count; word++) read_word(&given, &word);
     check(&given);
-    signal(SIGPIPE, SIG_IGN);       // a reader that went away is told as a write that failed
+    signal(SIGPIPE, SIG_IGN);       // a write fails instead once the reader has closed its end
     if (given.rounds) chain_open(given.rounds);
     input_open(&input, given.files[1]);
     formula_read(&filter.formula, given.files[0]);

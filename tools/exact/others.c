@@ -1,4 +1,5 @@
-// Unverified, as all of this filter. Other solvers' streams, LRAT text, read as far as their clauses are cited.
+// Unverified, like the whole filter. Other solvers' streams, in LRAT text, read as far as their
+// clauses are cited.
 #include <stdlib.h>
 
 #include "errors.h"
@@ -13,7 +14,7 @@ void others_open(Others *others, uint64_t number, const char *path, int variable
 }
 
 Other *others_find(const Others *others, uint64_t number) {
-    for (size_t k = others->length; k-- > 0;)       // the last one said
+    for (size_t k = others->length; k-- > 0;)       // the last one given counts
         if (others->items[k].number == number) return &others->items[k];
     return NULL;
 }
@@ -24,11 +25,11 @@ static void keep(Other *other, const Words *words) {
     literals->length = 0;
     for (size_t k = 1; k < words->first_zero; k++) {
         if (numbers[k] > other->variables || numbers[k] < -other->variables)
-            stop("in %s a variable that the formula doesn't have, or no number", other->input.path);
+            stop("%s: a variable that the formula doesn't have, or not a number", other->input.path);
         PUSH(literals, (Literal)(numbers[k] > 0 ? 2 * (numbers[k] - 1) : 2 * (-numbers[k] - 1) + 1));
     }
     if (numbers[0] <= (int64_t)other->last || words->zeros == 0 || words->first_zero == 0)
-        stop("in %s no step of LRAT text, or an identity that isn't above the one before", other->input.path);
+        stop("%s: not a step of LRAT text, or an identity that isn't above the one before", other->input.path);
     other->last = (uint64_t)numbers[0];
     size_t length = literals_sort(literals->items, literals->length);
     bool tautology = literals_clash(literals->items, length);
@@ -46,7 +47,8 @@ static void read_to(Other *other, uint64_t identity) {
     }
 }
 
-// Its clause, once, handed over to these; 0 where it has none of this identity.
+// Moves the clause with this identity from the other stream to `clauses`; 0 if there is none, or it
+// was moved before.
 ClauseRef other_clause(Other *other, Clauses *clauses, uint64_t identity) {
     read_to(other, identity);
     ClauseRef ref = clauses_named(&other->clauses, identity);

@@ -1,4 +1,4 @@
-// Unverified: other solvers' streams, read as far as they are cited.
+// Unverified: other solvers' streams, read as far as the proof cites them.
 #ifndef OTHERS_H
 #define OTHERS_H
 

@@ -1,5 +1,5 @@
-// Unverified: the ending of a stream's name once somebody has packed it, and by what. For C and C++;
-// in shell tools/lrup-chain has the same.
+// Unverified: the endings of compressed streams' names, and the programs that unpack them. For C
+// and C++; tools/lrup-chain has the same list in shell.
 #ifndef PACKED_H
 #define PACKED_H
 

@@ -1,4 +1,5 @@
-// Unverified: unit propagation by two watched literals. What follows without an assumption stays on the trail.
+// Unverified: unit propagation with two watched literals. Literals at the root, which follow
+// without assumptions, stay on the trail.
 #ifndef PROPAGATION_H
 #define PROPAGATION_H
 
@@ -8,11 +9,13 @@
 
 #include "clauses.h"
 
-typedef struct { ClauseRef clause; uint32_t other; } Watch; // twice the other watched literal, and 1 where there are but two
+// `other` is twice the other watched literal, plus 1 if the clause has no more than these two.
+typedef struct { ClauseRef clause; uint32_t other; } Watch;
 typedef struct { Watch *items; uint32_t length, capacity; } Watches;
 typedef struct { uint32_t *items; size_t length, capacity; } Positions;     // on the trail
 
-enum { UNSEEN, ASSUMED, MET, NEEDED };      // of a variable, while a conflict is traced. MET: assumed, and needed
+// marks of variables while a conflict is traced; MET: assumed and needed
+enum { UNSEEN, ASSUMED, MET, NEEDED };
 
 typedef struct {
     Clauses *clauses;
@@ -20,22 +23,23 @@ typedef struct {
     signed char *values;        // by literal: 1 true, -1 false, 0 open
     ClauseRef *reasons;         // by variable
     uint32_t *positions;        // by variable, on the trail
-    unsigned char *seen;        // by variable; all UNSEEN but while a conflict is traced
-    Watches *watches[2];        // by literal: those of clauses that were needed of late, and of the others
-    Literals trail;             // the true ones, in order; at first those that are true for good
-    size_t propagated[2], root;     // how far each of the two has come on the trail
-    size_t chains;                  // since clauses aged
-    ClauseRefs waiting;         // clauses that nobody has looked for yet
+    unsigned char *seen;        // by variable; all UNSEEN except while a conflict is traced
+    Watches *watches[2];        // by literal: of recently needed clauses, and of the others
+    Literals trail;             // the true literals in order, those at the root first
+    size_t propagated[2], root;  // how far each of the two lists is propagated; the root's length
+    size_t chains;                  // since clauses last aged
+    ClauseRefs waiting;         // clauses that aren't watched yet
     bool used;
-    ClauseRef conflict;         // one without an assumption
-    Literals marked;            // variables that were seen
-    Positions needed;           // of all that a clause rests on
-    Positions missing;          // of literals that a chain needs, and that have no unit clause
+    ClauseRef conflict;         // at the root; 0: none
+    Literals marked;            // the variables whose marks have to be reset
+    Positions needed;           // of the literals that a clause depends on
+    Positions missing;          // of root literals that a chain needs, without unit clauses
 } Propagation;
 
 void propagation_open(Propagation *propagation, Clauses *clauses, int variables);
 void propagation_settle(Propagation *propagation);
-ClauseRef propagation_conflict(Propagation *propagation, const Literals *literals); // what it assumes stays
+// the assumptions stay
+ClauseRef propagation_conflict(Propagation *propagation, const Literals *literals);
 void propagation_take_back(Propagation *propagation);
 bool propagation_trace(Propagation *propagation, const Literals *literals, ClauseRef conflict, Identities *chain);
 void propagation_trace_all(Propagation *propagation, const Literals *literals, ClauseRef conflict, Identities *chain);

@@ -1,4 +1,4 @@
-// Unverified: proofs, read to their ends, or to that of the stream.
+// Unverified: read a proof to its end, or to the end of the stream.
 #ifndef READERS_H
 #define READERS_H
 

@@ -1,5 +1,5 @@
-// Unverified, as all of this filter. A chain of runs: what a stream deletes at the end of one, so that it isn't carried along, and the
-// identities in the next one, which reads what the run before saved.
+// Unverified, like the whole filter. A chain of runs: what a stream deletes at the end of a run, so
+// that it isn't saved, and the clauses' identities in the next run, which reads what was saved.
 #include <string.h>
 
 #include "checks.h"
@@ -11,16 +11,18 @@ static bool is_own(const Filter *filter, uint64_t identity) {
     return (identity - filter->formula.clauses - 1) % filter->streams == filter->stream - 1;
 }
 
-// Marks the clause, if the stream may delete it: the formula's come first, then its own. One that was taken over by a wrong identity,
-// which lrupd refuses, may have one that the stream has yet to give.
+// Marks the clause if the stream may delete it: the marks of the formula's clauses come first, then
+// those of the stream's own. A clause that was taken over by a wrong identity, which lrupd refuses,
+// may have one that the stream hasn't used yet.
 static void mark(const Filter *filter, unsigned char *marks, uint64_t identity) {
     uint64_t formula = filter->formula.clauses;
     if (identity <= formula) marks[identity - 1] = 1;
     else if (identity <= filter->last && is_own(filter, identity)) marks[formula + (identity - formula - 1) / filter->streams] = 1;
 }
 
-// All clauses of the formula and of the stream that the filter doesn't hold, or all where it doesn't go on, but for these, and for
-// those that are spared. The stream has deleted none so far.
+// Deletes the clauses of the formula and of the stream, except those that are spared, those in
+// `kept` and, if another round follows, those that the filter has. The stream has deleted none
+// before.
 void round_delete(Filter *filter, const Identities *kept, bool goes_on) {
     uint64_t formula = filter->formula.clauses, first = formula + filter->stream;
     uint64_t own = filter->last ? (filter->last - first) / filter->streams + 1 : 0;
@@ -35,7 +37,7 @@ void round_delete(Filter *filter, const Identities *kept, bool goes_on) {
     filter_write_deletion(filter);
 }
 
-// What a run saves where the stream ends behind these deletions, and nothing was kept beside what the filter holds.
+// How many clauses a run saves if the stream ends after these deletions and `kept` was empty.
 uint64_t round_clauses(const Filter *filter, uint64_t *literals) {
     uint64_t count = 0;
     *literals = 0;
@@ -44,14 +46,15 @@ uint64_t round_clauses(const Filter *filter, uint64_t *literals) {
     return count;
 }
 
-// Before a line: the row has room for it, or the stream ends here, since lrupd would refuse the line. Who sizes rows makes room, or
-// ends the run.
+// Call before a line. If the row has no room for it, the stream ends here, since lrupd would refuse
+// the line; `next_round` makes room, or ends the program.
 void round_make_room(const Filter *filter, bool (*has_room)(uint64_t literals), void (*next_round)(uint64_t literals)) {
     size_t length = filter->literals.length;
     while (!has_room(length)) next_round(length);
 }
 
-// Goes on with what was saved, as another stream. Names of the proof that were identities aren't any more.
+// Continues with what was saved, as another stream. From now on no name of the proof is an
+// identity.
 void round_begin(Filter *filter, const Checkpoint *checkpoint, uint64_t stream, uint64_t streams) {
     for (ClauseRef ref = 0; (ref = clauses_after(&filter->clauses, ref)) != 0;) {
         Clause *clause = clause_at(&filter->clauses, ref);

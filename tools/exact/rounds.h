@@ -1,4 +1,4 @@
-// Unverified: from a run of lrupd to the next one.
+// Unverified: takes the filter from one round of lrupd to the next.
 #ifndef ROUNDS_H
 #define ROUNDS_H
 

@@ -1,6 +1,7 @@
-// Unverified, as all of this filter. The sizes of lrupd's rows in a chain of runs. A row is made before a line is read, and doesn't
-// grow. So each one is twice the one before, up to what --memory says: a short run gets a small one. Live clauses are never too
-// many for that: where they take more than half of a row the next one has twice their size.
+// Unverified, like the whole filter. The sizes of lrupd's rows in a chain of runs. A row is made
+// before the first line is read, and doesn't grow. So rows begin small, for short runs, and double
+// from round to round, up to --memory. Live clauses always fit: if they take more than half of a
+// row, the next one has twice their size.
 #include <string.h>
 #include <unistd.h>
 
@@ -8,11 +9,11 @@
 
 #define USUAL_MEMORY (UINT64_C(1) << 29)
 #define LEAST_MEMORY (UINT64_C(1) << 26)
-#define FIRST_WORDS (UINT64_C(1) << 20)         // of the first round's streams; where there are many, of each
-#define FIRST_OF_EACH (UINT64_C(1) << 18)
+#define FIRST_WORDS (UINT64_C(1) << 20)  // of the first round's streams; or, if that is more:
+#define FIRST_OF_EACH (UINT64_C(1) << 18)       // of each one
 
 enum { LEAST_WORDS = 64 };                      // of a stream
-enum { LEAST_SHARE = 8 };                       // an eighth of the largest row, that several streams have at least
+enum { LEAST_SHARE = 8 };  // several streams have at least an eighth of the largest row
 enum { GROWTH = 2 };                            // from round to round
 
 static const double USUAL_LENGTH = 16, LEAST_LENGTH = 2, MOST_LENGTH = 200;
@@ -38,7 +39,8 @@ static uint64_t bytes_of_machine(void) {
     return pages > 0 && bytes > 0 ? (uint64_t)pages * (uint64_t)bytes : 0;
 }
 
-// An eighth of the machine's, up to half a gigabyte, and at most a quarter: at its start lrupd takes twice the row.
+// By default a row has an eighth of the machine's memory, up to half a gigabyte, and grows to a
+// quarter at most: at its start lrupd takes twice the row.
 void rows_open(Rows *rows, uint64_t memory, uint64_t most, uint64_t streams) {
     uint64_t all = bytes_of_machine();
     if (!memory) memory = lesser(USUAL_MEMORY, greater(all / 8, LEAST_MEMORY));
@@ -54,7 +56,8 @@ static double length_of(Row used) {
     return length < LEAST_LENGTH ? LEAST_LENGTH : length > MOST_LENGTH ? MOST_LENGTH : length;
 }
 
-// A clause takes a word, and each of its literals one. Clauses are cheap, so there is room for many that are only half as long.
+// A clause takes one word, and one for each literal. Lines are cheap, so there are enough for
+// clauses of half the length.
 static Row split(uint64_t words, double length) {
     uint64_t lines = (uint64_t)((double)words / (1 + length / 2));
     lines = greater(lines, words > 0);

@@ -1,4 +1,4 @@
-// Unverified: how long a line of a stream may be. lrupd takes no more; a build for tests takes fewer.
+// Unverified: lrupd's limits on a line of a stream. A build for tests lowers one.
 #ifndef STREAM_H
 #define STREAM_H
 

@@ -1,15 +1,16 @@
-// Unverified, as all of this filter. LRAT text, whose hints may be in any order, too many or too few, and DRUP or DRAT text, which
-// has none. A step is a line; both may have comments, empty lines and loose spaces, and a first line that begins with %.
+// Unverified, like the whole filter. Reads LRAT text, whose hints may be in any order, too many or
+// too few, and DRUP or DRAT text, which has none. A step is a line. All may have comments, empty
+// lines, extra spaces, and a first line that begins with %.
 #include "errors.h"
 #include "readers.h"
 #include "words.h"
 
 static const char *name_of(Form form) { return form == LRAT ? "LRAT" : "DRUP or DRAT"; }
 
-// Each step is of the kind of the first one.
+// All steps have the form of the first one.
 static void check_form(Form *form, Form found) {
     if (*form != TEXT && *form != found)
-        stop("a step of %s text, and those before were %s", name_of(found), name_of(*form));
+        stop("a step of %s text, but those before were %s", name_of(found), name_of(*form));
     *form = found;
 }
 
@@ -48,11 +49,11 @@ void text_run(Filter *filter, Input *input, Form form) {
     Words words = {0};
     Line line;
     for (uint64_t number = 1; position_set("line", number), !filter_ends(filter) && input_line(input, &line); number++) {
-        if (number == 1 && *line.start == '%') continue;        // PicoSAT's
+        if (number == 1 && *line.start == '%') continue;        // PicoSAT's header
         words_read(&words, line);
         if (words.numbers.length == 0) continue;
         if (words.numbers.items[0] == LETTER('c') || words.numbers.items[0] == LETTER('o')) continue;
-        if (words.garbled && !line_is_text(line)) stop("not text: say the form of a binary proof with --format");
+        if (words.garbled && !line_is_text(line)) stop("not text: use --format for a binary proof");
         words_check_whole(&words, line);
         step(filter, &words, &line, &form);
     }

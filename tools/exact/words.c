@@ -1,4 +1,4 @@
-// Unverified, as all of this filter. The words of a line of text.
+// Unverified, like the whole filter. Reads the words of a line of text.
 #include <string.h>
 
 #include "checks.h"
@@ -9,7 +9,7 @@
 static inline bool is_space(unsigned char byte) { return byte == ' ' || (byte >= '\t' && byte <= '\r'); }
 static inline bool is_digit(unsigned char byte) { return (unsigned char)(byte - '0') < 10; }
 
-// What a word is that isn't a number of at most 18 digits; moves to its end.
+// The code of a word that isn't a number of at most 18 digits; moves to its end.
 static int64_t other_word(unsigned char **at) {
     unsigned char *start = *at, *end = start;
     while (!is_space(*end)) end++;
@@ -25,8 +25,9 @@ static int64_t other_word(unsigned char **at) {
 #if __BYTE_ORDER__ == __ORDER_LITTLE_ENDIAN__
 #define EACH(byte) (UINT64_C(0x0101010101010101) * (byte))
 
-// The digits that begin there, up to seven, without a branch for each: how many, or 8 for more. Of eight bytes those that are no
-// digits are told by their highest bits; then neighbours are put together, to two digits, and those to four and eight.
+// Reads up to seven digits, without a branch for each. Returns how many there are, or 8 for more.
+// Of eight bytes, the highest bits mark those that are no digits; then neighbours are joined, to
+// two digits, and these to four and eight.
 static inline unsigned short_number(const unsigned char *at, uint64_t *value) {
     uint64_t digits;
     memcpy(&digits, at, sizeof digits);
@@ -43,7 +44,7 @@ static inline unsigned short_number(const unsigned char *at, uint64_t *value) {
 static inline unsigned short_number(const unsigned char *at, uint64_t *value) { return *value = 0, is_digit(*at) ? 8 : 0; }
 #endif
 
-// How many digits there are, and the number of the first 18 or 19.
+// How many digits there are, and the number that they spell, if it has at most 19.
 static inline size_t digits(const unsigned char *start, uint64_t *value) {
     size_t length = short_number(start, value);
     if (length < 8) return length;
@@ -52,13 +53,13 @@ static inline size_t digits(const unsigned char *start, uint64_t *value) {
     return length;
 }
 
-// No branch: signs are hard to foresee.
+// No branch: signs are hard to predict.
 static inline int64_t with_sign(uint64_t value, bool negative) {
     int64_t sign = -(int64_t)negative;
     return ((int64_t)value ^ sign) - sign;
 }
 
-// A line of numbers as it stands in a stream; false where something else is met.
+// Reads a line of numbers in the spelling of a stream; false if anything else is met.
 static bool read_plain(Words *words, Line line) {
     unsigned char *at = line.start;
     int64_t *next = words->numbers.items;
@@ -86,14 +87,15 @@ static bool read_plain(Words *words, Line line) {
     return at == line.end;
 }
 
-// A number of at most 18 digits; or what else the word is.
+// A number of at most 18 digits, or the code of another word.
 static inline int64_t word(unsigned char **at) {
     bool negative = **at == '-';
     unsigned char *start = *at + negative;
     uint64_t value;
     size_t length = digits(start, &value);
     if (length - 1 >= DIGITS || !is_space(start[length])) return other_word(at);
-    if (*start == '0' && value == 0 && (length > 1 || negative)) return other_word(at), NO_NUMBER;   // the end is spelled "0"
+    // only "0" ends a list
+    if (*start == '0' && value == 0 && (length > 1 || negative)) return other_word(at), NO_NUMBER;
     *at = start + length;
     return with_sign(value, negative);
 }
@@ -119,11 +121,11 @@ void words_read(Words *words, Line line) {
 void words_check(const Words *words, size_t start, size_t end) {
     for (size_t k = start; k < end; k++) {
         if (words->numbers.items[k] == TOO_LONG) stop("a number of more than %d digits", DIGITS);
-        if (words->numbers.items[k] < LEAST_NUMBER) stop("a word that is no number");
+        if (words->numbers.items[k] < LEAST_NUMBER) stop("not a number");
     }
 }
 
-// Each step ends with 0.
+// A whole step ends with 0.
 void words_check_whole(const Words *words, Line line) {
     if (!line.ends && words->numbers.items[words->numbers.length - 1] != 0) stop("the proof ends within a step");
 }

@@ -1,4 +1,5 @@
-// Unverified: the words of a line, as numbers. A letter is one too, below all others, and so is what is no number.
+// Unverified: the words of a line, as numbers. Letters, and words that are no numbers, have codes
+// below all numbers.
 #ifndef WORDS_H
 #define WORDS_H
 
@@ -16,15 +17,15 @@
 
 typedef struct {
     Numbers numbers;
-    size_t zeros, first_zero;       // words that are "0": how many, and the place of the first
-    const unsigned char *zero;      // of a plain line: the byte of the first one
-    bool garbled, strange;          // some are neither numbers nor letters; or are no numbers
-    bool plain;                     // single spaces, no zeros before a number
+    size_t zeros, first_zero;       // how many words are "0", and the place of the first
+    const unsigned char *zero;      // in a plain line: the byte of the first "0"
+    bool garbled, strange;  // has words that are neither numbers nor letters; that aren't numbers
+    bool plain;                     // single spaces, no leading zeros
 } Words;
 
 void words_read(Words *words, Line line);
-void words_check(const Words *words, size_t start, size_t end);     // stops where one is no number
-void words_check_whole(const Words *words, Line line);             // stops where the proof ends within a step
+void words_check(const Words *words, size_t start, size_t end);     // stops if one is no number
+void words_check_whole(const Words *words, Line line);  // stops if the proof ends within a step
 bool line_is_text(Line line);
 
 #endif

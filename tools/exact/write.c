@@ -1,4 +1,4 @@
-// Unverified, as all of this filter. Writes the stream, whole lines at a time.
+// Unverified, like the whole filter. Writes the stream, whole lines at a time.
 #include <errno.h>
 #include <poll.h>
 #include <string.h>
@@ -9,10 +9,11 @@
 #include "lists.h"
 #include "write.h"
 
-enum { LONGEST = 24, PIECE = 1 << 16 };     // of a number, with what stands beside it; bytes
+// bytes of a number with sign and separator; of the first buffer
+enum { LONGEST = 24, PIECE = 1 << 16 };
 
 static char *buffer;
-static size_t used, whole, capacity;        // whole: up to the end of the last line
+static size_t used, whole, capacity;        // whole: up to the end of the last whole line
 
 bool write_whole(int file, const char *bytes, size_t length) {
     for (size_t written = 0; written < length;) {
@@ -32,11 +33,11 @@ static void (*out)(const char *bytes, size_t length) = to_standard_output;
 
 void write_to(void (*place)(const char *bytes, size_t length)) { out = place; }
 
-// The lines that are whole go out; of one that isn't the beginning stays.
+// Writes the whole lines; the beginning of another one stays.
 void write_flush(void) {
     size_t length = whole;
     assert(whole <= used && used <= capacity);
-    whole = 0;              // also where this is the end
+    whole = 0;              // so that a failure, which flushes too, doesn't write them again
     if (length > 0) out(buffer, length);
     used -= length;
     if (length > 0 && used > 0) memmove(buffer, buffer + length, used);
@@ -53,7 +54,8 @@ static void make_room(size_t bytes) {
 #define TENS(ten) ten "0" ten "1" ten "2" ten "3" ten "4" ten "5" ten "6" ten "7" ten "8" ten "9"
 static const char pairs[] = TENS("0") TENS("1") TENS("2") TENS("3") TENS("4") TENS("5") TENS("6") TENS("7") TENS("8") TENS("9");
 
-// Two digits at a time. They are copied with some bytes after them: a length that is known takes fewer steps.
+// Two digits at a time. Always LONGEST bytes are copied: a constant length takes fewer
+// instructions.
 static inline void put_number(uint64_t number, bool negative, char after) {
     char digits[2 * LONGEST], *end = digits + LONGEST, *at = end;
     *--at = after;
@@ -79,7 +81,7 @@ void write_literals(const Literal *literals, size_t length) {
     write_bytes("0", 1);
 }
 
-// At least one.
+// `length` is at least 1.
 void write_bytes(const char *bytes, size_t length) {
     if (capacity - used < length) make_room(length);
     memcpy(buffer + used, bytes, length);

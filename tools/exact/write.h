@@ -1,4 +1,4 @@
-// Unverified: what is written, on standard output where no other place is said. Whole lines alone go out.
+// Unverified: buffered output, by default to standard output. Only whole lines are written.
 #ifndef WRITE_H
 #define WRITE_H
 
@@ -8,12 +8,12 @@
 
 #include "literals.h"
 
-bool write_whole(int file, const char *bytes, size_t length);  // false where it fails, with errno
+bool write_whole(int file, const char *bytes, size_t length);  // false if it fails, with errno
 void write_to(void (*out)(const char *bytes, size_t length));
 void write_flush(void);
 void write_number(uint64_t number, char after);
-void write_numbers(const uint64_t *numbers, size_t length);     // with "0" and LF
-void write_literals(const Literal *literals, size_t length);    // with "0", and nothing after it
-void write_bytes(const char *bytes, size_t length);             // a line ends with LF
+void write_numbers(const uint64_t *numbers, size_t length);     // then "0" and LF
+void write_literals(const Literal *literals, size_t length);    // then "0"
+void write_bytes(const char *bytes, size_t length);             // LF ends a line
 
 #endif

@@ -1,22 +1,22 @@
-// Unverified, as all of this tool. A right chain for the clause of a line, by unit propagation: of its hints first, and then of all clauses
-// that the line may cite.
+// Unverified, like the whole tool. Finds a right chain for the clause of a line by unit
+// propagation: over the line's hints first, and then over all clauses that the line may cite.
 //
-// What the clause makes false stands at the beginning of the trail, by unit clauses without an identity. Each hint is then taken in its
-// place, as far as it does: before one whose literals aren't all false yet come the clauses that make them so. In the end what the conflict
-// doesn't need is left out.
+// Unit clauses without an identity make the clause's literals false at the beginning of the trail.
+// Then each hint is used in its order, if it can be: clauses that make its literals false come
+// before it. Clauses that the conflict doesn't need are left out at the end.
 #include "../exact/propagation.h"
 #include "explain.h"
 
 typedef struct {
     Propagation propagation;
     Clauses clauses;
-    ClauseRefs hints, chain;    // as they are given; what is taken so far
-    signed char *values;        // by literal, as the chain so far makes them
-    unsigned char *needed;      // by variable; all 0 but while clauses are brought
+    ClauseRefs hints, chain;    // in the line's order; the chain so far
+    signed char *values;        // by literal, under the chain so far
+    unsigned char *needed;      // by variable; all 0 except during `bring`
     bool is_found;
 } Search;
 
-// One that comes first wherever there is a choice, as recent ones do, or not.
+// Propagation prefers recent clauses, so those that come first are marked as recent.
 static ClauseRef take(Search *search, uint64_t identity, const Literal *literals, size_t length, bool comes_first) {
     ClauseRef ref = clauses_add(&search->clauses, identity, literals, length, false);
     if (!comes_first) clause_at(&search->clauses, ref)->flags = length > MANY ? LONG : 0;
@@ -61,7 +61,7 @@ static void open_search(Search *search, const Replay *replay, const Stream *stre
 
 // The chain.
 
-// How many of its literals aren't false, and the last of these.
+// How many of the clause's literals aren't false, and the last of these.
 static unsigned open_literals(const Search *search, ClauseRef ref, Literal *open) {
     const Clause *clause = clause_at(&search->clauses, ref);
     unsigned count = 0;
@@ -73,7 +73,7 @@ static unsigned open_literals(const Search *search, ClauseRef ref, Literal *open
     return count;
 }
 
-// Where it is unit, or the conflict, which ends the chain.
+// Adds the clause to the chain if it is unit, or the conflict, which ends the chain.
 static void put(Search *search, ClauseRef ref) {
     Literal open = 0;
     unsigned count = open_literals(search, ref, &open);
@@ -85,7 +85,7 @@ static void put(Search *search, ClauseRef ref) {
     search->values[complement_of(open)] = -1;
 }
 
-// It is false by propagation, and not yet by the chain.
+// Whether the literal is false by propagation, and not yet by the chain.
 static bool is_wanted(const Search *search, Literal literal) {
     return search->propagation.values[literal] < 0 && search->values[literal] >= 0;
 }
@@ -101,10 +101,11 @@ static void want(Search *search, ClauseRef ref, Literal left, size_t *behind) {
     }
 }
 
-// All that makes its literals false, but for one that is left, as far as propagation does, in the order in which it does.
+// Adds the clauses by which propagation made the clause's literals false, except `left`, in the
+// order of propagation.
 static void bring(Search *search, ClauseRef ref, Literal left) {
     const Propagation *propagation = &search->propagation;
-    size_t behind = 0;          // the last position
+    size_t behind = 0;          // after the last position needed
     want(search, ref, left, &behind);
     for (size_t position = behind; position-- > 0;)
         if (search->needed[variable_of(propagation->trail.items[position])])
@@ -116,7 +117,8 @@ static void bring(Search *search, ClauseRef ref, Literal left) {
     }
 }
 
-// For which literal a hint will be unit: the one that propagation doesn't make false, or else the last one that it does.
+// The literal for which a hint will be unit: the one that propagation doesn't make false, or else
+// the last one that it makes false.
 static Literal left_by(const Search *search, ClauseRef ref) {
     const Clause *clause = clause_at(&search->clauses, ref);
     Literal open = CONFLICT, last = CONFLICT;
@@ -135,7 +137,7 @@ static Literal left_by(const Search *search, ClauseRef ref) {
     return open == CONFLICT ? last : open;
 }
 
-// Backwards, from the conflict.
+// Collects the needed hints, backwards from the conflict.
 static void collect(Search *search, Identities *hints) {
     ClauseRefs *chain = &search->chain;
     size_t first = chain->length;
@@ -151,7 +153,8 @@ static void collect(Search *search, Identities *hints) {
     for (size_t k = first; k < chain->length; k++) PUSH(hints, clause_at(&search->clauses, chain->items[k])->identity);
 }
 
-// Of all clauses that the line may cite, those without a true literal. Hints stand there twice.
+// How many clauses that the line may cite have no true literal. Hints are in the store twice, and
+// are counted once.
 static size_t count_open(const Search *search) {
     size_t count = 0;
     for (ClauseRef ref = clauses_after(&search->clauses, 0); ref != 0; ref = clauses_after(&search->clauses, ref)) {

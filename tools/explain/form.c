@@ -1,4 +1,5 @@
-// Unverified, as all of this tool. The form of a line, byte by byte: which byte is the first with which no line goes on.
+// Unverified, like the whole tool. Reads a line byte by byte, and finds the first byte that no line
+// can have there.
 #include "../exact/errors.h"
 #include "../exact/stream.h"
 #include "explain.h"
@@ -8,7 +9,8 @@ typedef enum {
     IMPORTS, STATED, STATED_SIGN, STATED_DIGITS, END, WHOLE
 } State;
 
-// Where a byte leads; NOWHERE: it can't stand there. Of a list what it has, and how many at most.
+// The next state for each byte; NOWHERE: the byte is wrong here. In a list, what it has, and how
+// many at most.
 typedef struct {
     const char *wanted;
     State digit, zero, sign, space, d, i, end;
@@ -35,7 +37,8 @@ static const Rule rules[] = {
     [STATED_SIGN] = { "a digit from 1 to 9", .digit = STATED_DIGITS },
     [STATED_DIGITS] = { "a digit or a space", .digit = STATED_DIGITS, .zero = STATED_DIGITS, .space = STATED },
     [END] = { "LF, the line's end", .end = WHOLE },
-    [WHOLE] = { .wanted = "nothing more" } };   // LF was written within the line before it was copied
+    // another process wrote LF into the line before it was copied
+    [WHOLE] = { .wanted = "nothing more" } };
 
 static State after(const Rule *rule, unsigned char byte) {
     if (byte >= '1' && byte <= '9') return rule->digit;
@@ -54,7 +57,7 @@ static bool are_digits(State state) {
     return state == LEAD_DIGITS || state == LITERAL_DIGITS || state == HINT_DIGITS || state == DELETED_DIGITS || state == STATED_DIGITS;
 }
 
-// How many there are in all, up to a word that is 0, or as far as they are words.
+// How many words there are up to one that begins with 0, or to the end.
 static size_t count_on(const unsigned char *at, const unsigned char *end) {
     size_t count = 0;
     for (bool begins = true; at < end && !(begins && *at == '0'); at++) {
@@ -97,7 +100,7 @@ static FormFault first_fault(Line line, bool is_whole) {
     return (FormFault){ .kind = TRUNCATED, .place = (size_t)(line.end - line.start), .wanted = rules[state].wanted };
 }
 
-// If the line has none any more, another process has written to it.
+// If the copied line has no fault any more, another process has written to it.
 FormFault form_fault(const Stream *stream, Line *line, bool *is_whole) {
     *line = line_copy(line_at_hand(stream, is_whole));
     FormFault found = first_fault(*line, *is_whole);

@@ -1,4 +1,4 @@
-// Unverified, as all of this tool. A line, as lrupd judges it.
+// Unverified, like the whole tool. Judges a line as lrupd does.
 #include <stdlib.h>
 
 #include "explain.h"
@@ -76,7 +76,7 @@ Literal unit_of(const Replay *replay, ClauseRef ref) {
 static Fault fault(Kind kind, uint64_t object, size_t place) { return (Fault){ kind, object, place }; }
 static const Fault no_fault;
 
-// Whether the other stream may still come to it.
+// Whether the other stream may still derive it.
 bool is_awaited(const Replay *replay, uint64_t identity) {
     const Stream *owner = owner_of(replay, identity);
     return !replay->serial && !replay->is_stuck && !owner->over && owner->last < identity;
@@ -132,7 +132,7 @@ static Fault judge_addition(Replay *replay, const Stream *stream, const Reading 
     return is_conflict ? no_fault : fault(NO_CONFLICT, 0, 0);
 }
 
-// The same set.
+// Whether both are the same set of literals.
 static bool is_same(Replay *replay, const Reading *line, const Clause *clause) {
     size_t distinct = 0, met = 0;
     for (size_t k = 0; k < line->length; k++) {
@@ -154,7 +154,7 @@ static Fault judge_import(Replay *replay, const Stream *stream, const Reading *l
     return is_same(replay, line, clause) ? no_fault : fault(DIFFERS, line->identity, 0);
 }
 
-// Those before the one that can't be deleted are.
+// Identities before the one that can't be deleted are deleted.
 static Fault take_deletion(Replay *replay, Stream *stream, const Reading *line) {
     for (size_t k = 0; k < line->count; k++) {
         uint64_t identity = (uint64_t)line->cited[k];
@@ -172,7 +172,7 @@ static Fault take_deletion(Replay *replay, Stream *stream, const Reading *line) 
     return no_fault;
 }
 
-// The literals are on the trail first, each once.
+// The clause's complements come first on the trail, each once.
 static void add(Replay *replay, Stream *stream, const Reading *line) {
     static Literals literals;
     size_t length = 0;

@@ -1,5 +1,5 @@
-// Unverified, and nothing here is trusted: lrupd alone judges lines. Replays the streams of a run, or of a record of rounds, and says why
-// a line is bad, and what would be right.
+// Unverified and untrusted: only lrupd's verdict counts. Replays the streams of a run, or of a
+// record of rounds, and says why a line is bad, and what would be right.
 //
 //     lrup-explain [--lines N] [--room N] [--tries N] [--serial] [--all] FORMULA DIR|STREAM...
 #define _POSIX_C_SOURCE 200809L
@@ -11,7 +11,7 @@
 #include "../exact/errors.h"
 #include "explain.h"
 
-// The end.
+// Errors.
 
 static void end(const char *cause) {
     fflush(stdout);
@@ -24,12 +24,12 @@ static void end(const char *cause) {
 static const char usage[] =
     "usage: lrup-explain [--lines N] [--room N] [--tries N] [--serial] [--all] FORMULA DIR|STREAM...\n"
     "       lrup-explain --help | --version\n"
-    "Of the streams of a run of lrupd, or of a record of lrup-solve (--proofs DIR), says why a line is bad, and what would be right:\n"
-    "of the first one that is, and of others that come of it in a line each.\n"
-    "  --lines N, --room N  as lrupd had them; 65536 and 1048576 if not said. A record has its own\n"
-    "  --serial             as lrupd --serial. Else a stream waits for a clause of another one as long as that may come,\n"
-    "  --tries N            whatever N is\n"
-    "  --all                of each line that is bad by itself\n";
+    "Replays lrupd's streams, or a record of lrup-solve (--proofs DIR). Says why the first bad line is bad, and what would\n"
+    "be right; other streams that it stops get a line each.\n"
+    "  --lines N, --room N  as for lrupd, 65536 and 1048576 by default; a record has its own\n"
+    "  --serial             judge as lrupd --serial does; by default streams wait for each other's clauses\n"
+    "  --tries N            ignored\n"
+    "  --all                explain each line that is bad by itself\n";
 
 static _Noreturn void refuse(const char *cause, const char *word) {
     fprintf(stderr, "%slrup-explain: error: %s %s\n", usage, cause, word);
@@ -47,7 +47,7 @@ static uint64_t number(const char *word, uint64_t usual, uint64_t most) {
     uint64_t found = 0;
     if (word == NULL) return usual;
     for (const char *at = word; *at; at++) {
-        if (*at < '0' || *at > '9') refuse("no number:", word);
+        if (*at < '0' || *at > '9') refuse("not a number:", word);
         found = 10 * found + (uint64_t)(*at - '0');
         if (found > most) refuse("too large:", word);
     }
@@ -109,7 +109,7 @@ int main(int count, char **words) {
     replay.serial = given.serial;
     replay.all = given.all;
     const char *folder = is_folder(given.streams[0]) ? given.streams[0] : NULL;
-    if (folder && given.streams_length > 1) stop("%s is a folder, and goes alone", folder);
+    if (folder && given.streams_length > 1) stop("%s: a folder has to be the only input", folder);
     replay_all(&replay, given.formula, folder, folder ? NULL : given.streams, given.streams_length);
     if (!replay.faulty) printf("no line is bad\n");
     if (fflush(stdout) != 0) stop("cannot write to standard output");

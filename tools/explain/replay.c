@@ -1,4 +1,5 @@
-// Unverified, as all of this tool. The streams, and the rounds of a record, in the order in which lrupd checks their lines.
+// Unverified, like the whole tool. Replays the streams, and the rounds of a record, in an order in
+// which lrupd may check their lines.
 #define _GNU_SOURCE
 #include <stdio.h>
 #include <string.h>
@@ -15,7 +16,7 @@ Line line_at_hand(const Stream *stream, bool *is_whole) {
     return (Line){ stream->at, end ? end : stream->end, true };
 }
 
-// What was read is kept: to tell of the fault, other lines are read.
+// Keeps a copy of the line: explaining its fault reads other lines.
 static void keep_line(Replay *replay, Reading line) {
     static Numbers literals, cited;
     literals.length = cited.length = 0;
@@ -35,7 +36,7 @@ static void end_with(Replay *replay, Stream *stream, const Reading *line, Fault 
     if (stream->told) tell(replay, stream);
 }
 
-// Whether it goes on, or ends here.
+// Whether the stream went on or ended, rather than waits.
 static bool take_line(Replay *replay, Stream *stream) {
     bool is_whole;
     Line line = line_at_hand(stream, &is_whole);
@@ -66,7 +67,7 @@ static bool take_turn(Replay *replay, Stream *stream) {
     return take_line(replay, stream);
 }
 
-// All that aren't over wait for one another. One that stands in the circle is the cause.
+// All unfinished streams wait for each other. The cause is a stream in the circle.
 static Stream *in_circle(const Replay *replay) {
     Stream *stream = replay->streams;
     while (stream->over) stream++;
@@ -77,7 +78,8 @@ static Stream *in_circle(const Replay *replay) {
     return first;
 }
 
-// A line of each by turns. With threads a stream waits where it cites a line to which another one hasn't come.
+// Takes a line of each stream in turn. Unless --serial is given, a stream that cites a line which
+// another stream hasn't reached waits.
 static void replay_round(Replay *replay) {
     uint32_t over = 0;
     for (bool moves = true; moves;) {
@@ -105,7 +107,7 @@ static void open_values(Replay *replay, int variables) {
     replay->reasons = zeroed((size_t)variables, sizeof *replay->reasons);
 }
 
-// Of a clause each literal once, where it stands first.
+// Each literal once, in the order in which they first occur.
 static void take_formula(Replay *replay, const char *path) {
     static Formula formula;
     static Literals literals;
@@ -168,7 +170,8 @@ static Origin origin_of(const Replay *replay, uint64_t identity) {
     return (Origin){ replay->round, owner_of(replay, identity)->number, known_of(replay, identity)->line };
 }
 
-// The formula's clauses but those that all streams deleted, and derived ones that their owners didn't.
+// The formula's clauses except those that all streams deleted, and derived clauses that their
+// owners didn't delete.
 static bool is_carried(const Replay *replay, uint64_t identity) {
     if (identity > replay->clauses) return clause_of(replay, identity) != 0 && !known_of(replay, identity)->deleted;
     for (uint32_t k = 0; k < replay->count; k++)
@@ -176,7 +179,7 @@ static bool is_carried(const Replay *replay, uint64_t identity) {
     return false;
 }
 
-// Their identities are their places from then on.
+// The clauses that the next round begins with. Their new identities are their places.
 static void carry(Replay *replay) {
     Clauses store = {0};
     struct { ClauseRef *items; size_t length, capacity; } places = {0};
@@ -203,7 +206,7 @@ static void carry(Replay *replay) {
 void replay_all(Replay *replay, const char *formula, const char *folder, char **paths, uint32_t count) {
     replay->round = 1;
     if (folder) count = record_streams(folder, 1, 0, &replay->row);
-    if (count == 0) stop("%s isn't there", record_file(folder, 1, "stream-", 1));
+    if (count == 0) stop("%s: No such file or directory", record_file(folder, 1, "stream-", 1));
     if (folder) record_check(folder, formula);
     take_formula(replay, formula);
     for (;;) {
@@ -217,9 +220,9 @@ void replay_all(Replay *replay, const char *formula, const char *folder, char **
     }
 }
 
-// Lines that are looked for.
+// Searches for lines.
 
-// The number of the line that derives it, from the line at hand on; or 0.
+// The number of the line that derives it, from the current line on; or 0.
 uint64_t line_deriving(const Stream *stream, uint64_t identity) {
     char word[24];
     size_t length = (size_t)snprintf(word, sizeof word, "%llu ", (unsigned long long)identity);
@@ -238,7 +241,7 @@ static bool is_deletion(const unsigned char *at, const unsigned char *end) {
     return end - at > 1 && at[0] == ' ' && at[1] == 'd';
 }
 
-// The first one that deletes it, up to the line at hand; or 0.
+// The number of the first line that deletes it, up to the current line; or 0.
 uint64_t line_deleting(const Stream *stream, uint64_t identity) {
     Reading reading;
     unsigned char *at = stream->start;

@@ -1,4 +1,4 @@
-// Unverified, as all of this tool. What is said of a line: what it derives, and hint by hint what its clauses come to.
+// Unverified, like the whole tool. Prints what a line derives, and what each of its hints does.
 #include <stdio.h>
 #include <stdlib.h>
 
@@ -54,7 +54,7 @@ void tell_list(const int64_t *numbers, size_t count) {
     tell_more(count);
 }
 
-// What the line says by itself.
+// The line itself.
 
 static size_t false_at_first(const Replay *replay) {
     size_t count = 0;
@@ -102,7 +102,7 @@ static void tell_hint(const Replay *replay, size_t place, const char *word, uint
     printf("\n");
 }
 
-// One that did: what it made true, or that it is the conflict.
+// A right hint: what it made true, or that it is the conflict.
 static void tell_good_hint(const Replay *replay, size_t place) {
     const Clause *clause = clause_at(&replay->store, clause_of(replay, (uint64_t)replay->line.cited[place]));
     char word[LONGEST_WORD] = "conflict";
@@ -143,7 +143,8 @@ void tell(const Replay *replay, const Stream *stream) {
     tell_why(replay, stream);
 }
 
-// It was to come in the bad line or behind it, or may have been there, where lines can't be read.
+// Whether the owner's bad line, or a line after it, derives it; or may derive it, if lines can't be
+// read.
 bool is_cut_off(const Stream *owner, uint64_t identity) {
     if (owner->fault.kind == NO_FAULT || identity <= owner->last) return false;
     return owner->fault.kind <= RAT_HINT || line_deriving(owner, identity) != 0;
@@ -160,6 +161,6 @@ void tell_short(const Replay *replay, const Stream *stream) {
         const Stream *owner = owner_of(replay, stream->fault.object);
         printf(", of stream %u, whose line %llu is bad\n", owner->number, (Printed)owner->lines + 1);
     } else {
-        printf(", by itself: --all tells why\n");
+        printf(", by itself: --all says why\n");
     }
 }

@@ -1,4 +1,5 @@
-// Unverified, as all of this tool. Why a line is bad, for each fault of lrupd, and what would be right.
+// Unverified, like the whole tool. Says for each fault of lrupd why the line is bad, and what would
+// be right.
 #include <stdio.h>
 #include <stdlib.h>
 #include <string.h>
@@ -18,7 +19,7 @@ static int tell_byte(unsigned char byte) {
     return byte == '\n' ? printf("\\n") : byte == '\r' ? printf("\\r") : byte == '\t' ? printf("\\t") : printf("\\x%02x", byte);
 }
 
-// Those around the one that decides, with a caret below that.
+// The bytes around the one that decides, with a caret below it.
 static void tell_bytes(Line line, bool is_whole, size_t place) {
     size_t length = (size_t)(line.end - line.start), first = place > BYTES_BEFORE ? place - BYTES_BEFORE : 0;
     size_t behind = place + BYTES_BEHIND < length ? place + BYTES_BEHIND : length;
@@ -39,11 +40,11 @@ static const char *name_of(unsigned char byte) {
     return byte == '\r' ? "a carriage return" : byte == '\t' ? "a tab" : byte == ' ' ? "a space" : text;
 }
 
-// What it mostly comes of.
+// The usual cause.
 static const char *guess_of(const Stream *stream, Line line, size_t place, unsigned char byte) {
-    static char text[32];
+    static char text[64];
     const char *program = stream->lines == 0 ? unpacked_by(line.start[0], line.start[1]) : NULL;
-    if (program) return snprintf(text, sizeof text, "compressed: %s it", program), text;
+    if (program) return snprintf(text, sizeof text, "compressed: unpack it with %s", program), text;
     if (byte == '\r') return "lines end with LF alone, and not with CR LF";
     if (place == 0 && byte == '\n') return "an empty line, which streams don't have";
     if (place == 0 && byte == 'c') return "a comment, which streams don't have?";
@@ -65,35 +66,35 @@ static void why_form(const Stream *stream) {
     bool is_end = line.start + fault.place == line.end;
     unsigned char byte = is_end ? '\n' : line.start[fault.place];
     const char *guess = fault.kind == SPELLING ? guess_of(stream, line, fault.place, byte) : NULL;
-    if (fault.kind == SPELLING) printf("  why: %s stands where there has to be %s\n", name_of(byte), fault.wanted);
+    if (fault.kind == SPELLING) printf("  why: expected %s, found %s\n", fault.wanted, name_of(byte));
     else if (fault.kind == RAT_HINT)
-        printf("  why: a hint with a minus, of a RAT step, which lrupd doesn't check: switch off what makes them\n");
+        printf("  why: a negative hint, of a RAT step, which lrupd doesn't check: switch off what makes such steps\n");
     else if (fault.kind == TRUNCATED)
-        printf("  why: the stream ends within this line, after %zu bytes: there has to be %s\n", fault.place, fault.wanted);
+        printf("  why: the stream ends within this line, after %zu bytes: expected %s\n", fault.place, fault.wanted);
     else
         printf("  why: %zu %s%s, %zu too many: a %s may have %zu\n", fault.count, fault.of, fault.most == DIGITS ? " of a number" : "",
                fault.count - fault.most, fault.most == DIGITS ? "number" : "line", fault.most);
     tell_bytes(line, is_whole, fault.place);
     if (guess) printf("       %s\n", guess);
-    if (fault.kind == TRUNCATED) printf("       the solver was ended, or didn't write out its buffer?\n");
+    if (fault.kind == TRUNCATED) printf("       was the solver killed, or its buffer not flushed?\n");
 }
 
 // Identities, literals and room.
 
-// How many lines reach it.
+// How many lines per stream the identity needs.
 static uint64_t lines_for(const Replay *replay, uint64_t identity) {
     return (identity - replay->clauses + replay->count - 1) / replay->count;
 }
 
 static void tell_lines_for(const Replay *replay, uint64_t identity) {
-    printf("       --lines %llu would do for it\n", (Printed)lines_for(replay, identity));
+    printf("       --lines %llu would be enough\n", (Printed)lines_for(replay, identity));
 }
 
 static uint32_t number_of_owner(const Replay *replay, uint64_t identity) {
     return (uint32_t)((identity - replay->clauses - 1) % replay->count) + 1;
 }
 
-// The next line from there on that can be read and derives a clause. False at the end.
+// Reads the next line from there on that is well-formed and derives a clause. False at the end.
 static bool next_addition(const Stream *stream, unsigned char **at, Reading *reading) {
     for (unsigned char *end; (end = memchr(*at, '\n', (size_t)(stream->end - *at))) != NULL;) {
         Line line = { *at, end, true };
@@ -103,7 +104,8 @@ static bool next_addition(const Stream *stream, unsigned char **at, Reading *rea
     return false;
 }
 
-// The greatest number of which all differences of its identities are multiples; 0 where it has less than three, and chance decides.
+// The greatest common divisor of the differences between the stream's identities; 0 if it has fewer
+// than three, since that may be chance.
 static uint64_t step_of(const Stream *stream) {
     uint64_t step = 0, last = 0, count = 0;
     Reading reading;
@@ -118,11 +120,11 @@ static uint64_t step_of(const Stream *stream) {
     return count < 3 ? 0 : step;
 }
 
-// Identities are numbered by how many streams there are.
+// How identities are numbered depends on the number of streams.
 static void tell_left_out(const Replay *replay, const Stream *stream) {
     uint64_t step = step_of(stream);
     if (step > replay->count && step <= STREAMS)
-        printf("       the identities of stream %u go up by %llu, as of %llu streams, and %u %s given: was one left out?\n", stream->number,
+        printf("       the identities of stream %u go up by %llu, as with %llu streams, but %u %s given: was one left out?\n", stream->number,
                (Printed)step, (Printed)step, replay->count, replay->count == 1 ? "is" : "are");
 }
 
@@ -137,7 +139,7 @@ static void tell_right_identity(const Replay *replay, const Stream *stream) {
     }
 }
 
-// For the line's identity, and for the greatest one of the stream, of those that are its own.
+// Prints the --lines for the line's identity, and for the greatest of the stream's own identities.
 static void tell_lines_of(const Replay *replay, const Stream *stream, uint64_t identity) {
     uint64_t greatest = identity;
     Reading reading;
@@ -145,7 +147,7 @@ static void tell_lines_of(const Replay *replay, const Stream *stream, uint64_t i
         if (number_of_owner(replay, reading.identity) == stream->number && reading.identity > greatest)
             greatest = reading.identity;
     if (greatest == identity) return tell_lines_for(replay, identity);
-    printf("       --lines %llu does for this line, and %llu for all lines of the stream\n",
+    printf("       --lines %llu is enough for this line, and %llu for all lines of the stream\n",
            (Printed)lines_for(replay, identity), (Printed)lines_for(replay, greatest));
 }
 
@@ -160,7 +162,7 @@ static void why_identity(const Replay *replay, const Stream *stream) {
     if (identity <= replay->clauses) {
         printf("  why: %llu is of the formula, whose clauses are 1 to %llu\n", (Printed)identity, (Printed)replay->clauses);
     } else if (number_of_owner(replay, identity) != stream->number) {
-        printf("  why: %llu is of stream %u, of %u that take turns above %llu\n", (Printed)identity, number_of_owner(replay, identity),
+        printf("  why: %llu belongs to stream %u: %u streams take turns above %llu\n", (Printed)identity, number_of_owner(replay, identity),
                replay->count, (Printed)replay->clauses);
         tell_left_out(replay, stream);
     } else if (identity > replay->last) {
@@ -170,7 +172,7 @@ static void why_identity(const Replay *replay, const Stream *stream) {
         return;
     } else {
         uint64_t line = known_of(replay, stream->last)->line;
-        printf("  why: %llu isn't above %llu, which line %llu took: identities go up\n", (Printed)identity, (Printed)stream->last,
+        printf("  why: %llu isn't above %llu, the identity of line %llu\n", (Printed)identity, (Printed)stream->last,
                (Printed)line);
     }
     tell_right_identity(replay, stream);
@@ -195,13 +197,13 @@ static void why_tautology(const Replay *replay) {
     const Reading *line = &replay->line;
     for (size_t k = 0; k < line->length; k++) {
         if (replay->values[literal_of(line->literals[k])] <= 0) continue;
-        printf("  why: both %lld and %lld stand there, so the clause is true always: leave the line out\n", -(long long)line->literals[k],
+        printf("  why: the clause has %lld and %lld, so it is always true: leave the line out\n", -(long long)line->literals[k],
                (long long)line->literals[k]);
         return;
     }
 }
 
-// As they are written, of all lines that can be read.
+// How many literals its well-formed lines derive, as written.
 static uint64_t literals_of_stream(const Stream *stream) {
     uint64_t literals = 0;
     Reading reading;
@@ -213,7 +215,7 @@ static void why_no_room(const Replay *replay, const Stream *stream) {
     uint64_t wanted = replay->trail.length, literals = literals_of_stream(stream);
     printf("  why: the clause has %llu different literals, and %llu of --room %llu %s left: %llu too few\n", (Printed)wanted,
            (Printed)stream->room, (Printed)replay->row.room, stream->room == 1 ? "is" : "are", (Printed)(wanted - stream->room));
-    printf("       --room %llu does for this line, and %llu for all lines of the stream\n",
+    printf("       --room %llu is enough for this line, and %llu for all lines of the stream\n",
            (Printed)(replay->row.room + wanted - stream->room), (Printed)literals);
 }
 
@@ -240,10 +242,10 @@ static void why_missing(const Replay *replay, const Stream *stream, uint64_t hin
     }
     printf("  why: %llu is of stream %u", (Printed)hint, owner->number);
     if (owner == stream && later) printf(", this one, which derives it later, in its line %llu\n", (Printed)later);
-    else if (owner == stream) printf(", this one, and no line of it derives it\n");
+    else if (owner == stream) printf(", this one, and none of its lines derives it\n");
     else if (is_cut_off(owner, hint))
-        printf(", which is over: its line %llu is bad (%s)\n", (Printed)owner->lines + 1, fault_words(&owner->fault));
-    else if (!later) printf(", and no line of it derives it\n");
+        printf(", which stopped at its bad line %llu (%s)\n", (Printed)owner->lines + 1, fault_words(&owner->fault));
+    else if (!later) printf(", and none of its lines derives it\n");
     else if (replay->is_stuck)
         printf(", whose line %llu waits for %llu, in a circle that comes back to this line\n", (Printed)owner->lines + 1,
                (Printed)owner->awaited);
@@ -262,10 +264,10 @@ static void why_deleted(const Replay *replay, const Stream *stream, uint64_t hin
     printf("  why: its owner deleted %llu in stream %u, line %llu, for all\n", (Printed)hint, owner->number,
            (Printed)line_deleting(owner, hint));
     if (owner != stream)
-        printf("       threads may come to that line sooner or later than here: a clause that others cite isn't to be deleted\n");
+        printf("       threads may reach that line earlier or later: don't delete a clause that others cite\n");
 }
 
-// The first clause that is unit with the literal here, or the conflict; or 0.
+// The first clause that is unit with this literal now, or the conflict; or 0.
 static uint64_t clause_with_unit(const Replay *replay, const Stream *stream, Literal literal) {
     uint64_t last = last_derived(replay);
     for (uint64_t identity = 1; identity <= last; identity++)
@@ -273,7 +275,7 @@ static uint64_t clause_with_unit(const Replay *replay, const Stream *stream, Lit
     return 0;
 }
 
-// The same among the hints that come later; how many hints there are where none is.
+// The place of the first later hint that is; the number of hints if none is.
 static size_t later_with_unit(const Replay *replay, const Stream *stream, Literal literal) {
     const Reading *line = &replay->line;
     size_t place = stream->fault.place + 1;
@@ -292,7 +294,7 @@ static void tell_follows(const Replay *replay, const Stream *stream, Literal lit
     printf("       %d would follow here from ", as_written(complement_of(literal)));
     tell_clause_and_place(replay, unit);
     if (is_hint) printf(", hint %zu of the line, which comes too late\n", later + 1);
-    else printf(", which is no hint of the line\n");
+    else printf(", which isn't a hint of the line\n");
 }
 
 static void tell_true(const Replay *replay, Literal literal, uint64_t hint) {
@@ -331,9 +333,9 @@ static void why_no_conflict(const Replay *replay, const Stream *stream) {
     if (replay->line.count == 0) printf("  why: the line has no hints\n");
     else printf("  why: each hint is unit, and none has all its literals false: the conflict is missing\n");
     if (conflict == 0) return;
-    printf("       all literals are false here of ");
+    printf("       all literals are false in ");
     tell_clause_and_place(replay, conflict);
-    printf(", which is no hint of the line\n");
+    printf(", which isn't a hint of the line\n");
 }
 
 static void tell_chain(const Replay *replay, const Stream *stream) {
@@ -370,7 +372,7 @@ static void why_not_live(const Replay *replay, const Stream *stream, uint64_t id
     } else if (line <= stream->lines) {
         printf("  why: this stream has deleted %llu before, in its line %llu\n", (Printed)identity, (Printed)line);
     } else {
-        printf("  why: %llu stands twice in this line\n", (Printed)identity);
+        printf("  why: %llu is in this line twice\n", (Printed)identity);
     }
 }
 
@@ -405,7 +407,7 @@ static void why_differs(const Replay *replay, uint64_t identity) {
         if (at == clause->length) PUSH(&more, literal);
     }
     tell_difference("the import leaves out", &left_out);
-    tell_difference("the import has, and the clause hasn't,", &more);
+    tell_difference("only the import has", &more);
     left_out.items = grow(left_out.items, 0);
     more.items = grow(more.items, 0);
 }

@@ -1,4 +1,4 @@
-// Unverified, as all of this solver. lrup-engines: all engines on one host.
+// Unverified, like the whole solver. lrup-engines: all engines on one host.
 #include "run.h"
 
 int solve(int count, char **words) {

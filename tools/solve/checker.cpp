@@ -1,4 +1,5 @@
-// Unverified, as all of this solver. The front, and lrupd, which it starts: what they say, and what lrupd reads.
+// Unverified, like the whole solver. The front, and lrupd, which it starts: reads what they report,
+// and feeds lrupd.
 #include <algorithm>
 #include <cerrno>
 #include <cstdlib>
@@ -17,18 +18,20 @@
 namespace {
 
 const int STREAM_PIPE = 1 << 20, PIECE = 1 << 16;
-const uint64_t DROPPED = UINT64_C(1) << 22, PAGE = 4096;    // bytes that are given back at once
-const uint64_t TRIES = 1000000;     // a stream waits for another one's line up to a minute
+const uint64_t DROPPED = UINT64_C(1) << 22, PAGE = 4096;    // bytes that are given back together
+const uint64_t TRIES = 1000000;     // a stream waits up to a minute for another one's line
 const int FRONTS_WORDS = 3;
-const size_t BLOCK = 4096;          // of what the front is told; the system doesn't take it apart
+const size_t BLOCK = 4096;          // of a message to the front; the system writes it whole
 
-const int OWN_TIME = 14, TIME_OF_CHILDREN = 16;     // the first of two fields of what the system tells of a process; of ended children
+// the first of two fields in /proc/PID/stat; of its ended children
+const int OWN_TIME = 14, TIME_OF_CHILDREN = 16;
 
 double processor_time(int pid, int first_field) {
     std::ifstream file("/proc/" + std::to_string(pid) + "/stat");
     std::string line, field;
     std::getline(file, line);
-    std::istringstream fields(line.substr(line.rfind(')') + 1));        // behind its name, which may have anything in it
+    // after its name, which may have any byte in it
+    std::istringstream fields(line.substr(line.rfind(')') + 1));
     double ticks = 0;
     for (int number = 3; fields >> field; number++)
         if (number == first_field || number == first_field + 1) ticks += atof(field.c_str());
@@ -44,7 +47,7 @@ bool is_program(const std::string &path) {
     return stat(path.c_str(), &found) == 0 && S_ISREG(found.st_mode) && access(path.c_str(), X_OK) == 0;
 }
 
-// Of absolute folders alone: what lies in the current one isn't run.
+// Searches absolute folders only: programs in the current one aren't run.
 std::string on_the_path(const std::string &name) {
     const char *list = getenv("PATH");
     std::istringstream rest(list ? list : "");
@@ -72,14 +75,14 @@ void Front::find(int &count, char **&words) {
     output_of_lrupd = name(of_lrupd);
 }
 
-// On another host that name is of another file, or of none.
+// On another host that name is another file's, or nobody's, so the words have a number, too.
 std::vector<std::string> Front::words() const {
     struct stat found;
     if (fstat(file, &found) != 0) refuse("cannot find lrup-solve: " + error_text());
     return { "--front", given, std::to_string(found.st_ino) };
 }
 
-// By the names of its pipes.
+// Opens the front's pipes by their names in /proc.
 void Front::open() {
     struct stat found;
     file = ::open(name(told).c_str(), O_RDONLY | O_NONBLOCK | O_CLOEXEC);
@@ -97,12 +100,12 @@ void Front::say(const std::string &line) const {
     while (heard >= 0 && write(heard, block.data(), BLOCK) < 0 && errno == EINTR) {}
 }
 
-// A status of lrupd's, and not its death.
+// The probe ended with another status than 3, and not by a signal.
 bool Front::has_refused() const {
     return probe.child.ended() && WIFEXITED(probe.child.status) && !probe.child.ended_with(UNKNOWN_STATUS);
 }
 
-// Its children are the supervisor, which takes none, and each lrupd.
+// The front's children are the supervisor, which takes no time, and each lrupd.
 double Front::checking() const {
     std::string id = std::to_string(pid);
     std::ifstream children("/proc/" + id + "/task/" + id + "/children");
@@ -112,7 +115,7 @@ double Front::checking() const {
     return seconds;
 }
 
-// Where it has ended this process is ended, too, within a moment.
+// Once the front has ended, this process is killed within a moment, too.
 void Front::read_on(Checker *checker) {
     char bytes[4096];
     ssize_t count = -1;
@@ -166,7 +169,7 @@ void Checker::open_streams(const std::vector<int> &files) {
     for (const Stream &stream : streams) opener.ask(stream.path);
 }
 
-// Of the round whose streams are open.
+// The sizes of the round whose streams are open.
 std::string Checker::sizes_of(Row row) {
     std::string text = sizes_text(streams.size(), row), name = next.substr(next.rfind('/') + 1) + ".sizes";
     if (keeps_digests) digests.push_back(digest_of(text) + "  " + name);
@@ -181,14 +184,15 @@ void Checker::start(Row row, const std::vector<int> &files) {
     expect(front.output_of_lrupd);
 }
 
-// Between rounds lrupd opens the sizes first, and then the streams, in order. Each open waits for somebody who writes.
+// Between rounds lrupd opens the sizes first, and then the streams in order. Each open waits for a
+// writer.
 void Checker::expect_round(const std::string &path) {
     next = path;
     create_pipe(next + ".sizes");
     opener.ask(next + ".sizes");
 }
 
-// A pipe that it has closed again isn't fed.
+// A pipe that lrupd has closed again isn't fed.
 void Checker::look() {
     for (std::string path; opener.has_opened(path); opener.go_on()) {
         int pipe = open_pipe(path, path == next + ".sizes" ? 0 : STREAM_PIPE);
@@ -205,7 +209,7 @@ std::vector<pollfd> Checker::full_pipes() const {
     return list;
 }
 
-// Where lrupd has ended meanwhile that is seen soon.
+// If lrupd has ended meanwhile, the run sees that soon.
 void Checker::begin_round(Row row, const std::vector<int> &files) {
     open_streams(files);
     std::string text = sizes_of(row);
@@ -213,7 +217,7 @@ void Checker::begin_round(Row row, const std::vector<int> &files) {
     close_file(sizes);
 }
 
-// What the pipe takes. Memory of what was fed is given back, but where it is kept.
+// Writes what the pipe takes. With `drop` the memory of what was fed is given back.
 bool Checker::feed(size_t number, uint64_t bytes, bool drop) {
     Stream &stream = streams[number];
     static std::vector<char> piece(PIECE);
@@ -255,7 +259,7 @@ uint64_t Checker::read_of(size_t number) const {
     return stream.fed - std::min<uint64_t>(stream.fed, uint64_t(waiting));
 }
 
-// Its report has lines that begin with c and s, and no other line does.
+// The lines of lrupd's report begin with c or s; no other line does.
 void Checker::read_on() {
     char bytes[4096];
     if (child.pid == 0) return;

@@ -1,4 +1,4 @@
-// Unverified, as all of this solver. Cubes, as cubes.h has them.
+// Unverified, like the whole solver. Cubes, described in cubes.h.
 #include <cadical.hpp>
 
 #include <algorithm>
@@ -7,10 +7,10 @@
 
 namespace {
 
-const uint64_t LEARNING = 1000;         // conflicts of the first engine, after which cubes are made
+const uint64_t LEARNING = 1000;         // conflicts of the first engine before cubes are made
 const double BUMP = 1.0005;
 
-// Behind the last engine of this host that takes clauses over, from 0.
+// The place after the last engine of this host that takes clauses over, from 0.
 int end_of_engines(const Shared &shared, const Options &options) {
     return std::min(shared.first_here + shared.engines_here, options.engines - int(options.solvers.size()));
 }
@@ -19,7 +19,7 @@ bool has_cube(const EngineStatus &engine_status) {
     return engine_status.cube_number != 0 && LOAD(engine_status.refuted_cube) != engine_status.cube_number;
 }
 
-// But for those of the user's cube.
+// Without those of the user's cube.
 Cube literals_of(const EngineStatus &engine_status) {
     return { engine_status.cube, engine_status.cube + engine_status.cube_length };
 }
@@ -66,7 +66,7 @@ void Cubes::look(const std::vector<unsigned char> &gone) {
     take();
 }
 
-// None that is assumed: a cube that contradicts it would be refuted by no clause.
+// Leaves out assumed variables: no clause would refute a cube that contradicts an assumption.
 void Cubes::tell_variables(const std::vector<unsigned char> &gone) {
     std::vector<int> order;
     for (Literal literal : *engine.assumed) scores[size_t(variable_of(literal)) + 1] = 0;
@@ -78,7 +78,8 @@ void Cubes::tell_variables(const std::vector<unsigned char> &gone) {
     STORE(engine.shared->variable_count, count);
 }
 
-// From now on they are never eliminated: CaDiCaL would restore their clauses without a line.
+// Freezes the variables: if CaDiCaL eliminated them, it would restore their clauses without a line
+// in the proof.
 void Cubes::get_ready(const std::vector<unsigned char> &gone) {
     for (uint64_t k = 0; k < engine.shared->variable_count; k++) {
         int variable = engine.shared->variables[k];
@@ -96,7 +97,7 @@ void Cubes::tell_usable() {
     STORE(engine_status.ready, 1);
 }
 
-// Where the first process writes another one meanwhile that is taken after the next slice.
+// If the first process writes another cube meanwhile, that one is taken after the next slice.
 void Cubes::take() {
     uint64_t found = LOAD(engine_status.cube_number);
     bool may_come = literals.empty() && LOAD(engine.shared->cubes_left) > 0;
@@ -128,7 +129,7 @@ void Dealer::open(const std::vector<Cube> &all) {
     parts.assign(all.size(), 1);
 }
 
-// Halves once all engines that are left keep the variables.
+// Cubes are halved only once all remaining engines keep the variables.
 void Dealer::deal(Shared &shared, const Options &options) {
     int end = end_of_engines(shared, options);
     uint64_t usable = ~uint64_t(0);
@@ -151,7 +152,7 @@ void Dealer::deal(Shared &shared, const Options &options) {
     STORE(shared.cubes_left, queue.size() + elsewhere);
 }
 
-// Where it has none, or has refuted it, which is counted once.
+// Whether it has no cube, or has refuted it; a refuted one is counted once.
 bool Dealer::is_idle(const Shared &shared, int k) {
     const EngineStatus &engine_status = shared.engine_statuses[k];
     if (LOAD(engine_status.gone) || has_cube(engine_status)) return false;
@@ -173,7 +174,7 @@ bool Dealer::hand_on(Shared &shared, int end, EngineStatus &idle) {
     return false;
 }
 
-// At first one has the whole.
+// The first engine to ask gets the whole formula.
 void Dealer::share_out(Shared &shared, int end, EngineStatus &idle, uint64_t usable) {
     EngineStatus *oldest = nullptr;
     for (int k = shared.first_here + 1; k < end; k++) {
@@ -201,7 +202,7 @@ void Dealer::halve(const Shared &shared, EngineStatus &oldest, EngineStatus &idl
     }
 }
 
-// Its number says that it is whole.
+// The number is stored last: it says that the cube is complete.
 void Dealer::give(EngineStatus &engine_status, int of_file, const Cube &more) {
     STORE(engine_status.cube_number, 0);
     STORE(engine_status.cube_of_file, of_file);

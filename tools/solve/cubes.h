@@ -1,12 +1,15 @@
-// Unverified, as all of this solver. Cubes: of three engines or more on a host all but the first share the formula out.
+// Unverified, like the whole solver. Cubes: if a host has three engines or more, all but the first
+// divide the search space.
 //
-// Each assumes a cube, literals that are a part of what is left. What it learns doesn't rest on them, and is given away as ever, and
-// the clause that refutes a cube is one like any other: no proof knows of cubes. The first engine stays on the whole formula, since on
-// some a cube is as hard as that. It learns for a while, and then tells by which variables cubes are made; all engines keep these. The
-// first process deals cubes out: an engine that has none gets that of one that was lost, or half of the cube that another has been at
-// for the longest time. Until it has one it is at the whole formula, too.
+// Each assumes the literals of a cube. What it learns doesn't depend on them, and is given away as
+// usual; the clause that refutes a cube is a clause like any other. So proofs know nothing of
+// cubes. The first engine stays on the whole formula, since a cube may be as hard as that. After
+// some conflicts it chooses the variables by which cubes are made, and all engines keep these. The
+// first process deals cubes out: an idle engine gets the cube of a lost engine, or half of the
+// oldest cube. Until it gets one, it works on the whole formula, too.
 //
-// Where the user has cubes all engines take these first, one after the other, and no engine eliminates their variables.
+// If the user gives cubes, all engines first take these, one after the other, and no engine
+// eliminates their variables.
 #ifndef CUBES_H
 #define CUBES_H
 
@@ -24,25 +27,27 @@ class Cubes {
 public:
     Cubes(const Engine &engine, CaDiCaL::Solver &solver);
 
-    void keep_variables();              // of the user's cubes, before anything is solved
+    void keep_variables();              // freezes those of the user's cubes, before solving
     const Cube &cube() const { return literals; }
-    bool looks() const;                 // at what is learned
+    bool looks() const;                 // whether it counts the variables of learned clauses
     void count_conflict();
     void count_literal(int literal) { scores[size_t(std::abs(literal))] += bump; }
-    bool is_idle() const { return idle == 1; }          // it has just refuted one, and gets another soon
-    void look(const std::vector<unsigned char> &gone);  // after a slice; by variable, from 1: eliminated
-    bool is_refuted() const;            // where CaDiCaL says 20: the cube, and not the formula
-    void tell_refuted();                // once others have the clause
+    bool is_idle() const { return idle == 1; }  // it has just refuted a cube, and gets another soon
+    // call after a slice; gone: by variable, from 1: eliminated
+    void look(const std::vector<unsigned char> &gone);
+    bool is_refuted() const;            // after status 20: only the cube, not the formula
+    void tell_refuted();                // once the clause is given away
 
 private:
     const Engine &engine;
     CaDiCaL::Solver &solver;
     EngineStatus &engine_status;
     const bool takes;
-    int idle;                           // looks until it isn't idle any more
+    int idle;                           // calls of `look` until it isn't idle any more
     Cube literals;
-    uint64_t number = 0, kept = 0;      // of the cube; variables that cubes are made by and aren't eliminated here: bits
-    std::vector<double> scores;         // by variable, from 1: how often, and how late, it was in what was learned
+    // the cube's number; bits: variables of cubes that are frozen here
+    uint64_t number = 0, kept = 0;
+    std::vector<double> scores;  // by variable, from 1: how often and how recently it was learned
     double bump = 1;
 
     bool is_first() const { return engine.number - 1 == engine.shared->first_here; }
@@ -52,23 +57,23 @@ private:
     void take();
 };
 
-// The first process's.
+// The first process's part.
 class Dealer {
 public:
     uint64_t dealt = 0, handed_on = 0;
     uint64_t taken = 0, refuted = 0;    // of the user's cubes
-    std::deque<size_t> queue;           // those that come next, from 0
-    uint64_t elsewhere = 0;             // how many others may still come
-    uint64_t refuted_elsewhere = 0;     // in other processes
+    std::deque<size_t> queue;           // the next ones, from 0
+    uint64_t elsewhere = 0;             // cubes that may still come from process 0
+    uint64_t refuted_elsewhere = 0;     // by other processes
 
     void open(const std::vector<Cube> &all);
     void deal(Shared &shared, const Options &options);
 
 private:
     const std::vector<Cube> *cubes = nullptr;
-    std::vector<unsigned> parts;        // by cube: how many of its parts are open
-    bool has_whole = false;             // an engine has had the whole formula
-    uint64_t counted[MOST_ENGINES] = {};    // by engine: the number of the last cube that is counted
+    std::vector<unsigned> parts;        // by cube: how many of its parts aren't refuted
+    bool has_whole = false;             // an engine got the whole formula
+    uint64_t counted[MOST_ENGINES] = {};    // by engine: the number of the last cube counted
 
     bool is_idle(const Shared &shared, int k);
     bool hand_on(Shared &shared, int end, EngineStatus &idle);

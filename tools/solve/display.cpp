@@ -1,4 +1,4 @@
-// Unverified, as all of this solver. Everything that the first process says.
+// Unverified, like the whole solver. All messages of the first process.
 #include <algorithm>
 #include <cmath>
 #include <cstdarg>
@@ -13,7 +13,7 @@
 namespace {
 
 const size_t SIGNS = 4000;      // in a line for the front
-const double SHOWING = 0.2;     // seconds, after which progress and lrupd's lines are shown
+const double SHOWING = 0.2;     // seconds between updates of the progress and of lrupd's lines
 
 size_t terminal_columns() {
     winsize size = {};
@@ -98,7 +98,7 @@ void Display::tell_more(const std::string &line) const {
     if (inputs.options.verbose) tell(line);
 }
 
-// Of the row.
+// How full the fullest stream's part of the row is, from 0 to 1.
 double Display::fullness() const {
     double fullest = 0;
     for (size_t k = 0; k < teams.size(); k++) {
@@ -126,7 +126,7 @@ std::string Display::progress() const {
                   (unsigned long long)rounds.number, 100 * fullness()) + room;
 }
 
-// Of the user's file.
+// Cubes of the user's file.
 std::string Display::cubes_refuted() const {
     return grouped(teams.dealer.refuted + teams.dealer.refuted_elsewhere) + " of " + counted(inputs.cubes.size(), "cube");
 }
@@ -138,7 +138,7 @@ std::string Display::cubes_to_come() const {
     return cubes_refuted() + (refuted > 0 ? rest : "") + ", ";
 }
 
-// The size of a pipe isn't known.
+// The size of a proof in a pipe isn't known.
 std::string Display::proofs_read() const {
     uint64_t read = teams.all(&EngineStatus::proof_read), size = 0;
     bool is_known = true;
@@ -149,7 +149,7 @@ std::string Display::proofs_read() const {
     return is_known ? format("%.0f %% read", 100.0 * double(read) / double(size)) : grouped(read / 1000) + " kB read";
 }
 
-// In the end.
+// At the end.
 
 void Display::details() const {
     for (size_t k = 0; k < teams.size() && !inputs.options.check; k++) {
@@ -168,7 +168,7 @@ void Display::details() const {
     if (teams.answered > 0) tell(format("the verdict came %.2f s after an engine's answer", now() - teams.answered));
 }
 
-// With -v that was told as they were lost.
+// With -v these lines were printed when the engines were lost.
 void Display::lost() const {
     for (size_t k = 0; k < teams.size() && !inputs.options.verbose && inputs.contradiction().empty(); k++)
         if (teams[k].told) tell(teams.why_lost(k));
@@ -183,7 +183,7 @@ void Display::causes(const std::string &cause) const {
     tell(cause);
 }
 
-// Without --proofs it is in the run's folder, for a core and LRAT text.
+// Without --proofs the record is in the run's temporary folder, for a core and LRAT text.
 void Display::record() const {
     const Options &options = inputs.options;
     const char *what = options.record ? "" : ", until a core or LRAT text is written";

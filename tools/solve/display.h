@@ -1,4 +1,4 @@
-// Unverified, as all of this solver. What a user sees while it runs, and is told in the end.
+// Unverified, like the whole solver. What the user sees during a run and at its end.
 #ifndef DISPLAY_H
 #define DISPLAY_H
 
@@ -17,21 +17,21 @@ class Display {
 public:
     Display(const Inputs &its_inputs, const Teams &its_teams, const Rounds &its_rounds, Checker &its_checker)
         : inputs(its_inputs), teams(its_teams), rounds(its_rounds), checker(its_checker) {}
-    void begin();                       // on a terminal it shows progress from now on
-    double next_reading() const;        // when it shows that the formula is read; INFINITY: never
-    void show_reading();                // where it is time
+    void begin();                       // on a terminal, shows progress from now on
+    double next_reading() const;        // when show_reading is due; INFINITY: never
+    void show_reading();                // that the formula is being read, if due
     void end_reading() const;
-    double next_show() const;           // when it shows something anew; INFINITY: never
-    void show();                        // where it is time
-    void show_lines();                  // of lrupd
+    double next_show() const;           // when show is due; INFINITY: never
+    void show();                        // if due
+    void show_lines();                  // lrupd's
     void tell(const std::string &line) const;           // a comment
-    void tell_more(const std::string &line) const;      // with -v alone
+    void tell_more(const std::string &line) const;      // with -v only
     void details() const;
-    void lost() const;                  // of each engine that was lost, why
+    void lost() const;                  // why each lost engine was lost
     void causes(const std::string &cause) const;        // why there is no answer
-    void record() const;                // how large it is
+    void record() const;                // the record's size
     void summary() const;
-    void hide() const;                  // progress
+    void hide() const;                  // removes the progress line
 
 private:
     const Inputs &inputs;

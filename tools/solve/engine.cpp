@@ -1,13 +1,17 @@
-// Unverified, as all of this solver. An engine's process: CaDiCaL, what it gives away, and what it takes over.
+// Unverified, like the whole solver. An engine's process: CaDiCaL, what it gives away, and what it
+// takes over.
 //
-// What holds sharing together, and breaks proofs silently where it is missing:
-// - A clause over a variable that this engine eliminated or substituted isn't taken over: CaDiCaL would restore clauses that
-//   the proof has deleted, without a line. Whenever the number of active variables changed, the witnesses are asked anew.
-// - The line of an import comes before the clause is added: CaDiCaL may shorten it by what it knows at the root, and then
-//   traces the shorter clause, which follows only from the one that was taken over.
-// - The filter publishes a clause only once its line went out, and doesn't delete it in the round in which it was given away.
-// - Identities change from round to round. So a clause is asked for by its position in the outbox, whose owner renews identities
-//   there, and overwrites nothing that others may ask for (outbox.c). No filter drops what it may be asked for (filtering.c).
+// Sharing depends on these rules; without one of them proofs break silently: - A clause over a
+// variable that this engine eliminated or substituted isn't taken over: CaDiCaL
+//   would restore clauses that the proof has deleted, without a line. Whenever the number of active
+//   variables has changed, the witnesses are read again.
+// - The line of an import comes before the clause is added: CaDiCaL may shorten the clause by what
+//   it knows at the root, and then traces the shorter clause, which follows only from the import.
+// - The filter publishes a clause only once its line is written, and doesn't delete it in the round
+//   in which it was given away.
+// - Identities change from round to round. So a clause is asked for by its position in the outbox.
+//   The outbox's owner renews the identities there, and overwrites nothing that others may ask for
+//   (outbox.c). No filter drops what it may be asked for (filtering.c).
 #include <cadical.hpp>
 
 #include <algorithm>
@@ -25,13 +29,13 @@
 
 namespace {
 
-const double SLICE = 0.5;               // seconds after which an engine looks for what others gave away
+const double SLICE = 0.5;  // seconds after which an engine takes over what others gave away
 const int FIRST_CONFLICTS = 1000, LEAST_CONFLICTS = 200, MOST_CONFLICTS = 1000000;
-const int MOST_TAKEN = 5000;            // clauses of more than two literals, at once
+const int MOST_TAKEN = 5000;            // clauses of more than two literals, in one slice
 const int PROOF_BUFFER = 1 << 15;
 const size_t MOST_KNOWN = 1 << 18;
 
-enum { OUT_OF_MEMORY = 3, NO_PROOF = 4 };       // statuses of the process
+enum { OUT_OF_MEMORY = 3, NO_PROOF = 4 };       // the process's statuses
 
 class Worker : CaDiCaL::Learner, CaDiCaL::WitnessIterator {
 public:
@@ -54,19 +58,20 @@ private:
     EngineStatus &engine_status;
     CaDiCaL::Solver solver;
     Cubes cubes;
-    int learned = 0;                        // literals of what is learned that don't contradict the cube
+    int learned = 0;                        // literals of the learned clause that aren't the cube's
     FILE *proof = nullptr;
-    std::vector<uint64_t> read;             // by engine: how far in its outbox
+    std::vector<uint64_t> read;             // by engine: how far its outbox is read
     std::vector<unsigned char> gone;        // by variable, from 1: eliminated or substituted here
     int active = -1;
-    std::unordered_set<uint64_t> known, known_before;   // sums of what was given away or taken over of late
+    // hashes of clauses given away or taken over recently
+    std::unordered_set<uint64_t> known, known_before;
     std::vector<int> clause;
 
     bool shares() const { return engine.options->shares(); }
     bool goes_on() const { return shares() || !engine.cubes->empty(); }
 
-    // CaDiCaL asks right before it traces a clause that conflict analysis learned. Its literals aren't kept: a mark in the proof
-    // says that the next line may be given away, and the filter, which names that line, does so.
+    // CaDiCaL calls this right before it traces a learned clause. The literals aren't kept: a mark
+    // in the proof says that the next line may be given away, and the filter gives it away.
     bool learning(int size) override {
         STORE(engine_status.conflicts, engine_status.conflicts + 1);
         learned = size;
@@ -74,7 +79,7 @@ private:
         return shares() && size >= 2 && (cubes.looks() || size <= engine.options->share_size + int(cubes.cube().size()));
     }
 
-    // Literals of the cube don't count for the length.
+    // The cube's literals don't count towards the length.
     void learn(int literal) override {
         const std::vector<int> &cube = cubes.cube();
         if (literal == 0 && learned <= engine.options->share_size && !LOAD(engine.shared->crowded)) putc_unlocked('x', proof);
@@ -82,7 +87,7 @@ private:
         learned -= literal != 0 && std::find(cube.begin(), cube.end(), -literal) != cube.end();
     }
 
-    // Those of one literal are units of the root, and not gone.
+    // Witnesses of one literal are units at the root; their variables aren't gone.
     bool witness(const std::vector<int> &satisfied, const std::vector<int> &cube) override {
         if (satisfied.size() == 1 && cube.size() == 1) return true;
         for (int literal : cube) gone[size_t(std::abs(literal))] = 1;
@@ -96,7 +101,8 @@ private:
         solver.traverse_witnesses_forward(*this);
     }
 
-    // The first two, in the one and in the other of the modes that CaDiCaL takes turns with, are at their best on different formulas.
+    // The first two each stay in one of the two modes between which CaDiCaL alternates; each is
+    // best on other formulas.
     void differ() {
         switch ((engine.number - 1) % 8) {
             case 0: solver.configure("unsat"); break;
@@ -110,8 +116,9 @@ private:
         }
     }
 
-    // One that is alone has CaDiCaL's own options. With each call of `solve` CaDiCaL rephases from the start: it inverts all phases, and
-    // hardly ever comes to better ones. Two engines are sooner without that; with cubes a pipeline took longer.
+    // A single engine has CaDiCaL's default options. With each call of `solve` CaDiCaL restarts its
+    // rephasing: it inverts all phases, and hardly ever reaches better ones. Two engines are faster
+    // without that; with cubes a pipeline formula took longer.
     void configure() {
         solver.set("quiet", 1);
         solver.set("seed", engine.options->seed + engine.number - 1);
@@ -120,13 +127,14 @@ private:
         if (size_t(engine.options->engines) > engine.options->solvers.size() + 1) differ();
         if (test_hooks.set) {
             std::istringstream list(test_hooks.set);
-            bool any = false;       // not every CaDiCaL has all
+            bool any = false;       // a version of CaDiCaL may lack some
             for (std::string word; list >> word;) any |= solver.set_long_option(("--" + word).c_str());
             if (!any) abort();
         }
     }
 
-    // Assumed variables are never eliminated: CaDiCaL would restore their clauses without a line.
+    // Assumed variables are frozen: if CaDiCaL eliminated them, it would restore their clauses
+    // without a line.
     void open() {
         configure();
         proof = fdopen(engine.proof, "w");
@@ -148,14 +156,15 @@ private:
         cubes.keep_variables();
     }
 
-    // Each call of `solve` would look for lucky assignments anew, unless something is assumed: a variable that no clause has.
+    // Unless something is assumed, each call of `solve` looks for lucky assignments again. So
+    // engine 1 assumes a variable that is in no clause.
     void assume() {
         for (Literal literal : *engine.assumed) solver.assume(as_written(literal));
         for (int literal : cubes.cube()) solver.assume(literal);
         if (engine.number == 1 && engine_status.slices > 0) solver.assume(engine.formula->variables + 1);
     }
 
-    // The clause is given away, however long it is.
+    // The clause is given away, regardless of its length.
     bool refutes_cube() {
         if (!cubes.is_refuted()) return false;
         collect_failed();
@@ -193,7 +202,7 @@ private:
 
     // Taking over.
 
-    // The older half is forgotten as the other one gets full: a clause may come twice.
+    // When one half is full, the older one is forgotten, so a clause may be taken twice.
     bool is_new(const Literal *literals, size_t length) {
         uint64_t sum = hash_literals(literals, length);
         if (known.size() >= MOST_KNOWN) known_before = std::move(known), known.clear();
@@ -205,7 +214,7 @@ private:
         putc_unlocked(int(number), proof);
     }
 
-    // The literals, and the end of the step.
+    // Writes the literals, and the end of the step.
     void put_clause() {
         for (int literal : clause) put_number(2 * uint64_t(std::abs(literal)) + (literal < 0));
         put_number(0);
@@ -222,7 +231,8 @@ private:
         solver.add(0);
     }
 
-    // Another engine gave the clause away at that position, which is its name in the proof.
+    // Takes over a clause that another engine gave away at that position, which names it in the
+    // proof.
     void take(int other, uint64_t position, const Literal *literals, size_t length) {
         if (!is_new(literals, length)) return;
         clause.clear();
@@ -245,8 +255,8 @@ private:
         if (!test_hooks.without_order) add_clause();
     }
 
-    // Units and binary clauses all; of longer ones at most MOST_TAKEN at once, and those beyond never. Then the proof says that
-    // none of these will be asked for again.
+    // Takes all units and binary clauses, and at most MOST_TAKEN longer ones; it never takes the
+    // rest. Then the proof says that none of these will be asked for again.
     void take_over() {
         look_for_witnesses();
         int left = MOST_TAKEN;
@@ -269,14 +279,15 @@ private:
             engine.model[variable - 1] = solver.val(variable) > 0 ? 1 : -1;
     }
 
-    // Of the user's assumptions.
+    // Collects the complements of the failed assumptions.
     void collect_failed() {
         clause.clear();
         for (Literal literal : *engine.assumed)
             if (solver.failed(as_written(literal))) clause.push_back(-as_written(literal));
     }
 
-    // The clause that the filter waits for. CaDiCaL may have traced it; not where the formula has it, or with assumptions.
+    // Writes the clause that the filter waits for. CaDiCaL has usually traced it, but not if the
+    // formula has it, or with assumptions.
     void write_end() {
         collect_failed();
         putc_unlocked('a', proof);
@@ -291,7 +302,7 @@ const char *engine_version() { return CaDiCaL::Solver::version(); }
 void engine_process(const Engine &engine) {
     int status = OUT_OF_MEMORY;
     try {
-        Worker *worker = new Worker(engine);        // the system takes it back
+        Worker *worker = new Worker(engine);        // freed when the process ends
         status = worker->run();
     } catch (const std::bad_alloc &) {
     }

@@ -1,6 +1,7 @@
-// Unverified, as all of this solver. Event counts: one process waits for what others store in the memory that they share. It reads the
-// count, looks for what it wants, and waits only if the count is still the same; whoever has stored something advances the count.
-// Neither calls the system where nobody has to wait.
+// Unverified, like the whole solver. Event counts: one process waits for what others store in
+// shared memory. It reads the count, looks for what it needs, and waits only if the count is still
+// the same; a process that has stored something advances the count. Neither makes a system call if
+// nobody has to wait.
 #include <poll.h>
 #include <unistd.h>
 
@@ -8,12 +9,13 @@
 
 uint64_t events_so_far(const EventCount *events) { return __atomic_load_n(&events->count, __ATOMIC_SEQ_CST); }
 
-// Of the two sides one sees the other: the count advances before `waits` is read, and `waits` is set before the count is read.
+// At least one side sees the other: the count advances before `waits` is read, and `waits` is set
+// before the count is read.
 void events_advance(EventCount *events) {
     static const uint64_t one = 1;
     __atomic_fetch_add(&events->count, 1, __ATOMIC_SEQ_CST);
     if (!__atomic_load_n(&events->waits, __ATOMIC_SEQ_CST)) return;
-    if (write(events->file, &one, sizeof one) < 0) return;      // there are many to be read
+    if (write(events->file, &one, sizeof one) < 0) return;      // the eventfd is readable anyway
 }
 
 bool events_begin_wait(EventCount *events, uint64_t seen) {

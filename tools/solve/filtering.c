@@ -1,5 +1,5 @@
-// Unverified, as all of this solver. A filter's process: tools/exact from an engine's proof to its streams, one for each round, and
-// the clauses that it gives away.
+// Unverified, like the whole solver. A filter's process: tools/exact turns an engine's proof into
+// streams, one for each round, and gives clauses away.
 #define _GNU_SOURCE
 #include <errno.h>
 #include <fcntl.h>
@@ -17,7 +17,7 @@
 #include "../exact/write.h"
 #include "shared.h"
 
-enum { MOST_AHEAD = 1 << 25 };      // bytes of a stream that lrupd hasn't got
+enum { MOST_AHEAD = 1 << 25 };      // bytes of a stream that lrupd hasn't got yet
 
 static const Filtering *own;
 static EngineStatus *engine_status;
@@ -25,33 +25,33 @@ static Filter filter;
 static Input input;
 static unsigned char *assumed;      // by literal
 static uint64_t round_number;       // from 1
-static uint64_t staged;             // the end of the outbox; others read up to `outbox_used`
-static Identities kept;             // what it gave away in this round
+static uint64_t staged;             // the end of the outbox; others may read up to `outbox_used`
+static Identities kept;             // clauses given away in this round
 static bool refuted;
-static bool in_memory;              // the stream, though there is a record
+static bool in_memory;              // the stream is in memory, although there is a record
 
-// The ends: the first process says why, once this one has ended.
+// Errors. The first process reports the cause once this one has ended.
 
 static _Noreturn void leave(const char *cause) {
-    bool over = LOAD(own->shared->over);        // then the engine was ended within a step
+    bool over = LOAD(own->shared->over);        // then the engine was killed within a step
     if (cause && !over) snprintf(engine_status->cause, sizeof engine_status->cause, "%s", cause);
     engine_status->proof_ended = input.ended;
     _exit(cause && !over);
 }
 
-// What was written before goes out first.
+// Flushes the stream first.
 static void end(const char *cause) {
     write_flush();
     leave(cause);
 }
 
-// The first process is told.
+// Stores a value, and wakes the first process.
 static void tell(uint64_t *field, uint64_t value) {
     STORE(*field, value);
     events_advance(&own->shared->events);
 }
 
-// Until the first process has written as much there, or wants no more.
+// Waits until the first process has stored at least that value, or the run ends.
 static void await(const uint64_t *field, uint64_t wanted) {
     for (;;) {
         uint64_t seen = events_so_far(&engine_status->events);
@@ -72,7 +72,8 @@ static _Noreturn void leave_unwritten(const char *cause) {
     leave(cause);
 }
 
-// There is no room left where the record is, say. lrupd gets these lines all the same.
+// The record can't be written, perhaps since the disk is full. lrupd still gets these lines, from
+// memory.
 static void spill(const char *bytes, size_t length) {
     const char *cause = strerror(errno);
     off_t at = (off_t)engine_status->bytes;
@@ -85,9 +86,10 @@ static void spill(const char *bytes, size_t length) {
     STORE(engine_status->spilled, 1);
 }
 
-// Whole lines go to the stream's file, which outlives this process, and only then the others hear of the clauses that they
-// derive: a filter that dies with lines in its buffer would leave clauses that others cite and lrupd never gets. They were
-// missing, after a minute of waiting. A slow lrupd slows filters, and they the engines: of a stream there is never much in memory.
+// Whole lines go to the stream's file, which outlives this process. Only then do others see the
+// clauses that they derive: otherwise a filter that dies with lines in its buffer would leave
+// clauses that others cite and lrupd never gets. A slow lrupd slows filters down, and they slow
+// engines down, so a stream never takes much memory.
 static void out(const char *bytes, size_t length) {
     if (!write_whole(own->stream, bytes, length)) spill(bytes, length);
     STORE(engine_status->bytes, engine_status->bytes + length);
@@ -100,7 +102,8 @@ static void out(const char *bytes, size_t length) {
 
 // Rounds.
 
-// The filter may still be asked to take over what others have given away from its floor on.
+// Keeps what others gave away from this filter's floor on: the filter may still have to take it
+// over.
 static void keep_for_imports(void) {
     uint64_t formula = filter.formula.clauses;
     for (int k = 0; k < own->shared->engines; k++) {
@@ -118,7 +121,7 @@ static void await_round(const uint64_t *field, uint64_t wanted) {
     if (LOAD(*field) < wanted) leave(NULL);
 }
 
-// As the first process has made it for the round.
+// Whether it is the file that the first process made for the round.
 static bool is_as_made(int stream) {
     struct stat found;
     return fstat(stream, &found) == 0 && S_ISREG(found.st_mode) && found.st_nlink == 1 && found.st_size == 0;
@@ -132,7 +135,7 @@ static void open_stream(void) {
         if (dup2(own->spare, own->stream) < 0) leave_unwritten(strerror(errno));
     }
     if (own->record < 0 || in_memory) {
-        lseek(own->stream, 0, SEEK_SET);        // the first process has cut it
+        lseek(own->stream, 0, SEEK_SET);        // the first process has emptied it
         return;
     }
     snprintf(name, sizeof name, "round-%llu.stream-%llu", (unsigned long long)round_number, (unsigned long long)filter.stream);
@@ -142,8 +145,8 @@ static void open_stream(void) {
     close(file);
 }
 
-// Ends the stream. A clause that was given away isn't deleted, since others may cite it; in the next round it is one of the
-// formula's. A filter that ends with its stream keeps nothing else.
+// Ends the stream. Clauses that were given away aren't deleted, since others may cite them; the
+// next round's formula has them. A filter that ends with its stream keeps nothing else.
 static void end_stream(bool goes_on) {
     uint64_t literals, clauses = round_clauses(&filter, &literals);
     STORE(engine_status->held, clauses + literals);
@@ -154,14 +157,14 @@ static void end_stream(bool goes_on) {
     if (!goes_on) leave(NULL);
 }
 
-// Waits until lrupd has saved, and goes on from there.
+// Waits until lrupd has saved, and continues with the saved clauses.
 static void next_round(void) {
     Checkpoint checkpoint;
     end_stream(LOAD(own->shared->leaving) != (uint64_t)own->engine);
     await_round(&own->shared->saved_round, round_number);
     checkpoint_read(&checkpoint, own->shared->checkpoint);
     round_begin(&filter, &checkpoint, engine_status->stream, own->shared->streams);
-    filter.others.length = 0;       // they have the identities of round 1
+    filter.others.length = 0;       // their identities are those of round 1
     if (!test_hooks.without_renewal) outbox_renew(own->shared, own->outboxes[own->engine - 1], own->engine, &checkpoint);
     checkpoint_free(&checkpoint);
     kept.length = 0;
@@ -173,7 +176,7 @@ static void next_round(void) {
     open_stream();
 }
 
-// Where the first process ends the round this one does, too.
+// Whether the first process ends the round.
 static bool is_ending(void) { return !refuted && LOAD(own->shared->ending_round) == round_number; }
 
 static bool ends(void) {
@@ -181,7 +184,7 @@ static bool ends(void) {
     return refuted || LOAD(own->shared->over);
 }
 
-// Until the engine has written more, or has ended. Meanwhile rounds may end.
+// Waits until the engine has written more, or has ended. Meanwhile rounds may end.
 static void await_proof(int file) {
     for (bool is_readable = false; !is_readable;) {
         uint64_t seen = events_so_far(&engine_status->events);
@@ -204,7 +207,7 @@ static void derives(const Filter *one) { round_make_room(one, has_room, next_rou
 
 // Giving away.
 
-// Where there is no room in the outbox others don't get it.
+// Gives the clause away, if the outbox has room.
 static void give(uint32_t mark) {
     uint32_t *outbox = own->outboxes[own->engine - 1];
     if (!outbox_put(own->shared, outbox, own->engine, &staged, filter.last, &filter.literals, mark)) return;
@@ -214,7 +217,7 @@ static void give(uint32_t mark) {
     if (test_hooks.last_gift && own->engine == 1 && engine_status->given == test_hooks.last_gift) _exit(1);
 }
 
-// Streams of one host follow each other, as its engines do.
+// Whether the stream is an engine's of another host.
 static bool is_elsewhere(uint64_t stream) {
     const Shared *shared = own->shared;
     int first = shared->first_here;
@@ -240,14 +243,14 @@ static void count(void) {
     STORE(engine_status->citing_elsewhere, engine_status->citing_elsewhere + (elsewhere > 0));
 }
 
-// The clause is empty, or contradicts the assumed literals.
+// Whether the clause is empty, or contradicts the assumptions.
 static bool is_wanted(void) {
     for (size_t k = 0; k < filter.literals.length; k++)
         if (!assumed[complement_of(filter.literals.items[k])]) return false;
     return true;
 }
 
-// Units of any origin are given away, and what the engine marked. The line is in the buffer; `out` publishes it.
+// Gives away all units, and what the engine marked. The line is in the buffer; `out` publishes it.
 static void derived(const Filter *one) {
     size_t length = one->literals.length;
     count();
@@ -275,7 +278,8 @@ static bool lacks(uint64_t clause, uint64_t length) {
 
 static void passed(uint64_t engine, uint64_t position) { STORE(engine_status->floors[engine_of(engine)], position); }
 
-// A round may end before the first bytes are there, so the filter is open by then. A binary proof that may be either is DRAT.
+// The filter is already open, since a round may end before the first bytes arrive. If a binary
+// proof may be DRAT or LRAT, it is DRAT.
 static Form form_found(const Formula *formula) {
     Form form = form_of(&input, formula);
     if (form != FRAT) filter_name_formula(&filter);
@@ -297,7 +301,7 @@ static void read_proof(const Formula *formula) {
     else text_run(&filter, &input, form);
 }
 
-// Where a solver says 20, and hasn't written the empty clause.
+// A solver said 20, but hasn't written the empty clause.
 static void end_proof(void) {
     if (refuted || LOAD(own->shared->over) || own->form != UNKNOWN_FORM || LOAD(engine_status->answer) != 20) return;
     propagation_settle(&filter.propagation);
@@ -305,8 +309,9 @@ static void end_proof(void) {
     filter_add(&filter, &(Addition){0});
 }
 
-// Doesn't return. The formula was read before the fork; what the filter does with it stays in this process. Of the stream no
-// clause is deleted before a round ends: others may cite what was given away at any time, and lrupd gives no memory back for it.
+// Doesn't return. The formula was read before the fork; the filter's changes to it stay in this
+// process. The stream deletes no clause before its round ends: others may cite what was given away
+// at any time, and lrupd reuses no memory of deleted clauses.
 void filter_process(const Filtering *filtering, const void *formula) {
     static const Hooks hooks = { .ends = ends, .derives = derives, .derived = derived, .gift = gift, .passed = passed,
                                  .lacks = lacks };

@@ -1,5 +1,5 @@
-// Unverified, as all of this solver. The run's own folder, for FIFOs and what rounds save, and the process that removes it, whatever
-// ends the run.
+// Unverified, like the whole solver. The run's temporary folder, for FIFOs and checkpoints, and the
+// process that removes it however the run ends.
 #include <cerrno>
 #include <csignal>
 #include <cstdlib>
@@ -18,12 +18,12 @@
 
 namespace {
 
-std::string path, last_name;                // and without the folder in which it is
-int place = -1, folder_file = -1;           // that folder, and this one
-Pipe life;                                  // ends with this process
+std::string path, last_name;                // last_name: without the folder that it is in
+int place = -1, folder_file = -1;           // the folder that it is in; the folder itself
+Pipe life;                                  // closed when this process ends
 pid_t cleaner = 0;
 
-// By descriptors alone, since a name may be another file's by now. Takes the folder's.
+// Removes by descriptors only, since a name may be another file's by now. Closes `file`.
 void remove_within(int file) {
     DIR *list = file < 0 ? nullptr : fdopendir(file);
     while (const dirent *entry = list ? readdir(list) : nullptr) {
@@ -35,7 +35,7 @@ void remove_within(int file) {
     if (list) closedir(list);
 }
 
-// Whether its name is still its own.
+// Whether its name still names it.
 bool is_named(int file) {
     struct stat ours, found;
     return fstat(file, &ours) == 0 &&
@@ -52,7 +52,8 @@ void remove_folder() {
     if (is_named(folder_file)) unlinkat(place, last_name.c_str(), AT_REMOVEDIR);
 }
 
-// The front waits for it. The folder is empty until its cleaner knows which one it is.
+// The front waits for the cleaner. Nothing is put into the folder until the cleaner knows which
+// folder it is.
 [[noreturn]] void become_cleaner() {
     struct stat made, found;
     close_all_but({ life.read, place });
@@ -68,12 +69,12 @@ void remove_folder() {
     _exit(0);
 }
 
-// Before the folder is made: whatever ends this process then, it is removed.
+// Started before the folder is made, so that the folder is removed however this process ends.
 void start_cleaner() {
     sigset_t all, before;
     life = make_pipe(0);
     sigfillset(&all);
-    sigprocmask(SIG_BLOCK, &all, &before);      // what ends the others doesn't end it
+    sigprocmask(SIG_BLOCK, &all, &before);      // signals that end the others don't end the cleaner
     cleaner = fork();
     if (cleaner == 0) become_cleaner();
     if (cleaner < 0) refuse("cannot start a process: " + error_text());
@@ -90,7 +91,7 @@ void end_cleaner() {
 
 }
 
-// The cause, where it can't be made.
+// Returns the cause if it can't be made.
 std::string Folder::make_if_possible() {
     if (cleaner > 0) return "";
     const char *given = getenv("TMPDIR");
@@ -137,7 +138,7 @@ std::string Folder::room() {
     return "TMPDIR (" + within + ") has " + std::to_string(left / 1000000) + " MB left";
 }
 
-// This process does it itself: the cleaner may be stopped.
+// This process removes it itself, since the cleaner may be stopped.
 void Folder::remove() {
     if (cleaner <= 0) return;
     remove_folder();

@@ -165,7 +165,7 @@ void Inputs::read_assumptions() {
     std::string word, name = title(options.assume);
     int literal = 0;
     while (file >> std::setw(LONGEST_NUMBER) >> word && word != "0") {
-        if (!number_read(word.c_str(), &literal)) refuse_formula(name + ": a word that is no number: " + word);
+        if (!number_read(word.c_str(), &literal)) refuse_formula(name + ": not a number: " + word);
         if (std::abs(literal) > formula.variables)
             refuse_formula(name + ": the literal " + word + ", and the formula has the variables 1 to " + std::to_string(formula.variables));
         assumed.push_back(literal > 0 ? 2 * (literal - 1) : 2 * (-literal - 1) + 1);

@@ -103,7 +103,7 @@ void Keeping::prepare(const std::string &program) {
     checker_program = program;
     if (!is_wanted()) return;
     for (const char *path : { options.core, options.lrat })
-        if (path && is_there(path)) refuse(std::string(path) + " is there, and isn't written over");
+        if (path && is_there(path)) refuse(std::string(path) + ": exists, not overwritten");
     check_outputs(false);
     if (find_tool("lrup-trim").empty()) refuse("no lrup-trim, neither beside this program nor on the PATH: `make trim` makes it");
     folder = Folder::name() + "/kept";

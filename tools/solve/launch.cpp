@@ -1,4 +1,5 @@
-// Unverified, as all of this solver. With --mpi the program that the front has started becomes the command that starts lrup-engines-mpi.
+// Unverified, like the whole solver. With --mpi, the program that the front has started becomes
+// MPI's command, which starts lrup-engines-mpi.
 #include <csignal>
 
 #include <fcntl.h>
@@ -22,7 +23,7 @@ std::string program_for_mpi() {
 
 }
 
-// The command reads nothing. As the front ends, SIGTERM has it end its processes.
+// The command gets no input. When the front ends, SIGTERM makes the command end its processes.
 void start_by_mpi(const Options &options, int count, char **words) {
     if (!options.mpi || front.is_elsewhere()) return;
     std::string program = program_for_mpi(), line = std::string("exec ") + options.mpi + " \"$0\" \"$@\"";

@@ -1,4 +1,4 @@
-// Unverified, as all of this solver. A first process waits.
+// Unverified, like the whole solver. How a first process waits.
 #include <csignal>
 
 #include <sys/signalfd.h>
@@ -6,7 +6,7 @@
 
 #include "loop.h"
 
-// Those that are ignored stay so, as under nohup.
+// Ignored signals stay ignored, as under nohup.
 void Loop::begin() {
     sigset_t taken;
     sigemptyset(&taken);

@@ -1,4 +1,5 @@
-// Unverified, as all of this solver. The loop of a first process: it waits for events, looks at everything, and waits again.
+// Unverified, like the whole solver. The loop of a first process: it waits for events, handles
+// them, and waits again.
 #ifndef LOOP_H
 #define LOOP_H
 
@@ -8,16 +9,17 @@
 
 class Loop {
 public:
-    int ended_by = 0;           // a signal
-    bool looks_again = false;   // before it waits
+    int ended_by = 0;           // the signal that ends the run
+    bool looks_again = false;   // without waiting
 
-    void begin();               // signals are taken from now on
-    // Until a signal, the end of a child, what engines and filters tell by these events, something in these files, or that time.
+    void begin();               // takes signals from now on
+    // Waits for a signal, the end of a child, an event of engines and filters, input from these
+    // files, or that time.
     void wait(EventCount &events, std::vector<pollfd> &files, double time, const std::vector<Child *> &children);
 
 private:
     int signals = -1;
-    uint64_t seen = 0;          // of the events
+    uint64_t seen = 0;          // the count of events
 
     void take_signals(const std::vector<Child *> &children);
 };

@@ -1,13 +1,15 @@
-// lrup-engines: unverified, and trusted for nothing. The front, which starts it, starts lrupd, too, and says the answer (front/front.c).
+// lrup-engines: unverified and untrusted. The front starts it and lrupd, and prints the answer
+// (front/front.c).
 //
 //     engine process --pipe: its proof--> filter process --file: LRUP--> first process --pipe--> lrupd
 //           ^                                   |                             |
 //           +------ outbox, shared memory <-----+                             +--- FIFOs ----- front
 //              each filter writes its own, each engine reads all
 //
-// The first process (run.cpp) reads the formula (inputs.cpp), starts engines and filters (teams.cpp), feeds lrupd (checker.cpp), goes from
-// round to round (rounds.cpp), says how far it is (display.cpp), and watches them all. Whatever happens to one of them is an event of its
-// loop (loop.cpp); whatever ends it ends them all.
+// The first process (run.cpp) reads the formula (inputs.cpp), starts engines and filters
+// (teams.cpp), feeds lrupd (checker.cpp), goes from round to round (rounds.cpp), shows progress
+// (display.cpp), and watches all processes. Whatever happens to one of them is an event of its loop
+// (loop.cpp). When it ends, all of them end.
 #include <csignal>
 
 #include <fcntl.h>
@@ -15,15 +17,17 @@
 
 #include "run.h"
 
-// What comes from the caller: where SIGCHLD is ignored nobody can wait for a child. A limit on the size of files is met as a
-// full disk is. A terminal may stop who writes to it from a process group in the background, as this one is.
+// Overrides what the caller set. If SIGCHLD is ignored, no child can be waited for. A limit on the
+// size of files counts as a full disk. A terminal may stop a process that writes to it from a
+// background process group, which this one is in.
 static void set_signals() {
     signal(SIGCHLD, SIG_DFL);
     signal(SIGXFSZ, SIG_IGN);
     signal(SIGTTOU, SIG_IGN);
 }
 
-// Where the caller has closed one of the first three files, no pipe of ours takes its place.
+// Occupies descriptors 0 to 2, so that no pipe opened later is mistaken for a closed standard
+// stream.
 static void hold_first_files() {
     for (int file = 0; file <= 2; file++)
         if (fcntl(file, F_GETFD) < 0 && open("/dev/null", O_RDONLY) != file) _exit(1);
@@ -34,6 +38,6 @@ int main(int count, char **words) {
     hold_first_files();
     set_signals();
     front.find(count, words);
-    if (front.is_there()) dup2(STDERR_FILENO, STDOUT_FILENO);      // for what CaDiCaL is asked to report
+    if (front.is_there()) dup2(STDERR_FILENO, STDOUT_FILENO);      // for CaDiCaL's reports
     _exit(solve(count, words));
 }

@@ -1,8 +1,10 @@
-// Unverified, as all of this solver. A carrier: the one process of a host that uses MPI. It forwards messages, broadcasts the
-// formula, and takes part in exchanges; what is in them it doesn't know.
+// Unverified, like the whole solver. A carrier: the one process of a host that uses MPI. It
+// forwards messages, broadcasts the formula, and takes part in exchanges, without reading their
+// contents.
 //
-// Nothing here waits for another process but MPI_Init, the broadcast before engines start, and MPI_Finalize; when one of them dies
-// mpirun ends all. Of what is on its way to others there is a bound: beyond it nothing more is read from the Run.
+// Only MPI_Init, the broadcast before engines start, and MPI_Finalize wait for other processes; if
+// one dies, mpirun ends all. The bytes on their way to others are bounded: above the bound nothing
+// more is read from the Run.
 #define OMPI_SKIP_MPICXX 1      // C++ bindings that warn
 #include <mpi.h>
 
@@ -56,7 +58,7 @@ private:
     MPI_Request request = MPI_REQUEST_NULL;
     std::string gifts, found;
     bool has_gifts = false, leaves = false, left = false;
-    int length = 0;                     // of the gifts; -1: it leaves
+    int length = 0;                     // of the gifts; -1: this process leaves
     std::vector<int> lengths, places;
     double begun = 0;
 
@@ -82,14 +84,14 @@ private:
         return message.bytes;
     }
 
-    // MPI's own waiting takes a core.
+    // MPI's own waiting would take a core.
     void from_process_0(void *bytes, int count) {
         int done = 0;
         MPI_Ibcast(bytes, count, MPI_BYTE, 0, MPI_COMM_WORLD, &request);
         while (MPI_Test(&request, &done, MPI_STATUS_IGNORE), !done) usleep(1000 * IDLE / 4);
     }
 
-    // Piece by piece.
+    // Broadcasts the formula in pieces.
     void broadcast() {
         for (int count = 1; count > 0;) {
             std::string piece;
@@ -130,7 +132,7 @@ private:
         MPI_Isend(one.bytes.data(), int(one.bytes.size()), MPI_BYTE, message.head.process, 0, MPI_COMM_WORLD, &one.request);
     }
 
-    // A deque keeps what it has in its place.
+    // A deque doesn't move its items.
     bool send_on() {
         bool any = false;
         for (int done = 1; !flying.empty() && done;) {
@@ -155,7 +157,8 @@ private:
         return true;
     }
 
-    // All processes enter as many exchanges: one that leaves enters with nothing, until all do.
+    // All processes enter the same number of exchanges: one that leaves enters with nothing until
+    // all leave.
     void step_exchange() {
         int done = 0;
         if (state == QUIET && (has_gifts || (leaves && flying.empty()))) return begin_exchange();

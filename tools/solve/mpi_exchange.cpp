@@ -1,9 +1,11 @@
-// Unverified, as all of this solver. What engines give away to those of other processes. All clauses that refute cubes are sent. For
-// others a process has a budget of literals in each exchange; the shortest ones go first, and what finds no room isn't sent later:
-// newer ones come.
+// Unverified, like the whole solver. What engines give away to those of other processes. All
+// clauses that refute cubes are sent. For the others a process has a budget of literals in each
+// exchange: the shortest go first, and those that don't fit aren't sent later, since newer ones
+// come.
 //
-// Only clauses of the round that is on are sent, and taken. Their lines are on their way before they are, and lrupd saves them at
-// the round's end, since no stream deletes what it gave away in it. What comes after that is dropped.
+// Only clauses of the current round are sent and taken. Their lines are sent before them, and lrupd
+// saves them at the round's end, since no stream deletes what it gave away in the round. Clauses
+// that arrive later are dropped.
 #include <algorithm>
 
 #include "mpi_run.h"
@@ -12,7 +14,7 @@ namespace {
 
 const size_t LITERALS_OF_AN_ENGINE = 1500;
 
-// A gift as it is sent: these, and the literals.
+// A gift in a message: this, and then the literals.
 struct Sent { uint32_t engine, identity, length; };
 
 }
@@ -27,13 +29,13 @@ void Exchange::open(Shared *all, const std::vector<uint32_t *> &boxes) {
         if (!is_here(k)) pass(k, UINT64_MAX);
 }
 
-// In place of the engines elsewhere, which read this outbox no further. Of those elsewhere they have others.
+// Sets the floors for the engines of other hosts, which don't read this outbox themselves.
 void Exchange::pass(int engine, uint64_t position) {
     for (int k = 0; k < int(outboxes.size()); k++)
         if (!is_here(k)) STORE(shared->engine_statuses[k].floors[engine], position);
 }
 
-// Of the round and all that was given away since the last time.
+// Collects the round's number, and what was given away since the last time.
 std::string Exchange::collect() {
     struct Found { int engine; const uint32_t *gift; };
     std::vector<Found> all;
@@ -79,13 +81,14 @@ void Exchange::place(Message &message) {
     }
 }
 
-// What wasn't sent in its own round isn't any more.
+// What wasn't sent in its own round isn't sent any more.
 void Exchange::begin_round() {
     round = LOAD(shared->round);
     pass_over();
 }
 
-// Also once lrupd has saved: then filters give what is there the identities of the next round, before that begins.
+// Skips what was given away so far. Also called once lrupd has saved: filters then renew the
+// identities in the outboxes before the next round begins.
 void Exchange::pass_over() {
     for (int k = first; k < end; k++) {
         read[size_t(k)] = cleared[size_t(k)] = LOAD(shared->engine_statuses[k].outbox_used);

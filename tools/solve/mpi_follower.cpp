@@ -1,5 +1,5 @@
-// Unverified, as all of this solver. A process that has engines and filters, and tells process 0 what they come to. It writes
-// nothing on standard output.
+// Unverified, like the whole solver. A process with engines and filters, which reports to process
+// 0. It writes nothing on standard output.
 #include <algorithm>
 #include <cerrno>
 #include <cmath>
@@ -15,9 +15,9 @@
 
 namespace {
 
-const double LATE = 0.002;              // seconds, after which the next piece of lines is sent that come late
+const double LATE = 0.002;              // seconds between pieces, in tests that send lines late
 const double LEAVING = 10, ENDING = 10, STARTING = 600;     // seconds
-const uint64_t DROPPED = UINT64_C(1) << 22, PAGE = 4096;    // bytes that are given back at once
+const uint64_t DROPPED = UINT64_C(1) << 22, PAGE = 4096;    // bytes that are given back together
 
 class Follower {
 public:
@@ -79,7 +79,7 @@ private:
         return test_hooks.late_lines ? std::min(time, now() + LATE) : time;
     }
 
-    // Before anything is solved.
+    // Before solving.
 
     void prepare() {
         receive_inputs();
@@ -126,7 +126,7 @@ private:
         }
     }
 
-    // What process 0 says.
+    // What process 0 sends.
 
     void take_control(const Control &control) {
         Shared *shared = teams.shared;
@@ -156,7 +156,7 @@ private:
         teams.go_on();
     }
 
-    // As a file that filters read as they read lrupd's: it has no literals.
+    // Writes a file that filters read like lrupd's checkpoint, but without literals.
     void take_saved(uint64_t number) {
         std::string text;
         uint64_t identity = 0, value = 0, count = 0;
@@ -207,10 +207,11 @@ private:
         for (uint64_t cube; message.take(cube) && cube < inputs.cubes.size();) teams.dealer.queue.push_back(size_t(cube));
     }
 
-    // What is here.
+    // The processes here.
 
     void look_here() {
-        if (loop.ended_by || link.carrier.ended()) end_children(), _exit(1);        // mpirun ends all, or has
+        // mpirun ends all, or has done so
+        if (loop.ended_by || link.carrier.ended()) end_children(), _exit(1);
         if (peer.silent_process() >= 0) refuse("process 0 has said nothing for some seconds");
         for (size_t k = 0; k < teams.size(); k++) {
             if (!teams.is_here(k)) continue;
@@ -224,7 +225,7 @@ private:
         if (state == SOLVING) teams.look();
     }
 
-    // What it says. Of what follows from a stream others hear when all of it is sent.
+    // What it sends. Others get what a stream implies only after the whole stream.
 
     bool send_stream(size_t k) {
         EngineStatus &engine_status = teams.engine_status(k);
@@ -277,7 +278,8 @@ private:
 
     static Ended end_of(const Child &child) { return { child.ended(), child.status, child.seconds }; }
 
-    // Rounds first: what a filter writes before it ends one is there then.
+    // Reads the counts backwards, rounds first: what a filter stores before it ends a round is then
+    // stored.
     Facts facts_of(size_t k) const {
         const EngineStatus &engine_status = teams.engine_status(k);
         Facts facts = {};

@@ -1,4 +1,5 @@
-// Unverified, as all of this solver. Process 0: it has lrupd, and what the others say stands in its `Shared`.
+// Unverified, like the whole solver. Process 0: it feeds lrupd, and stores what the others report
+// in its `Shared`.
 #include <algorithm>
 #include <cerrno>
 #include <cstddef>
@@ -35,7 +36,7 @@ private:
     Control told = {};
     double told_at = 0;
     uint64_t told_saved = 0;
-    std::vector<uint64_t> sent;         // by process, how many of the user's cubes
+    std::vector<uint64_t> sent;         // by process: how many of the user's cubes were sent
 
     int processes() const { return int(link.engines.size()); }
 
@@ -43,7 +44,7 @@ private:
         for (int k = 1; k < processes(); k++) link.send(word, k, text);
     }
 
-    // Piece by piece; what comes first says which.
+    // Broadcasts in pieces; the first byte says what a piece is.
     void broadcast(char kind, const void *bytes, size_t length) {
         std::string text(1, kind);
         text.append(static_cast<const char *>(bytes), length);
@@ -84,7 +85,7 @@ private:
         broadcast('c', literals.data(), literals.size() * sizeof(int));
     }
 
-    // Each process has one for each of its engines before they ask for it.
+    // Each process gets one cube for each of its engines in advance.
     void share_cubes() {
         Dealer &dealer = run.teams.dealer;
         dealer.refuted_elsewhere = 0;
@@ -100,7 +101,7 @@ private:
         }
     }
 
-    // What the others say.
+    // What the others send.
 
     bool is_elsewhere(int k) const { return k >= 0 && size_t(k) < run.teams.size() && !run.teams.is_here(size_t(k)); }
 
@@ -157,9 +158,9 @@ private:
         if (message.head.word == TRAFFIC) message.take(traffic[size_t(message.head.process)]);
     }
 
-    // What it says.
+    // What it sends.
 
-    // Differences, with seven bits in a byte, as in the proofs.
+    // Sends the differences of identities, seven bits to a byte, as in binary proofs.
     void say_saved() {
         std::string text;
         uint64_t last = 0;
@@ -205,7 +206,8 @@ private:
 
     void say() {
         Control words = control();
-        bool is_due = words.saved_round > told_saved && words.saved_round == words.round;    // else no filter elsewhere is left
+        // if not, no filter elsewhere is left
+        bool is_due = words.saved_round > told_saved && words.saved_round == words.round;
         if (is_due) say_saved(), told_saved = words.saved_round;
         if (!is_news(words, told) && now() - told_at < PULSE) return;
         Message message;
@@ -226,7 +228,7 @@ private:
         return "";
     }
 
-    // Of lines that cite a clause of another process some would have been derived without it, too.
+    // Some lines that cite a clause of another process could be derived without it, too.
     void details() const {
         for (size_t process = 0, k = 0; process < traffic.size(); process++) {
             const Traffic &one = process == 0 ? peer.exchange.traffic : traffic[process];

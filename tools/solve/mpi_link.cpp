@@ -1,4 +1,4 @@
-// Unverified, as all of this solver. Messages between a Run and its carrier, by two pipes.
+// Unverified, like the whole solver. Messages between a Run and its carrier, through two pipes.
 #include <cerrno>
 #include <csignal>
 #include <cstdlib>
@@ -11,8 +11,8 @@
 namespace {
 
 const int MESSAGE_PIPE = 1 << 20;
-const size_t MOST_WAITING = 1 << 22;            // bytes; a stream's wait for room
-const double STARTING = 120;                    // seconds, for all processes
+const size_t MOST_WAITING = 1 << 22;            // bytes; above it streams wait for room
+const double STARTING = 120;                    // seconds for all processes together
 
 }
 
@@ -53,8 +53,8 @@ size_t write_some(int file, const std::string &bytes, size_t from) {
     return from;
 }
 
-// Open MPI's files for shared memory stay where a carrier is killed, but for those in this process's folder. Where that can't be
-// made process 0 says so later.
+// A killed carrier leaves Open MPI's files for shared memory behind, unless they are in this
+// process's folder. If the folder can't be made, process 0 says so later.
 void Link::open(int engines_here) {
     if (Folder::make_if_possible().empty()) setenv("OMPI_MCA_btl_vader_backing_directory", Folder::name().c_str(), 0);
     out = make_pipe(MESSAGE_PIPE);
@@ -102,7 +102,7 @@ std::vector<pollfd> Link::files() const {
     return list;
 }
 
-// The carrier ends once those of all processes want to.
+// The carrier ends once the carriers of all processes leave.
 void Link::leave() { send(LEAVE, 0, ""); }
 
 void Link::close() {

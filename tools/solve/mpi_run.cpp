@@ -1,4 +1,4 @@
-// Unverified, as all of this solver. lrup-engines-mpi: where it begins, and what process 0 and the others have in common.
+// Unverified, like the whole solver. lrup-engines-mpi: its start, and what process 0 and the others have in common.
 #include <algorithm>
 #include <cmath>
 #include <cstdlib>
@@ -17,7 +17,7 @@ namespace {
 const uint64_t EXCHANGING = 500;        // milliseconds
 const double STARTING = 600;            // seconds
 
-// As mpirun says before MPI begins, and SLURM's launcher.
+// As mpirun and SLURM's launcher say before MPI is initialised.
 bool is_process_0() {
     for (const char *name : { "OMPI_COMM_WORLD_RANK", "PMIX_RANK", "PMI_RANK" })
         if (const char *rank = getenv(name)) return atoi(rank) == 0;
@@ -26,8 +26,7 @@ bool is_process_0() {
 
 }
 
-// Where something is wrong one process alone says so. The others don't end before it with another status than 0: mpirun would end it, and
-// nothing would be said.
+// Only one process reports an error. The others must not end before it with another status than 0: mpirun would then kill it, and nothing would be reported.
 int solve(int count, char **words) {
     if (front.is_there() && is_process_0()) front.open();
     Options options = read_words(count, words);
@@ -65,10 +64,10 @@ double Peer::next_exchange() const {
     return !options.shares() || exchanging || holds_back() ? INFINITY : exchanged + pause;
 }
 
-// Time that passed is counted in pulses, for each of which something is said, too.
+// Time is counted in pulses, and something is sent in each pulse.
 double Peer::next_look() const { return std::min(looked + PULSE, next_exchange()); }
 
-// Time in which this process stood still itself counts for little.
+// Time in which this process itself was stopped counts as one pulse at most.
 void Peer::look() {
     double time = now(), passed = std::min(time - looked, PULSE);
     looked = time;
@@ -93,7 +92,7 @@ void Peer::take(Message &message) {
     else if (uint64_t taken = 0; message.take(taken)) exchange.traffic.nanoseconds += taken, exchanging = false;
 }
 
-// What comes late in tests (test_hooks.h).
+// Late messages in tests (test_hooks.h).
 
 template <typename Item> static Item beginning(const Message &message) {
     Item item = {};
@@ -106,7 +105,7 @@ bool Peer::keeps(const Message &message) {
     if (test_hooks.late_gifts) return word == GIFTS && !is_due(message);
     if (word == GIFTS && message.head.process == 0) awaited--;
     bool is_kept = test_hooks.late_saved && word == CONTROL && beginning<Control>(message).saved_round > LOAD(teams.shared->saved_round);
-    if (is_kept && kept.empty()) awaited = 3;       // one may be on its way; until the last the others share
+    if (is_kept && kept.empty()) awaited = 3;       // one may be on its way; the others share until the last one
     return is_kept;
 }
 
@@ -114,7 +113,7 @@ bool Peer::is_due(const Message &message) const {
     return message.head.word == GIFTS ? beginning<uint64_t>(message) < LOAD(teams.shared->round) : awaited <= 0;
 }
 
-// Process 0 collects as a round begins, and then nothing before its filters have those identities.
+// Process 0 collects when a round begins, and then not before its filters have the new identities.
 bool Peer::holds_back() const {
     if (!test_hooks.late_saved || link.process != 0 || !exchange.has_begun()) return false;
     for (size_t k = 0; k < teams.size(); k++)

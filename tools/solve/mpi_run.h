@@ -1,11 +1,14 @@
-// Unverified, as all of this solver. lrup-engines-mpi: the engines of one run in several processes of MPI, on several hosts.
+// Unverified, like the whole solver. lrup-engines-mpi: one run's engines in several processes of
+// MPI, on several hosts.
 //
 //     process 0: front --> Run <--pipes--> carrier <--MPI--> carrier <--pipes--> Run :process 1
 //
-// Each process has engines and filters as lrup-solve has them, and a `Shared` of its own with all engines of all processes: what
-// others know of theirs comes in messages. Process 0 leads: it has lrupd, to which the streams of all go, and says when rounds
-// end. Every half a second all exchange the clauses that their engines gave away; what came stands in the outboxes of engines that
-// aren't here as if they were, but at other positions. Only carriers use MPI: they are forked before, and fork nothing.
+// Each process has engines and filters like those of a run on one host, and its own `Shared` with
+// the engines of all processes, whose state arrives in messages. Process 0 leads: it feeds all
+// streams to lrupd, and decides when rounds end. Every half second all processes exchange the
+// clauses that their engines gave away. Clauses that arrive are put into the outboxes of the absent
+// engines, but at other positions than at home. Only carriers use MPI; they are forked first, and
+// fork nothing.
 #ifndef MPI_RUN_H
 #define MPI_RUN_H
 
@@ -14,21 +17,22 @@
 
 #include "run.h"
 
-// Messages. A carrier forwards those for another process, and handles the first four itself.
+// Messages. A carrier handles INPUT, GIFTS and LEAVE itself, and forwards those for other
+// processes.
 enum Word : uint32_t {
-    HELLO,          // of the carrier: the processes, and how many engines each has
-    INPUT,          // of process 0, for all: a piece of the formula; an empty one is the end
-    GIFTS,          // for all, and of each: what an exchange is about
+    HELLO,          // from the carrier: the processes, and how many engines each has
+    INPUT,          // from process 0 to all: a piece of the input; an empty one is the end
+    GIFTS,          // from each process to all: the clauses of an exchange
     LEAVE,          // the last one: the process exchanges nothing more
-    EXCHANGED,      // of the carrier: it is over, in so many nanoseconds
-    CONTROL,        // of process 0: what it writes in `Shared`
-    SAVED,          // of process 0, before it says that a round is saved: identities of the checkpoint
-    CUBES,          // of process 0: which ones of the user's the process gets next
-    END,            // of process 0
-    FACTS,          // of an engine and its filter
-    STREAM,         // of a filter
-    MODEL,          // of an engine
-    TRAFFIC         // of a process
+    EXCHANGED,      // from the carrier: the nanoseconds that an exchange took
+    CONTROL,        // from process 0: what it stores in `Shared`
+    SAVED,          // from process 0, before a round counts as saved: the checkpoint's identities
+    CUBES,          // from process 0: the user's cubes that the process gets next
+    END,            // from process 0
+    FACTS,          // about an engine and its filter
+    STREAM,         // a piece of a filter's stream
+    MODEL,          // a piece of an engine's model
+    TRAFFIC         // about a process
 };
 
 struct Head { uint32_t word; int32_t process; uint64_t length; };
@@ -52,10 +56,10 @@ private:
     size_t at = 0;
 };
 
-// Whole messages of a file.
+// Reads whole messages from a file.
 class Incoming {
 public:
-    bool read_from(int file);           // what is there; false at the end
+    bool read_from(int file);           // what can be read; false at the end
     bool next(Message &message);
 
 private:
@@ -64,12 +68,13 @@ private:
 };
 
 void append_message(std::string &bytes, uint32_t word, int process, const std::string &text);
-size_t write_some(int file, const std::string &bytes, size_t from);     // how far it is written; all, but where the file is full
+// how much is written; all, unless the file is full
+size_t write_some(int file, const std::string &bytes, size_t from);
 
-// mpi_carrier.cpp: doesn't return. So many engines are here.
+// mpi_carrier.cpp: doesn't return. `engines`: how many are here.
 [[noreturn]] void carrier_process(int from_run, int to_run, int engines);
 
-// mpi_link.cpp: the Run's end.
+// mpi_link.cpp: the Run's side.
 class Link {
 public:
     Child carrier;
@@ -79,13 +84,13 @@ public:
     void open(int engines_here);
     void send(Word word, int to, const std::string &text);
     bool is_full() const;
-    void step();                        // sends and receives what it can
+    void step();                        // sends and receives as much as it can
     bool receive(Message &message);
-    bool wait(Message &message, double seconds);    // false where there is none
+    bool wait(Message &message, double seconds);    // false if none comes
     std::vector<pollfd> files() const;
     bool is_open() const { return in.read >= 0; }
-    void leave();                       // as all the others do
-    void close();                       // where they didn't
+    void leave();                       // ends once all processes leave
+    void close();                       // ends at once
 
 private:
     Pipe out, in;
@@ -94,13 +99,13 @@ private:
     Incoming incoming;
 };
 
-// mpi_exchange.cpp: what is given away to other processes, and taken from there.
+// mpi_exchange.cpp: clauses given to other processes, and taken from them.
 struct Traffic {
     uint64_t out, in, left_out, dropped;        // clauses
-    uint64_t bytes_out, bytes_in;               // of these
+    uint64_t bytes_out, bytes_in;               // of these clauses
     uint64_t exchanges, nanoseconds;
     uint64_t bytes_of_streams;
-    uint64_t cubes_taken, cubes_refuted;        // of the user's
+    uint64_t cubes_taken, cubes_refuted;        // the user's cubes
 };
 
 class Exchange {
@@ -108,9 +113,11 @@ public:
     Traffic traffic = {};
 
     void open(Shared *all, const std::vector<uint32_t *> &boxes);
-    void clear(int engine, uint64_t used) { cleared[size_t(engine)] = used; }   // the lines before that position are on their way
-    std::string collect();              // since the last time
-    bool has_begun() const { return LOAD(shared->round) == round; }     // it has collected in the round that is on
+    // the lines before that position are sent
+    void clear(int engine, uint64_t used) { cleared[size_t(engine)] = used; }
+    std::string collect();              // what was given away since the last time
+    // it has collected in this round
+    bool has_begun() const { return LOAD(shared->round) == round; }
     void place(Message &message);
 
 private:
@@ -118,7 +125,7 @@ private:
     std::vector<uint32_t *> outboxes;
     std::vector<uint64_t> read, cleared, staged;    // by engine, from 0
     uint64_t round = 1;
-    int first = 0, end = 0;             // the engines here
+    int first = 0, end = 0;             // the engines here, from 0
 
     void begin_round();
     void pass_over();
@@ -126,13 +133,13 @@ private:
     void pass(int engine, uint64_t position);
 };
 
-// What is told of an engine and its filter.
+// Reports about an engine and its filter.
 struct Ended { int32_t ended, status; double seconds; };
 
-enum { ENDED_ROUND = 16, MAPPED_ROUND, COUNTS };        // places of two of them
+enum { ENDED_ROUND = 16, MAPPED_ROUND, COUNTS };        // places of two counts
 
 struct Facts {
-    int32_t engine, answer, refuted, unwritten;         // from 0
+    int32_t engine, answer, refuted, unwritten;         // the engine from 0
     Ended of_engine, of_filter;
     uint64_t counts[COUNTS];
     char cause[LONGEST_CAUSE];
@@ -145,31 +152,31 @@ struct Control {
     struct { uint64_t stream, fed; } of_engines[MOST_ENGINES];
 };
 
-// What a process has in common with the others, whether it leads or follows: mpi_run.cpp.
+// mpi_run.cpp: what leader and followers have in common.
 class Peer {
 public:
     Link &link;
     Exchange exchange;
-    std::function<void(Message &)> told;        // by another process, but for what is exchanged
+    std::function<void(Message &)> told;  // gets messages of other processes, except for exchanges
 
     Peer(const Options &given, Teams &its_teams, Link &connected);
-    void open();                        // once there is shared memory
-    void look();                        // at what has come; and exchanges
+    void open();                        // once shared memory exists
+    void look();                        // takes messages, and exchanges
     double next_look() const;
-    int silent_process() const;         // for too long, or -1
-    void leave(double seconds);         // with what the others have left to say
+    int silent_process() const;         // one that was silent for too long, or -1
+    void leave(double seconds);         // takes the others' last messages
 
 private:
     const Options &options;
     Teams &teams;
     double exchanged = 0;
     bool exchanging = false;
-    std::deque<Message> kept;           // for tests: what comes late, and behind how many gifts of process 0
+    std::deque<Message> kept;           // for tests: messages that come late, after `awaited` gifts
     int awaited = 0;
-    std::vector<double> silent;         // by process, seconds
+    std::vector<double> silent;         // by process: seconds
     double looked = now();
 
-    int first_of(int process) const;    // of its engines, from 0
+    int first_of(int process) const;    // its first engine, from 0
     double next_exchange() const;
     void take(Message &message);
     bool keeps(const Message &message);
@@ -182,10 +189,11 @@ int follow(const Options &options, Link &link);     // mpi_follower.cpp
 
 extern uint64_t EngineStatus::*const COUNTED[COUNTS];
 
-const double SILENCE = 8;               // seconds, after which a process is given up
-const double PULSE = 0.25;              // seconds, after which something is said at the latest
-const size_t PIECE_OF_A_STREAM = 1 << 15;    // TCP then takes it at once, without asking the other side
+const double SILENCE = 8;               // seconds after which a process counts as dead
+const double PULSE = 0.25;              // seconds after which something is sent at the latest
+// TCP takes such a piece at once, without asking the other side
+const size_t PIECE_OF_A_STREAM = 1 << 15;
 const size_t PIECE_OF_INPUT = 1 << 20;
-const uint64_t WINDOW = UINT64_C(1) << 22;      // bytes of a stream that lrupd hasn't got
+const uint64_t WINDOW = UINT64_C(1) << 22;      // bytes of a stream that lrupd hasn't got yet
 
 #endif

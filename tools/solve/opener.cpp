@@ -1,5 +1,6 @@
-// Unverified, as all of this solver. A process that opens lrupd's pipes to write to them, one after the other: each opening waits until
-// lrupd opens the pipe, too, and nothing else tells when it does. It holds the pipe open until the first process has opened it, as well.
+// Unverified, like the whole solver. A process that opens lrupd's pipes for writing, one after the
+// other: each open waits until lrupd opens the pipe, too, and nothing else shows when that happens.
+// It keeps the pipe open until the first process has also opened it.
 #include <cerrno>
 #include <cstring>
 
@@ -11,7 +12,7 @@
 
 namespace {
 
-// A path, or none: then there is no more so far.
+// Reads paths from the socket; an empty one only closes the last pipe.
 [[noreturn]] void open_pipes(int socket) {
     char path[LONGEST_PATH];
     for (int file = -1; recv(socket, path, sizeof path, 0) > 0;) {
@@ -36,7 +37,7 @@ void Opener::start() {
     close_file(other);
 }
 
-// Where the process has ended that is an event of its own.
+// If the process has ended, the run sees that separately.
 void Opener::say(const std::string &path) const { send(socket, path.c_str(), path.size() + 1, MSG_NOSIGNAL); }
 
 void Opener::ask(const std::string &path) {

@@ -1,4 +1,4 @@
-// Unverified, as all of this solver. The command line.
+// Unverified, like the whole solver. The command line.
 #include <algorithm>
 #include <cerrno>
 #include <cmath>
@@ -18,62 +18,62 @@ const char check_summary[] =
     "usage: lrup-check [OPTIONS] FORMULA PROOF...\n"
     "\n"
     "Checks that a formula in DIMACS CNF is unsatisfiable, by a proof in DRUP, DRAT or LRAT, text or binary, in FRAT text,\n"
-    "or by lrupd's own streams. - is standard input. Several proofs are checked side by side; streams of one run may cite\n"
+    "or by lrupd's own streams. - is standard input. Several proofs are checked in parallel; streams of one run may cite\n"
     "each other. 's UNSATISFIABLE' is proved by lrupd. A step that isn't RUP is refused.\n"
     "\n"
-    "  --time SECONDS     by the clock; then the answer is 's UNKNOWN'\n"
-    "  --memory BYTES     what lrupd usually takes for the clauses it keeps, as 500000000, 500M or 2G\n"
-    "  --proofs DIR       keep the streams that lrupd has checked there, and the command that checks them again;\n"
+    "  --time SECONDS     give up after this time, with 's UNKNOWN'\n"
+    "  --memory BYTES     what lrupd usually takes for clauses, as 500000000, 500M or 2G\n"
+    "  --proofs DIR       keep the checked streams in DIR, and the command that checks them again;\n"
     "                     --replace removes those of an earlier run\n"
-    "  --expect ANSWER    unsat or unsat-under-assumptions: the status is 0 if that is the answer, and else 1\n"
+    "  --expect ANSWER    unsat or unsat-under-assumptions: status 0 for this answer, otherwise 1\n"
     "  --core FILE        write an unsatisfiable core, and have lrupd check it\n"
-    "  --lrat FILE        write the proof as LRAT text, without what isn't needed, and have lrupd check it\n"
-    "  --re-hint          find hints anew for both, which are smaller then; it takes longer\n"
-    "  --assume FILE      literals that are assumed, in one line that ends with 0, as for lrupd\n"
+    "  --lrat FILE        write the needed part of the proof as LRAT text, and have lrupd check it\n"
+    "  --re-hint          find new hints for both, which makes them smaller and takes longer\n"
+    "  --assume FILE      assumed literals, in one line that ends with 0, as for lrupd\n"
     "  --lrupd PATH, --engines PATH, -v, --verbose, -q, --quiet, -h, --help, --version: as for lrup-solve\n"
     "\n"
-    "After -- words are the formula and proofs. Statuses: 20 unsatisfiable (or so under the assumptions), 0 not shown,\n"
-    "1 a mistake, or a file that can't be used.\n";
+    "After --, arguments are the formula and proofs. Status: 20 unsatisfiable (or only under the assumptions), 0 not shown,\n"
+    "1 an error.\n";
 
 const char summary[] =
     "usage: lrup-solve [OPTIONS] [FORMULA]\n"
     "\n"
-    "Solves a formula in DIMACS CNF, standard input where none or - is named, with several engines of CaDiCaL that\n"
-    "share clauses, and has lrupd check their proofs while they are written. 's UNSATISFIABLE' is proved by lrupd;\n"
+    "Solves a formula in DIMACS CNF (by default, or for -, from standard input) with several engines of CaDiCaL that share\n"
+    "clauses, and has lrupd check their proofs while they are written. 's UNSATISFIABLE' is proved by lrupd;\n"
     "'s SATISFIABLE' comes with an assignment that was evaluated.\n"
     "\n"
-    "  -j N               engines, 1 to 64; each has a filter that works as hard. Half of the cores if not said\n"
-    "  --mpi COMMAND      engines in the processes that this starts, on one host or several, as 'mpirun -q --bind-to none\n"
-    "                     --host one,two'; each has the engines of -j\n"
-    "  --solver COMMAND   a solver of yours, as 'cadical -q %formula %proof', that shares nothing; more than once for\n"
-    "                     several. Then there are no engines beside them but those of -j\n"
-    "  --time SECONDS     by the clock; then the answer is 's UNKNOWN'\n"
-    "  --memory BYTES     what lrupd usually takes for the clauses it keeps, as 500000000, 500M or 2G, at most 2147483648;\n"
-    "                     an eighth of the machine's if not said, at most 536870912. At its start lrupd takes twice that.\n"
-    "                     A run that needs more goes on in rounds. With 500M,1G it takes up to 1G where engines keep much\n"
-    "  --share-size N     learned clauses of at most N literals are given away, 0 to 1000; 4 if not said. Units always are\n"
-    "  --no-share         engines that share nothing\n"
-    "  --seed N           other runs of the engines\n"
-    "  --proofs DIR       keep the streams of all rounds there, the report, and the command that checks them again:\n"
-    "                     sh DIR/command. Those of an earlier run without a proof are removed\n"
-    "  --replace          those of one with a proof, too\n"
-    "  --resume DIR       go on with the record that a run on FORMULA has left in DIR, from the last round that was saved\n"
-    "  --save-every SECONDS   with --proofs or --resume, end a round and save it after so long; 300 if not said\n"
+    "  -j N               number of engines, 1 to 64, by default half of the cores: each has a filter that works as hard\n"
+    "  --mpi COMMAND      run -j engines in each process that COMMAND starts, on one host or several, as\n"
+    "                     'mpirun -q --bind-to none --host one,two'\n"
+    "  --solver COMMAND   run your own solver, as 'cadical -q %formula %proof', which shares nothing; may be repeated.\n"
+    "                     Engines run beside solvers only with -j\n"
+    "  --time SECONDS     give up after this time, with 's UNKNOWN'\n"
+    "  --memory BYTES     what lrupd usually takes for clauses, as 500000000, 500M or 2G, at most 2147483648; by default an\n"
+    "                     eighth of the machine's memory, at most 536870912. At its start lrupd takes twice that. A run\n"
+    "                     that needs more continues in rounds. With 500M,1G it takes up to 1G if engines keep many clauses\n"
+    "  --share-size N     share learned clauses of at most N literals, 0 to 1000, by default 4; units are always shared\n"
+    "  --no-share         share nothing\n"
+    "  --seed N           search in another way\n"
+    "  --proofs DIR       keep the streams of all rounds in DIR, the report, and the command that checks them again:\n"
+    "                     sh DIR/command. Removes those of an earlier run without a proof\n"
+    "  --replace          let --proofs remove those of a run with a proof, too\n"
+    "  --resume DIR       continue the run on FORMULA whose record is in DIR, from the last round that was saved\n"
+    "  --save-every SECONDS   with --proofs or --resume, end a round and save it after this time, by default 300\n"
     "  --core FILE        write an unsatisfiable core, and have lrupd check it\n"
-    "  --lrat FILE        write the proof as LRAT text, without what isn't needed, and have lrupd check it\n"
-    "  --re-hint          find hints anew for both, which are smaller then; it takes longer\n"
-    "  --expect ANSWER    sat, unsat or unsat-under-assumptions: the status is 0 for that answer, and else 1\n"
-    "  --assume FILE      literals that are assumed, in one line that ends with 0, as for lrupd\n"
-    "  --cubes FILE       cubes in lines 'a LITERALS 0': engines refute one after the other, and then what is left\n"
-    "  --lrupd PATH       the checker; if not said it is looked for beside this program, and then on the PATH\n"
-    "  --engines PATH     the program that solves, of which nothing is believed; lrup-engines beside this one if not said\n"
-    "  -v, --verbose      say what goes on, in lines that begin with c\n"
-    "  -q, --quiet        no lines but the answer, and no progress, also with -v\n"
+    "  --lrat FILE        write the needed part of the proof as LRAT text, and have lrupd check it\n"
+    "  --re-hint          find new hints for both, which makes them smaller and takes longer\n"
+    "  --expect ANSWER    sat, unsat or unsat-under-assumptions: status 0 for this answer, otherwise 1\n"
+    "  --assume FILE      assumed literals, in one line that ends with 0, as for lrupd\n"
+    "  --cubes FILE       cubes in lines 'a LITERALS 0': engines refute these first, and then solve the rest\n"
+    "  --lrupd PATH       the checker, by default the one beside this program or on the PATH\n"
+    "  --engines PATH     the program that solves, which isn't trusted; by default lrup-engines beside this program\n"
+    "  -v, --verbose      report progress, in lines that begin with c\n"
+    "  -q, --quiet        print only the answer, even with -v\n"
     "  -h, --help         show this\n"
     "  --version          show the version\n"
     "\n"
-    "After -- a word is the formula. Statuses: 10 satisfiable, 20 unsatisfiable (or so under the assumptions),\n"
-    "0 unknown, 1 a mistake, or a file that can't be used.\n";
+    "After --, the argument is the formula. Status: 10 satisfiable, 20 unsatisfiable (or only under the assumptions),\n"
+    "0 unknown, 1 an error.\n";
 
 class Words {
 public:
@@ -117,7 +117,7 @@ uint64_t number(const char *name, const char *value, uint64_t least, uint64_t mo
     return found;
 }
 
-// The front ends the run some seconds behind it.
+// The front ends the run some seconds after this limit.
 double seconds(const char *name, const char *value) {
     char *end;
     errno = 0;
@@ -165,7 +165,7 @@ const char *solver_of(const char *value) {
     return value;
 }
 
-// Those that lrup-check refuses, since it starts no engine and no solver.
+// Options that lrup-check refuses, since it starts no engine and no solver.
 bool read_of_engines(Options &options, Words &words, const char *word) {
     const char *value, *name;
     if (strcmp(word, name = "--no-share") == 0) options.share = false;
@@ -200,16 +200,16 @@ bool read_valued(Options &options, Words &words, const char *word) {
 // -v, -q, -qv
 bool is_of_letters(const char *word) { return word[0] == '-' && word[1] != 0 && word[1 + strspn(word + 1, "qv")] == 0; }
 
-// The formula comes first.
+// The first word is the formula.
 void take_file(Options &options, const char *word) {
     if (!options.formula) options.formula = word;
     else if (options.check) options.solvers.push_back(word);
-    else refuse("one word too many: " + quoted(word));
+    else refuse("unexpected argument: " + quoted(word));
 }
 
-// It comes first, since words after the formula are proofs then.
+// --check has to come first, since with it the words after the formula are proofs.
 void begin_check(Options &options) {
-    if (options.formula || !options.solvers.empty()) refuse("--check after other words");
+    if (options.formula || !options.solvers.empty()) refuse("--check has to be the first argument");
     options.check = true;
     program_name = "lrup-check";
 }
@@ -218,10 +218,10 @@ void check_proofs(const Options &options) {
     auto is_standard_input = [](const char *word) { return strcmp(word, "-") == 0; };
     auto count = std::count_if(options.solvers.begin(), options.solvers.end(), is_standard_input);
     if (options.solvers.empty()) refuse("no proof: lrup-check FORMULA PROOF");
-    if (count + is_standard_input(options.formula) > 1) refuse("standard input is read once");
+    if (count + is_standard_input(options.formula) > 1) refuse("standard input can be read only once");
 }
 
-// Its record is that of --proofs, and goes on.
+// --resume continues a record, which takes the place of --proofs.
 void check_resumed(Options &options) {
     if (options.proofs) refuse("--resume and --proofs: a run that goes on keeps its streams where the one before did");
     if (options.replace) refuse("--resume and --replace: nothing is replaced");
@@ -275,6 +275,6 @@ Options read_words(int count, char **list) {
     if (options.cubes && options.engines == 0 && !options.solvers.empty()) refuse("--cubes without engines: -j says how many");
     if (options.cubes && !options.share && options.engines != 1) refuse("--cubes and --no-share: refuted cubes are shared");
     if (!options.solvers.empty() && options.mpi) refuse("--solver and --mpi: a solver shares nothing with engines elsewhere");
-    if (!options.solvers.empty() && options.assume && !options.check) refuse("--assume and --solver: a solver isn't told of assumptions");
+    if (!options.solvers.empty() && options.assume && !options.check) refuse("--assume and --solver: a solver doesn't get the assumptions");
     return options;
 }

@@ -1,10 +1,12 @@
-// Unverified, as all of this solver. Outboxes: what goes in, and new identities from round to round.
+// Unverified, like the whole solver. Outboxes: putting clauses in, and new identities from round to
+// round.
 #include "../exact/checks.h"
 #include "shared.h"
 
-#define OF_AN_ODD_ROUND (UINT32_C(1) << 31)     // of an identity; all are far below
+#define OF_AN_ODD_ROUND (UINT32_C(1) << 31)     // the highest bit of an identity; all are far below
 
-// Of all that read this outbox; an engine reads its own, too, but never asks for what is there.
+// The least floor of all readers of the outbox. An engine reads its own, too, but never takes over
+// from it.
 static uint64_t least_floor(const Shared *shared, int engine, uint64_t end, bool with_own) {
     uint64_t least = end;
     for (int k = 0; k < shared->engines; k++) {
@@ -20,7 +22,8 @@ static uint32_t with_round(uint64_t identity, uint64_t round) {
 
 uint32_t gift_identity(const uint32_t *gift) { return LOAD(gift[1]) & ~OF_AN_ODD_ROUND; }
 
-// After what is staged. False where there is no room: nothing is written over that others may still read, or ask for.
+// Puts a clause after what is staged. False if there is no room: what others may still read or ask
+// for isn't overwritten.
 bool outbox_put(const Shared *shared, uint32_t *outbox, int engine, uint64_t *staged, uint64_t identity, const Literals *literals,
                 uint32_t mark) {
     uint64_t size = shared->outbox_words, words = HEAD_OF_A_GIFT + literals->length, begin = *staged;
@@ -37,8 +40,8 @@ bool outbox_put(const Shared *shared, uint32_t *outbox, int engine, uint64_t *st
     return true;
 }
 
-// The identities of the next round. One that has its own already is left alone: a filter may have died on its way. One that wasn't
-// saved gets 0.
+// Sets the identities of the next round. A clause that already has its new identity keeps it, since
+// a filter may have died halfway. A clause that wasn't saved gets 0.
 void outbox_renew(const Shared *shared, uint32_t *outbox, int engine, const Checkpoint *checkpoint) {
     uint64_t end = LOAD(shared->engine_statuses[engine - 1].outbox_used), round = LOAD(shared->round);
     uint64_t at = least_floor(shared, engine, end, false);

@@ -1,4 +1,4 @@
-// Unverified, as all of this solver. Children, pipes and files.
+// Unverified, like the whole solver. Children, pipes and files.
 #include <algorithm>
 #include <cerrno>
 #include <cmath>
@@ -21,12 +21,12 @@
 
 namespace {
 
-std::vector<pid_t> alive;       // children that weren't waited for
-std::vector<pid_t> handing_on;  // those that hand signals on
-std::vector<int> opened;        // files of ours
+std::vector<pid_t> alive;       // children that haven't been waited for
+std::vector<pid_t> handing_on;  // children that forward signals
+std::vector<int> opened;        // this process's files
 const unsigned LETTING_ANOTHER = 30;    // seconds
 
-// A new one: what has the name, or what the name is a link to, isn't written to.
+// Makes a new file: an old one of that name, or the target of a link, isn't written to.
 int new_file(const std::string &path) {
     Place place = place_of(path);
     if (!claim(place) || !remove_file(path)) return -1;
@@ -179,7 +179,8 @@ void copy_file(int file, const std::string &name, int copy) {
     }
 }
 
-// Children. One ends with its parent, whatever ends that; what a terminal sends to all is the parent's to handle.
+// Children. A child is killed when its parent ends. Signals from the terminal are left to the
+// parent.
 
 bool Child::ended_with(int code) const { return ended() && WIFEXITED(status) && WEXITSTATUS(status) == code; }
 
@@ -188,7 +189,8 @@ std::string Child::end() const {
     return "ended with status " + std::to_string(WEXITSTATUS(status));
 }
 
-// One that hands signals on can't take SIGKILL and SIGSTOP. SIGTSTP stops it while it starts: so SIGCONT comes behind SIGTERM.
+// A child that forwards signals gets SIGTERM for SIGKILL, and SIGTSTP for SIGSTOP, which can't be
+// caught. While it starts, SIGTSTP stops it, so SIGCONT follows SIGTERM.
 static void send(pid_t pid, int number, bool hands_on) {
     if (hands_on) number = number == SIGKILL ? SIGTERM : number == SIGSTOP ? SIGTSTP : number;
     kill(pid, number);
@@ -223,8 +225,8 @@ bool begin(Child &child, const std::string &name, const std::vector<int> &kept) 
     return true;
 }
 
-// A lost engine is but a lost engine, and without lrupd or the first process the run is lost. Anyone may raise this number, and
-// where that fails the system chooses as ever.
+// A run can lose an engine, but not lrupd or the first process. A process may always raise this
+// number; if that fails, the system chooses as usual.
 void give_way() {
     int file = open("/proc/self/oom_score_adj", O_WRONLY | O_CLOEXEC);
     if (file < 0) return;

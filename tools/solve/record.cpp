@@ -270,7 +270,7 @@ void check_plain(const std::string &path, const std::string &name) {
     int file = open(path.c_str(), O_RDONLY | O_CLOEXEC);
     const char *program = file >= 0 && pread(file, bytes, 2, 0) == 2 ? unpacked_by(bytes[0], bytes[1]) : nullptr;
     if (file >= 0) close(file);
-    if (program) refuse(name + ": compressed: " + program + " it");
+    if (program) refuse(name + ": compressed: unpack it with " + program);
 }
 
 // The folder.

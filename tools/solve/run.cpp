@@ -1,4 +1,4 @@
-// Unverified, as all of this solver. The first process: what the end of one of the others means, and what it leads to.
+// Unverified, like the whole solver. The first process: handles the ends of the others, and finds the answer.
 #include <algorithm>
 #include <cmath>
 #include <csignal>

@@ -1,4 +1,4 @@
-// Unverified, as all of this solver. A run: the process that has lrupd.
+// Unverified, like the whole solver. A run: the process that feeds lrupd.
 #ifndef RUN_H
 #define RUN_H
 
@@ -8,12 +8,12 @@
 #include "loop.h"
 #include "rounds.h"
 
-// Engines on other hosts: what is done for them here (mpi_leader.cpp).
+// Engines on other hosts, and what this process does for them (mpi_leader.cpp).
 struct Elsewhere {
     std::function<void()> begin;                        // before engines start here
-    std::function<std::string()> look;                  // at each turn; why the run can't go on, where it can't
-    std::function<double()> next_look;                  // when it comes at the latest
-    std::function<std::vector<pollfd>()> files;         // to be waited for
+    std::function<std::string()> look;  // in each turn; returns why the run can't go on, or ""
+    std::function<double()> next_look;                  // when `look` is due at the latest
+    std::function<std::vector<pollfd>()> files;         // to wait for
     std::function<void()> details;                      // with -v
     std::function<void(bool at_once)> end;
     Child *carrier = nullptr;
@@ -29,14 +29,15 @@ public:
 
     explicit Run(const Options &given)
         : inputs(given), teams(inputs), display(inputs, teams, rounds, checker), rounds(inputs, teams, checker, display) {}
-    int solve(const Elsewhere *elsewhere);              // NULL: all engines are here; the status
+    int solve(const Elsewhere *elsewhere);  // NULL: all engines are here; returns the status
 
 private:
     enum Phase { SOLVING, ENDING_STREAMS, CHECKING, DONE };
 
     Phase phase = SOLVING;
     Answer answer = UNKNOWN_ANSWER;
-    std::string cause, unkept, unstarted;       // why there is no answer, no record, and nothing was done
+    // why there is no answer, no record, and nothing was done
+    std::string cause, unkept, unstarted;
     bool has_report = false;                    // in the record
     std::vector<signed char> model;
     Loop loop;
@@ -79,6 +80,7 @@ private:
 };
 
 int solve(int count, char **words);     // alone.cpp, or mpi_run.cpp
-void start_by_mpi(const Options &options, int count, char **words);     // launch.cpp: where that is asked for, and wasn't done
+// launch.cpp: if --mpi is given, unless MPI's command started this process
+void start_by_mpi(const Options &options, int count, char **words);
 
 #endif

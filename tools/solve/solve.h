@@ -1,4 +1,4 @@
-// Unverified, as all of this solver. What its C++ files have in common.
+// Unverified, like the whole solver. Common to its C++ files.
 #ifndef SOLVE_H
 #define SOLVE_H
 
@@ -16,22 +16,24 @@ extern const char *program_name;         // options.cpp
 
 // options.cpp: the command line.
 struct Options {
-    int engines = 0;            // 0: half of the cores; once it is known, with the solvers
-    bool check = false;         // solvers have ended, and left these proofs
-    std::vector<const char *> solvers;      // commands, or paths of proofs; they are the last engines, and share nothing
-    double seconds = 0;         // for all; 0: as many as it takes
-    uint64_t memory = 0, most_memory = 0;   // bytes of lrupd's row, as it is usual and at most; 0: by the machine's
-    int share_size = 4;         // literals of a clause that is given away; units always are
+    int engines = 0;            // 0: half of the cores; later with the solvers
+    bool check = false;         // lrup-check: solvers are existing proofs
+    // commands, or paths of proofs: the last engines, which share nothing
+    std::vector<const char *> solvers;
+    double seconds = 0;         // for the run; 0: no limit
+    // bytes of lrupd's row: usually, at most; 0: by the machine's memory
+    uint64_t memory = 0, most_memory = 0;
+    int share_size = 4;         // most literals of a clause that is given away; units always are
     bool share = true;
     int seed = 0;
     const char *proofs = nullptr, *assume = nullptr, *cubes = nullptr, *mpi = nullptr, *formula = nullptr;
-    const char *record = nullptr;       // the folder of --proofs, where the user names one
-    const char *resumed = nullptr;      // the same, of a run that goes on
-    double save_every = 0;              // seconds, after which a round ends
-    std::string words;          // all of them, for a shell
-    const char *core = nullptr, *lrat = nullptr;     // to be written
+    const char *record = nullptr;       // the user's folder of --proofs
+    const char *resumed = nullptr;      // the folder of --resume
+    double save_every = 0;              // seconds after which a round ends
+    std::string words;          // the command line, quoted for a shell
+    const char *core = nullptr, *lrat = nullptr;     // files to write
     bool rehint = false;        // for both
-    bool replace = false;       // a record with a proof
+    bool replace = false;       // even a record with a proof
     bool verbose = false, quiet = false;
 
     bool may_be_resumed() const { return record && !check; }
@@ -39,35 +41,38 @@ struct Options {
 };
 
 Options read_words(int count, char **words);
-std::string version();          // in one line
+std::string version();          // one line
 
 // processes.cpp: children, pipes and files.
-[[noreturn]] void refuse(const std::string &cause);     // one line on standard error, and status 1; all children are ended
-extern void (*as_it_refuses)();                         // of this process alone
-extern bool another_refuses;                            // a process that says the same, and whose end ends this one
+// ends all children, prints one line on standard error, exits with 1
+[[noreturn]] void refuse(const std::string &cause);
+extern void (*as_it_refuses)();                         // called then, except in children
+extern bool another_refuses;  // another process reports it, and its end ends this one
 std::string error_text();                               // of errno
 double now();                                           // seconds
-int milliseconds_to(double time);                       // as poll takes them; of INFINITY for ever
+int milliseconds_to(double time);                       // for poll; -1 for INFINITY
 
 struct Pipe { int read = -1, write = -1; };
 
-int kept_open(int file);                                // by this process: a child has it where it is given it
-void close_all_but(const std::vector<int> &files);      // of a child
-Pipe make_pipe(int bytes);                              // so many, if the system gives them
+int kept_open(int file);  // by this process: a child keeps it only if it is listed for it
+void close_all_but(const std::vector<int> &files);      // in a child
+Pipe make_pipe(int bytes);                              // of this size, if the system allows it
 void close_file(int &file);
-int create_file(const std::string &path);               // a new one, whatever had the name
+int create_file(const std::string &path);  // a new file; an old one of that name is removed
 int create_if_possible(const std::string &path);        // the same, or -1
-bool remove_file(const std::string &path);              // true where it isn't there, too
+bool remove_file(const std::string &path);              // true if there is none, too
 bool rename_file(const std::string &path, const std::string &other);
 void create_pipe(const std::string &path);
-int open_pipe(const std::string &path, int bytes);      // to write to it, without a name from then on; -1 where nobody reads
-std::string write_file(const std::string &path, const std::string &text);   // the cause, where it can't be written
+// for writing, and removes its name; -1 if nobody reads it
+int open_pipe(const std::string &path, int bytes);
+// the cause if it can't be written, or ""
+std::string write_file(const std::string &path, const std::string &text);
 int file_in_memory();
 std::string text_of(int file);                          // from its beginning
-int event_file();                                       // an eventfd that all children have
+int event_file();                                       // an eventfd, kept open in all children
 const char OPEN_FILES[] = "/dev/fd/";
-std::string name_of_file(int file);                     // of this process, for others
-void *shared_bytes(size_t bytes);                       // with the children that come later
+std::string name_of_file(int file);  // this process's descriptor, for other processes
+void *shared_bytes(size_t bytes);  // shared with children that are forked later
 
 template <typename Item> Item *shared_memory(size_t count) {
     return static_cast<Item *>(shared_bytes((count > 0 ? count : 1) * sizeof(Item)));
@@ -76,14 +81,14 @@ template <typename Item> Item *shared_memory(size_t count) {
 bool write_all(int file, const char *bytes, size_t length);
 void copy_file(int file, const std::string &name, int copy);
 
-const pid_t ELSEWHERE = INT_MAX;                        // of a process that isn't this one's child, in place of its id
+const pid_t ELSEWHERE = INT_MAX;  // in place of the id of a process that isn't a child
 
 struct Child {
     pid_t pid = 0;
     bool running = false;
-    int status = 0;             // as wait gives it
-    double seconds = 0;         // of processor time
-    bool hands_on = false;      // signals to a program of its own (solver.cpp)
+    int status = 0;             // as from wait
+    double seconds = 0;         // processor time
+    bool hands_on = false;      // forwards signals to a program of its own (solver.cpp)
 
     bool ended() const { return pid != 0 && !running; }
     bool ended_with(int code) const;
@@ -91,20 +96,21 @@ struct Child {
     void signal(int number) const;
 };
 
-bool begin(Child &child, const std::string &name, const std::vector<int> &kept);    // true in the child, with these files
-bool reap(const std::vector<Child *> &children);         // one that has ended, if there is one
+// true in the child, which keeps these files
+bool begin(Child &child, const std::string &name, const std::vector<int> &kept);
+bool reap(const std::vector<Child *> &children);         // one that has ended; false if none has
 void wait_for(Child &child);
 void end_children();
-void give_way();                                        // this process ends before others where memory is short
+void give_way();  // makes the system kill this process first if memory is short
 
-// folder.cpp: a folder of this run. It is removed as this process ends, however that comes, or before.
+// folder.cpp: the run's temporary folder. It is removed however this process ends.
 namespace Folder {
-    void make();                    // where it isn't there
+    void make();                    // if it isn't made yet
     std::string make_if_possible();
     const std::string &name();
-    std::string numbers();          // of this process, and of the folder among its open files, as the front wants it
-    std::string open_name();        // by which others find it, in UTF-8
-    std::string room();             // what is left there, in words
+    std::string numbers();          // this process's id, and the folder's descriptor, for the front
+    std::string open_name();        // its name for other processes, in UTF-8
+    std::string room();             // the space left there, in words
     void remove();
 }
 
@@ -112,24 +118,26 @@ namespace Folder {
 bool is_plain(const std::string &word);
 bool is_utf8(const std::string &text);
 std::string quoted(const std::string &word);
-std::string one_line(const std::string &text);          // for a terminal
-std::string own_path();                                 // this program's; empty if it isn't known
+std::string one_line(const std::string &text);          // safe for a terminal
+std::string own_path();                                 // this program's path; empty: not known
 std::string absolute(const std::string &path);
-std::string real_path(const std::string &folder);       // with a slash, and no link; empty if it isn't known
-std::string unfinished(const std::string &path);        // its name while it is written
-void check_input(const std::string &path);              // refuses where it can't be read
-bool is_read_again(const std::string &path);            // others can open it, too, and as often as they like
+std::string real_path(const std::string &folder);  // with a slash, without links; empty: not known
+std::string unfinished(const std::string &path);        // the name until it is whole
+void check_input(const std::string &path);              // refuses what can't be read
+// whether other processes can open it, as often as they like
+bool is_read_again(const std::string &path);
 int open_input(const std::string &path);
-void check_plain(const std::string &path, const std::string &name);     // refuses where it is compressed
+void check_plain(const std::string &path, const std::string &name);     // refuses a compressed file
 struct Place { int folder; std::string name; };         // for openat and the like
 
 const char LIST_OF_ROUNDS[] = "rounds.sha256";
 extern int record_folder;                               // open; -1: none
-Place place_of(const std::string &path);                // what is in the record is in that folder, whatever has its name by now
+Place place_of(const std::string &path);  // files of the record are named relative to record_folder
 // Refuses to write over these inputs.
 void open_record(const std::string &folder, const std::vector<std::string> &inputs, bool replaces);
 void open_record_again(const std::string &folder);      // of a run that goes on
-void clear_record(const std::string &folder, const std::vector<std::string> &kept);     // of an earlier run
+// of an earlier run
+void clear_record(const std::string &folder, const std::vector<std::string> &kept);
 int open_in_record(const std::string &name);            // -1: it can't be
 void remove_checkpoints(const std::string &folder);     // of a run that needs none any more
 bool claim(const Place &place);                         // before a file is made; false: another's
@@ -141,7 +149,7 @@ std::string digests_of_record(const std::vector<std::string> &known);   // of al
 uint64_t bytes_of_record();
 uint64_t free_bytes();                                  // where the record is
 
-using Cube = std::vector<int>;                          // literals, as they are written
+using Cube = std::vector<int>;                          // literals as written
 
 // engine.cpp: an engine's process. Doesn't return.
 struct Engine {
@@ -159,7 +167,7 @@ struct Engine {
 [[noreturn]] void engine_process(const Engine &engine);
 const char *engine_version();
 
-// solver.cpp: the same of a solver that the user has, which opens these files.
+// solver.cpp: the same for a user's solver, which opens these files.
 std::string solver_command(const std::string &command, const std::string &formula, const std::string &proof);
 [[noreturn]] void solver_process(const Engine &engine, const std::string &command, const std::vector<int> &files);
 [[noreturn]] void proof_process(const Engine &engine, const std::string &path);     // of --check

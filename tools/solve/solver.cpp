@@ -1,5 +1,6 @@
-// Unverified, as all of this solver. A solver that the user has: a command that the shell runs, in a process group of its own. An
-// engine's process starts it and reads its answer; the proof goes to the filter, as an engine's does.
+// Unverified, like the whole solver. A solver of the user's: a command that the shell runs, in its
+// own process group. An engine's process starts it and reads its answer; the proof goes to the
+// filter, like an engine's.
 #include <algorithm>
 #include <cctype>
 #include <cerrno>
@@ -18,14 +19,14 @@
 
 namespace {
 
-const size_t LONGEST_WORD = 64;     // that is looked at
+const size_t LONGEST_WORD = 64;     // longer words are cut
 const char SATISFIABLE_LINE[] = "SATISFIABLE", UNSATISFIABLE_LINE[] = "UNSATISFIABLE";
 
-// The lines `s` and `v` of its output. One may be longer than memory should hold, so they are read word by word.
+// The lines `s` and `v` of its output, read word by word, since a line may be very long.
 class Printed {
 public:
     explicit Printed(const Engine &engine) : variables(engine.formula->variables), model(engine.model) {
-        std::fill(model, model + variables, -1);        // what it leaves out is false
+        std::fill(model, model + variables, -1);        // variables that it leaves out are false
     }
 
     void read_from(int &file) {
@@ -36,7 +37,8 @@ public:
         if (count == 0) take('\n'), close_file(file);
     }
 
-    // 10, 20, or 0 for none. The status counts first; one that the line contradicts, and a 10 without an assignment, are none.
+    // 10, 20, or 0 for no answer. The status counts first. A status that the line `s` contradicts,
+    // or 10 without an assignment, is no answer.
     int answer(int status) const {
         bool satisfiable = verdict == SATISFIABLE_LINE, unsatisfiable = verdict == UNSATISFIABLE_LINE;
         if (says_satisfiable(status)) return has_values ? 10 : 0;
@@ -48,7 +50,7 @@ public:
 private:
     int variables;
     signed char *model;
-    std::string word, first, verdict;       // of the line
+    std::string word, first, verdict;       // first: of the line
     bool has_values = false;
 
     bool says_satisfiable(int status) const {
@@ -77,7 +79,7 @@ private:
     }
 };
 
-// Of its standard error the last line that isn't empty; of a long one the beginning.
+// The last line of its standard error that isn't empty; only the beginning of a long one.
 class LastLine {
 public:
     void read_from(int &file) {
@@ -114,12 +116,13 @@ private:
     dup2(open("/dev/null", O_RDONLY), STDIN_FILENO);
     dup2(out, STDOUT_FILENO);
     if (error >= 0) dup2(error, STDERR_FILENO);
-    for (int file : files) fcntl(file, F_SETFD, 0);     // it opens them by their numbers
+    for (int file : files) fcntl(file, F_SETFD, 0);     // the command opens them by their numbers
     execl("/bin/sh", "sh", "-c", command.c_str(), nullptr);
     _exit(127);
 }
 
-// Signals for the solver come to this process: SIGTERM in the place of SIGKILL, and SIGTSTP in that of SIGSTOP.
+// Signals for the solver come to this process: SIGTERM instead of SIGKILL, and SIGTSTP instead of
+// SIGSTOP.
 int open_signals() {
     sigset_t taken;
     sigemptyset(&taken);
@@ -130,7 +133,7 @@ int open_signals() {
     return signalfd(-1, &taken, SFD_CLOEXEC | SFD_NONBLOCK);
 }
 
-// True where the solver is to be ended.
+// True if the solver has to be ended.
 bool hand_on(int signals, pid_t group) {
     signalfd_siginfo found;
     bool ends = false;
@@ -142,7 +145,7 @@ bool hand_on(int signals, pid_t group) {
     return ends;
 }
 
-// Whoever has lost the parent is a child of this process.
+// Orphans of the solver are children of this process.
 void end_all(pid_t group) {
     kill(-group, SIGKILL);
     while (waitpid(-group, nullptr, 0) > 0 || errno == EINTR) {}
@@ -154,7 +157,7 @@ void end_all(pid_t group) {
     }
 }
 
-// As wait gives it. What the command has left in the background is ended with it.
+// The status, as from wait. What the command has left in the background is ended, too.
 int wait_for_solver(pid_t group, int signals, int out, int error, Printed &printed,
                     LastLine &last) {
     int status = 0;
@@ -171,7 +174,8 @@ int wait_for_solver(pid_t group, int signals, int out, int error, Printed &print
 
 }
 
-// Both paths are plain, however they stand between quotes; what is put in place isn't read again.
+// Both paths need no quotes, and are right within quotes, too. Inserted paths aren't searched
+// again.
 std::string solver_command(const std::string &command, const std::string &formula, const std::string &proof) {
     static const std::string names[] = { "%formula", "%proof" };
     const std::string *values[] = { &formula, &proof };
@@ -185,7 +189,8 @@ std::string solver_command(const std::string &command, const std::string &formul
     return found;
 }
 
-// The proof is held open until the answer is there. With -v standard error is the user's.
+// Holds the proof open until the answer is stored. With -v the solver's standard error is the
+// user's.
 void solver_process(const Engine &engine, const std::string &command, const std::vector<int> &files) {
     Printed printed(engine);
     LastLine last;
@@ -214,7 +219,7 @@ void solver_process(const Engine &engine, const std::string &command, const std:
     _exit(127);
 }
 
-// A proof that is there: of a solver that has ended with 20.
+// Copies an existing proof, as if a solver had ended with 20.
 void proof_process(const Engine &engine, const std::string &path) {
     std::vector<char> bytes(1 << 16);
     int file = open_input(path);

@@ -1,4 +1,4 @@
-// Unverified, as all of this solver. Engines and filters are started, stopped and ended.
+// Unverified, like the whole solver. Starts, pauses and ends engines and filters.
 #include <algorithm>
 #include <cmath>
 #include <csignal>
@@ -15,12 +15,14 @@
 
 namespace {
 
-const int PROOF_PIPE = 1 << 20, ALL_PROOF_PIPES = 1 << 24;     // the system gives a user no more than 1 << 26 for all pipes
+// the system's limit for all pipes of a user is 1 << 26
+const int PROOF_PIPE = 1 << 20, ALL_PROOF_PIPES = 1 << 24;
 const int CROWDED_PIPE = 1 << 16;
-const double MOMENT = 0.1;      // seconds in which the first engine is alone, beside READINGS of the formula
+// seconds for which the first engine is alone, besides READINGS of the formula
+const double MOMENT = 0.1;
 const int READINGS = 2;
 const uint64_t LEARNED = 1 << 18;   // literals
-const size_t HEAD = 1 << 20;    // bytes of a proof, which show whether it is a stream
+const size_t HEAD = 1 << 20;    // bytes of a proof that show whether it is a stream
 
 }
 
@@ -38,7 +40,7 @@ void copy_name(char (&place)[LONGEST_PATH], const std::string &name) {
 
 std::string name_of_round(uint64_t number) { return "round-" + std::to_string(number); }
 
-// What is known.
+// Facts.
 
 bool Teams::is_lost(size_t k) const {
     return list[k].wrong || (list[k].told && list[k].filter.ended() && LOAD(engine_status(k).answer) != SATISFIABLE);
@@ -76,7 +78,7 @@ std::vector<Child *> Teams::children() {
     return found;
 }
 
-// They begin.
+// Starting.
 
 void Teams::open() {
     const Options &options = inputs.options;
@@ -107,7 +109,8 @@ void Teams::set_here(int first, int count) {
     shared->engines_here = count;
 }
 
-// Whether the first clause that it adds has an identity of its own, if there are several.
+// Whether the first clause that the proof adds has an identity of stream k, if there are several
+// proofs.
 bool Teams::is_a_stream(size_t k) const {
     std::string path = inputs.options.solvers[k], head(HEAD, 0), line, second;
     int file = is_read_again(path) ? ::open(path.c_str(), O_RDONLY | O_CLOEXEC) : -1;
@@ -131,13 +134,13 @@ void Teams::find_streams() {
     if (are_streams) cited = inputs.options.solvers;
 }
 
-// What was saved takes no more room in an engine than the formula does, or than what an engine usually has learned: half of it for what
-// all have.
+// Saved clauses take no more room in an engine than the formula does, or than what an engine
+// usually learns. Half of that is for clauses that all engines get.
 void Teams::find_beginning() {
     const Formula &all = inputs.first_formula;
     uint64_t own = inputs.formula.clauses, engines = std::max<uint64_t>(1, list.size() - inputs.options.solvers.size());
     uint64_t left = std::max<uint64_t>(LEARNED, all.starts.items[own]) / 2, taken = 0;
-    std::vector<uint64_t> literals(1);      // by length of a clause, those of all
+    std::vector<uint64_t> literals(1);      // of all clauses, by length
     for (size_t k = own; k < all.clauses; k++) {
         size_t length = all.starts.items[k + 1] - all.starts.items[k];
         if (length >= literals.size()) literals.resize(length + 1);
@@ -151,7 +154,7 @@ void Teams::find_beginning() {
     beginning.for_one = length - 1;
 }
 
-// What is easy takes no more cores than it needs.
+// The first engine may start alone, so that an easy formula takes no more cores than it needs.
 void Teams::start(bool is_first_alone) {
     find_streams();
     find_beginning();
@@ -169,19 +172,21 @@ void Teams::start_others() {
     others_start = 0;
 }
 
-// Not while the filter of the first engine reads its answer.
+// Never while the first engine's filter reads its answer.
 double Teams::next_start() const {
     if (others_start == 0) return INFINITY;
     return list[0].told ? 0 : LOAD(engine_status(0).answer) == 0 ? others_start : INFINITY;
 }
 
-// Where there are fewer cores than processes an engine far ahead of its filter has taken them from others, and is proved late.
+// If there are fewer cores than processes, pipes are small: an engine far ahead of its filter would
+// take cores from others, and its proof would come late.
 int Teams::size_of_pipes() const {
     bool is_crowded = shared->engines_here > half_of_the_cores();
     return is_crowded ? CROWDED_PIPE : std::min(PROOF_PIPE, ALL_PROOF_PIPES / inputs.options.engines);
 }
 
-// No other child gets these pipes: one that is stopped as it starts would hold their ends. Those of other hosts start there.
+// No other child gets these pipes: a child that is stopped when it starts would keep them open.
+// Engines of other hosts start there.
 void Teams::start_team(size_t k) {
     Team &team = list[k];
     if (!is_here(k)) {
@@ -211,8 +216,8 @@ void Teams::start_filter(size_t k) {
     filter_process(&filtering, &inputs.first_formula);
 }
 
-// The formula has a name that no shell takes for anything else, and that stays its own: a checkpoint is removed once there is
-// another one.
+// A formula whose path needs quotes is opened here and named by its descriptor; so is a checkpoint,
+// which is removed once there is a newer one.
 std::string Teams::solver_line(size_t k, int &renamed) const {
     const std::vector<const char *> &solvers = inputs.options.solvers;
     bool goes_on = inputs.saved.count() > 0;
@@ -223,7 +228,7 @@ std::string Teams::solver_line(size_t k, int &renamed) const {
                           OPEN_FILES + std::to_string(list[k].proof.write));
 }
 
-// It is opened later, by its own process, which may have to wait for a pipe's writer.
+// The proof is opened later, by its own process, which may have to wait for a pipe's writer.
 void Teams::look_at_proof(size_t k) {
     struct stat found;
     const char *path = inputs.options.solvers[k];
@@ -248,12 +253,13 @@ void Teams::start_engine(size_t k) {
     if (!begin(team.engine, "engine " + std::to_string(number), files)) return close_file(renamed);
     give_way();
     if (is_proof) proof_process(engine, inputs.options.solvers[k]);
-    if (!inputs.options.verbose) dup2(::open("/dev/null", O_WRONLY), STDERR_FILENO);    // its last words
+    // drops the engine's messages
+    if (!inputs.options.verbose) dup2(::open("/dev/null", O_WRONLY), STDERR_FILENO);
     if (is_solver(k)) solver_process(engine, team.command, files);
     engine_process(engine);
 }
 
-// They are at work.
+// Solving.
 
 void Teams::look() {
     if (now() >= next_start()) start_others();
@@ -263,11 +269,11 @@ void Teams::look() {
 
 bool Teams::has_refuted(size_t k) const { return LOAD(engine_status(k).answer) == UNSATISFIABLE && list[k].filter.running; }
 
-// While the filter of an engine that has refuted the formula catches up, the others leave the cores to it. They go on where it
-// stops. Those on other hosts have cores of their own.
+// While the filter of an engine that has refuted the formula catches up, the other engines and
+// filters on this host are paused, so that it has the cores. They continue if it stops.
 void Teams::pause_others() {
     bool wanted = false;
-    if (inputs.options.check) return;       // all proofs are there
+    if (inputs.options.check) return;       // all proofs exist already
     for (size_t k = 0; k < list.size(); k++) wanted |= is_here(k) && has_refuted(k);
     if (wanted && answered == 0) answered = now();
     if (!wanted) answered = 0;
@@ -288,7 +294,8 @@ void Teams::go_on() {
     }
 }
 
-// The one whose clauses take most. One that has refuted the formula comes last.
+// Chooses the engine whose clauses take the most room, and an engine that has refuted the formula
+// only if no other is left.
 std::string Teams::choose_leaving(const std::string &cause) {
     size_t found = list.size();
     auto weight = [this](size_t k) { return has_refuted(k) ? 0 : 1 + LOAD(engine_status(k).held); };
@@ -303,7 +310,7 @@ std::string Teams::choose_leaving(const std::string &cause) {
     return why_lost(found);
 }
 
-// Or where it has refuted the formula meanwhile.
+// Also keeps it if it has refuted the formula meanwhile.
 void Teams::keep_last() {
     uint64_t leaving = shared->leaving;
     if (leaving == 0) return;
@@ -317,7 +324,7 @@ void Teams::end_leaving() {
     if (shared->leaving > 0) list[shared->leaving - 1].engine.signal(SIGKILL);
 }
 
-// Engines have nothing to leave behind.
+// Engines are killed, since they have nothing to finish.
 bool Teams::end_streams(bool is_late) {
     STORE(shared->over, 1);
     tell_filters();
@@ -353,7 +360,7 @@ std::vector<int> Teams::stream_files() const {
     return files;
 }
 
-// Engines that were lost are left out.
+// Numbers the streams of the next round, without those of lost engines.
 void Teams::number_streams() {
     uint64_t count = 0;
     for (size_t k = 0; k < list.size(); k++) {
@@ -379,7 +386,7 @@ void Teams::open_streams(uint64_t round) {
     if (!lost.empty()) open_in_memory(round);
 }
 
-// All of them, from this round on.
+// Puts all streams into memory from this round on.
 void Teams::open_in_memory(uint64_t round) {
     if (LOAD(shared->memory_round) == 0) STORE(shared->memory_round, round);
     for (size_t k = 0; k < list.size(); k++) {
@@ -414,7 +421,7 @@ bool Teams::spill(size_t k) {
     return true;
 }
 
-// A filter that died may have left lines in a record that lrupd wasn't fed, and part of one.
+// A filter that died may have left lines in the record that lrupd didn't get, and part of a line.
 void Teams::cut_streams() {
     look_at_record();
     for (size_t k = 0; k < list.size() && inputs.options.proofs && lost.empty(); k++)
@@ -425,7 +432,7 @@ void Teams::cut_stream(size_t k, uint64_t bytes) {
     if (list[k].stream >= 0 && ftruncate(list[k].stream, off_t(bytes)) != 0) refuse("cannot cut a stream: " + error_text());
 }
 
-// Clauses that a filter gave away which has died, or is on another host, may still be taken over.
+// Clauses given away by a filter that has died, or is on another host, may still be taken over.
 void Teams::renew_outboxes(const Checkpoint &saved, uint64_t round) {
     for (size_t k = 0; k < list.size(); k++) {
         list[k].silent = LOAD(engine_status(k).mapped_round) != round - 1;

@@ -1,4 +1,5 @@
-// Unverified, as all of this solver. Engines and their filters: the processes, what they share, and the files of their streams.
+// Unverified, like the whole solver. Engines and their filters: the processes, what they share, and
+// the files of their streams.
 #ifndef TEAMS_H
 #define TEAMS_H
 
@@ -10,23 +11,25 @@ enum Answer { UNKNOWN_ANSWER = 0, SATISFIABLE = 10, UNSATISFIABLE = 20 };
 struct Team {
     Child engine, filter;
     Pipe proof;
-    uint64_t proof_size = 0;    // bytes, of a regular file; 0: it isn't known
-    int stream = -1, spare = -1;    // a file; one in memory for where that can't be written any more
+    uint64_t proof_size = 0;    // bytes of a regular file; 0: not known
+    // its file; a file in memory for when that can't be written any more
+    int stream = -1, spare = -1;
     signed char *model = nullptr;
-    std::string command;    // of a solver, or the proof's name
+    std::string command;    // a solver's, or the proof's name
     bool told = false, wrong = false, paused = false;
-    bool silent = false;    // its filter died before it came to this round
-    bool idle = false;      // it ended at its start, with nothing done
-    std::string cause;      // why it is lost
+    bool silent = false;    // its filter died before this round
+    bool idle = false;      // it ended at its start, before doing anything
+    std::string cause;      // why it was lost
 };
 
 class Teams {
 public:
     Shared *shared = nullptr;
     std::vector<uint32_t *> outboxes;
-    Dealer dealer;                      // of cubes
-    std::string record;                 // the folder of the streams, with a slash, where they are kept
-    double answered = 0;                // when an engine has refuted the formula, and not before its filter was ended; 0: none has
+    Dealer dealer;
+    std::string record;                 // the folder of kept streams, with a slash
+    // when an engine refuted the formula, reset if its filter ends; 0: none has
+    double answered = 0;
 
     explicit Teams(const Inputs &given) : inputs(given) {}
     size_t size() const { return list.size(); }
@@ -35,47 +38,50 @@ public:
     EngineStatus &engine_status(size_t k) const { return shared->engine_statuses[k]; }
     bool is_solver(size_t k) const { return k + inputs.options.solvers.size() >= list.size(); }
     std::string why_lost(size_t k) const;
-    bool is_any_at_work() const;        // of the filters
+    bool is_any_at_work() const;        // whether a filter is running
     bool is_here(size_t k) const { return int(k) >= shared->first_here && int(k) < shared->first_here + shared->engines_here; }
-    bool is_lost(size_t k) const;       // it has no assignment, and nobody reads its proof; and it is known why
+    // it has no assignment, its proof isn't read any more, and the cause is known
+    bool is_lost(size_t k) const;
     std::string title(size_t k) const;  // engine 1, solver 1 or proof 1
-    uint64_t all(uint64_t EngineStatus::*field) const;                      // the sum
-    bool have_all(uint64_t EngineStatus::*field, uint64_t wanted) const;    // all filters that are at work have come so far
+    uint64_t all(uint64_t EngineStatus::*field) const;  // the sum over all engines
+    bool have_all(uint64_t EngineStatus::*field, uint64_t wanted) const;  // for all running filters
     std::vector<Child *> children();
 
     void open();                        // before the formula is read
     void open_models();                 // after it
-    void set_here(int first, int count);    // the others are on other hosts
-    void start(bool is_first_alone);    // the others a moment later
+    void set_here(int first, int count);    // other engines are on other hosts
+    void start(bool is_first_alone);    // then the others start a moment later
     void start_others();
-    double next_start() const;          // INFINITY: of none
-    void look();                        // at what is to be done while they solve
-    void go_on();                       // those that stood still
+    double next_start() const;          // when the others start; INFINITY: never
+    void look();                        // to be called often while they solve
+    void go_on();                       // resumes paused ones
     bool end_streams(bool is_late);     // after a whole line; true once all filters have ended
-    std::string choose_leaving(const std::string &cause);   // one that ends with the round that comes; why it does
-    void keep_last();                   // that one, where no other is left
-    void end_leaving();                 // its round has ended
-    void tell_filters() const;          // of what is stored by now
+    // an engine that ends with the next round; returns why
+    std::string choose_leaving(const std::string &cause);
+    void keep_last();                   // keeps that one, if no other is left
+    void end_leaving();                 // that one: its round has ended
+    void tell_filters() const;          // wakes them after stores
     void tell_fed(size_t k, uint64_t bytes) const;
 
-    std::string lost;                   // why the record has no more, where it has no more
-    void look_at_record();              // whether it is lost
-    uint64_t bytes_kept(size_t k) const;    // of the stream: what comes after them is in the other file
-    int file_to_write(size_t k) const;      // of a stream from another host
-    bool spill(size_t k);                   // false where there is no other file
-    void number_streams();              // of the next round
-    void open_streams(uint64_t round);  // they are empty
+    std::string lost;                   // why the record is incomplete; empty: it isn't
+    void look_at_record();              // sets `lost`
+    uint64_t bytes_kept(size_t k) const;    // of the stream; the rest is in the other file
+    int file_to_write(size_t k) const;      // for a stream from another host
+    bool spill(size_t k);                   // false if there is no other file
+    void number_streams();              // for the next round
+    void open_streams(uint64_t round);  // empty ones
     void cut_streams();
     std::string stream_path(size_t k, uint64_t round) const;
     std::vector<int> stream_files() const;
-    void renew_outboxes(const Checkpoint &saved, uint64_t round);   // of filters that are not here any more
+    // of filters that have ended, or are elsewhere
+    void renew_outboxes(const Checkpoint &saved, uint64_t round);
 
 private:
     const Inputs &inputs;
     std::vector<Team> list;
-    double others_start = 0;            // 0: they have
+    double others_start = 0;            // 0: they have started
     Beginning beginning = {};
-    std::vector<const char *> cited;    // proofs to check that are streams of one run; or none
+    std::vector<const char *> cited;    // proofs to check, if they are streams of one run
 
     int size_of_pipes() const;
     void start_team(size_t k);

@@ -1,4 +1,4 @@
-// Unverified, as all of this solver. Reads the hooks of a build for tests.
+// Unverified, like the whole solver. Reads the hooks of a build for tests.
 #define _GNU_SOURCE
 #include "test_hooks.h"
 
@@ -31,7 +31,7 @@ static void take(char *name, const char *value) {
 
 void test_hooks_read(void) {
     const char *words = getenv("LRUP_SOLVE_HOOKS");
-    char *rest = words ? strdup(words) : NULL;      // `set` stays there
+    char *rest = words ? strdup(words) : NULL;      // never freed: `set` points into it
     for (char *word; (word = strsep(&rest, ";")) != NULL;) {
         char *value = strchr(word, '=');
         if (value == NULL) continue;

@@ -1,38 +1,40 @@
-// Unverified, as all of this solver. TestHooks of the tests: all that they change in a run, in one table. In a build for them (SOLVE_TESTS)
-// the variable LRUP_SOLVE_HOOKS says what isn't 0, as 'slice=20;late_gifts=1;set=elimint=10 probeint=10', and is read before
-// anything else; in other builds the table is constant, so that nothing is left of what asks it. 0 is as usual.
+// Unverified, like the whole solver. Everything that tests change in a run, in one table. In a
+// build for tests (SOLVE_TESTS) the variable LRUP_SOLVE_HOOKS says what isn't 0, as
+// 'slice=20;late_gifts=1;set=elimint=10 probeint=10', and is read first. In other builds the table
+// is constant, so that the compiler removes all code for it. 0 means as usual.
 #ifndef TEST_HOOKS_H
 #define TEST_HOOKS_H
 
 #include <stddef.h>
 #include <stdint.h>
 
-#define HOOKS(NUMBER)                                                                                                                   \
-    NUMBER(at_once)             /* all engines start with the first one */                                                              \
-    NUMBER(first_words)         /* of the first row; and lrupd starts with the first line */                                            \
-    NUMBER(same_words)          /* rows don't grow */                                                                                   \
-    NUMBER(largest)             /* words of the largest row of one stream */                                                            \
-    NUMBER(slice)               /* conflicts after which an engine looks for what others gave away */                                   \
-    NUMBER(outbox)              /* words of an outbox */                                                                                \
-    NUMBER(ahead)               /* bytes of a stream that lrupd hasn't got, after which its filter waits */                             \
-    NUMBER(tries)               /* of lrupd */                                                                                          \
-    NUMBER(exchanging)          /* milliseconds from one exchange between processes to the next */                                      \
-    NUMBER(last_gift)           /* of engine 1, at which its filter dies, with the line in the buffer */                                \
-    /* What sharing rests on, left out: */                                                                                              \
-    NUMBER(without_guard)       /* clauses over variables that were eliminated are taken over */                                        \
-    NUMBER(without_order)       /* a clause is added before the line of its import */                                                   \
-    NUMBER(without_floor)       /* what others may ask for is written over, and deleted */                                              \
-    NUMBER(without_renewal)     /* what was given away keeps the identities of its round */                                             \
-    NUMBER(without_flush)       /* clauses are given away before their lines are in the stream */                                       \
-    NUMBER(without_keeping)     /* filters delete what they gave away */                                                                \
-    NUMBER(without_passing)     /* clauses of the next round are sent as those of this one */                                           \
-    NUMBER(without_lateness)    /* clauses of another round are placed */                                                               \
-    NUMBER(without_clearing)    /* clauses are sent before their lines */                                                               \
-    /* What comes late from other processes: */                                                                                         \
-    NUMBER(late_gifts)          /* those of a round in the next one */                                                                  \
-    NUMBER(late_saved)          /* the word that a round is saved, and what process 0 says after it, behind gifts that it collected */ \
-                                /* once its outboxes had the identities of the next round */                                            \
-    NUMBER(late_lines)          /* those of a stream once it is whole, piece by piece */
+#define HOOKS(NUMBER)                                                                              \
+    NUMBER(at_once)             /* all engines start with the first one */                         \
+    NUMBER(first_words)         /* words of the first row; lrupd starts with the first line */     \
+    NUMBER(same_words)          /* rows don't grow */                                              \
+    NUMBER(largest)             /* words of the largest row of one stream */                       \
+    NUMBER(slice)               /* conflicts after which an engine takes over clauses */           \
+    NUMBER(outbox)              /* words of an outbox */                                           \
+    NUMBER(ahead)               /* bytes that lrupd hasn't got, above which a filter waits */      \
+    NUMBER(tries)               /* of lrupd */                                                     \
+    NUMBER(exchanging)          /* milliseconds between exchanges of processes */                  \
+    NUMBER(last_gift)           /* the gift of engine 1 at which its filter dies, unflushed */     \
+    /* Leave out a rule that sharing depends on: */                                                \
+    NUMBER(without_guard)       /* clauses over eliminated variables are taken over */             \
+    NUMBER(without_order)       /* a clause is added before the line of its import */              \
+    NUMBER(without_floor)       /* what others may ask for is overwritten, and deleted */          \
+    NUMBER(without_renewal)     /* gifts keep the identities of their round */                     \
+    NUMBER(without_flush)       /* clauses are given away before their lines are in the stream */  \
+    NUMBER(without_keeping)     /* filters delete what they gave away */                           \
+    NUMBER(without_passing)     /* clauses of the next round are sent as those of this one */      \
+    NUMBER(without_lateness)    /* clauses of another round are placed */                          \
+    NUMBER(without_clearing)    /* clauses are sent before their lines */                          \
+    /* Make messages of other processes late: */                                                   \
+    NUMBER(late_gifts)          /* a round's gifts come in the next round */                       \
+    NUMBER(late_saved)          /* that a round is saved, and all later messages of process 0, */  \
+                                /* come after gifts that it collected once its outboxes had */     \
+                                /* the identities of the next round */                             \
+    NUMBER(late_lines)          /* a stream's lines once it is whole, in pieces */
 
 typedef struct {
 #define FIELD(name) uint64_t name;

@@ -1,6 +1,5 @@
-// Unverified, and nothing here is trusted. Files, which are mapped, the lines of streams, and the
-// names of a record's files. Other processes may write to a file that is mapped: a line is copied,
-// and then read in the copy.
+// Unverified and untrusted. Mapped files, the lines of streams, and the names of a record's files.
+// Other processes may write to a mapped file, so a line is copied, and the copy is read.
 #define _GNU_SOURCE
 #include <errno.h>
 #include <fcntl.h>
@@ -20,13 +19,13 @@
 #include "../exact/words.h"
 #include "lines.h"
 
-enum { BEYOND = 8 };        // bytes that words.c looks at behind a line
+enum { BEYOND = 8 };        // bytes that words.c reads after a line
 enum { LONGEST_PATH = 4096 };
 
 static Words words;
-static struct { unsigned char *items; size_t capacity; } copy;     // of a line
+static struct { unsigned char *items; size_t capacity; } copy;     // of the last line
 
-// It stands for a stream that is left out.
+// /dev/null takes the place of a stream that is left out.
 static bool is_null(const struct stat *found) {
     struct stat null;
     return S_ISCHR(found->st_mode) && stat("/dev/null", &null) == 0 && found->st_rdev == null.st_rdev;
@@ -35,8 +34,8 @@ static bool is_null(const struct stat *found) {
 static int file_open(const char *path, size_t *length) {
     struct stat found;
     int file = open(path, O_RDONLY | O_NONBLOCK | O_CLOEXEC);
-    if (file < 0 || fstat(file, &found) != 0) stop("cannot open %s: %s", path, strerror(errno));
-    if (!S_ISREG(found.st_mode) && !is_null(&found)) stop("%s: it is read more than once, so it has to be a file", path);
+    if (file < 0 || fstat(file, &found) != 0) stop("%s: %s", path, strerror(errno));
+    if (!S_ISREG(found.st_mode) && !is_null(&found)) stop("%s: not a regular file, but it is read more than once", path);
     *length = (size_t)found.st_size;
     return file;
 }
@@ -46,7 +45,7 @@ void file_check(const char *path) {
     close(file_open(path, &length));
 }
 
-// Of a name that ends so; or NULL.
+// The program that unpacks a file with this name; or NULL.
 static const char *packer_of(const char *path) {
     size_t length = strlen(path);
     for (size_t k = 0; k < PACKED_FORMS; k++) {
@@ -61,12 +60,12 @@ static int file_without_name(void) {
     const char *folder = getenv("TMPDIR");
     int length = snprintf(name, sizeof name, "%s/lrup-XXXXXX", folder && *folder ? folder : "/tmp");
     int file = length < LONGEST_PATH ? mkostemp(name, O_CLOEXEC) : -1;
-    if (file < 0) stop("cannot make a file in %s: %s", folder && *folder ? folder : "/tmp", strerror(errno));
+    if (file < 0) stop("cannot create a file in %s: %s", folder && *folder ? folder : "/tmp", strerror(errno));
     unlink(name);
     return file;
 }
 
-// What is packed there, in a file of its own. The program says why it can't unpack it.
+// Unpacks the file into a temporary one. The program itself says why it can't unpack it.
 static int unpacked(int packed, const char *program, const char *path) {
     int file = file_without_name(), status;
     fflush(NULL);
@@ -82,21 +81,21 @@ static int unpacked(int packed, const char *program, const char *path) {
     return file;
 }
 
-// SIGBUS, where bytes are read that the file doesn't have any more.
+// SIGBUS: bytes were read that the file doesn't have any more.
 static void file_was_cut(int number) {
     (void)number;
     position_set(NULL, 0);
-    stop("a file was cut while it was read");
+    stop("a file was truncated while it was read");
 }
 
-// Over a page of zeros, so that there is memory for an empty file, too.
+// Mapped over zeros, which follow the file's bytes; so an empty file has memory, too.
 unsigned char *file_map(const char *path, size_t *length) {
     int file = file_open(path, length);
     const char *program = packer_of(path);
     if (program) {
         struct stat found;
         file = unpacked(file, program, path);
-        if (fstat(file, &found) != 0) stop("cannot open %s: %s", path, strerror(errno));
+        if (fstat(file, &found) != 0) stop("%s: %s", path, strerror(errno));
         *length = (size_t)found.st_size;
     }
     signal(SIGBUS, file_was_cut);
@@ -121,7 +120,7 @@ const int64_t *numbers_read(const char *path, size_t *count) {
 
 // Lines.
 
-// No line that is right is as long as LONGEST_STEP: of one that is longer a part is wrong, too.
+// A line of LONGEST_STEP bytes is wrong in any case, so a longer one may be cut.
 Line line_copy(Line line) {
     size_t length = (size_t)(line.end - line.start);
     if (length > LONGEST_STEP) length = LONGEST_STEP;
@@ -139,7 +138,7 @@ static bool is_positive(const int64_t *numbers, size_t count) {
     return signs >= 0;
 }
 
-// The sign of a deletion or an import, behind a number. Its place, or NULL.
+// The place of the letter of a deletion or an import, after a number; or NULL.
 static unsigned char *mark_of(unsigned char *at, uint64_t *lead) {
     unsigned char *start = at;
     uint64_t value = 0;
@@ -187,13 +186,13 @@ void lines_free(void) {
 
 static bool is_there(const char *path) { return access(path, F_OK) == 0; }
 
-// Streams have a number, and may be packed.
+// Streams have a number, and may be compressed.
 const char *record_file(const char *folder, size_t round, const char *kind, uint32_t number) {
     static char path[LONGEST_PATH];
     const int most = LONGEST_PATH - LONGEST_ENDING;
     int length = snprintf(path, LONGEST_PATH, "%s/round-%zu.%s", folder, round, kind);
     if (number > 0 && length < most) length += snprintf(path + length, (size_t)(LONGEST_PATH - length), "%u", number);
-    if (length >= most) stop("too long a name: %s", folder);
+    if (length >= most) stop("%s: name too long", folder);
     for (size_t k = 0; k < PACKED_FORMS && number > 0 && !is_there(path); k++) {
         strcpy(path + length, PACKED[k].ending);
         if (is_there(path)) return path;
@@ -202,13 +201,13 @@ const char *record_file(const char *folder, size_t round, const char *kind, uint
     return path;
 }
 
-// As sha256sum writes it, which puts \ before what has a strange name behind it.
+// The digest is as sha256sum writes it, which puts \ before the line if the file's name is unusual.
 void record_check(const char *folder, const char *formula) {
     char path[LONGEST_PATH], kept[DIGEST_DIGITS + 2] = "", found[DIGEST_DIGITS + 1];
     size_t length = (size_t)snprintf(path, sizeof path, "%s/formula.sha256", folder);
     if (length >= sizeof path || !is_there(path)) return;
     int file = file_open(path, &length);
-    if (read(file, kept, sizeof kept - 1) < 0) stop("cannot read %s: %s", path, strerror(errno));
+    if (read(file, kept, sizeof kept - 1) < 0) stop("%s: %s", path, strerror(errno));
     close(file);
     file = file_open(formula, &length);
     digest_file(file, formula, found);
@@ -217,8 +216,9 @@ void record_check(const char *folder, const char *formula) {
         stop("%s isn't the formula of %s, or was changed since: its digest isn't that of %s", formula, folder, path);
 }
 
-// In round 1 the streams that are there; then as many as the sizes say, or as there were before. Nothing is said where nobody asks for
-// the row, and it stays as before where there are no sizes.
+// In round 1 counts the streams' files; later rounds have as many as the sizes say, or as the round
+// before. In round 1 the sizes are read only if `row` isn't NULL. Without a file of sizes the row
+// stays as it is.
 uint32_t record_streams(const char *folder, size_t round, uint32_t before, Row *row) {
     if (!is_there(record_file(folder, round, "stream-", 1))) return 0;
     uint32_t count = round == 1 ? 1 : before;

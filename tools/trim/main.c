@@ -1,10 +1,10 @@
-// Unverified, and nothing here is trusted: lrupd, or any checker of LRAT, checks what comes out. Of the streams of a run, or of a record
-// of rounds, keeps what the empty clause needs.
+// Unverified and untrusted: lrupd, or any LRAT checker, checks the output. Keeps what the empty
+// clause needs of the streams of a run, or of a record of rounds.
 //
 //     lrup-trim [--core FILE] [--stream FILE] [--lrat FILE] [--assume FILE] [--re-hint] FORMULA DIR|STREAM...
 //
-// --core has the clauses of FORMULA that are needed, --stream the lines over these, --lrat the same over FORMULA. With --re-hint the
-// filter finds other hints first.
+// --core has the clauses of FORMULA that are needed, --stream the lines over these, --lrat the same
+// lines over FORMULA. With --re-hint the filter first finds new hints.
 #define _POSIX_C_SOURCE 200809L
 #include <ctype.h>
 #include <signal.h>
@@ -17,7 +17,7 @@
 #include "../exact/row.h"
 #include "trim.h"
 
-// The end.
+// Errors and signals.
 
 static void end(const char *cause) {
     fprintf(stderr, "lrup-trim: %s\n", cause);
@@ -42,11 +42,11 @@ static void take_signals(void) {
 static const char usage[] =
     "usage: lrup-trim [--core FILE] [--stream FILE] [--lrat FILE] [--assume FILE] [--re-hint] FORMULA DIR|STREAM...\n"
     "       lrup-trim --help | --version\n"
-    "Of the streams of a run of lrupd, or of a record of lrup-solve (--proofs DIR), writes what the empty clause needs:\n"
+    "Writes what the empty clause needs of lrupd's streams, or of a record of lrup-solve (--proofs DIR):\n"
     "  --core FILE    the clauses of FORMULA that are needed\n"
     "  --stream FILE  one stream over the core\n"
     "  --lrat FILE    one stream over FORMULA, which is LRAT text\n"
-    "  --assume FILE  take a clause that contradicts these assumptions, as lrupd does\n"
+    "  --assume FILE  end with a clause that contradicts these assumptions, as for lrupd\n"
     "  --re-hint      find other hints, which need fewer lines: it takes longer, and more memory\n";
 
 static _Noreturn void refuse(const char *cause, const char *word) {
@@ -57,7 +57,7 @@ static _Noreturn void refuse(const char *cause, const char *word) {
 typedef struct {
     Output core, stream, lrat;
     bool rehints;
-    Output rehinted;            // a file for a while
+    Output rehinted;            // a temporary file
     const char *assume, *formula;
     char **streams;
     uint32_t streams_length;
@@ -101,7 +101,7 @@ static void read_words(CommandLine *given, char **words) {
     if (given->rehints && !given->core.path && !given->lrat.path) refuse("--re-hint without", "--core or --lrat");
 }
 
-// Beside an output, since it has as many bytes.
+// The temporary file is beside an output, since it is as large.
 static void name_rehinted(CommandLine *given) {
     const char *output = given->lrat.path ? given->lrat.path : given->core.path;
     char *path = zeroed(strlen(output) + sizeof ".re-hint", 1);
@@ -114,14 +114,14 @@ static bool is_folder(const char *path) {
     return stat(path, &found) == 0 && S_ISDIR(found.st_mode);
 }
 
-// Before a long time is spent.
+// Checks files before the long work begins.
 static void check_files(const CommandLine *given) {
     struct stat found;
     const char *const outputs[] = { given->core.path, given->stream.path, given->lrat.path, given->rehinted.path };
     for (size_t k = 0; k < sizeof outputs / sizeof *outputs; k++)
-        if (outputs[k] && lstat(outputs[k], &found) == 0) stop("%s is there, and isn't written over", outputs[k]);
+        if (outputs[k] && lstat(outputs[k], &found) == 0) stop("%s: exists, not overwritten", outputs[k]);
     for (uint32_t k = 0; k < given->streams_length; k++)
-        if (is_folder(given->streams[k]) && given->streams_length > 1) stop("%s is a folder, and goes alone", given->streams[k]);
+        if (is_folder(given->streams[k]) && given->streams_length > 1) stop("%s: a folder has to be the only input", given->streams[k]);
     file_check(given->formula);
 }
 
@@ -133,10 +133,10 @@ static void assume(Proof *proof, const char *path) {
         if ((literals[k] == 0) != (k == length - 1) || llabs(literals[k]) > proof->formula.variables) literals = NULL;
         else if (literals[k] != 0) proof->assumed[2 * (llabs(literals[k]) - 1) + (literals[k] < 0)] = 1;
     }
-    if (!literals) stop("%s: no line of literals of FORMULA's variables, and 0, with single spaces", path);
+    if (!literals) stop("%s: not a line of literals of FORMULA's variables and 0, with single spaces", path);
 }
 
-// And the word for a shell, as lrup-solve quotes it, too.
+// Prints a text, and a word quoted for a shell, as lrup-solve quotes it, too.
 static void print(const char *text, const char *word) {
     bool is_plain = *word != 0;
     for (const char *at = word; *at; at++)
@@ -146,7 +146,8 @@ static void print(const char *text, const char *word) {
     if (!is_plain) putchar('\'');
 }
 
-// What comes out, and how lrupd checks it: in one run, or in rounds where a row doesn't do.
+// Prints an output's size, and the command that checks it: in one run, or in rounds if a row is too
+// small.
 static void tell(const Proof *proof, const CommandLine *given, const Output *output, const char *formula) {
     if (!output->path) return;
     uint64_t row = 1 + output->below + proof->literals + proof->kept + proof->room;

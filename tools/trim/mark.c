@@ -1,7 +1,8 @@
-// Unverified, as all of this tool. What is needed: backwards the first line that cites a clause is the last one that does.
+// Unverified, like the whole tool. Marks what is needed, from the last line backwards: so the first
+// line met that cites a clause is the last one that does.
 #include "trim.h"
 
-// Streams have their numbers in their order.
+// The numbers of clauses follow the order of streams.
 const Stream *stream_with(const Proof *proof, Number number) {
     size_t low = 0, high = proof->streams.length;
     while (high - low > 1) {

@@ -1,4 +1,4 @@
-// Unverified, as all of this tool. The order of the lines, and what rounds carry over.
+// Unverified, like the whole tool. The order of the lines, and what each round passes on.
 #include <stdio.h>
 #include <stdlib.h>
 #include <string.h>
@@ -62,7 +62,7 @@ static Outcome add(Proof *proof, const Round *round, Stream *stream, const Readi
     return TAKEN;
 }
 
-// In the order it says nothing, but in what is carried over.
+// Deletions don't matter for the order, only for what the next round begins with.
 static void delete(const Proof *proof, const Round *round, const Stream *stream, const Reading *reading, unsigned char *dropped) {
     const Stream *streams = &proof->streams.items[round->first];
     for (size_t k = 0; k < reading->count; k++) {
@@ -89,8 +89,8 @@ static Outcome step(Proof *proof, const Round *round, Stream *stream, unsigned c
     return TAKEN;
 }
 
-// A stream goes on until it cites a line of another one that wasn't read; then that one goes on up to this line. Where that comes back
-// to a stream that waits, no order is right.
+// Reads a stream until it cites a line of another one that wasn't read; then reads that one up to
+// the cited line. If that leads back to a waiting stream, no order is right.
 static void merge(Proof *proof, const Round *round, unsigned char *dropped) {
     struct { uint32_t stream; uint64_t slots; } stack[STREAMS];
     bool waits[STREAMS] = { false };
@@ -127,8 +127,8 @@ void round_add(Proof *proof, char **paths, uint32_t count) {
     PUSH(&proof->rounds, round);
 }
 
-// What lrupd goes on with: the round's formula, without clauses that all streams deleted, and what was derived, without clauses that
-// their owners deleted; by their identities.
+// The formula of the next round, as lrupd makes it: the round's formula without clauses that all
+// streams deleted, and the derived clauses that their owners didn't delete, by identity.
 static void carry(const Proof *proof, const Round *round, const unsigned char *dropped, Round *next) {
     const Stream *streams = &proof->streams.items[round->first];
     uint64_t slots = 0, most = round->formula;
@@ -146,7 +146,7 @@ static void carry(const Proof *proof, const Round *round, const unsigned char *d
     next->carried = grow(next->carried, (next->formula + 1) * sizeof *next->carried);
 }
 
-// The streams' deletions aren't looked at any more.
+// The streams' deletions aren't needed any more.
 static void round_end(Proof *proof, const Round *round) {
     for (uint32_t k = 0; k < round->count; k++) {
         Stream *stream = &proof->streams.items[round->first + k];
@@ -160,7 +160,7 @@ static bool goes_on(Proof *proof, const unsigned char *dropped) {
     uint32_t count = proof->target || !proof->folder ? 0 : record_streams(proof->folder, index + 2, before, NULL);
     if (count == 0) return false;
     for (uint32_t k = 0; k < proof->rounds.items[index].count; k++)
-        if (proof->streams.items[proof->rounds.items[index].first + k].stopped) stop("the run ends in round %u, with that line", index + 1);
+        if (proof->streams.items[proof->rounds.items[index].first + k].stopped) stop("the run ends in round %u, at that line", index + 1);
     round_add(proof, NULL, count);
     carry(proof, &proof->rounds.items[index], dropped, &proof->rounds.items[index + 1]);
     return true;
@@ -169,7 +169,7 @@ static bool goes_on(Proof *proof, const unsigned char *dropped) {
 void order(Proof *proof) {
     if (proof->folder) {
         uint32_t count = record_streams(proof->folder, 1, 0, NULL);
-        if (count == 0) stop("%s isn't there", record_file(proof->folder, 1, "stream-", 1));
+        if (count == 0) stop("%s: No such file or directory", record_file(proof->folder, 1, "stream-", 1));
         round_add(proof, NULL, count);
     }
     proof->rounds.items[0].formula = proof->formula.clauses;

@@ -1,5 +1,5 @@
-// Unverified, as all of this tool. What is written: the core, and the lines that are needed. No file is written over, and none is left
-// that isn't whole.
+// Unverified, like the whole tool. Writes the core, and the lines that are needed. No file is
+// overwritten, and none is left incomplete.
 #define _GNU_SOURCE
 #include <errno.h>
 #include <fcntl.h>
@@ -17,7 +17,7 @@ enum { OUTPUTS = 4 };
 
 static const char *volatile made[OUTPUTS];
 static volatile int made_length;
-static Output *output;          // the one that is written
+static Output *output;          // the one being written
 
 void outputs_remove(void) {
     for (int k = 0; k < made_length; k++) unlink(made[k]);
@@ -28,7 +28,7 @@ void outputs_keep(void) { made_length = 0; }
 static void to_output(const char *bytes, size_t length) {
     if (!write_whole(output->file, bytes, length)) {
         position_set(NULL, 0);
-        stop("cannot write %s: %s", output->path, strerror(errno));
+        stop("%s: %s", output->path, strerror(errno));
     }
     output->bytes += length;
 }
@@ -37,17 +37,18 @@ void output_open(Output *place) {
     output = place;
     made[made_length] = output->path;
     output->file = open(output->path, O_WRONLY | O_CREAT | O_EXCL | O_CLOEXEC, 0666);
-    if (output->file < 0) stop("cannot make %s: %s", output->path, strerror(errno));
+    if (output->file < 0) stop("%s: %s", output->path, strerror(errno));
     made_length++;
     write_to(to_output);
 }
 
 void output_close(void) {
     write_flush();
-    if (close(output->file) != 0) stop("cannot write %s: %s", output->path, strerror(errno));
+    if (close(output->file) != 0) stop("%s: %s", output->path, strerror(errno));
 }
 
-// The core, in the order of FORMULA and with its variables. Before a clause stands its number there, as in what lrupd saves.
+// The core has FORMULA's order and variables. A comment before a clause has its number in FORMULA,
+// as in lrupd's checkpoints.
 
 void formula_free(Formula *formula) {
     formula->starts.items = grow(formula->starts.items, 0);
@@ -72,12 +73,12 @@ static void core_check(const Proof *proof, const char *core, const char *formula
         if (name > whole.clauses || place >= found.clauses || !is_same(&whole, name - 1, &found, place++))
             stop("%s: clause %zu isn't clause %zu of %s: was one of them changed?", core, place, name, formula);
     }
-    if (found.clauses != place || found.variables != whole.variables) stop("%s: it was changed", core);
+    if (found.clauses != place || found.variables != whole.variables) stop("%s: changed since it was written", core);
     formula_free(&whole);
     formula_free(&found);
 }
 
-// The last that is done with the clauses of FORMULA, which are read once more.
+// Frees the clauses of FORMULA, which core_check then reads again.
 void core_write(Proof *proof, Output *core, const char *path) {
     Formula *formula = &proof->formula;
     output_open(core);
@@ -97,11 +98,11 @@ void core_write(Proof *proof, Output *core, const char *path) {
     core_check(proof, core->path, path);
 }
 
-// Lines. Some are read, and then written to one output after the other.
+// Lines. Some are read, and then written to each output.
 
 enum { PIECE = 1 << 16 };       // literals and hints
 
-// first, count: of `cited`; clause, length: of `literals`.
+// first, count: in `cited`; clause, length: in `literals`.
 typedef struct { Number number; size_t first, count, clause, length; } Kept;
 
 static struct { Kept *items; size_t length, capacity; } lines;
@@ -161,7 +162,8 @@ static int by_variable(const void *one, const void *other) {
     return (order > 0) - (order < 0);
 }
 
-// By variable, each once: other checkers of LRAT want that. How many they are.
+// Sorts the literals by variable, and drops repeated ones, as other LRAT checkers require. Returns
+// how many are left.
 static size_t literals_take(const Reading *reading) {
     size_t kept = literals.length;
     RESERVE(&literals, literals.length + reading->length + 1);
@@ -175,7 +177,7 @@ static size_t literals_take(const Reading *reading) {
     return kept;
 }
 
-// What a line cites comes before it, and is needed.
+// What the line cites came before it, and is needed.
 static void line_take(Proof *proof, const Stream *stream, Number number) {
     const Round *round = &proof->rounds.items[stream->round];
     Reading reading = line_again(stream, number);
@@ -190,14 +192,14 @@ static void line_take(Proof *proof, const Stream *stream, Number number) {
     PUSH(&lines, line);
 }
 
-// Over FORMULA all but the core is deleted first.
+// Over FORMULA, a first line deletes all but the core.
 static void lines_begin(Proof *proof, Output *place, bool whole) {
     if (!place->path) return;
     output_open(place);
     place->whole = whole;
     place->below = whole ? proof->clauses : proof->core;
     list.length = 0;
-    Number next = 1;        // of FORMULA
+    Number next = 1;        // FORMULA's next clause
     for (Number k = 1; k <= proof->formula.clauses && whole; k++) {
         if (proof->last_use[k] == 0) continue;
         for (; next < name_of(proof, k); next++) PUSH(&list, next);

@@ -1,10 +1,11 @@
-// Unverified, as all of this tool. --re-hint: the lines that are needed go through the filter, without their hints and without
-// deletions, over the core. It finds hints by unit propagation, which need fewer lines in all.
+// Unverified, like the whole tool. Option --re-hint: the filter gets the needed lines over the
+// core, without their hints and without deletions. It finds hints by unit propagation, which need
+// fewer lines in all.
 #include "../exact/errors.h"
 #include "../exact/filter.h"
 #include "trim.h"
 
-// The core, and the numbers of its clauses.
+// Copies the core, and the numbers of its clauses.
 static void core_of(const Proof *proof, Formula *core, Number *names) {
     const Formula *whole = &proof->formula;
     core->variables = whole->variables;
@@ -29,14 +30,14 @@ static void lines_derive(const Proof *proof, Filter *filter) {
         Run run = proof->runs.items[k];
         for (Number number = run.from; number < run.to; number++) {
             if (proof->last_use[number] == 0) continue;
-            position_set("of the lines that are needed, number", ++lines);
+            position_set("needed line", ++lines);
             line_derive(filter, stream_with(proof, run.from), number);
         }
     }
     position_set(NULL, 0);
 }
 
-// But for what is assumed.
+// Frees everything except the assumptions.
 static void proof_free(Proof *proof) {
     for (size_t k = 0; k < proof->streams.length; k++) {
         Stream *stream = &proof->streams.items[k];
@@ -54,7 +55,7 @@ static void proof_free(Proof *proof) {
 
 void rehint(Proof *proof, Output *lines) {
     Proof again = { .clauses = proof->clauses, .literals = proof->literals, .assumed = proof->assumed };
-    static Filter filter = { .stream = 1, .streams = 1 };       // which has no end of its own
+    static Filter filter = { .stream = 1, .streams = 1 };       // never freed
     again.names = zeroed(proof->core, sizeof *again.names);
     core_of(proof, &again.formula, again.names);
     core_of(proof, &filter.formula, again.names);

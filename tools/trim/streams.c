@@ -1,4 +1,4 @@
-// Unverified, as all of this tool. Of a stream where its lines are.
+// Unverified, like the whole tool. Where the lines of a stream are.
 #define _GNU_SOURCE
 #include <string.h>
 
@@ -8,25 +8,25 @@
 #include "../exact/words.h"
 #include "trim.h"
 
-enum { SLOTS = 256 };       // that have one place
+enum { SLOTS = 256 };       // slots that share one entry of `places`
 
 void stream_changed(const Stream *stream) {
-    stop("%s was changed while it was read", stream->path);
+    stop("%s: changed while it was read", stream->path);
 }
 
-// One that begins there, and ends with LF.
+// The line that begins at `start` and ends with LF.
 Line line_at(const Stream *stream, unsigned char *start) {
     unsigned char *end = memchr(start, '\n', (size_t)(stream->end - start));
     if (end == NULL) stream_changed(stream);
     return (Line){ start, end, true };
 }
 
-// Of a line the place of its hints is kept, in 4 bytes.
+// The place of a line's hints takes 4 bytes.
 
 void hints_keep(Stream *stream, uint64_t slot, unsigned char *place) {
     unsigned char **first = &stream->places[slot / SLOTS];
     if (*first == NULL) *first = place;
-    if (place - *first >= UINT32_MAX) stop("%s, line %llu: too far behind others", stream->path, (unsigned long long)stream->line + 1);
+    if (place - *first >= UINT32_MAX) stop("%s, line %llu: too far from other lines of the stream", stream->path, (unsigned long long)stream->line + 1);
     stream->hints[slot] = (uint32_t)(place - *first) + 1;
 }
 
@@ -36,7 +36,7 @@ static unsigned char *hints_of(const Stream *stream, Number number) {
     return stream->places[slot / SLOTS] + stream->hints[slot] - 1;
 }
 
-// A line that was taken.
+// Lines that were taken.
 
 Reading line_again(const Stream *stream, Number number) {
     unsigned char *before = memrchr(stream->start, '\n', (size_t)(hints_of(stream, number) - stream->start));
@@ -52,7 +52,7 @@ const int64_t *hints_again(const Stream *stream, Number number, size_t *count) {
     return hints;
 }
 
-// How many identities it has, by its last addition.
+// How many identities the stream has, by its last addition.
 static uint64_t slots_of(const Stream *stream, const Round *round, uint64_t number) {
     Reading reading;
     for (unsigned char *end = stream->end, *start; end > stream->start; end = start) {
@@ -65,12 +65,13 @@ static uint64_t slots_of(const Stream *stream, const Round *round, uint64_t numb
     return 0;
 }
 
-// The stream of that number, from 0 on, in its round.
+// Opens the stream of that number, from 0, in its round.
 void stream_open(Proof *proof, Stream *stream, const Round *round, uint64_t number) {
     size_t length;
     stream->at = stream->start = file_map(stream->path, &length);
-    const char *program = unpacked_by(stream->start[0], stream->start[1]);      // zeros where there are no bytes
-    if (program) stop("%s: compressed: %s it", stream->path, program);
+    // an empty file has zeros here
+    const char *program = unpacked_by(stream->start[0], stream->start[1]);
+    if (program) stop("%s: compressed: unpack it with %s", stream->path, program);
     proof->bytes += length;
     unsigned char *last = memrchr(stream->start, '\n', length);
     stream->end = last ? last + 1 : stream->start;
@@ -79,7 +80,8 @@ void stream_open(Proof *proof, Stream *stream, const Round *round, uint64_t numb
     if (proof->numbers + stream->slots > UINT32_MAX) stop("%s: more than %u clauses of all streams", stream->path, UINT32_MAX);
     stream->first = (Number)proof->numbers;
     proof->numbers += stream->slots;
-    stream->hints = zeroed(stream->slots, sizeof *stream->hints);       // a gap's pages aren't touched
+    // pages in a gap are never touched
+    stream->hints = zeroed(stream->slots, sizeof *stream->hints);
     stream->places = zeroed(stream->slots / SLOTS + 1, sizeof *stream->places);
     if (proof->folder) stream->deleted = zeroed(stream->slots, 1);
 }
