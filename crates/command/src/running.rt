@@ -49,8 +49,8 @@ pub(crate) fn run_streams<T: Threads + Wait + Sync, C: Clock + Sync, F: Machine>
     ensures ready { IfOk result (λ run. CanBeSaved run.clauses) }
     ensures cause { let run_params = run_params_of options course.now.cube.now
         formula.now (length readers.items) in
-        IfErr result (IsRunCause (readers_view F.Input.Source) course.now.line.now.serial formula.now
-        run_params readers.items) }
+        IfErr result (IsRunCause (readers_view F.Input.Source) course.now.line.now.serial
+        formula.now run_params readers.items) }
 {
     if course.line.serial {
         run_by_turns(threads, clock, alloc, course, options, formula, report_on, readers)

@@ -1,4 +1,5 @@
-//! What a run is asked for and what it gives: options, verdict, report text, saved clauses, and the gates that report its progress.
+//! What a run is asked for and what it gives: options, verdict, report text, saved clauses, and the
+//! gates that report its progress.
 #![tactic(auto)]
 
 mod options;

@@ -1,5 +1,7 @@
--- What runs with threads and on one thread have in common: their parameters, their faults, and that 'unsatisfiable' is true.
-use Rattle.std.proofs.Common.{◌≡◌, ◌≢◌, inl, inr, ℕ, ◌+◌, Bool, true, false, List, [], ◌∷◌, refl, sym, ap, subst, ◌∙◌, arith}
+-- What runs with threads and on one thread have in common: their parameters, their faults, and that
+-- 'unsatisfiable' is true.
+use Rattle.std.proofs.Common.{◌≡◌, ◌≢◌, inl, inr, ℕ, ◌+◌, Bool, true, false, List, [], ◌∷◌, refl}
+use Rattle.std.proofs.Common.{sym, ap, subst, ◌∙◌, arith}
 use Rattle.std.specs.Result.{IfErr, IsErrAnd}
 use Rattle.std.specs.Prelude.{Result, Ok, Err, if◌then◌else◌}
 use Rattle.std.specs.List.{list_any}
@@ -19,7 +21,8 @@ use Rattle.run_laws.specs.Groups.{IsRun}
 use Rattle.run_outcome.specs.declared.outcome.RunFault.{RunFault}
 use Rattle.run_outcome.specs.declared.outcome.RunFault.TheVariants.{Layout, Memory, Ring, Spawn}
 use Rattle.run_outcome.specs.declared.outcome.Verdict.{Verdict}
-use Rattle.run_outcome.specs.declared.outcome.Verdict.TheVariants.{Unsatisfiable, UnsatisfiableUnder, Unknown}
+use Rattle.run_outcome.specs.declared.outcome.Verdict.TheVariants.{Unsatisfiable}
+use Rattle.run_outcome.specs.declared.outcome.Verdict.TheVariants.{UnsatisfiableUnder, Unknown}
 use Rattle.run_outcome.specs.Outcomes.{OptionsValue, layout_of, run_params_of, verdict_of}
 use Rattle.run_outcome.specs.lemmas.EmptyLemmas.{sound}
 
@@ -34,34 +37,41 @@ no_fault p faults.BadStreamCount is (a, b, inr many) = omega (arith, is.streams,
 no_fault p faults.RowTooLong is bad = omega (arith, is.row, bad.4)
 
 -- the parameters that a run makes are those of its formula, options and streams
-pub run_params_made : (options : OptionsValue) (cube : CubeValue) (f : Cnf) (p : LayoutValue) (n streams tries : ℕ) (made : RunParamsValue)
-    → made ≡ record { layout = p; cube = cube; tries = tries } → p ≡ layout_of options f n → n ≡ streams → tries ≡ options.tries
+pub run_params_made : (options : OptionsValue) (cube : CubeValue) (f : Cnf) (p : LayoutValue)
+    (n streams tries : ℕ) (made : RunParamsValue)
+    → made ≡ record { layout = p; cube = cube; tries = tries } → p ≡ layout_of options f n
+    → n ≡ streams → tries ≡ options.tries
     → made ≡ run_params_of options cube f streams
 run_params_made options cube f p n streams tries made is same count often = cc
 
 -- a run that was opened has no layout fault
-pub none_of_layout : (options : OptionsValue) (f : Cnf) (p : LayoutValue) (n streams : ℕ) → p ≡ layout_of options f n → n ≡ streams
+pub none_of_layout : (options : OptionsValue) (f : Cnf) (p : LayoutValue) (n streams : ℕ)
+    → p ≡ layout_of options f n → n ≡ streams
     → IsLayout p → (fault : LayoutFault) → IsFault (layout_of options f streams) fault → ⊥
 none_of_layout options f p n streams same count is fault bad =
-    no_fault p fault is (subst (λ (l : LayoutValue). IsFault l fault) (sym (same ∙ ap (layout_of options f) count)) bad)
+    no_fault p fault is (subst (λ (l : LayoutValue). IsFault l fault) (sym (same ∙ ap
+    (layout_of options f) count)) bad)
 
 -- an `Ok` is no `Err`
 no_error : {T E : Type 0} {value : T} {e : E} → Ok value ≡ Err e → ⊥
 no_error is = cc
 
 -- out of memory is no layout fault
-pub not_layout : {T : Type 0} (result : Result T RunFault) (fault : LayoutFault) → IfErr result (λ e. e ≡ Memory)
+pub not_layout : {T : Type 0} (result : Result T RunFault) (fault : LayoutFault)
+    → IfErr result (λ e. e ≡ Memory)
     → result ≡ Err (Layout fault) → ⊥
 not_layout (Ok value) fault memory is = no_error is
 not_layout (Err e) fault memory is = cc
 
-pub no_threads : {T : Type 0} (result : Result T RunFault) → IfErr result (λ e. e ≡ Memory) → (stream : ℕ)
+pub no_threads : {T : Type 0} (result : Result T RunFault) → IfErr result (λ e. e ≡ Memory)
+    → (stream : ℕ)
     → (result ≢ Err (Spawn stream)) × (result ≢ Err (Ring stream))
 no_threads (Ok value) memory stream = (no_error, no_error)
 no_threads (Err e) memory stream = ((λ is. cc), (λ is. cc))
 
 -- the fault that `?` returns is out of memory, and so is any fault
-pub is_memory : {T : Type 0} (result : Result T RunFault) → IsErrAnd result (λ e. e ≡ Memory) → IfErr result (λ e. e ≡ Memory)
+pub is_memory : {T : Type 0} (result : Result T RunFault) → IsErrAnd result (λ e. e ≡ Memory)
+    → IfErr result (λ e. e ≡ Memory)
 is_memory (Ok value) is = tt
 is_memory (Err e) is = is
 
@@ -70,30 +80,38 @@ is_memory (Err e) is = is
 -- if one of the reports says 'empty', no assignment satisfies the formula
 sound_by : (f : Cnf) (run_params : RunParamsValue) (h : History) → IsLegal f run_params.layout h
     → (s : ℕ) (streams : List Stream) (reports : List Report)
-    → AreJudgedIn run_params (λ t. true) h s streams reports → list_any (λ report. report.empty) reports ≡ true → IsUnsatisfiable f
+    → AreJudgedIn run_params (λ t. true) h s streams reports
+    → list_any (λ report. report.empty) reports ≡ true → IsUnsatisfiable f
 sound_by f run_params h legal s [] [] judged is = absurd (let no : false ≡ true = is in cc)
 sound_by f run_params h legal s [] (r ∷ rs) judged is = absurd judged
 sound_by f run_params h legal s (t ∷ ts) [] judged is = absurd judged
 sound_by f run_params h legal s (t ∷ ts) (r ∷ rs) judged is =
     let this = judged.0 refl in
     elim (or_cases r.empty (list_any (λ (report : Report). report.empty) rs) is) [
-      | inl here ↦ sound f run_params.layout h (stream_params run_params s) t this.0 r legal this.1 this.2 here
+      | inl here ↦ sound f run_params.layout h
+          (stream_params run_params s) t this.0 r legal this.1 this.2 here
       | inr later ↦ sound_by f run_params h legal (s + 1) ts rs judged.1 later
     ]
 
-some_empty : (a b : Bool) → (if a then Unsatisfiable else if b then UnsatisfiableUnder else Unknown) ≡ Unsatisfiable → a ≡ true
+some_empty : (a b : Bool) → (if a then Unsatisfiable else if b then UnsatisfiableUnder else Unknown)
+    ≡ Unsatisfiable → a ≡ true
 some_empty true b is = refl
 some_empty false true is = absurd (let no : UnsatisfiableUnder ≡ Unsatisfiable = is in cc)
 some_empty false false is = absurd (let no : Unknown ≡ Unsatisfiable = is in cc)
 
 -- with the verdict 'unsatisfiable' some report says 'empty'
-is_empty : (reports : List Report) (verdict : Verdict) → verdict ≡ verdict_of reports → verdict ≡ Unsatisfiable
+some_report_empty : (reports : List Report) (verdict : Verdict) → verdict ≡ verdict_of reports
+    → verdict ≡ Unsatisfiable
     → list_any (λ report. report.empty) reports ≡ true
-is_empty reports verdict of is =
-    some_empty (list_any (λ (report : Report). report.empty) reports) (list_any (λ (report : Report). report.within) reports) (sym of ∙ is)
+some_report_empty reports verdict of is =
+    some_empty (list_any (λ (report : Report). report.empty) reports) (list_any (λ
+    (report : Report). report.within) reports) (sym of ∙ is)
 
 -- so the verdict is true
-pub sound_run : (f : Cnf) (run_params : RunParamsValue) (observed : List InputObservation) (reports : List Report) (verdict : Verdict)
-    → IsRun f run_params observed reports → verdict ≡ verdict_of reports → verdict ≡ Unsatisfiable → IsUnsatisfiable f
+pub sound_run : (f : Cnf) (run_params : RunParamsValue) (observed : List InputObservation)
+    (reports : List Report) (verdict : Verdict)
+    → IsRun f run_params observed reports → verdict ≡ verdict_of reports → verdict ≡ Unsatisfiable
+    → IsUnsatisfiable f
 sound_run f run_params observed reports verdict run of is =
-    sound_by f run_params run.history run.legal 1 run.streams reports run.judged (is_empty reports verdict of is)
+    sound_by f run_params run.history run.legal 1 run.streams reports run.judged
+    (some_report_empty reports verdict of is)
