@@ -2,6 +2,7 @@
 use Rattle.std.proofs.Common.{Bool, arith, ◌≡◌, ◌<◌, ◌^◌, ◌∙◌, ◌+◌, ◌++◌, add-one, inl, inr, length, length-append, suc, zero, ℕ}
 use Rattle.std.proofs.Common.{List, [], ◌∷◌}
 use Rattle.std.proofs.Common.{ap₂, Option, None, Some, refl, sym, ap, subst, ◌⊎◌, drop, map, take}
+use Rattle.std.specs.Prelude.{◌↔◌, IsTrue}
 use Rattle.std.proofs.Common.{◌-◌, false, get_or, is_some, true}
 use Rattle.std.proofs.lemmas.Bool.{cases_lt}
 use Rattle.std.proofs.lemmas.List.{take_all}

@@ -1,4 +1,4 @@
-use Rattle.std.proofs.Common.{◌≡◌, ◌<◌, ◌+◌, ℕ, arith, length, refl, subst, true}
+use Rattle.std.proofs.Common.{None, ◌≡◌, ◌<◌, ◌+◌, arith, length, refl, subst, true}
 use Rattle.command.specs.Commands.{created_path, deeds_of, run_params_by}
 use Rattle.command.specs.Paths.{formula_path}
 use Rattle.command.specs.Rounds.{SavesCheckpoint}

@@ -1,9 +1,8 @@
-use Rattle.std.proofs.Common.{◌∙◌, ℕ, ap, inl, inr, map, subst, sym}
+use Rattle.std.proofs.Common.{◌∙◌, ℕ, ap, inl, inr, map, refl, sym}
 use Rattle.command_line.specs.declared.sizes.Sizes.{Sizes}
-use Rattle.command.specs.Commands.{IsCause, IsFormulaAt, deeds_of, files_view, from_first}
+use Rattle.command.specs.Commands.{IsFormulaAt, deeds_of, files_view, from_first}
 use Rattle.command.specs.Rounds.{IsCauseIn, StreamsOpened}
 use Rattle.command.specs.internal.RoundProgress.{IsReported}
-use Rattle.command.specs.declared.fault.CommandFault.{CommandFault}
 use Rattle.command.proofs.CheckingLemmas.{if_err, if_ok, start_cause}
 use Rattle.command.proofs.RoundLemmas.{ends_sound, ends_sound_under, opened_count}
 use Rattle.command.proofs.rounds.begin_and_check.Given as given
@@ -11,13 +10,7 @@ use Rattle.command.proofs.rounds.begin_and_check.Goals as goal
 
 -- a fault before the first round's check is one of round 1
 pub returns-in-Err-clause-cause : goal.returns-in-Err-clause-cause
-returns-in-Err-clause-cause g c words first good at =
-    let Cause : CommandFault → Type 0 = λ fault. IsCause (from_first (files_view g.F.Files g.F.Machine g.F.Input.Source g.F.Output.Sink
-    c.args.files.now) first) words fault
-    c.begin.new.files in
-    let cause : Cause c.in-Err.fault = c.in-Err.ensures.cause words first good at in
-    let of = c.of_first.ensures in
-    inl (of.round, subst Cause (sym of.fault) cause)
+returns-in-Err-clause-cause g c words first good at = inl (refl, c.in-Err.ensures.cause words first good at)
 
 -- the sizes of round 1 are those of the command line
 pub check_rounds-requires-clause-sizes : goal.check_rounds-requires-clause-sizes
