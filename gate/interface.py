@@ -67,10 +67,19 @@ def texts_of(name: str, identity: str) -> Set[str]:
     return {re.sub(r'codes "([^"]*)"', r"\1", re.sub(r"decimal \w+", identity, text).replace(" ++ ", "")) for text in found}
 
 
+def words_in(text: str) -> List[str]:
+    """The words, without macros of the manual page."""
+    return re.findall(r"\w+", re.sub(r"^\.\w+", "", text, flags=re.M).lower())
+
+
 def wrong_faults() -> Iterator[str]:
     section = text_of(FORMAT).partition("## Faults\n")[2].partition("\n## ")[0]
-    named = {USING: set(re.findall(r"^\| `([^`]+)`", part(USING, "faults"), re.M)),
-             MANUAL: {head.replace(" Ar ", " ") for head in re.findall(r"^\.It (.*)$", part(MANUAL, "faults"), re.M)},
+    rows = dict(re.findall(r"^\| `([^`]+)` \| ([^|]*) \|", part(USING, "faults"), re.M))
+    items = {head.replace(" Ar ", " "): text for head, text in re.findall(r"^\.It (.*)\n((?:(?!\.It).*\n)*)", part(MANUAL, "faults"), re.M)}
+    for fault in sorted(rows.keys() & items.keys()):
+        if words_in(rows[fault]) != words_in(items[fault]):
+            yield f"{MANUAL}: {USING} has other words for the fault `{fault}`: use the same in both"
+    named = {USING: rows.keys(), MANUAL: items.keys(),
              FORMAT: {span for span in re.findall("`([^`]+)`", section) if not re.fullmatch(r"H|--\w+|lrup[\w-]+", span)}}
     for page, faults in named.items():
         for fault in sorted(faults ^ texts_of(FAULTS, "H")):
@@ -89,11 +98,6 @@ def wrong_causes() -> Iterator[str]:
     made_up = [one for one in sorted(said) if not any(is_cause(one, text) for text in defined)]
     yield from (f"{USING}: the cause `{text}` is missing: add it" for text in missing)
     yield from (f"{USING}: no definition has the cause `{one}`: remove it" for one in made_up)
-
-
-def words_in(text: str) -> List[str]:
-    """The words, without macros of the manual page."""
-    return re.findall(r"\w+", re.sub(r"^\.\w+", "", text, flags=re.M).lower())
 
 
 def wrong_options() -> Iterator[str]:

@@ -52,7 +52,7 @@ class Page:
     def __init__(self, name: str) -> None:
         self.path = DOCS / f"{name}.md"
         text = self.path.read_text()
-        self.text = re.sub(r"^```.*?^```$", lambda block: "\n" * block[0].count("\n"), text, flags=re.M | re.S)
+        self.text = re.sub(r"^```\w+\n(?:.*\n)*?```$", lambda block: "\n" * block[0].count("\n"), text, flags=re.M)
         self.headings = [1] + [number for number, line in enumerate(self.text.split("\n"), 1) if line.startswith("#")]
         self.quotes: List[Quote] = []
         for block in re.finditer(r"^((?:.+\n)*)\n?```\w+\n((?:.*\n)*?)```$", text, re.M):
@@ -186,7 +186,8 @@ def main(words: List[str]) -> None:
         write(Page(name))
     pages, known = [Page(name) for name in PAGES], set()
     quotes = [quote for page in pages for quote in page.quotes]
-    wrong = [f"{quote.at(quote.first)}: a quote of no file: link to its file above it" for quote in quotes if not quote.file.is_file()]
+    wrong = [f"{shown(page.path)}: a fence isn't alone in its line, or a block isn't closed: mend it" for page in pages if "```" in page.text]
+    wrong += [f"{quote.at(quote.first)}: a quote of no file: link to its file above it" for quote in quotes if not quote.file.is_file()]
     if not wrong:
         wrong = [line for quote in quotes for line in (wrong_definitions if quote.file.suffix == ".antt" else wrong_code)(quote)]
         wrong += wrong_choice(quotes)
