@@ -110,7 +110,7 @@ def in_rounds(program: str, memory: str, rounds: int, work: Path) -> None:
     found = re.fullmatch(r"(?:c round (\d+)\n)?c stream 1: \d+ added, \d+ deleted, ended\ns UNSATISFIABLE\n", out)
     number = int((found and found[1]) or 1)
     want((bool(found), number >= rounds, said, status), (True, True, "", 0), f"{out}: the report, the rounds, and the status")
-    want(os.listdir(work / "live"), [f"round-{number + 1}.cnf"], "what is left")
+    want(os.listdir(work / "live"), [f"round-{number + 1}.cnf"], "the files left")
 
 
 def while_it_runs(commands: str, words: str, work: Path) -> None:

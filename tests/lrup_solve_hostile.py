@@ -289,7 +289,7 @@ def no_other(name: str, body: str, words: Sequence[str], text: str, right: str, 
     leaves = name.endswith(", leaves")
     more = {"may_leave": True, "stderr": subprocess.DEVNULL} if leaves else {}
     answer = run_with(body, [word.format(cube=cube) for word in words], text, work, lrupd, **more)
-    want("Traceback" in answer.said, False, f"whether it fails, which says\n{answer.said}")
+    want("Traceback" in answer.said, False, f"whether it crashes:\n{answer.said}")
     want_no_other(answer, right, work / "formula.cnf")
 
 

@@ -233,7 +233,7 @@ def wrong(command: str, cause: str, work: Path) -> None:
     answer = solve(["--time", "60", *by([command]), formula])
     want_answer(answer, 0)
     want([line.startswith("solver 1 is lost: " + cause) for line in answer.comments[:1]], [True], f"the cause in\n{answer.out}")
-    want(answer.comments[1], "no engine is left", "what is said then")
+    want(answer.comments[1], "no engine is left", "the next comment")
     beside_others(command, formula)
 
 
@@ -243,10 +243,10 @@ def nothing_runs(command: str, cause: str, work: Path) -> None:
     answer = solve(by([command]) + [formula])
     said = f"lrup-solve: nothing could run: {cause}"
     want((answer.answers, answer.status, answer.said.count("\n"), answer.said[:len(said)]), ([], 1, 1, said),
-         f"what is said: {answer.said}")
-    want(answer.comments[0].startswith("solver 1 is lost: " + cause), True, f"whether it is told in\n{answer.out}")
+         f"the message: {answer.said}")
+    want(answer.comments[0].startswith("solver 1 is lost: " + cause), True, f"whether a comment says so:\n{answer.out}")
     refused = solve(by([command]) + [written("p cnf 1 1\n", work, "bad")])
-    want((refused.status, "too few clauses" in refused.said), (1, True), f"what is said of a formula that lrupd refuses: {refused.said}")
+    want((refused.status, "too few clauses" in refused.said), (1, True), f"the message on a formula that lrupd refuses: {refused.said}")
     beside_others(command, formula)
 
 
@@ -260,7 +260,7 @@ def missing(work: Path) -> None:
     answer = solve([*by(["sleep 1; " + CADICAL, "no-such-solver %formula %proof"]), given("random 120 5", work)])
     want_answer(answer, 20)
     said = "solver 2 is lost: the solver ended with status 127: "
-    want((answer.comments[0][:len(said)], ", 1 of 2 engines, " in answer.comments[-1]), (said, True), f"what is told in\n{answer.out}")
+    want((answer.comments[0][:len(said)], ", 1 of 2 engines, " in answer.comments[-1]), (said, True), f"the comments in\n{answer.out}")
 
 
 def after_a_model(work: Path) -> None:
@@ -304,7 +304,7 @@ def killed(number: int, whom: str, work: Path) -> None:
         out = running.communicate(timeout=LIMIT)[0]
         none_left(mark)
     if whom != "first":
-        want("solver 1 is lost: " in out and out.endswith("s UNKNOWN\n"), True, f"that the engine is lost in\n{out}")
+        want("solver 1 is lost: " in out and out.endswith("s UNKNOWN\n"), True, f"whether the engine is lost, in\n{out}")
     elif number != signal.SIGKILL:
         want((out.endswith("s UNKNOWN\n"), running.returncode), (True, -number), "the end")
 
@@ -324,11 +324,11 @@ def stopped(work: Path) -> None:
         want(of_process(found["cadical"], "oom_score_adj"), "1000\n", "by which it gives way where memory is short")
         state = lambda: of_process(found["cadical"], "stat").rsplit(")", 1)[-1].split()[0]
         os.kill(found["engine 1"], signal.SIGTSTP)
-        until("the solver stands", lambda: state() == "T")
+        until("the solver is stopped", lambda: state() == "T")
         os.kill(found["engine 1"], signal.SIGCONT)
-        until("the solver goes on", lambda: state() != "T")
+        until("the solver continues", lambda: state() != "T")
         os.kill(found["engine 1"], signal.SIGTSTP)
-        until("the solver stands again", lambda: state() == "T")
+        until("the solver is stopped again", lambda: state() == "T")
         running.terminate()
         running.communicate(timeout=LIMIT)
     none_left(mark)
@@ -340,7 +340,7 @@ def stopped(work: Path) -> None:
 def refused(words: List[str], cause: str, work: Path) -> None:
     cube = written("1 0\n", work, "cube")
     answer = solve([*(word.format(cube=cube) for word in words), example("bmc.cnf")])
-    want((answer.out, answer.said, answer.status), ("", f"lrup-solve: {cause}\n", 1), "what is said")
+    want((answer.out, answer.said, answer.status), ("", f"lrup-solve: {cause}\n", 1), "the messages")
 
 
 def told(work: Path) -> None:
@@ -348,7 +348,7 @@ def told(work: Path) -> None:
     answer = solve(["-v", "-j", "2", *by([CADICAL]), example("bmc.cnf")])
     want_answer(answer, 20)
     commands = [line for line in answer.comments if line.startswith("solver 3: cadical -q ") and "/dev/fd/" in line]
-    want((len(commands), ", 3 engines, " in answer.comments[-1]), (1, True), f"what is told in\n{answer.out}")
+    want((len(commands), ", 3 engines, " in answer.comments[-1]), (1, True), f"the comments in\n{answer.out}")
 
 
 def rows() -> List[Row]:

@@ -267,7 +267,7 @@ def watched() -> Iterator[Named]:
     said = ["0 added, 0 deleted, bad line 1 (spelling)", "0 added, 0 deleted, ended"]
     told = "".join(f"lrupd: stream {number}: {words}\n" for number, words in enumerate(said, 1))
     words = ["--watch", "--serial", "formula", "stream", "/dev/null"]
-    yield "two streams by turns, watched", Wanted(words, 3, report(said, 3), told, files={"formula": FOUR, "stream": "\n"})
+    yield "two streams with --serial, watched", Wanted(words, 3, report(said, 3), told, files={"formula": FOUR, "stream": "\n"})
     for options in WAYS:
         one = Wanted(["--watch", *options.split(), "formula", "two"], 0, report([BOTH_ADDED], 0), files=FILES)
         yield f"one stream, watched {options}", one._replace(err=f"lrupd: stream 1: {BOTH_ADDED}\n")
@@ -327,7 +327,7 @@ def usage(program: str, words: List[str], work: Path) -> None:
     want((out, status), ("", 2), "the output and the status")
     lines = err.splitlines()
     if not lines or lines.count(lines[0]) != 1 or any(line.startswith("lrupd: ") for line in lines):
-        raise Failure(f"wanted words of usage, once, and not\n{err}")
+        raise Failure(f"expected one usage message, but found\n{err}")
 
 
 def help_told(program: str, work: Path) -> None:
@@ -335,7 +335,7 @@ def help_told(program: str, work: Path) -> None:
     err = answered(program, Wanted(["--help"], 2), work).err
     shown = re.findall(r"^ {6}(--.*)\n((?: {10}.*\n)+)", err, re.M)
     want([(re.sub("[<>]", "", head), " ".join(text.split())) for head, text in shown],
-         [(option.head, option.text) for option in tables.options()], "what --help says of the options")
+         [(option.head, option.text) for option in tables.options()], "the options in --help")
     if tables.sizes() not in " ".join(err.split()):
         raise Failure(f"wanted '{tables.sizes()}' in\n{err}")
 

@@ -179,7 +179,7 @@ def goes_on(process: "subprocess.Popen[Any]") -> None:
     """Waits until it has passed its loop several times, each with a wait, or has ended."""
     looping = children_of(process.pid).get("lrup-engines", 0)
     before = waits_of(looping)
-    until("the program goes on", lambda: process.poll() is not None or waits_of(looping) > before + 10)
+    until("the program continues", lambda: process.poll() is not None or waits_of(looping) > before + 10)
 
 
 def is_alive(pid: int) -> bool:
