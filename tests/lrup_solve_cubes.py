@@ -183,12 +183,12 @@ def known() -> List[Row]:
 
 
 def files() -> List[Row]:
-    no_cube = "{path}, line %d: no cube of the formula's literals, as 'a 1 -2 0'"
+    no_cube = "{path}, line %d: not a cube of the formula's literals, like 'a 1 -2 0'"
     rows: List[Row] = [(f"refused {text!r}", refused, text, [], no_cube % line) for text, line in
                        (("a 1 2\n", 1), ("a 1 0\na 117 0\n", 2), ("a x 0\n", 1), ("b 1 0\n", 1), ("a 1 0 2\n", 1), ("a 1 0\n\na 1.5 0\n", 3))]
     rows += [("no file", refused, None, [], "{path}: No such file or directory"),
              ("nothing shared", refused, "a 1 0\n", ["--no-share", "-j", "2"], "--cubes and --no-share: refuted cubes are shared"),
-             ("no engine", refused, "a 1 0\n", ["--solver", "x %formula %proof"], "--cubes without engines: -j says how many")]
+             ("no engine", refused, "a 1 0\n", ["--solver", "x %formula %proof"], "--cubes without engines: -j sets how many")]
     rows += [(f"accepted {text!r}", accepted, text, count) for text, count in
              (("p inccnf\nc a\n1 -2 0\na 1 0\n\na -1 0\n", 2), ("a 1 -1 0\na 1 1 2 0", 1), ("", 0), ("  a 3 -4 0\r\n", 1))]
     return [*rows, ("in the record", of_a_record), ("the example", shown_example)]

@@ -408,8 +408,8 @@ def from_the_current_folder(how: str, work: Path) -> None:
             copy.write(SOLVE.with_name("lrup-engines").read_bytes())
     formula = written(FOUR, work)
     words: List[object] = [work / "bin" / "lrup-solve", *["--engines", f"/proc/self/fd/{place}/lrup-engines"] * (how != "PATH")]
-    no_mpi = "no program that can be run" if how == "PATH" else "cannot find this program"
-    for more, said in ((["--lrupd", PROGRAM, "--core", "core"], "no lrup-trim, neither"), ([], "no lrupd that can be run"),
+    no_mpi = ": cannot be run: " if how == "PATH" else "cannot find this program"
+    for more, said in ((["--lrupd", PROGRAM, "--core", "core"], "no lrup-trim next to this program"), ([], "no lrupd that can be run"),
                        (["--lrupd", PROGRAM, "--mpi", "echo"], no_mpi)):
         done = run([*words, *more, formula], cwd=work, env={**os.environ, "PATH": ":.:bin/..:/usr/bin:/bin:"}, pass_fds=[place])
         want((done.out, said in done.err, done.status), ("", True, 1), f"the message with {more}: {done.err}")

@@ -57,10 +57,10 @@ def kept(words: Sequence[object], formula: Path, work: Path, tested: Optional[Di
     outputs = ["--core", names[0], "--lrat", names[1]] if names else ["--core", core, "--lrat", lrat]
     answer = solve([*outputs, *words], tested=tested, env_more={"TMPDIR": str(files)}, cwd=work, **how)
     want((answer.status, answer.answers, answer.said), (20, [verdict], ""), f"the answer of\n{answer.out[-3000:]}")
-    told = sum(line.endswith(f": lrupd says of it: {verdict}") for line in answer.comments)
+    told = sum(line.endswith(f": lrupd's verdict: {verdict}") for line in answer.comments)
     want(told, 2, f"the number of such comments in\n{answer.out[-3000:]}")
     for path in () if names else (core, lrat):
-        want(f"{path}: lrupd says of it: {verdict}" in answer.comments, True, f"whether a comment names {path}:\n{answer.out[-3000:]}")
+        want(f"{path}: lrupd's verdict: {verdict}" in answer.comments, True, f"whether a comment names {path}:\n{answer.out[-3000:]}")
     clauses = read_formula(formula)
     found = core_of(core, clauses)
     want(any(re.fullmatch(rf"{len(found)} of {len(clauses)} clauses, \d+ lines of \d+", line) for line in answer.comments), True,
@@ -101,7 +101,7 @@ def one_alone(option: str, work: Path) -> None:
     formula = generated("pigeons 5", work)
     answer = solve(["-j", 1, option, "there", formula], cwd=work)
     want((answer.status, answer.answers, (work / "there").exists()), (20, [PROVED], True), "the answer")
-    want("there: lrupd says of it: s UNSATISFIABLE" in answer.comments, True, f"whether a comment says so:\n{answer.out}")
+    want("there: lrupd's verdict: s UNSATISFIABLE" in answer.comments, True, f"whether a comment says so:\n{answer.out}")
 
 
 def no_proof(work: Path) -> None:
@@ -144,11 +144,11 @@ echo "c 1 of 4 clauses, 1 lines of 2"
 echo "c $stream: 1 bytes of 1: lrupd --lines 1 --room 0 $core $stream"
 echo "c $lrat: 1 bytes of 1: lrupd --lines 1 --room 0 $2 $lrat"
 """
-ANOTHERS = [("wrong outputs", {"lrup-trim": WRONG_TRIM}, "lrupd hasn't taken lrat, which is removed"),
+ANOTHERS = [("wrong outputs", {"lrup-trim": WRONG_TRIM}, "lrupd rejects lrat, which is removed"),
             ("no outputs", {"lrup-trim": "echo lrup-trim: no line derives the empty clause >&2; exit 1"},
              "no core and no LRAT text: lrup-trim: no line derives the empty clause"),
             ("lrup-trim killed", {"lrup-trim": "kill -9 $$"}, "no core and no LRAT text: lrup-trim ended by a signal: Killed"),
-            ("no lrup-trim", {}, "no lrup-trim, neither beside this program nor on the PATH: `make trim` makes it")]
+            ("no lrup-trim", {}, "no lrup-trim next to this program or on the PATH: `make trim` builds it")]
 
 
 # Records.
@@ -433,7 +433,7 @@ def strange_outputs(core: str, lrat: str, name: str, assumes: bool, work: Path) 
     verdict = PROVED_UNDER if assumes else PROVED
     answer = kept(words, formula, work, verdict=verdict, names=(core, lrat))
     told = [found[1] for found in (re.search(r": \d+ bytes of \d+: (lrupd .*)", line)
-                                   for line in answer.comments if " says of it: " not in line) if found]
+                                   for line in answer.comments if ": lrupd's verdict: " not in line) if found]
     want(len(told), 1, "the number of printed commands")
     if (core + lrat + name).isprintable() and (core + lrat + name).isascii():
         done = run(["sh", "-c", f"lrupd() {{ {shlex.quote(PROGRAM)} \"$@\"; }}; {told[0]}"], cwd=work)
@@ -452,7 +452,7 @@ def checked_in_rounds(core: str, lrat: str, name: str, work: Path) -> None:
     program = programs_beside({"lrup-trim": trim, "lrup-exact": f"exec {shlex.quote(str(FILTER))} \"$@\""}, work)
     formula = written(generated("pigeons 5", work).read_bytes(), work, name)
     done = run([program, "--lrupd", PROGRAM, "-j", 1, "--core", core, "--lrat", lrat, "--", name], cwd=work)
-    want((done.err, done.status, done.out.count(f": lrupd says of it: {PROVED}\n")), ("", 20, 2), f"the messages in\n{done.out}")
+    want((done.err, done.status, done.out.count(f": lrupd's verdict: {PROVED}\n")), ("", 20, 2), f"the messages in\n{done.out}")
     core_of(work / core, read_formula(formula))
     want(lrat_fault(read_formula(formula), (work / lrat).read_text()), "", "the LRAT checker's message")
 
@@ -582,7 +582,7 @@ def explained(with_record: bool, work: Path) -> None:
         told = [any(word in line for line in answer.comments[at:]) for word in ("  why: ", "  a right chain: ")]
         want(told, [True, True], f"the comments\n{answer.out[-3000:]}")
     else:
-        want("lrup-explain says why, of a record that --proofs DIR keeps" in answer.comments, True, f"the comments\n{answer.out[-3000:]}")
+        want("lrup-explain shows why, if --proofs DIR keeps the streams" in answer.comments, True, f"the comments\n{answer.out[-3000:]}")
 
 
 def rows() -> List[Row]:

@@ -357,7 +357,7 @@ def put_in_place(how: str, work: Path) -> None:
         {"link": lambda: place.symlink_to(mine), "file": lambda: os.link(mine, place)}[how]()
         os.kill(running.children["filter 1"], signal.SIGCONT)
         answer = running.end()
-    want((answer.answers, answer.said, answer.status), ([], f"lrup-solve: cannot write {place}: somebody has put another file there\n", 1),
+    want((answer.answers, answer.said, answer.status), ([], f"lrup-solve: cannot write {place}: replaced by another file\n", 1),
          "the end")
     want(mine.read_text(), "mine", "the file's content")
 

@@ -106,7 +106,7 @@ void Keeping::prepare(const std::string &program) {
     for (const char *path : { options.core, options.lrat })
         if (path && is_there(path)) refuse(std::string(path) + ": exists, not overwritten");
     check_outputs(false);
-    if (find_tool("lrup-trim").empty()) refuse("no lrup-trim, neither beside this program nor on the PATH: `make trim` makes it");
+    if (find_tool("lrup-trim").empty()) refuse("no lrup-trim next to this program or on the PATH: `make trim` builds it");
     folder = Folder::name() + "/kept";
     if (!options.proofs) options.proofs = folder.c_str();
 }
@@ -170,10 +170,10 @@ bool Keeping::wait_for_version(Child &child, std::string &said, const Wait &wait
 // Removes the output if lrupd rejects it.
 std::string Keeping::keep_if_right(const char *path, const Output &output, const Wait &wait) const {
     std::string verdict = verdict_on(output, wait);
-    if (!verdict.empty()) display.tell(quoted(path) + ": lrupd says of it: " + verdict);
+    if (!verdict.empty()) display.tell(quoted(path) + ": lrupd's verdict: " + verdict);
     if (!verdict.empty()) return "";
     unlink(path);
-    return "lrupd hasn't taken " + quoted(path) + ", which is removed";
+    return "lrupd rejects " + quoted(path) + ", which is removed";
 }
 
 std::string Keeping::keep(bool is_proved, const std::string &lost, const Wait &wait) const {
@@ -252,7 +252,7 @@ std::string Keeping::describe(const Checker &checker, uint64_t rounds, const Wai
 void Keeping::explain(const std::string &report, const Wait &wait) const {
     if (!inputs.options.verbose || report.find(", bad line ") == std::string::npos) return;
     std::string program = find_tool("lrup-explain");
-    if (program.empty() || !inputs.options.proofs) return display.tell_more("lrup-explain says why, of a record that --proofs DIR keeps");
+    if (program.empty() || !inputs.options.proofs) return display.tell_more("lrup-explain shows why, if --proofs DIR keeps the streams");
     Child child;
     std::string said;
     run_tool({ program, "--", inputs.formula_path, inputs.options.proofs }, child, said, wait);
