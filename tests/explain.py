@@ -53,7 +53,7 @@ TITLE = re.compile(r"^(?:round \d+, )?stream (\d+) \(.*\), line (\d+): "
 CHAIN = re.compile(r"^  a right chain:((?: \d+)*)(?:    \(if (\d+) isn't deleted\))?$", re.M)
 
 
-def told(done: Ran) -> Faults:
+def faults_in(done: Ran) -> Faults:
     found = {int(stream): (int(line), words) for stream, line, words in TITLE.findall(done.out)}
     want((done.err, done.status), ("", BAD if found else 0), "standard error, and the status")
     want(done.out == "no line is bad\n", not found, f"whether no line is bad, in\n{done.out}")
@@ -223,7 +223,7 @@ def compared(texts: List[str], options: Sequence[str], formula: Path, clauses: i
     """Compares the faults with those of lrupd --serial."""
     paths = [written(text.encode("latin-1"), work, f"s{place}") for place, text in enumerate(texts, 1)]
     done = explain(["--serial", *options, formula, *paths], work, quick)
-    want(told(done), reported(run([PROGRAM, "--serial", *options, formula, *paths])), f"the faults with {options}, in\n{done.out}")
+    want(faults_in(done), reported(run([PROGRAM, "--serial", *options, formula, *paths])), f"the faults with {options}, in\n{done.out}")
     are_mended(done, texts, options, formula, clauses, work)
     return done
 
@@ -252,7 +252,7 @@ def other_hints_alone(seed: int, work: Path) -> None:
     formula = written(found.formula, work)
     for _ in range(4):
         done = compared(texts, [], formula, found.clauses, True, work)
-        if not told(done):
+        if not faults_in(done):
             return
         now = mended(done, texts, found.clauses)
         if not now:
@@ -295,7 +295,7 @@ def with_threads(seed: int, work: Path) -> None:
     formula = written(found.formula, work)
     paths = [written(text, work, f"s{place}") for place, text in enumerate(texts, 1)]
     done = explain(["--tries", TRIES, formula, *paths], work)
-    want(told(done), reported(run([PROGRAM, "--tries", TRIES, formula, *paths])), f"the faults in\n{done.out}")
+    want(faults_in(done), reported(run([PROGRAM, "--tries", TRIES, formula, *paths])), f"the faults in\n{done.out}")
 
 
 def mutant(number: int, work: Path) -> None:
@@ -307,7 +307,7 @@ def mutant(number: int, work: Path) -> None:
     if done.status == 1:    # not a formula
         want((done.out, done.err.count("\n"), said.status), ("", 1, 4), f"the messages\n{done.err}{said}")
         return
-    want(told(done), reported(said), f"the faults in\n{done.out}")
+    want(faults_in(done), reported(said), f"the faults in\n{done.out}")
 
 
 # Faults by hand.
@@ -507,7 +507,7 @@ def fault(streams: Sequence[str], options: str, said: str, work: Path) -> None:
     done = explain(words, work)
     want(done, Ran(said, "", BAD), "the messages")
     lrupds = [word for word in words if word != "--all"]
-    want(told(done), reported(run([PROGRAM, "--tries", TRIES, *lrupds], cwd=work)), "the faults")
+    want(faults_in(done), reported(run([PROGRAM, "--tries", TRIES, *lrupds], cwd=work)), "the faults")
 
 
 def good(words: Sequence[object], work: Path) -> None:
@@ -534,7 +534,7 @@ def in_rounds(number: int, work: Path) -> None:
     done = explain(["--serial", formula, "d"], work)
     words = ["--serial", "--lines", lines, "--room", room, "--rounds", "d", formula, "d/round-1.stream-1", "d/round-1.stream-2"]
     said = run([PROGRAM, *words], cwd=work)
-    want(told(done), reported(said), f"the faults in\n{done.out}{said}")
+    want(faults_in(done), reported(said), f"the faults in\n{done.out}{said}")
     for round_number, stream in re.findall(r"^(?:round (\d+), )?stream (\d+)", done.out, re.M):
         want(f"c round {round_number}\n" in said.out if round_number else "c round" not in said.out, True, f"the round of {stream}")
 
@@ -576,14 +576,14 @@ def emitter(work: Path) -> None:
     texts, clauses, mended_lines = [(work / "stream").read_text()], int(formula.read_text().split()[3]), 0
     for _ in range(200):
         done = compared(texts, [], formula, clauses, True, work)
-        if not told(done):
+        if not faults_in(done):
             break
         found = mended(done, texts, clauses)
         follows = re.search(LEFT_OUT, done.out, re.M)
         if not found or not follows:
             raise Failure(f"the output doesn't say what is left out:\n{done.out}")
         texts, mended_lines = found[2], mended_lines + 1
-    want((told(done), mended_lines > 0), ({}, True), "the faults, and whether lines were mended")
+    want((faults_in(done), mended_lines > 0), ({}, True), "the faults, and whether lines were mended")
     want(run([PROGRAM, formula, written(texts[0], work, "right")]).status, 0, "lrupd's status in the end")
 
 
@@ -635,7 +635,7 @@ def compressed(program: str, work: Path) -> None:
     """A compressed stream: lrupd says that its first byte is misspelled."""
     stream = written(COMPRESSED[program], work, "f1")
     done = explain([written(FOUR, work), "f1"], work)
-    want((told(done), done.out.splitlines()[-1]), ({1: (1, "spelling")}, f"       compressed: unpack it with {program}"), "the messages")
+    want((faults_in(done), done.out.splitlines()[-1]), ({1: (1, "spelling")}, f"       compressed: unpack it with {program}"), "the messages")
 
 
 def help_of(work: Path) -> None:

@@ -145,11 +145,11 @@ def want_added(checked: Checked, count: int, form: str) -> None:
         raise Failure(f"{checked.added()} additions of all rounds, and the proof has {count}")
 
 
-def recorded(name: str, stream: str, memory: str, least: int, most: int, form: str, told: bool, program: Path, work: Path) -> None:
+def recorded(name: str, stream: str, memory: str, least: int, most: int, form: str, is_named: bool, program: Path, work: Path) -> None:
     proof, word, count = proof_of(name, stream, form)
-    words = ["--memory", memory, *(["--format", word] if told else [])]
+    words = ["--memory", memory, *(["--format", word] if is_named else [])]
     checked = check(example(name), proof, words, work, program)
-    if not told and form.startswith("binary") and "--format" in checked.filter_said:
+    if not is_named and form.startswith("binary") and "--format" in checked.filter_said:
         return want((checked.filter_status, checked.status, checked.added()), (1, 3, 0), "the end, where the form isn't clear")
     want_refuted(checked, least, most, work)
     want_added(checked, count, form)
@@ -536,9 +536,9 @@ def ignored(work: Path) -> None:
 def rows_of_recorded() -> Iterator[Row]:
     for name, stream, memory, least, most in RECORDED:
         for form in FORMS:
-            for told in (True, False):
-                yield (f"{stream} in {memory}, {form}" + ", the form detected" * (not told), recorded, name, stream, memory, least,
-                       most, form, told, FILTER)
+            for is_named in (True, False):
+                yield (f"{stream} in {memory}, {form}" + ", the form detected" * (not is_named), recorded, name, stream, memory, least,
+                       most, form, is_named, FILTER)
 
 
 def rows_sanitized() -> Iterator[Row]:

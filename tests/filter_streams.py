@@ -166,15 +166,15 @@ def as_lrat(formula: Path, proof: Path, work: Path) -> None:
         want(found[:len(fault)], fault, "the fault")
 
 
-def in_form(program: str, formula_name: str, name: str, form: str, told: bool, work: Path) -> None:
+def in_form(program: str, formula_name: str, name: str, form: str, is_named: bool, work: Path) -> None:
     """A recorded stream in another form, as the only stream and as the second of three."""
     word, make = FORMS[form]
     formula, stream = example(formula_name), example(name)
     proof = b"".join(make(read_formula(formula), read_steps(stream)))
     for number, count in ((1, 1), (2, 3)):
-        options = ["--stream", str(number), "--streams", str(count)] + ["--format", word] * told
+        options = ["--stream", str(number), "--streams", str(count)] + ["--format", word] * is_named
         text, said, status = exact([*options, formula], proof)
-        if not told and form.startswith("binary") and status == 1 and said.count("\n") == 1 and "--format" in said:
+        if not is_named and form.startswith("binary") and status == 1 and said.count("\n") == 1 and "--format" in said:
             continue        # the form may be unclear
         want((said, status), ("", 0), "the filter's messages")
         check(program, formula, at_place((written(text, work, "exact"), additions_of(stream)), number, count))
@@ -215,7 +215,7 @@ def comes_out_with(program: str, formula: str, proof: Text, lines: str, words: L
     want(found.splitlines()[stream - 1], f"c stream {stream}: {added} added, {deleted} deleted, ended", "the report")
 
 
-def told_twice(work: Path) -> None:
+def clause_twice(work: Path) -> None:
     """Two `o` lines name both copies of a clause that the formula has twice: one is deleted, and
     the other stays."""
     formula = written("p cnf 2 5\n1 2 0\n-1 2 0\n1 -2 0\n-1 -2 0\n2 1 0\n", work)
@@ -461,7 +461,7 @@ def what_comes_out(program: str) -> List[Row]:
          "6 2 0 1 2 0\n9 0 6 3 4 0\n", ["--stream", "2", "--streams", "3"]),
         ("FRAT, an original after an addition", comes_out, FOUR, "o 8 1 2 0\no 6 2 -1 0\na 7 2 0 l 8 6 0\no 5 1 -2 0\no 4 -2 -1 0\n"
          "a 9 0 l 7 5 4 0\n", FIRST + "6 0 5 3 4 0\n", []),
-        ("FRAT, a clause that the formula has twice", told_twice),
+        ("FRAT, a clause that the formula has twice", clause_twice),
         ("binary DRAT, by a number below the formula's last", comes_out, FOUR, b"a" + codes([2]) + b"d" + codes([1, 2]),
          FIRST + "5 d 1 0\n", []),
         ("binary DRAT, a deletion first", comes_out, FOUR, b"d" + codes([-2, 1]) + b"a" + codes([2]), "1 d 3 0\n" + FIRST, []),
@@ -725,9 +725,9 @@ def recorded(program: str) -> List[Row]:
         runs.append((f"{name}, as LRAT", as_lrat, path, proofs / name))
     for formula, name in (("four-clause.cnf", "four-clause.lrup"), ("pigeonhole.cnf", "pigeonhole.lrup"), ("bmc.cnf", "bmc.lrup")):
         for form in FORMS:
-            for told in (True, False):
-                told_how = "" if told else ", the form detected"
-                runs.append((f"{name}, {form}{told_how}", in_form, program, formula, name, form, told))
+            for is_named in (True, False):
+                how_named = "" if is_named else ", the form detected"
+                runs.append((f"{name}, {form}{how_named}", in_form, program, formula, name, form, is_named))
     return runs
 
 

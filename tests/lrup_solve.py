@@ -282,7 +282,7 @@ def stopped(work: Path) -> None:
     want((answer.answers, answer.status), (["s UNKNOWN"], -signal.SIGTERM), "the end")
 
 
-def ended_while_it_stands(work: Path) -> None:
+def ended_while_stopped(work: Path) -> None:
     """Stopped processes are ended, too, and the run removes its files."""
     with Running(generated("pigeons 11", work), work) as running:
         os.kill(running.children["lrup-engines"], signal.SIGSTOP)
@@ -291,7 +291,7 @@ def ended_while_it_stands(work: Path) -> None:
     want((answer.answers, answer.status), (["s UNKNOWN"], -signal.SIGTERM), "the end")
 
 
-def left_alone(work: Path) -> None:
+def front_killed(work: Path) -> None:
     """If the front is killed, the others end, too."""
     with Running(generated("pigeons 11", work), work) as running:
         running.process.kill()
@@ -457,7 +457,7 @@ def miter(name: str, change: Optional[Tuple[str, str]], status: int, work: Path)
 # The documents.
 
 
-def options_told(work: Path) -> None:
+def options_listed(work: Path) -> None:
     """--help and the manual page have the same options."""
     summary = solve(["--help"])
     want((summary.said, summary.status), ("", 0), "the output of --help")
@@ -539,7 +539,7 @@ def what_happens() -> List[Row]:
             ("filter 1 killed", killed, ["filter 1"], kill, 20, "engine 1 is lost"),
             ("filter 2 killed", killed, ["filter 2"], term, 20, "engine 2 is lost"),
             ("an engine and a filter killed", killed, ["engine 1", "filter 2"], kill, 0, "no engine is left"),
-            ("the front killed", left_alone), ("stopped", stopped), ("ended while it is stopped", ended_while_it_stands),
+            ("the front killed", front_killed), ("stopped", stopped), ("ended while it is stopped", ended_while_stopped),
             ("a terminal that stops", terminal_that_stops), ("a large formula", large_formula, []),
             ("a large formula, and the time", large_formula, ["--time", "0.3"]),
             ("who gives way", gives_way), ("time", time_is_up),
@@ -567,7 +567,7 @@ def others_formulas() -> List[Row]:
             ("of adders, one wrong", miter, "adders", ("(a[k] & b[k]) |", "(a[k] | b[k]) &"), 10),
             ("of multipliers, one wrong", miter, "multipliers", (" + row5", ""), 10),
             ("of sorters, one wrong", miter, "sorters", ("exchange second(b,", "exchange second(a,"), 10),
-            ("options told", options_told)]
+            ("options listed", options_listed)]
 
 
 def searches() -> List[Row]:

@@ -119,7 +119,7 @@ def gaps(work: Path) -> None:
     want_answer(solve([*by([with_gaps(formula, work)]), formula]), 20)
 
 
-def goes_on_sharing(work: Path) -> None:
+def small_outbox(work: Path) -> None:
     """Engines beside a solver, which reads no outbox: more goes through a small outbox than it
     holds, three words or more each. The proof is longer than a pipe, so that engines don't get
     ahead of their filters, which are slow in a build for tests."""
@@ -274,7 +274,7 @@ def after_a_model(work: Path) -> None:
     want_answer(solve([*by([MODEL.format("-2 0") + " # %formula %proof", CADICAL]), formula]), 10, formula)
 
 
-def standing(command: str, work: Path) -> None:
+def silent_solver(command: str, work: Path) -> None:
     """It neither reads nor answers, for longer than the run. Alone time is up; beside a good one
     that answers. It is ended, with its children."""
     mark, formula = marked(work), given("random 120 5", work)
@@ -343,7 +343,7 @@ def refused(words: List[str], cause: str, work: Path) -> None:
     want((answer.out, answer.said, answer.status), ("", f"lrup-solve: {cause}\n", 1), "the messages")
 
 
-def told(work: Path) -> None:
+def summary_counts(work: Path) -> None:
     """-v shows the command; the summary counts engines and solvers."""
     answer = solve(["-v", "-j", "2", *by([CADICAL]), example("bmc.cnf")])
     want_answer(answer, 20)
@@ -360,15 +360,15 @@ def rows() -> List[Row]:
             found += [(f"{title}, {name}", answers_of, name, status, commands, words) for name, status in LARGER]
         found.append((f"{title} in rounds", in_rounds, "random 150 1", commands, []))
     found += [("rounds beside engines", in_rounds, "random 170 4", [CADICAL, CRYPTOMINISAT], ["-j", "2"]),
-              ("rounds of the example solver", in_rounds, "random 150 1", [], []), ("names", names), ("told", told),
+              ("rounds of the example solver", in_rounds, "random 150 1", [], []), ("names", names), ("the summary", summary_counts),
               ("missing", missing), ("sealed", sealed)]
-    found += [("gaps", gaps), ("outboxes beside a solver", goes_on_sharing)]
+    found += [("gaps", gaps), ("outboxes beside a solver", small_outbox)]
     found += [(f"late {form}", late, form) for form in ("DRAT", "DRUP", "FRAT", "LRAT", "PicoSAT")]
     found += [(f"the example solver, {name}", by_example, name, status) for name, status in LARGER]
     found += [(f"random {seed}", randomly, seed) for seed in range(60)]
     found += [(f"wrong: {command}", wrong, command, cause) for command, cause in WRONG]
     found += [(f"nothing runs: {command}", nothing_runs, command, cause) for command, cause in NOTHING]
-    found += [(f"standing: {command}", standing, command) for command in STANDING]
+    found += [(f"silent: {command}", silent_solver, command) for command in STANDING]
     found += [("models", after_a_model), ("in the background", background), ("stopped", stopped)]
     found += [(f"{whom} ended by {number}", killed, number, whom) for whom in ("first", "engine 1", "cadical")
               for number in (signal.SIGTERM, signal.SIGKILL)]

@@ -330,7 +330,7 @@ def usage(program: str, words: List[str], work: Path) -> None:
         raise Failure(f"expected one usage message, but found\n{err}")
 
 
-def help_told(program: str, work: Path) -> None:
+def help_text(program: str, work: Path) -> None:
     """Options and sizes, in the words of the manual page, except for line breaks."""
     err = answered(program, Wanted(["--help"], 2), work).err
     shown = re.findall(r"^ {6}(--.*)\n((?: {10}.*\n)+)", err, re.M)
@@ -348,7 +348,7 @@ def many_watched(program: str, work: Path) -> None:
     want((out, sorted(err.splitlines()), status), (plain.out, sorted(told), 3), "the answer")
 
 
-def told_by_lines(program: str, words: Words, lines: int, work: Path) -> None:
+def watched_line_by_line(program: str, words: Words, lines: int, work: Path) -> None:
     """Each line of --watch is one write: a packet socket keeps writes apart."""
     for name, text in {**FILES, "d/round-1.stream-1": ONE, "d/round-2.stream-1": "6 0 5 3 4 0\n"}.items():
         written(text, work, name)
@@ -368,10 +368,10 @@ def rows(program: str) -> Iterator[Row]:
         yield name, with_memory, answers, program, wanted
     for name, words in USAGE:
         yield name, usage, program, words
-    yield "the words of help", help_told, program
+    yield "the words of help", help_text, program
     yield "64 streams, watched", many_watched, program
     for words, lines in TOLD:
-        yield f"a write for each line of {' '.join(words)}", told_by_lines, program, words, lines
+        yield f"a write for each line of {' '.join(words)}", watched_line_by_line, program, words, lines
 
 
 def main() -> int:

@@ -630,7 +630,7 @@ def killed(program: str, way: List[str], work: Path) -> None:
 # Reports during the run.
 
 
-def told(texts: Texts, out: str, lines: Sequence[str], program: str, way: List[str], work: Path) -> None:
+def watched_rounds(texts: Texts, out: str, lines: Sequence[str], program: str, way: List[str], work: Path) -> None:
     """With --watch standard error has these lines; the streams of a round may end in any order."""
     lay(texts, work)
     found = run([program, "--watch", *TRIES.split(), *way, *first_words(texts)], cwd=work)
@@ -709,7 +709,7 @@ def special_rows(way: List[str]) -> Iterator[Row]:
     for proof, literals in (ONE, (7, 6)), (TWO, (7, 6)):
         lines = [f"lrupd: round {number}: 4 clauses, {count} literals, paused" for number, count in zip((2, 3), literals)]
         texts, said, _ = proof
-        yield (f"watched, {len(texts[0])}", told, texts, last(3, said[2], 0),
+        yield (f"watched, {len(texts[0])}", watched_rounds, texts, last(3, said[2], 0),
                [*lines_of(said[0]), lines[0], *lines_of(said[1]), lines[1], *lines_of(said[2])])
     yield "paused", pause
     yield "200 rounds", many, 200, "ulimit -n 32", ""

@@ -400,7 +400,7 @@ FAULTS = [("spelling", [FIRST + "6  0 5 3 4 0\n"], ["f1, line 2: spelling"]), ("
           ("an import without an end", ["4 i 1\n"], ["f1, line 1: spelling"])]
 
 
-def goes_on_beside_a_fault(work: Path) -> None:
+def other_stream_faulty(work: Path) -> None:
     """Another stream has the empty clause."""
     for name, text in (("f1", "5 1 0 9 0\n"), ("f2", "6 2 0 1 2 0\n8 0 6 3 4 0\n")):
         written(text, work, name)
@@ -556,7 +556,7 @@ def rows() -> List[Row]:
     found += [(f"two halves, {count} solvers, {rounds} rounds", two_halves, count, rounds) for count, rounds in ((1, 0), (3, 0), (2, 4))]
     found += [(f"{output} in rows", longer_than_a_row, output, name) for output, name in (("stream", "core"), ("lrat", "bmc.cnf"))]
     found += [(f"fault: {name}", fault, streams, said) for name, streams, said in FAULTS]
-    found += [("beside a fault", goes_on_beside_a_fault), ("no place", no_place), ("a file that is cut", cut)]
+    found += [("beside a fault", other_stream_faulty), ("no place", no_place), ("a file that is cut", cut)]
     found += [("help", help_of), ("digests", digests)]
     if IS_SANITIZED:
         found += [(f"rewritten {seed}", while_rewritten, seed) for seed in range(4)]
