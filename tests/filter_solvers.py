@@ -103,7 +103,7 @@ def beside(program: str, commands: str, words: str, work: Path) -> None:
 
 
 def in_rounds(program: str, memory: str, rounds: int, work: Path) -> None:
-    """In at least that many rounds."""
+    """The proof is checked in at least that many rounds."""
     wanted_on_path(IN_ROUNDS)
     make_formula("random 180 3", work)
     out, said, status = in_bash(program, IN_ROUNDS.replace("exact --rounds live", f"exact --rounds live --memory {memory}"), work)

@@ -200,7 +200,8 @@ def help_of(work: Path) -> None:
 
 
 def anywhere(work: Path) -> None:
-    """By a link, from another folder, with names that begin with a minus."""
+    """The command works through a link, in another folder, with file names that begin with a
+    minus."""
     link = work / "link"
     link.symlink_to(SOLVE.with_name("lrup-check"))
     shutil.copy(written(XOR, work), work / "-formula")

@@ -268,7 +268,7 @@ def ignored(number: int, work: Path) -> None:
 
 
 def stopped(work: Path) -> None:
-    """As by Ctrl-Z: engines and filters stop with the front, which has its own process group, and
+    """Ctrl-Z stops engines and filters with the front, which has its own process group, and they
     continue with it."""
     with Running(generated("pigeons 11", work), work) as running:
         pids = [running.process.pid, *(running.children[name] for name in ("lrup-engines", "engine 1", "filter 2"))]

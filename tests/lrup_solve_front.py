@@ -38,7 +38,8 @@ def hostile(body: str, wanted: str, words: List[str], text: str, work: Path) -> 
 
 
 def by_pipe(work: Path) -> None:
-    """It can't write to the sealed copy of a formula, which would then be refuted."""
+    """The program can't write to the sealed copy of a formula from a pipe, to make it
+    unsatisfiable."""
     body = """files = f"/proc/{front}/fd/"
 for path in [formula, *(files + name for name in os.listdir(files) if "memfd:lrup-solve" in os.readlink(files + name))]:
     try:
@@ -66,8 +67,8 @@ def assuming(literals: str, body: str, wanted: str, status: int, work: Path) -> 
 
 
 def dies_at_each_moment(number: int, work: Path) -> None:
-    """On its way to a verdict it dies after each of its steps, by a signal, with a status, or while
-    others hold its files open."""
+    """The program dies after each of its steps towards a verdict, by a signal, with a status, or
+    while others hold its files open."""
     steps = ["told('probe')", "stream(1, %r)" % PROOF[:14], "stream(2, '')", "check('2 10 10 1000000')",
              "stream(1, %r)" % PROOF, "told('lrupd')"]
     for end in ("os.kill(os.getpid(), 9)", "os.kill(os.getpid(), 11)", "os._exit(0)", "os._exit(1)", "os._exit(20)",
@@ -149,8 +150,8 @@ def refused_formula(work: Path) -> None:
 
 
 def signalled(number: int, body: str, whole_group: bool, work: Path) -> None:
-    """It ignores what it gets, and the run still ends. The front, or its process group, gets the
-    signal."""
+    """The front, or its process group, gets a signal. The program ignores it, and the run still
+    ends."""
     formula, files, mark = written(FOUR, work), work / "temporary", marked(work)
     files.mkdir()
     with started([SOLVE, "--lrupd", PROGRAM, "--engines", program(f"open({str(work / 'begun')!r}, 'w')\n" + body, work), formula],

@@ -359,7 +359,7 @@ def another_in_place(ends: int, work: Path) -> None:
 
 
 def without_processes(work: Path) -> None:
-    """As another user, with this limit on processes: nothing is left, whichever process can't be
+    """With a limit on processes, as another user, no file is left, no matter which process can't be
     started."""
     (work / "bin").mkdir()
     for path in (SOLVE, SOLVE.with_name("lrup-engines"), Path(PROGRAM)):
@@ -461,7 +461,8 @@ def refused(words: Sequence[object], cause: str, work: Path) -> None:
 
 
 def refused_by_lrupd(text: Text, words: List[str], known: str, work: Path) -> None:
-    """In lrupd's words, with the file's name and details; also for an input from a pipe."""
+    """The message has lrupd's words, with the file's name and details; also for an input from a
+    pipe."""
     formula = written(text, work, "a formula")
     words = [word.format(work=work) for word in words]
     for name, literals in (("bad", "-2 x 0\n"), ("beyond", "-7 0\n"), ("spaces", "1  2 0\n"), ("open", "1 2\n"),

@@ -228,7 +228,7 @@ STANDING = ["sleep 1000 # %formula %proof", "sleep 1000 > %proof # %formula", "y
 
 
 def wrong(command: str, cause: str, work: Path) -> None:
-    """Alone it gives no verdict, but the reason; beside a good one that one answers."""
+    """A wrong solver alone gives no verdict, but the reason; with a good one, that one answers."""
     formula = given("random 120 5", work)
     answer = solve(["--time", "60", *by([command]), formula])
     want_answer(answer, 0)
@@ -238,7 +238,7 @@ def wrong(command: str, cause: str, work: Path) -> None:
 
 
 def nothing_runs(command: str, cause: str, work: Path) -> None:
-    """It ends at its start: alone that is an error, not an answer."""
+    """If the only solver ends at its start, that is an error and not an answer."""
     formula = given("random 120 5", work)
     answer = solve(by([command]) + [formula])
     said = f"lrup-solve: nothing could run: {cause}"
@@ -275,8 +275,8 @@ def after_a_model(work: Path) -> None:
 
 
 def silent_solver(command: str, work: Path) -> None:
-    """It neither reads nor answers, for longer than the run. Alone time is up; beside a good one
-    that answers. It is ended, with its children."""
+    """A solver neither reads nor answers until the run ends. Alone, time is up; with a good one,
+    that one answers. The silent one is ended, with its children."""
     mark, formula = marked(work), given("random 120 5", work)
     answer = solve(["--time", "1", *by([command]), formula])
     want((answer.answers, answer.comments[0], answer.status), (["s UNKNOWN"], "time is up", 0), "the answer")

@@ -300,7 +300,7 @@ def largest() -> Iterator[Named]:
 
 
 def little_memory() -> Iterator[Named]:
-    """In a small address space, with stacks of 8 MB."""
+    """The program runs in a small address space, with stacks of 8 MB."""
     within = 'ulimit -s 8192 && ulimit -v {} && exec "$@"'
     yield refused("out of memory", 6, "--room", "268000000", "formula", "one", shell=within.format(1000000))
     yield refused("worker 1 not started", 6, "--lines", "1", "--room", "1", "formula", "one", shell=within.format(9000))

@@ -157,7 +157,7 @@ def formulas() -> Iterator[Named]:
 
 
 def assumptions() -> Iterator[Named]:
-    """They hold in each round; a round that ends under them is the last."""
+    """Assumptions hold in each round; a round that ends under them is the last."""
     def under(name: str, cube: str, *more: Any, **most: Any) -> Iterator[Named]:
         yield from rounds(f"under {name}", *more, options=f"{TRIES} --assume cube", others={"cube": cube}, **most)
 
@@ -458,7 +458,7 @@ def little_memory() -> Iterator[Named]:
 
 
 def want_checkpoints(count: int, work: Path) -> None:
-    """That many rounds have created one."""
+    """Each of these rounds has created a checkpoint."""
     want(sorted((work / "d").glob("*.cnf")), [work / saved_name(number) for number in range(2, count + 2)], "the checkpoints")
 
 

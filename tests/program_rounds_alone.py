@@ -89,8 +89,8 @@ class Writer:
         self.lines: List[str] = []
 
     def resolvent(self) -> Optional[Tuple[Clause, List[int]]]:
-        """Of two clauses that clash in one variable: the first becomes unit, and the second the
-        conflict. A short one of several."""
+        """A short resolvent of two clauses that clash in one variable: the first clause becomes
+        unit, and the second is the conflict."""
         found: List[Tuple[Clause, List[int]]] = []
         for _ in range(50):
             first, second = self.numbers.sample(sorted(self.clauses), 2)

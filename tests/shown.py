@@ -133,7 +133,8 @@ def refused(script: str, words: Sequence[str], given: bytes, said: str, status: 
 
 
 def wrong_answers(script: str, words: Sequence[str], what: str) -> Iterator[Row]:
-    """To a question that has an assignment. One that is too short isn't for its formula."""
+    """The scripts refuse these answers to a satisfiable question; one is too short for its
+    formula."""
     name, cause = Path(script).name, "the answer isn't s SATISFIABLE with an assignment of this formula"
     for given in (b"s UNSATISFIABLE\n", b"", b"c time is up\ns UNKNOWN\n", b"\0garbage\n\377", b"s SATISFIABLE\nv 1 2 0\n"):
         yield f"{name}, {given!r}", refused, script, ["--show", *words], given, f"{name}: no {what}: {cause}", 1

@@ -425,8 +425,8 @@ BAD_ROUNDS += [(f"sizes '{text[:9]}'", {**ROUND, "round-2.sizes": text}, "d/roun
 
 
 def digests(work: Path) -> None:
-    """Of formulas of each length up to some blocks, against expected values; another formula is
-    refused."""
+    """Formulas of each length up to some blocks are compared with the record's SHA-256; another
+    formula is refused."""
     for name, text in ROUND.items():
         written(text, work, f"d/{name}")
     for length in [*range(9, 75), 140, 65535, 65536, 65537]:
@@ -482,7 +482,7 @@ def cut(work: Path) -> None:
 
 
 def while_rewritten(seed: int, work: Path) -> None:
-    """It writes all or nothing."""
+    """Files are rewritten meanwhile: lrup-trim writes all outputs or none."""
     command = lambda number, folder: [SANITIZED_TRIM, *outputs_of(folder),
                                       *["--re-hint"] * (number % 4 == 3)]
     for status, folder in withstands(command, (0, 1), 15, seed, work):
