@@ -34,7 +34,7 @@ def commands(target: str, words: Sequence[str], env: Dict[str, str]) -> List[Lis
     """The compilers' commands that make would run; nothing is built so far."""
     places = ["OBJECTS=out/none", "SOLVER=out/none/solver", "EXACT=out/none/exact", "TRIM=out/none/trim", "SOLVE=out/none/solve"]
     done = run(["make", "-n", "-C", ROOT, target, *places, *words], env=clean(env))
-    want((done.err, done.status), ("", 0), "what make says")
+    want((done.err, done.status), ("", 0), "make's output")
     found = [re.split(r" && |; ", line) for line in done.out.splitlines()]
     return [words for line in found for part in line for words in [part.split()] if " -o " in part and words]
 
@@ -44,7 +44,7 @@ def with_flags(target: str, by_environment: bool, work: Path) -> None:
     words, env = [f"{name}={value}" for name, value in WORDS.items()], {}
     found = commands(target, *(([], WORDS) if by_environment else (words, env)))
     compilers = {word for line in found for word in line[:2] if "=" not in word and not word.startswith("-")}
-    want(compilers, set(BUILDS[target]), "what it is compiled by")
+    want(compilers, set(BUILDS[target]), "the compilers")
     for line in found:
         is_c, links = line[0] == "one-cc", "-c" not in line
         flags = {word for word in line if word in WORDS.values()} - {"one-cc", "one-cxx"}
@@ -66,7 +66,7 @@ def compiled(work: Path, words: Sequence[str] = ()) -> Set[str]:
     files = lambda: {path: path.stat().st_mtime_ns for path in [*work.rglob("*.o"), *work.rglob("exact/out/exact")]}
     before = files()
     done = run(["make", "-s", "-j2", "exact", "CFLAGS=-O0", *words], cwd=work, env=clean({}))
-    want((done.out, done.err, done.status), ("", "", 0), "what make says")
+    want((done.out, done.err, done.status), ("", "", 0), "make's output")
     return {path.stem for path, time in files().items() if before.get(path) != time}
 
 
@@ -86,17 +86,17 @@ def again(work: Path) -> None:
     for name in ("Makefile", "VERSION"):
         shutil.copy(ROOT / name, work)
     every = {path.stem for path in folder.glob("*.c")} | {"exact"}
-    want((compiled(work), compiled(work)), (every, set()), "what is compiled at first, and then")
+    want((compiled(work), compiled(work)), (every, set()), "the files compiled at first, and then")
     for name in ("hints.h", "errors.h", "lemmas.h"):
         (folder / name).touch()
-        want(compiled(work), including(name, folder) | {"exact"}, f"what a change of {name} renews")
+        want(compiled(work), including(name, folder) | {"exact"}, f"the files recompiled after a change of {name}")
     (folder / "words.c").touch()
-    want(compiled(work), {"words", "exact"}, "what a change of a source renews")
+    want(compiled(work), {"words", "exact"}, "the files recompiled after a change of a source")
     (folder / "lemmas.h").rename(folder / "other.h")
     for path in folder.glob("*.c"):
         path.write_text(path.read_text().replace('"lemmas.h"', '"other.h"'))
-    want(compiled(work), every, "what is compiled where a header has another name")
-    want((compiled(work, ["CPPFLAGS=-DOTHER"]), compiled(work, ["CPPFLAGS=-DOTHER"])), (every, set()), "what other flags renew")
+    want(compiled(work), every, "the files compiled after a header is renamed")
+    want((compiled(work, ["CPPFLAGS=-DOTHER"]), compiled(work, ["CPPFLAGS=-DOTHER"])), (every, set()), "the files recompiled with other flags")
     want(compiled(work, ["CPPFLAGS=-DOTHER", "LDLIBS=-lm"]) >= {"exact"}, True, "whether other libraries are linked")
 
 
@@ -107,9 +107,9 @@ def installed(work: Path) -> None:
     program.chmod(0o755)
     words = ["RT=none", f"DESTDIR={work}/a place", "PREFIX=/usr"]
     make = lambda *more: run(["make", "-s", "-C", ROOT, *more, *words], env=clean({}))
-    want((make("-n", "install", f"PROGRAM={program}").status, (work / "a place").exists()), (0, False), "what make -n install leaves")
+    want((make("-n", "install", f"PROGRAM={program}").status, (work / "a place").exists()), (0, False), "the status of make -n install, and whether it makes the folder")
     done = make("install", f"PROGRAM={program}")
-    want((done.err, done.status), ("", 0), "what make install says")
+    want((done.err, done.status), ("", 0), "the output of make install")
     files = {str(path.relative_to(work / "a place")) for path in (work / "a place").rglob("*") if path.is_file()}
     solving = {"lrup-solve", "lrup-check"} if "isn't installed" not in done.out else set()
     names = {"lrupd", "lrup-chain", "lrup-exact", "lrup-trim", "lrup-explain"} | solving
@@ -119,10 +119,10 @@ def installed(work: Path) -> None:
     text = (work / "a place" / "usr/share/bash-completion/completions/lrupd").read_text()
     want('-W "--help --lines"' in text, True, f"the options that are completed: {text}")
     done = run([work / "a place" / "usr/bin/lrup-chain", "--version"])
-    want((done.err, done.status), (f"lrup-chain {(ROOT / 'VERSION').read_text().strip()}\n", 2), "what lrup-chain --version says")
-    want((make("uninstall").err, [path for path in (work / "a place").rglob("*") if path.is_file()]), ("", []), "what is left")
+    want((done.err, done.status), (f"lrup-chain {(ROOT / 'VERSION').read_text().strip()}\n", 2), "the output of lrup-chain --version")
+    want((make("uninstall").err, [path for path in (work / "a place").rglob("*") if path.is_file()]), ("", []), "the files left")
     done = make("install", f"PROGRAM={work}/none")
-    want((done.status, f"{work}/none isn't built" in done.out), (2, True), f"what is said: {done.out}")
+    want((done.status, f"{work}/none isn't built" in done.out), (2, True), f"the message: {done.out}")
 
 
 def packaged(work: Path) -> None:
@@ -131,11 +131,11 @@ def packaged(work: Path) -> None:
         needs(command)
     place = work / "package"
     done = run(["make", "-s", "-C", ROOT, "install", "RT=none", f"PROGRAM={FILTER}", f"DESTDIR={place}", "PREFIX=/usr"], env=clean({}))
-    want((done.err, done.status), ("", 0), "what make install says")
+    want((done.err, done.status), ("", 0), "the output of make install")
     want(run(["sh", ROOT / "tools" / "deb.sh", place, "1"]).status, 0, "the status of deb.sh")
     pages = [*(place / "usr/share/doc/lrupd").glob("**/*.md")]
     links = [(page, target) for page in pages for target in re.findall(r"\]\(([^)#]+)", page.read_text())]
-    want(len(links) > 10, True, f"whether {len(links)} links are many")
+    want(len(links) > 10, True, f"whether {len(links)} links are enough")
     want([(page.name, target) for page, target in links if not target.startswith("http") and not (page.parent / target).exists()], [],
          "links that lead nowhere")
 

@@ -45,7 +45,7 @@ class Chained(NamedTuple):
 
 def chain(program: str, count: int, formula: Path, streams: Sequence[Path], options: List[str], work: Path) -> Chained:
     cut = run([sys.executable, CHAIN, count, formula, work / "rounds", *streams])
-    want(cut, Ran("", "", 0), "what chain.py says")
+    want(cut, Ran("", "", 0), "chain.py's output")
     done = run([LRUP_CHAIN, "--lrupd", program, "--watch", *options, formula, work / "rounds"])
     ends = watched_ends(done.err)
     return Chained(len(ends) // len(streams), done.out.splitlines(), ends, unwatched(done.err), done.status)
@@ -119,7 +119,7 @@ REFUSED = {
 def refused(words: List[str], formula: str, stream: str, said: str, work: Path) -> None:
     for name, text in (("formula", formula), ("stream", stream)):
         (work / name).write_text(text, errors="surrogateescape")
-    want((run([sys.executable, CHAIN, *words], cwd=work), (work / "d").exists()), (Ran("", said, 1), False), "what chain.py says")
+    want((run([sys.executable, CHAIN, *words], cwd=work), (work / "d").exists()), (Ran("", said, 1), False), "chain.py's output")
 
 
 def under_assumptions(program: str, work: Path) -> None:

@@ -118,7 +118,7 @@ def imported(program: str, solver: List[str], words: str, answer: int, streams: 
         command = [*solver[:-1], str(seed), "--streams", str(streams + 1)]
         path, files, said, (ended, status) = record(command, words, answer, streams, work)
         imports = [line for file in files for line in file.read_text().splitlines() if " i " in line]
-        want(f"c {len(imports)} imports" in said.splitlines(), True, f"whether {len(imports)} imports are told in\n{said}")
+        want(f"c {len(imports)} imports" in said.splitlines(), True, f"whether the output has {len(imports)} imports:\n{said}")
         if imports:
             break
     want(len(imports) > 0, True, "whether there are imports")

@@ -53,9 +53,9 @@ TITLE = re.compile(r"^(?:round \d+, )?stream (\d+) \(.*\), line (\d+): "
 CHAIN = re.compile(r"^  a right chain:((?: \d+)*)(?:    \(if (\d+) isn't deleted\))?$", re.M)
 
 
-def told(done: Ran) -> Faults:
+def faults_in(done: Ran) -> Faults:
     found = {int(stream): (int(line), words) for stream, line, words in TITLE.findall(done.out)}
-    want((done.err, done.status), ("", BAD if found else 0), "what is said on standard error, and the status")
+    want((done.err, done.status), ("", BAD if found else 0), "standard error, and the status")
     want(done.out == "no line is bad\n", not found, f"whether no line is bad, in\n{done.out}")
     return found
 
@@ -223,7 +223,7 @@ def compared(texts: List[str], options: Sequence[str], formula: Path, clauses: i
     """Compares the faults with those of lrupd --serial."""
     paths = [written(text.encode("latin-1"), work, f"s{place}") for place, text in enumerate(texts, 1)]
     done = explain(["--serial", *options, formula, *paths], work, quick)
-    want(told(done), reported(run([PROGRAM, "--serial", *options, formula, *paths])), f"of {options} the faults in\n{done.out}")
+    want(faults_in(done), reported(run([PROGRAM, "--serial", *options, formula, *paths])), f"the faults with {options}, in\n{done.out}")
     are_mended(done, texts, options, formula, clauses, work)
     return done
 
@@ -252,7 +252,7 @@ def other_hints_alone(seed: int, work: Path) -> None:
     formula = written(found.formula, work)
     for _ in range(4):
         done = compared(texts, [], formula, found.clauses, True, work)
-        if not told(done):
+        if not faults_in(done):
             return
         now = mended(done, texts, found.clauses)
         if not now:
@@ -295,7 +295,7 @@ def with_threads(seed: int, work: Path) -> None:
     formula = written(found.formula, work)
     paths = [written(text, work, f"s{place}") for place, text in enumerate(texts, 1)]
     done = explain(["--tries", TRIES, formula, *paths], work)
-    want(told(done), reported(run([PROGRAM, "--tries", TRIES, formula, *paths])), f"the faults in\n{done.out}")
+    want(faults_in(done), reported(run([PROGRAM, "--tries", TRIES, formula, *paths])), f"the faults in\n{done.out}")
 
 
 def mutant(number: int, work: Path) -> None:
@@ -305,9 +305,9 @@ def mutant(number: int, work: Path) -> None:
     said = run([PROGRAM, "--serial", found.formula, *names])
     done = explain(["--serial", found.formula, *names], work, number % QUICK != 0)
     if done.status == 1:    # not a formula
-        want((done.out, done.err.count("\n"), said.status), ("", 1, 4), f"what is said\n{done.err}{said}")
+        want((done.out, done.err.count("\n"), said.status), ("", 1, 4), f"the messages\n{done.err}{said}")
         return
-    want(told(done), reported(said), f"the faults in\n{done.out}")
+    want(faults_in(done), reported(said), f"the faults in\n{done.out}")
 
 
 # Faults by hand.
@@ -380,7 +380,7 @@ FAULTS = [
      "       --lines 5 would be enough\n" + RIGHT),
     ("missing, of another one", ["5 2 0 1 8 0\n", "6 2 0 1 2 0\n"], "", "stream 1 (f1), line 1: missing 8\n" + ONE_FALSE
      + row(8, "BAD", "-", "stream 2, no such line so far") + "  why: 8 is of stream 2, and none of its lines derives it\n" + RIGHT),
-    ("missing by turns", ["5 2 0 1 6 0\n", "6 2 0 1 2 0\n"], "--serial", "stream 1 (f1), line 1: missing 6\n" + ONE_FALSE
+    ("missing with --serial", ["5 2 0 1 6 0\n", "6 2 0 1 2 0\n"], "--serial", "stream 1 (f1), line 1: missing 6\n" + ONE_FALSE
      + row(6, "BAD", "-", "stream 2, no such line so far")
      + "  why: 6 is of stream 2, which derives it in its line 1, and with --serial only later: threads wait for it\n" + RIGHT),
     ("a circle", ["5 2 0 6 0\n", "6 2 0 7 0\n", "7 2 0 6 0\n"], "",
@@ -389,7 +389,7 @@ FAULTS = [
      + "  why: 7 is of stream 3, whose line 1 waits for 6, in a circle that comes back to this line\n" + RIGHT
      + "stream 1 (f1), line 1: missing 6, of stream 2, whose line 1 is bad\n"
      "stream 3 (f3), line 1: missing 6, of stream 2, whose line 1 is bad\n"),
-    ("what comes of another fault", ["5 0 6 8 0\n", "6 2 0 1 0\n8 -2 0 3 4 0\n", "7 x\n"], "",
+    ("a consequence of another fault", ["5 0 6 8 0\n", "6 2 0 1 0\n8 -2 0 3 4 0\n", "7 x\n"], "",
      "stream 2 (f2), line 1: no conflict\n" + ONE_FALSE + UNENDED
      + "       all literals are false in 2 (clause 2 of the formula), which isn't a hint of the line\n" + RIGHT
      + "stream 1 (f1), line 1: missing 6, of stream 2, whose line 1 is bad\nstream 3 (f3), line 1: spelling, by itself: --all says why\n"),
@@ -460,8 +460,8 @@ def form(text: str, words: str, why: str, shown: str, place: int, work: Path) ->
     shown, caret = shown, " " * shown.index("^") + f"^ byte {place}"
     wanted = f"stream 1 (f1), line 1: {words}\n  why: {why}\n      {shown.replace('^', '')}\n      {caret}\n"
     done = explain([written(FOUR, work), stream.name], work)
-    want((done.out[:len(wanted)], done.err, done.status), (wanted, "", BAD), "what is said")
-    want(reported(run([PROGRAM, written(FOUR, work), stream])), {1: (1, words)}, "what lrupd says")
+    want((done.out[:len(wanted)], done.err, done.status), (wanted, "", BAD), "the messages")
+    want(reported(run([PROGRAM, written(FOUR, work), stream])), {1: (1, words)}, "lrupd's answer")
 
 
 PLACE = "expected {1}, found {0}"
@@ -505,13 +505,13 @@ def fault(streams: Sequence[str], options: str, said: str, work: Path) -> None:
     names = [written(text, work, f"f{number}").name for number, text in enumerate(streams, 1)]
     words = [*options.split(), written(FOUR, work), *names]
     done = explain(words, work)
-    want(done, Ran(said, "", BAD), "what is said")
+    want(done, Ran(said, "", BAD), "the messages")
     lrupds = [word for word in words if word != "--all"]
-    want(told(done), reported(run([PROGRAM, "--tries", TRIES, *lrupds], cwd=work)), "the faults")
+    want(faults_in(done), reported(run([PROGRAM, "--tries", TRIES, *lrupds], cwd=work)), "the faults")
 
 
 def good(words: Sequence[object], work: Path) -> None:
-    want(explain(words, work), Ran("no line is bad\n", "", 0), "what is said")
+    want(explain(words, work), Ran("no line is bad\n", "", 0), "the messages")
 
 
 # Records of rounds.
@@ -522,7 +522,7 @@ def in_rounds(number: int, work: Path) -> None:
     no round comes."""
     numbers = random.Random(f"{number} rounds")
     formula, streams = example("pigeonhole.cnf"), [example("pigeonhole-two.1"), example("pigeonhole-two.2")]
-    want(run([sys.executable, EXAMPLES / "chain.py", 3, formula, work / "d", *streams]), Ran("", "", 0), "what chain.py says")
+    want(run([sys.executable, EXAMPLES / "chain.py", 3, formula, work / "d", *streams]), Ran("", "", 0), "chain.py's output")
     bad = 1 + number % 3
     names = [work / "d" / f"round-{bad}.stream-{stream}" for stream in (1, 2)]
     for path, text in zip(names, with_a_fault([path.read_text() for path in names], numbers)):
@@ -534,7 +534,7 @@ def in_rounds(number: int, work: Path) -> None:
     done = explain(["--serial", formula, "d"], work)
     words = ["--serial", "--lines", lines, "--room", room, "--rounds", "d", formula, "d/round-1.stream-1", "d/round-1.stream-2"]
     said = run([PROGRAM, *words], cwd=work)
-    want(told(done), reported(said), f"the faults in\n{done.out}{said}")
+    want(faults_in(done), reported(said), f"the faults in\n{done.out}{said}")
     for round_number, stream in re.findall(r"^(?:round (\d+), )?stream (\d+)", done.out, re.M):
         want(f"c round {round_number}\n" in said.out if round_number else "c round" not in said.out, True, f"the round of {stream}")
 
@@ -552,7 +552,7 @@ def carried(work: Path) -> None:
     """A clause of the round before is described by its origin."""
     for name, text in CARRIED.items():
         written(text, work, f"d/{name}")
-    want(explain([written(FOUR, work), "d"], work), Ran(SAID_OF_CARRIED, "", BAD), "what is said")
+    want(explain([written(FOUR, work), "d"], work), Ran(SAID_OF_CARRIED, "", BAD), "the messages")
 
 
 # The example solver without one hint: that of the last unit clause at level 0.
@@ -576,14 +576,14 @@ def emitter(work: Path) -> None:
     texts, clauses, mended_lines = [(work / "stream").read_text()], int(formula.read_text().split()[3]), 0
     for _ in range(200):
         done = compared(texts, [], formula, clauses, True, work)
-        if not told(done):
+        if not faults_in(done):
             break
         found = mended(done, texts, clauses)
         follows = re.search(LEFT_OUT, done.out, re.M)
         if not found or not follows:
-            raise Failure(f"what is left out isn't told in\n{done.out}")
+            raise Failure(f"the output doesn't say what is left out:\n{done.out}")
         texts, mended_lines = found[2], mended_lines + 1
-    want((told(done), mended_lines > 0), ({}, True), "the faults, and whether lines were mended")
+    want((faults_in(done), mended_lines > 0), ({}, True), "the faults, and whether lines were mended")
     want(run([PROGRAM, formula, written(texts[0], work, "right")]).status, 0, "lrupd's status in the end")
 
 
@@ -617,7 +617,7 @@ def refuses(words: str, status: int, said: str, work: Path) -> None:
     piped(work / "p")
     (work / "d").mkdir()
     done = explain(words.split(), work)
-    want((done.out, done.err.splitlines()[-1:], done.status), ("", [f"lrup-explain: {said}"], status), "what is said")
+    want((done.out, done.err.splitlines()[-1:], done.status), ("", [f"lrup-explain: {said}"], status), "the messages")
 
 
 REFUSED = [("", 2, "error: no FORMULA"), ("f", 2, "error: no DIR or STREAM"), ("--line 1 f s", 2, "error: no such option: --line"),
@@ -635,7 +635,7 @@ def compressed(program: str, work: Path) -> None:
     """A compressed stream: lrupd says that its first byte is misspelled."""
     stream = written(COMPRESSED[program], work, "f1")
     done = explain([written(FOUR, work), "f1"], work)
-    want((told(done), done.out.splitlines()[-1]), ({1: (1, "spelling")}, f"       compressed: unpack it with {program}"), "what is said")
+    want((faults_in(done), done.out.splitlines()[-1]), ({1: (1, "spelling")}, f"       compressed: unpack it with {program}"), "the messages")
 
 
 def help_of(work: Path) -> None:

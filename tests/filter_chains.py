@@ -55,7 +55,7 @@ def check(formula: Path, text: str, work: Path, stream: int = 1, streams: int = 
 
 def filtered(words: Sequence[object], given: Text, program: Path = FILTER) -> str:
     text, said, status = run([program, *words], given, env={**os.environ, **SANITIZING})
-    want((said, status), ("", 0), "what the filter says")
+    want((said, status), ("", 0), "the filter's messages")
     return text
 
 

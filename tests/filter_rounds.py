@@ -145,11 +145,11 @@ def want_added(checked: Checked, count: int, form: str) -> None:
         raise Failure(f"{checked.added()} additions of all rounds, and the proof has {count}")
 
 
-def recorded(name: str, stream: str, memory: str, least: int, most: int, form: str, told: bool, program: Path, work: Path) -> None:
+def recorded(name: str, stream: str, memory: str, least: int, most: int, form: str, is_named: bool, program: Path, work: Path) -> None:
     proof, word, count = proof_of(name, stream, form)
-    words = ["--memory", memory, *(["--format", word] if told else [])]
+    words = ["--memory", memory, *(["--format", word] if is_named else [])]
     checked = check(example(name), proof, words, work, program)
-    if not told and form.startswith("binary") and "--format" in checked.filter_said:
+    if not is_named and form.startswith("binary") and "--format" in checked.filter_said:
         return want((checked.filter_status, checked.status, checked.added()), (1, 3, 0), "the end, where the form isn't clear")
     want_refuted(checked, least, most, work)
     want_added(checked, count, form)
@@ -208,7 +208,7 @@ def rows_grow(work: Path) -> None:
 def few_lines(formula: str, proof: str, status: int, said: str, work: Path) -> None:
     checked = check(written(formula, work), proof, [], work)
     want((len(checked.rounds), checked.status, checked.filter_said), (1, status, said), "the answer")
-    want(left(work), ["round-2.cnf"], "what is left")
+    want(left(work), ["round-2.cnf"], "the files left")
 
 
 # Wrong proofs.
@@ -322,7 +322,7 @@ def put_in_place(how: str, work: Path) -> None:
         {"link": lambda: place.symlink_to(mine), "file": lambda: os.link(mine, place)}[how]()
         end = running.stderr.read().decode(), running.wait(LIMIT)
     want(end, ("lrup-exact: d/round-1.stream-1: another file is in its place\n", 1), "the end")
-    want(mine.read_text(), "mine", "what the file has")
+    want(mine.read_text(), "mine", "the file's content")
 
 
 def another_folder(work: Path) -> None:
@@ -336,8 +336,8 @@ def another_folder(work: Path) -> None:
         (work / "d").symlink_to("other")
         done = run([PROGRAM, "--rounds", "moved", formula, "moved/round-1.stream-1"], cwd=work, stdin=running.stdout)
         want((done.err, done.status, end_of(running)), ("", 0, ("", 0)), "the ends")
-    want(([path.read_text() for path in mine], left(work)), (["mine"] * len(mine), names), "what stands in the other one")
-    want(os.listdir(work / "moved"), ["round-2.cnf"], "what is left")
+    want(([path.read_text() for path in mine], left(work)), (["mine"] * len(mine), names), "the files in the other folder")
+    want(os.listdir(work / "moved"), ["round-2.cnf"], "the files left")
 
 
 def without_errors(closing: str, work: Path) -> None:
@@ -356,11 +356,11 @@ def locked(work: Path) -> None:
     with in_a_round(work) as sides:
         for name in ("d", "link"):
             done = run([FILTER, "--rounds", name, example("bmc.cnf"), "/dev/null"], cwd=work)
-            want(done[:], ("", f"lrup-exact: {name}: another run uses this folder\n", 1), "what is said while it goes on")
+            want(done[:], ("", f"lrup-exact: {name}: another run uses this folder\n", 1), "the message while it runs")
         sides.running.kill()
         sides.running.wait(LIMIT)
         said = run([FILTER, "--rounds", "d", example("bmc.cnf"), "/dev/null"], cwd=work).err
-        want("but --rounds needs a folder without files of rounds" in said, True, f"what is said once it was killed: {said}")
+        want("but --rounds needs a folder without files of rounds" in said, True, f"the message after it was killed: {said}")
 
 
 def no_folder(work: Path) -> None:
@@ -373,8 +373,8 @@ def no_folder(work: Path) -> None:
 def usage(words: str, cause: str, work: Path) -> None:
     formula = written(FOUR, work)
     done = run([FILTER, *(formula if word == "FORMULA" else word for word in words.split())], cwd=work)
-    want((done.out, done.err.splitlines()[-1], done.status), ("", f"lrup-exact: error: {cause}", 2), "what is said")
-    want((done.err[:7], (work / "d").exists()), ("usage: ", False), "what it begins with, and whether there is a folder")
+    want((done.out, done.err.splitlines()[-1], done.status), ("", f"lrup-exact: error: {cause}", 2), "the messages")
+    want((done.err[:7], (work / "d").exists()), ("usage: ", False), "the message's beginning, and whether there is a folder")
 
 
 USAGE = [("--rounds", "no value after --rounds"), ("--rounds= FORMULA", "no folder after --rounds"), ("--rounds d", "no FORMULA"),
@@ -457,7 +457,7 @@ def lrupd_killed(work: Path) -> None:
         said, status, filter_said, filter_status = sides.ends()
     want((said, status, filter_status), ("", -signal.SIGKILL, 1), f"the ends, after\n{filter_said}")
     if not re.fullmatch(rf"lrup-exact: (cannot write the stream: Broken pipe|byte \d+: {GONE}d/round-\d+\.stream-1)\n", filter_said):
-        raise Failure(f"what the filter says: {filter_said}")
+        raise Failure(f"the filter's message: {filter_said}")
 
 
 def filter_killed(by: int, work: Path) -> None:
@@ -494,7 +494,7 @@ def ended_while_lrupd_waits(by: int, work: Path) -> None:
             for number in (by, signal.SIGCONT):
                 os.kill(running.pid, number)
             out, said = checking.communicate(timeout=LIMIT)
-        want((out, said, checking.returncode), (report(["0 added, 0 deleted, ended"], 3), "", 3), "what lrupd says")
+        want((out, said, checking.returncode), (report(["0 added, 0 deleted, ended"], 3), "", 3), "lrupd's answer")
         want((end_of(running), left(work)), (("", -by), ["round-2.cnf"]), "the end, and what is left")
 
 
@@ -536,9 +536,9 @@ def ignored(work: Path) -> None:
 def rows_of_recorded() -> Iterator[Row]:
     for name, stream, memory, least, most in RECORDED:
         for form in FORMS:
-            for told in (True, False):
-                yield (f"{stream} in {memory}, {form}" + ", the form found out" * (not told), recorded, name, stream, memory, least,
-                       most, form, told, FILTER)
+            for is_named in (True, False):
+                yield (f"{stream} in {memory}, {form}" + ", the form detected" * (not is_named), recorded, name, stream, memory, least,
+                       most, form, is_named, FILTER)
 
 
 def rows_sanitized() -> Iterator[Row]:
@@ -575,7 +575,7 @@ def rows() -> List[Row]:
               ("a folder that is made", made_where_all_may_write)]
     found += [(f"a folder of mode {mode:o}", others_write, mode, taken)
               for mode, taken in ((0o777, False), (0o757, False), (0o1777, True), (0o775, True), (0o700, True))]
-    found += [(f"a {how} in the place of a FIFO", put_in_place, how) for how in ("link", "file")]
+    found += [(f"a {how} in place of a FIFO", put_in_place, how) for how in ("link", "file")]
     found += [(f"{name} is there", in_the_way, name)
               for name in ("round-1.stream-1", "round-1.stream-2", "round-1.sizes", "round-2.cnf", "round-7.sizes")]
     found += [(f"exact {words}", usage, words, cause) for words, cause in USAGE]

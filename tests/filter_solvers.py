@@ -103,14 +103,14 @@ def beside(program: str, commands: str, words: str, work: Path) -> None:
 
 
 def in_rounds(program: str, memory: str, rounds: int, work: Path) -> None:
-    """In at least that many rounds."""
+    """The proof is checked in at least that many rounds."""
     wanted_on_path(IN_ROUNDS)
     make_formula("random 180 3", work)
     out, said, status = in_bash(program, IN_ROUNDS.replace("exact --rounds live", f"exact --rounds live --memory {memory}"), work)
     found = re.fullmatch(r"(?:c round (\d+)\n)?c stream 1: \d+ added, \d+ deleted, ended\ns UNSATISFIABLE\n", out)
     number = int((found and found[1]) or 1)
     want((bool(found), number >= rounds, said, status), (True, True, "", 0), f"{out}: the report, the rounds, and the status")
-    want(os.listdir(work / "live"), [f"round-{number + 1}.cnf"], "what is left")
+    want(os.listdir(work / "live"), [f"round-{number + 1}.cnf"], "the files left")
 
 
 def while_it_runs(commands: str, words: str, work: Path) -> None:

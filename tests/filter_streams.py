@@ -54,7 +54,7 @@ def check(program: str, formula: Path, streams: Sequence[Tuple[object, int]]) ->
         found = re.fullmatch(rf"c stream {number}: (\d+) added, \d+ deleted, ended", line)
         count = int(found[1]) if found else -1
         if count != wanted and not (0 <= count < wanted and is_refuting(path)):
-            raise Failure(f"wanted {wanted} additions, and not\n{line}")
+            raise Failure(f"expected {wanted} additions, but found\n{line}")
 
 
 def at_place(stream: Tuple[object, int], place: int, count: int) -> List[Tuple[object, int]]:
@@ -163,20 +163,20 @@ def as_lrat(formula: Path, proof: Path, work: Path) -> None:
     for changed, fault in (("".join(others), "no empty clause"), (without, f"line {first}: not "),
                            (text + last, f"line {len(lines) + 1}: the identity "), (f"1 i 1 0\n{text}", "line 1: not of LRAT's")):
         found = lrat_fault(clauses, changed)
-        want(found[:len(fault)], fault, "what is off")
+        want(found[:len(fault)], fault, "the fault")
 
 
-def in_form(program: str, formula_name: str, name: str, form: str, told: bool, work: Path) -> None:
+def in_form(program: str, formula_name: str, name: str, form: str, is_named: bool, work: Path) -> None:
     """A recorded stream in another form, as the only stream and as the second of three."""
     word, make = FORMS[form]
     formula, stream = example(formula_name), example(name)
     proof = b"".join(make(read_formula(formula), read_steps(stream)))
     for number, count in ((1, 1), (2, 3)):
-        options = ["--stream", str(number), "--streams", str(count)] + ["--format", word] * told
+        options = ["--stream", str(number), "--streams", str(count)] + ["--format", word] * is_named
         text, said, status = exact([*options, formula], proof)
-        if not told and form.startswith("binary") and status == 1 and said.count("\n") == 1 and "--format" in said:
+        if not is_named and form.startswith("binary") and status == 1 and said.count("\n") == 1 and "--format" in said:
             continue        # the form may be unclear
-        want((said, status), ("", 0), "what the filter says")
+        want((said, status), ("", 0), "the filter's messages")
         check(program, formula, at_place((written(text, work, "exact"), additions_of(stream)), number, count))
 
 
@@ -186,13 +186,13 @@ def in_form(program: str, formula_name: str, name: str, form: str, told: bool, w
 def stops(formula: str, proof: Text, cause: str, lines: str, words: List[str], work: Path) -> None:
     """The filter stops at the line or byte of the cause, after writing the lines before it."""
     text, said, status = exact([*words, written(formula, work)], proof)
-    want((text, status), (lines, 1), "what came out")
+    want((text, status), (lines, 1), "the output")
     if not said.startswith("lrup-exact: ") or cause not in said or said.count("\n") != 1:
-        raise Failure(f"wanted a word on '{cause}', and not\n{said}")
+        raise Failure(f"expected a message on '{cause}', but found\n{said}")
 
 
 def comes_out(formula: str, proof: Text, lines: str, words: List[str], work: Path) -> None:
-    want(exact([*words, written(formula, work)], proof), (lines, "", 0), "what came out")
+    want(exact([*words, written(formula, work)], proof), (lines, "", 0), "the output")
 
 
 def sorted_hints(text: str) -> List[Tuple[List[str], List[str]]]:
@@ -206,7 +206,7 @@ def comes_out_with(program: str, formula: str, proof: Text, lines: str, words: L
     """The output is these lines, with hints in an order that the program accepts."""
     path = written(formula, work)
     text, said, status = exact([*words, path], proof)
-    want((sorted_hints(text), said, status), (sorted_hints(lines), "", 0), "what came out")
+    want((sorted_hints(text), said, status), (sorted_hints(lines), "", 0), "the output")
     stream, count = (int(words[1]), int(words[3])) if "--stream" in words else (1, 1)
     streams = [path for path, _ in at_place((written(text, work, "exact"), 0), stream, count)]
     deleted = text.count(" d ")
@@ -215,13 +215,13 @@ def comes_out_with(program: str, formula: str, proof: Text, lines: str, words: L
     want(found.splitlines()[stream - 1], f"c stream {stream}: {added} added, {deleted} deleted, ended", "the report")
 
 
-def told_twice(work: Path) -> None:
+def clause_twice(work: Path) -> None:
     """Two `o` lines name both copies of a clause that the formula has twice: one is deleted, and
     the other stays."""
     formula = written("p cnf 2 5\n1 2 0\n-1 2 0\n1 -2 0\n-1 -2 0\n2 1 0\n", work)
     text, said, status = exact([formula], "o 3 1 2 0\no 8 2 1 0\no 4 -1 2 0\nd 8 2 1 0\na 9 2 0 l 3 4 0\n")
     deletion, addition = ("1", "5") if text.startswith("1 d 1 ") else ("5", "1")
-    want((text, said, status), (f"1 d {deletion} 0\n6 2 0 {addition} 2 0\n", "", 0), "what came out")
+    want((text, said, status), (f"1 d {deletion} 0\n6 2 0 {addition} 2 0\n", "", 0), "the output")
 
 
 def far_names(program: str, count: int, work: Path) -> None:
@@ -253,15 +253,15 @@ def held_hints(program: str, count: int, work: Path) -> None:
         numbers.shuffle(hints)
         proof += f"{identity} -{first} -{first + 1} -{first + 2} {last} 0 {' '.join(map(str, hints))} 0\n"
     text, said, status = exact([formula], proof)
-    want((said, status), ("", 0), "what is said")
+    want((said, status), ("", 0), "the messages")
     check_report(program, formula, text, f"{count} added, 0 deleted, ended", work)
 
 
 def compressed(name: str, words: List[str], work: Path) -> None:
     """A compressed formula or proof: the message names the program that unpacks it."""
     formula, packed = written(FOUR, work), written(COMPRESSED[name] + b"\0" * 100, work, "packed")
-    want(exact([*words, packed, "/dev/null"])[:], ("", f"lrup-exact: {packed}: compressed: unpack it with {name}\n", 1), "what is said of the formula")
-    want(exact([*words, formula, packed])[:], ("", f"lrup-exact: byte 1: compressed: unpack it with {name}\n", 1), "what is said of the proof")
+    want(exact([*words, packed, "/dev/null"])[:], ("", f"lrup-exact: {packed}: compressed: unpack it with {name}\n", 1), "the message on the formula")
+    want(exact([*words, formula, packed])[:], ("", f"lrup-exact: byte 1: compressed: unpack it with {name}\n", 1), "the message on the proof")
 
 
 def bad_other(line: str, work: Path) -> None:
@@ -274,7 +274,7 @@ def closed_input(work: Path) -> None:
     """With standard input closed, the file of --other isn't read as the proof."""
     formula, other = written(FOUR, work), written("8 2 0 1 2 0\n", work, "other")
     words = [FILTER, "--format", "lrat", *ONE_OF_TWO, "--other", f"2={other}", formula]
-    want(run(["sh", "-c", 'exec "$@" <&-', "sh", *words]), Ran("", "", 0), "what comes out")
+    want(run(["sh", "-c", 'exec "$@" <&-', "sh", *words]), Ran("", "", 0), "the output")
 
 
 def another(program: str, work: Path) -> None:
@@ -285,7 +285,7 @@ def another(program: str, work: Path) -> None:
     ours += f"{5 + 2 * count} 0 {6 + 2 * count} 3 4 0\n"
     other = written(theirs, work, "other")
     text, said, status = exact([*ONE_OF_TWO, "--other", f"2={other}", formula], ours)
-    want((text, said, status), (ours, "", 0), "what came out")
+    want((text, said, status), (ours, "", 0), "the output")
     check(program, formula, [(written(text, work, "exact"), count + 1), (other, count + 1)])
 
 
@@ -461,7 +461,7 @@ def what_comes_out(program: str) -> List[Row]:
          "6 2 0 1 2 0\n9 0 6 3 4 0\n", ["--stream", "2", "--streams", "3"]),
         ("FRAT, an original after an addition", comes_out, FOUR, "o 8 1 2 0\no 6 2 -1 0\na 7 2 0 l 8 6 0\no 5 1 -2 0\no 4 -2 -1 0\n"
          "a 9 0 l 7 5 4 0\n", FIRST + "6 0 5 3 4 0\n", []),
-        ("FRAT, a clause that the formula has twice", told_twice),
+        ("FRAT, a clause that the formula has twice", clause_twice),
         ("binary DRAT, by a number below the formula's last", comes_out, FOUR, b"a" + codes([2]) + b"d" + codes([1, 2]),
          FIRST + "5 d 1 0\n", []),
         ("binary DRAT, a deletion first", comes_out, FOUR, b"d" + codes([-2, 1]) + b"a" + codes([2]), "1 d 3 0\n" + FIRST, []),
@@ -496,9 +496,9 @@ def longest(program: str, count: int, work: Path) -> None:
 def one_line(program: str, form: str, formula: Path, proof: Text, line: str, fits: bool, work: Path) -> None:
     text, said, status = exact(["--format", form, formula], proof)
     if not fits:
-        want((text, status, said.count("\n")), ("", 1, 1), "what came out")
+        want((text, status, said.count("\n")), ("", 1, 1), "the output")
         return
-    want((text, said, status), (line, "", 0), "what came out")
+    want((text, said, status), (line, "", 0), "the output")
     check_report(program, formula, text, "1 added, 0 deleted, ended", work)
 
 
@@ -524,7 +524,7 @@ def many_deletions(program: str, count: int, work: Path) -> None:
     formula = written(f"p cnf 2 {count + 4}\n" + "1 2 0\n" * count + FOUR.split("\n", 1)[1], work)
     identities = " ".join(map(str, range(1, count + 1)))
     text, said, status = exact([formula], f"{count + 5} d {identities} 0\n{count + 5} 2 0 {count + 1} {count + 2} 0\n")
-    want((said, status), ("", 0), "what the filter says")
+    want((said, status), ("", 0), "the filter's messages")
     if max(len(line.split()) for line in text.splitlines()) > 65536 + 3:
         raise Failure("a line has more identities than a line may have")
     check_report(program, formula, text, f"1 added, {count} deleted, ended", work)
@@ -549,7 +549,7 @@ def largest_identity(digits: int, fits: bool, work: Path) -> None:
     for word, proof in proofs:
         text, said, status = exact(["--format", word, formula], proof)
         wanted = (f"{name} 2 0 1 2 0\n", "", 0) if fits else ("", said, 1)
-        want((text, said, status), wanted, "what came out")
+        want((text, said, status), wanted, "the output")
         want(said.count("\n"), 0 if fits else 1, "lines on standard error")
 
 
@@ -561,13 +561,13 @@ def hopeless(words: str, source: str, cause: str, work: Path) -> None:
     formula = written(FOUR, work)
     limit = lambda: resource.setrlimit(resource.RLIMIT_AS, (MEMORY, MEMORY))
     done = run(["sh", "-c", f"{source} | exec \"$@\"", "sh", FILTER, *words.format(formula=formula).split()], limit=60, preexec_fn=limit)
-    want(done[:], (FIRST if "line 2" in cause else "", f"lrup-exact: {cause}\n", 1), "what comes out, and what is said")
+    want(done[:], (FIRST if "line 2" in cause else "", f"lrup-exact: {cause}\n", 1), "the output and the message")
 
 
 def long_line(work: Path) -> None:
     """64 MB of repeated hints."""
     text, said, status = exact([written(FOUR, work)], "5 2 0 " + "1 2 " * (1 << 24) + "0\n")
-    want((text, said, status), (FIRST, "", 0), "what came out")
+    want((text, said, status), (FIRST, "", 0), "the output")
 
 
 # Truncated proofs, pipes that stay open, outputs that fail, wrong arguments.
@@ -605,7 +605,7 @@ def cut(form: str, work: Path) -> None:
         at_end = length in ends if "binary" in form else is_whole(form, proof, length)
         lines = sorted_hints(text)
         if lines[:whole] != sorted_hints("\n".join(LINES[:whole])) or len(lines) > whole + at_end or text and text[-1] != "\n":
-            raise Failure(f"cut at {length}: wanted {whole} lines, and not\n{text}")
+            raise Failure(f"cut at {length}: expected {whole} lines, but found\n{text}")
         want((status, said.count("\n")), (0, 0) if at_end else (1, 1), f"cut at {length}: the status, and lines on standard error")
 
 
@@ -649,7 +649,7 @@ def unreadable(words: List[str], work: Path) -> None:
     """A file that can't be read: one line, and status 1."""
     formula = written(FOUR, work)
     text, said, status = exact([word.format(formula=formula, work=work) for word in words])
-    want((text, status, said.count("\n"), said[:12]), ("", 1, 1, "lrup-exact: "), f"what is said of {words}")
+    want((text, status, said.count("\n"), said[:12]), ("", 1, 1, "lrup-exact: "), f"the message on {words}")
 
 
 def usage(words: List[str], cause: str, work: Path) -> None:
@@ -689,7 +689,7 @@ def pipes_and_files() -> List[Row]:
         runs.append((f"{form}, cut", cut, form))
         runs.append((f"{form}, a pipe", live, form, ["--format", word]))
         if not form.startswith("binary"):
-            runs.append((f"{form}, a pipe, the form found out", live, form, []))
+            runs.append((f"{form}, a pipe, the form detected", live, form, []))
     runs += [("a full output", full, "2 0\n0\n"), ("a full output, soon", full, "2 0\n" * 100000),
              ("a reader that goes away", left), ("standard input closed", closed_input)]
     for words in ("{work}/none", "{work}", "{formula} {work}/none", "{formula} {work}", "--other 2={work}/none {formula}"):
@@ -725,9 +725,9 @@ def recorded(program: str) -> List[Row]:
         runs.append((f"{name}, as LRAT", as_lrat, path, proofs / name))
     for formula, name in (("four-clause.cnf", "four-clause.lrup"), ("pigeonhole.cnf", "pigeonhole.lrup"), ("bmc.cnf", "bmc.lrup")):
         for form in FORMS:
-            for told in (True, False):
-                told_how = "" if told else ", the form found out"
-                runs.append((f"{name}, {form}{told_how}", in_form, program, formula, name, form, told))
+            for is_named in (True, False):
+                how_named = "" if is_named else ", the form detected"
+                runs.append((f"{name}, {form}{how_named}", in_form, program, formula, name, form, is_named))
     return runs
 
 

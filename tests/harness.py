@@ -74,7 +74,7 @@ class Ran(NamedTuple):
 
 def want(found: Any, wanted: Any, what: str) -> None:
     if found != wanted:
-        raise Failure(f"{what}: wanted\n{str(wanted)[:2000]}\nand not\n{str(found)[:2000]}")
+        raise Failure(f"{what}: expected\n{str(wanted)[:2000]}\nbut found\n{str(found)[:2000]}")
 
 
 # Running programs.
@@ -351,7 +351,7 @@ def answers(program: str, wanted: Wanted, work: Path) -> None:
     want(found, Ran(wanted.out, wanted.err, wanted.status), "the answer")
     for name, text in wanted.left.items():
         path = work / name
-        want(text_of(path.read_bytes()) if path.is_file() else None, text, f"what {name} has")
+        want(text_of(path.read_bytes()) if path.is_file() else None, text, f"the content of {name}")
 
 
 def with_memory(function: Callable[..., None], *arguments: Any) -> None:

@@ -185,7 +185,7 @@ def not_unpacked(shell: str, script: Path, work: Path) -> None:
     for path in (work / "d").glob("*.cnf"):
         path.unlink()
     done = run([shutil.which(shell), script, "--lrupd", PROGRAM, "formula", "d"], cwd=work, env={"PATH": f"{work}"})
-    want(done, Ran("", f"lrup-chain: no xz on the PATH for d/{names[0]}\n", 1), "what is said without xz")
+    want(done, Ran("", f"lrup-chain: no xz on the PATH for d/{names[0]}\n", 1), "the message without xz")
 
 
 def packed_and_ended(shell: str, script: Path, work: Path) -> None:
@@ -369,7 +369,7 @@ def forged(formula: str, forgery: Optional[str], stream: str, status: int, endin
     forger.start()
     done = run([shell, script, "--lrupd", PROGRAM, "--keep", written(formula, work), folder])
     forger.join(LIMIT)
-    want(seen, [formula.replace(f"2 {count}", f"2 {count + 1}", 1) + "2 0\n"], "what was saved")
+    want(seen, [formula.replace(f"2 {count}", f"2 {count + 1}", 1) + "2 0\n"], "the checkpoints")
     want(done, Ran(last(2, [f"{int(status == 0)} added, 0 deleted, {ending}"], status), "", status), "the answer")
     want(saved.read_text() if saved.exists() else None, forgery, "the forged file")
 

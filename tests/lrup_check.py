@@ -109,14 +109,14 @@ def side_by_side(work: Path) -> None:
     answer = check([formula, cut, *proofs])
     want_proved(answer)
     want([line for line in answer.comments if line.startswith(f"{cut}: ")],
-         [f"{cut}: the proof ends without the empty clause"], f"what is said of the one that is cut in\n{answer.out}")
+         [f"{cut}: the proof ends without the empty clause"], f"the message on the truncated one, in\n{answer.out}")
 
 
 def core_and_lrat(work: Path) -> None:
     formula = generated("random 150 1", work)
     proof = proof_by("cadical -q formula proof", formula, work)
     want_proved(check(["--core", work / "core", "--lrat", work / "lrat", formula, proof]))
-    want(lrat_fault(read_formula(formula), (work / "lrat").read_text()), "", "what the LRAT checker says")
+    want(lrat_fault(read_formula(formula), (work / "lrat").read_text()), "", "the LRAT checker's message")
 
 
 def assumed(work: Path) -> None:
@@ -155,7 +155,7 @@ def mutated(seed: int, work: Path) -> None:
     answer = check(["--lrat", work / "lrat", formula, written("".join(lines), work, "proof")])
     want(answer.status in (0, 20), True, f"the status {answer.status} of\n{answer.out}")
     if answer.status == 20:
-        want(lrat_fault(read_formula(formula), (work / "lrat").read_text()), "", "what the LRAT checker says")
+        want(lrat_fault(read_formula(formula), (work / "lrat").read_text()), "", "the LRAT checker's message")
 
 
 def misused(words: Sequence[str], said: str, work: Path) -> None:
@@ -200,7 +200,8 @@ def help_of(work: Path) -> None:
 
 
 def anywhere(work: Path) -> None:
-    """By a link, from another folder, with names that begin with a minus."""
+    """The command works through a link, in another folder, with file names that begin with a
+    minus."""
     link = work / "link"
     link.symlink_to(SOLVE.with_name("lrup-check"))
     shutil.copy(written(XOR, work), work / "-formula")

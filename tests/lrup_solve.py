@@ -129,7 +129,7 @@ def impostor(body: str, cause: str, work: Path) -> None:
     answer = solve(["--lrupd", path, example("bmc.cnf")])
     want_answer(answer, 0)
     if not any(re.search(cause, line) for line in answer.comments):
-        raise Failure(f"wanted a word on '{cause}', and not\n{answer.out}")
+        raise Failure(f"expected a message on '{cause}', but found\n{answer.out}")
 
 
 # Events during a run.
@@ -190,7 +190,7 @@ def killed(names: List[str], number: int, status: int, cause: str, work: Path) -
         if any(cause in line for line in answer.comments):
             return
         said = answer.out
-    raise Failure(f"wanted a word on '{cause}', and not\n{said}")
+    raise Failure(f"expected a message on '{cause}', but found\n{said}")
 
 
 def dealt(answer: Answer) -> List[int]:
@@ -243,7 +243,7 @@ def killed_with_a_cube(name: str, work: Path) -> None:
             end_group(process)
     answer = Answer(Ran(out, said, process.returncode))
     want_answer(answer, 20, formula)
-    want((len(answer.lost()), dealt(answer)[2] >= 1), (1, True), f"what is lost, and whether its cube is handed on\n{out}")
+    want((len(answer.lost()), dealt(answer)[2] >= 1), (1, True), f"the lost engines, and whether another one gets the cube\n{out}")
 
 
 def ended_by(number: int, work: Path) -> None:
@@ -268,21 +268,21 @@ def ignored(number: int, work: Path) -> None:
 
 
 def stopped(work: Path) -> None:
-    """As by Ctrl-Z: engines and filters stop with the front, which has its own process group, and
+    """Ctrl-Z stops engines and filters with the front, which has its own process group, and they
     continue with it."""
     with Running(generated("pigeons 11", work), work) as running:
         pids = [running.process.pid, *(running.children[name] for name in ("lrup-engines", "engine 1", "filter 2"))]
         states = lambda: {of_process(pid, "stat").rsplit(")", 1)[-1].split()[0] for pid in pids}
         running.process.send_signal(signal.SIGTSTP)
-        until("all stand", lambda: states() == {"T"})
+        until("all are stopped", lambda: states() == {"T"})
         running.process.send_signal(signal.SIGCONT)
-        until("all go on", lambda: "T" not in states())
+        until("all continue", lambda: "T" not in states())
         running.process.terminate()
         answer = running.end()
     want((answer.answers, answer.status), (["s UNKNOWN"], -signal.SIGTERM), "the end")
 
 
-def ended_while_it_stands(work: Path) -> None:
+def ended_while_stopped(work: Path) -> None:
     """Stopped processes are ended, too, and the run removes its files."""
     with Running(generated("pigeons 11", work), work) as running:
         os.kill(running.children["lrup-engines"], signal.SIGSTOP)
@@ -291,7 +291,7 @@ def ended_while_it_stands(work: Path) -> None:
     want((answer.answers, answer.status), (["s UNKNOWN"], -signal.SIGTERM), "the end")
 
 
-def left_alone(work: Path) -> None:
+def front_killed(work: Path) -> None:
     """If the front is killed, the others end, too."""
     with Running(generated("pigeons 11", work), work) as running:
         running.process.kill()
@@ -315,7 +315,7 @@ def time_is_up(work: Path) -> None:
     formula, begin = generated("pigeons 11", work), time.monotonic()
     answer = solve(["--time", "0.7", formula])
     want_answer(answer, 0)
-    want(("time is up" in answer.comments, 0.7 <= time.monotonic() - begin < SOON), (True, True), f"what is said\n{answer.out}")
+    want(("time is up" in answer.comments, 0.7 <= time.monotonic() - begin < SOON), (True, True), f"the messages\n{answer.out}")
 
 
 def full(words: List[str], out: str, most: int, cause: str, work: Path) -> None:
@@ -325,12 +325,12 @@ def full(words: List[str], out: str, most: int, cause: str, work: Path) -> None:
     limit = lambda: resource.setrlimit(resource.RLIMIT_FSIZE, (most, most)) if most else None
     with open(out, "w") as file:
         answer = solve([*(word.format(work=work) for word in words), example("bmc.cnf")], stdout=file, preexec_fn=limit)
-    want((answer.status, answer.said.count("\n"), cause in answer.said), (1, 1, True), f"what is said: {answer.said}")
+    want((answer.status, answer.said.count("\n"), cause in answer.said), (1, 1, True), f"the message: {answer.said}")
 
 
 def closed(formula: str, work: Path) -> None:
     done = in_shell('exec "$0" --lrupd "$1" "$2" >&-', SOLVE, PROGRAM, example(formula))
-    want((done.status, done.err.count("\n")), (1, 1), f"what is said: {done.err}")
+    want((done.status, done.err.count("\n")), (1, 1), f"the message: {done.err}")
 
 
 def reader_left(work: Path) -> None:
@@ -338,7 +338,7 @@ def reader_left(work: Path) -> None:
     os.close(reader)
     answer = solve([example("bmc.cnf")], stdout=writer)
     os.close(writer)
-    want((answer.status, answer.said.count("\n")), (1, 1), f"what is said: {answer.said}")
+    want((answer.status, answer.said.count("\n")), (1, 1), f"the message: {answer.said}")
 
 
 def read_terminal(leader: int) -> bytes:
@@ -417,10 +417,10 @@ def large_formula(words: List[str], work: Path) -> None:
         lasts = time.monotonic() - begun
     why = "time is up, and the formula isn't read" if words else "ended by a signal: Terminated"
     want((out, running.returncode), (f"c {why}\ns UNKNOWN\n", 0 if words else -signal.SIGTERM), "the end")
-    want(lasts < 4, True, f"whether {lasts} seconds are soon")
+    want(lasts < 4, True, f"whether it ended soon, after {lasts} seconds")
     seen.extend(read_terminal(leader))
     os.close(leader)
-    want(bytes(seen).endswith(b"\r\x1b[K"), True, f"whether the line is taken away: {bytes(seen)[-100:]!r}")
+    want(bytes(seen).endswith(b"\r\x1b[K"), True, f"whether the line is erased: {bytes(seen)[-100:]!r}")
 
 
 def terminal_that_stops(work: Path) -> None:
@@ -434,7 +434,7 @@ def terminal_that_stops(work: Path) -> None:
     answer = solve(["--time", "1", generated("pigeons 11", work)], stderr=terminal, start_new_session=True,
                    preexec_fn=lambda: fcntl.ioctl(terminal, termios.TIOCSCTTY, 0))
     os.close(terminal)
-    want(("time is up" in answer.comments, len(PROGRESS.findall(read_terminal(leader))) > 0), (True, True), f"what is told\n{answer.out}")
+    want(("time is up" in answer.comments, len(PROGRESS.findall(read_terminal(leader))) > 0), (True, True), f"the comments\n{answer.out}")
     os.close(leader)
 
 
@@ -457,10 +457,10 @@ def miter(name: str, change: Optional[Tuple[str, str]], status: int, work: Path)
 # The documents.
 
 
-def options_told(work: Path) -> None:
+def options_listed(work: Path) -> None:
     """--help and the manual page have the same options."""
     summary = solve(["--help"])
-    want((summary.said, summary.status), ("", 0), "what --help says")
+    want((summary.said, summary.status), ("", 0), "the output of --help")
     listed = re.findall(r"^  (?:(-\w), )?(--?[a-z-]+)", summary.out, re.M)
     tagged = re.findall(r"^\.It (Fl .*)$", (ROOT / "docs" / "lrup-solve.1").read_text(), re.M)
     in_manual = {"-" + word for line in tagged for word in re.findall(r"Fl ([\w-]+)", line)}
@@ -539,7 +539,7 @@ def what_happens() -> List[Row]:
             ("filter 1 killed", killed, ["filter 1"], kill, 20, "engine 1 is lost"),
             ("filter 2 killed", killed, ["filter 2"], term, 20, "engine 2 is lost"),
             ("an engine and a filter killed", killed, ["engine 1", "filter 2"], kill, 0, "no engine is left"),
-            ("the front killed", left_alone), ("stopped", stopped), ("ended while it stands", ended_while_it_stands),
+            ("the front killed", front_killed), ("stopped", stopped), ("ended while it is stopped", ended_while_stopped),
             ("a terminal that stops", terminal_that_stops), ("a large formula", large_formula, []),
             ("a large formula, and the time", large_formula, ["--time", "0.3"]),
             ("who gives way", gives_way), ("time", time_is_up),
@@ -567,7 +567,7 @@ def others_formulas() -> List[Row]:
             ("of adders, one wrong", miter, "adders", ("(a[k] & b[k]) |", "(a[k] | b[k]) &"), 10),
             ("of multipliers, one wrong", miter, "multipliers", (" + row5", ""), 10),
             ("of sorters, one wrong", miter, "sorters", ("exchange second(b,", "exchange second(a,"), 10),
-            ("options told", options_told)]
+            ("options listed", options_listed)]
 
 
 def searches() -> List[Row]:

@@ -59,7 +59,7 @@ def solved(words: str, cubes: str, all_cubes: int, status: int, options: List[st
     want(of_all, all_cubes, "how many cubes there are")
     if status == 20:
         check_again(kept)
-        want(lrat_fault(read_formula(formula), lrat.read_text()), "", "what the LRAT checker says")
+        want(lrat_fault(read_formula(formula), lrat.read_text()), "", "the LRAT checker's message")
         want(count <= all_cubes, True, f"{count} cubes of {all_cubes}, refuted")
 
 
@@ -109,7 +109,7 @@ def killed(name: str, engines: int, options: List[str], work: Path) -> None:
             end_group(process)
     answer = Answer(Ran(out, said, process.returncode))
     want_answer(answer, 20, formula)
-    want((len(answer.lost()), taken(answer)[1]), (1, 1), f"what is lost, and cubes that are handed on\n{out}")
+    want((len(answer.lost()), taken(answer)[1]), (1, 1), f"the lost engines, and the cubes that others get\n{out}")
 
 
 def solved_as_they_go(work: Path) -> None:
@@ -135,7 +135,7 @@ def accepted(text: str, count: int, work: Path) -> None:
 def refused(text: Optional[str], options: List[str], said: str, work: Path) -> None:
     path = work / "cubes" if text is None else written(text, work, "cubes")
     answer = solve(["--cubes", path, *options, example("bmc.cnf")])
-    want((answer.out, answer.said, answer.status), ("", f"lrup-solve: {said.format(path=path)}\n", 1), "what is said")
+    want((answer.out, answer.said, answer.status), ("", f"lrup-solve: {said.format(path=path)}\n", 1), "the messages")
 
 
 def of_a_record(work: Path) -> None:
@@ -183,12 +183,12 @@ def known() -> List[Row]:
 
 
 def files() -> List[Row]:
-    no_cube = "{path}, line %d: no cube of the formula's literals, as 'a 1 -2 0'"
+    no_cube = "{path}, line %d: not a cube of the formula's literals, like 'a 1 -2 0'"
     rows: List[Row] = [(f"refused {text!r}", refused, text, [], no_cube % line) for text, line in
                        (("a 1 2\n", 1), ("a 1 0\na 117 0\n", 2), ("a x 0\n", 1), ("b 1 0\n", 1), ("a 1 0 2\n", 1), ("a 1 0\n\na 1.5 0\n", 3))]
     rows += [("no file", refused, None, [], "{path}: No such file or directory"),
              ("nothing shared", refused, "a 1 0\n", ["--no-share", "-j", "2"], "--cubes and --no-share: refuted cubes are shared"),
-             ("no engine", refused, "a 1 0\n", ["--solver", "x %formula %proof"], "--cubes without engines: -j says how many")]
+             ("no engine", refused, "a 1 0\n", ["--solver", "x %formula %proof"], "--cubes without engines: -j sets how many")]
     rows += [(f"accepted {text!r}", accepted, text, count) for text, count in
              (("p inccnf\nc a\n1 -2 0\na 1 0\n\na -1 0\n", 2), ("a 1 -1 0\na 1 1 2 0", 1), ("", 0), ("  a 3 -4 0\r\n", 1))]
     return [*rows, ("in the record", of_a_record), ("the example", shown_example)]

@@ -34,11 +34,12 @@ def hostile(body: str, wanted: str, words: List[str], text: str, work: Path) -> 
     status = {"s UNSATISFIABLE": 20, "s SATISFIABLE": 10, "s UNSATISFIABLE UNDER ASSUMPTIONS": 20, "s UNKNOWN": 0}[wanted]
     want((answer.answers, answer.status), ([wanted], status), f"the answer of\n{answer.out[-2000:]}{answer.said[-2000:]}")
     if status == 10:
-        want(is_model(answer, work / "formula.cnf"), True, f"whether {answer.values} makes it true")
+        want(is_model(answer, work / "formula.cnf"), True, f"whether {answer.values} satisfies it")
 
 
 def by_pipe(work: Path) -> None:
-    """It can't write to the sealed copy of a formula, which would then be refuted."""
+    """The program can't write to the sealed copy of a formula from a pipe, to make it
+    unsatisfiable."""
     body = """files = f"/proc/{front}/fd/"
 for path in [formula, *(files + name for name in os.listdir(files) if "memfd:lrup-solve" in os.readlink(files + name))]:
     try:
@@ -56,7 +57,7 @@ check()
 told("lrupd")""" % (work / "seen")
     answer = run_with(body, [], SATISFIABLE, work, given=SATISFIABLE)
     want((answer.answers, answer.status), (["s UNKNOWN"], 0), f"the answer of\n{answer.out}{answer.said}")
-    want((work / "seen").read_text(), SATISFIABLE, "what it read")
+    want((work / "seen").read_text(), SATISFIABLE, "the formula that it read")
 
 
 def assuming(literals: str, body: str, wanted: str, status: int, work: Path) -> None:
@@ -66,8 +67,8 @@ def assuming(literals: str, body: str, wanted: str, status: int, work: Path) -> 
 
 
 def dies_at_each_moment(number: int, work: Path) -> None:
-    """On its way to a verdict it dies after each of its steps, by a signal, with a status, or while
-    others hold its files open."""
+    """The program dies after each of its steps towards a verdict, by a signal, with a status, or
+    while others hold its files open."""
     steps = ["told('probe')", "stream(1, %r)" % PROOF[:14], "stream(2, '')", "check('2 10 10 1000000')",
              "stream(1, %r)" % PROOF, "told('lrupd')"]
     for end in ("os.kill(os.getpid(), 9)", "os.kill(os.getpid(), 11)", "os._exit(0)", "os._exit(1)", "os._exit(20)",
@@ -149,8 +150,8 @@ def refused_formula(work: Path) -> None:
 
 
 def signalled(number: int, body: str, whole_group: bool, work: Path) -> None:
-    """It ignores what it gets, and the run still ends. The front, or its process group, gets the
-    signal."""
+    """The front, or its process group, gets a signal. The program ignores it, and the run still
+    ends."""
     formula, files, mark = written(FOUR, work), work / "temporary", marked(work)
     files.mkdir()
     with started([SOLVE, "--lrupd", PROGRAM, "--engines", program(f"open({str(work / 'begun')!r}, 'w')\n" + body, work), formula],
@@ -281,7 +282,7 @@ while True: time.sleep(1)"""
 def version_in_little_memory(work: Path) -> None:
     """The front allocates no memory for an assignment before there is one."""
     done = run(["sh", "-c", "ulimit -v 16000 && exec \"$@\"", "sh", SOLVE, "--engines", "/bin/echo", "--version"])
-    want((done.out, done.status), ("--engines /bin/echo --version\n", 0), f"what is said: {done.err}")
+    want((done.out, done.status), ("--engines /bin/echo --version\n", 0), f"the message: {done.err}")
 
 
 def missing(work: Path) -> None:
@@ -292,7 +293,7 @@ def missing(work: Path) -> None:
         for name in ("none", "folder", "text"):
             answer = Answer(run([SOLVE, "--lrupd", PROGRAM, option, work / name, written(FOUR, work)]))
             said = f"lrup-solve: no {program_name} that can be run: {work}/{name}\n"
-            want((answer.out, answer.status, answer.said), ("", 1, said), "what is said")
+            want((answer.out, answer.status, answer.said), ("", 1, said), "the messages")
 
 
 def endless(work: Path) -> None:
@@ -351,7 +352,7 @@ def rows() -> List[Row]:
                        ("no file of its own", proves.replace("check()", "FOLDER = 99\ncheck()") + ends),
                        ("no folder", "subprocess.run(['rm', '-rf', folder])\ncheck()\n" + ends)):
         listed.append((name, hostile, body, unknown, ["--time", "20"], SATISFIABLE))
-    for name, body in (("sleeps", "time.sleep(1000)"), ("stands", "os.kill(os.getpid(), signal.SIGSTOP)"),
+    for name, body in (("sleeps", "time.sleep(1000)"), ("stopped", "os.kill(os.getpid(), signal.SIGSTOP)"),
                        ("closes all", "os.closerange(0, 1000)\ntime.sleep(1000)"),
                        ("no end of pieces", "while True: write(b'c ' + b'x' * 1000)"),
                        ("no end of comments", "while True: say('c x' * 1000)"),

@@ -280,7 +280,7 @@ SLOW = "case \"$*\" in *' /dev/null') sleep 1;; esac\nexec " + PROGRAM + ' "$@"'
 
 
 def no_other(name: str, body: str, words: Sequence[str], text: str, right: str, work: Path) -> None:
-    """A program that behaves."""
+    """The program doesn't crash, and brings about no other answer than the right one."""
     cube, lrupd = written("2 0\n", work, "cube"), Path(PROGRAM)
     if name.endswith(", slow"):
         lrupd = in_place_of_lrupd(SLOW, work)
@@ -289,7 +289,7 @@ def no_other(name: str, body: str, words: Sequence[str], text: str, right: str, 
     leaves = name.endswith(", leaves")
     more = {"may_leave": True, "stderr": subprocess.DEVNULL} if leaves else {}
     answer = run_with(body, [word.format(cube=cube) for word in words], text, work, lrupd, **more)
-    want("Traceback" in answer.said, False, f"whether it fails, which says\n{answer.said}")
+    want("Traceback" in answer.said, False, f"whether it crashes:\n{answer.said}")
     want_no_other(answer, right, work / "formula.cnf")
 
 

@@ -44,7 +44,7 @@ def keeps_lrat(words: str, work: Path) -> None:
     kept, formula = work / "kept", generated(words, work)
     want_answer(solve(["-j", "1", "--memory", "256M", "--proofs", kept, formula], tested={"FIRST_WORDS": 1 << 24}), 20)
     want(sorted(os.listdir(kept)), ["about", "command", "files", "formula.sha256", "report", "round-1.sizes", "round-1.stream-1"],
-         "what is kept")
+         "the kept files")
     want(lrat_fault(read_formula(formula), (kept / "round-1.stream-1").read_text()), "", "as LRAT")
 
 
@@ -87,9 +87,9 @@ def writes_over(words: List[str], work: Path) -> None:
         out, said, status = run([SOLVE, "--lrupd", PROGRAM, "--proofs", kept,
                                  *(word.format(path=path, work=work, cube=cube) for word in words[1:])], stdin=file)
     over = " would be written over: another --proofs\n"
-    want((out, said.count("\n"), said.endswith(over), status), ("", 1, True, 1), f"what is said: {said}")
+    want((out, said.count("\n"), said.endswith(over), status), ("", 1, True, 1), f"the message: {said}")
     want((path.read_text(), cube.read_text(), sorted(os.listdir(kept))), (text, "0\n", sorted({path.name, "assumptions"})),
-         "what stands there")
+         "the files' contents")
 
 
 def links_in_a_record(work: Path) -> None:
@@ -100,7 +100,7 @@ def links_in_a_record(work: Path) -> None:
         os.symlink(target, kept / name)
     os.link(targets[1], kept / "round-1.stream-2")
     want_answer(solve(["-j", "2", "--proofs", kept, example("bmc.cnf")]), 20)
-    want([target.read_text() for target in targets], ["text"] * 3, "what the links led to")
+    want([target.read_text() for target in targets], ["text"] * 3, "the links' targets")
     check_again(kept)
 
 
@@ -118,8 +118,8 @@ def earlier_run(work: Path) -> None:
     in_shell('cat "$2"/formula.cnf | "$0" --lrupd "$1" -j 2 --replace --proofs "$2" -', SOLVE, PROGRAM, kept)
     one = ["round-1.sizes", "round-1.stream-1"]
     found = ["about", "command", "files", "formula.cnf", "formula.sha256", "report", *one, "round-1.stream-2"]
-    want(sorted(os.listdir(kept)), sorted([*others, *found]), "what is there")
-    want([name for name in listed(kept) if name[0] != "."], found, "what is listed")
+    want(sorted(os.listdir(kept)), sorted([*others, *found]), "the files")
+    want([name for name in listed(kept) if name[0] != "."], found, "the listed files")
     want((kept / "formula.cnf").read_text(), example("bmc.cnf").read_text(), "the formula")
     check_again(kept)
     one_round = {"FIRST_WORDS": 1 << 24}      # no machine fills this row before the run ends
@@ -130,8 +130,8 @@ def earlier_run(work: Path) -> None:
         out = running.communicate(timeout=LIMIT)[0]
     want((out.splitlines()[-1], running.returncode), ("s UNKNOWN", -signal.SIGTERM), "the answer of a run that was ended")
     saved = ["checkpoint-2.cnf", "rounds.sha256"]
-    want(sorted(os.listdir(kept)), sorted([*others, "files", "formula.sha256", *one, *saved]), "what is there after 's UNKNOWN'")
-    want([path.read_text() for path in map(kept.joinpath, others)], ["of an earlier run\n"] * len(others), "what others have")
+    want(sorted(os.listdir(kept)), sorted([*others, "files", "formula.sha256", *one, *saved]), "the files after 's UNKNOWN'")
+    want([path.read_text() for path in map(kept.joinpath, others)], ["of an earlier run\n"] * len(others), "the other files' contents")
 
 
 def others_write(mode: int, taken: bool, work: Path) -> None:
@@ -162,7 +162,7 @@ def locked(name: str, ends: int, work: Path) -> None:
         until("lrupd's sizes are there", lambda: (kept / "round-1.sizes").exists() or running.poll() is not None)
         before = sorted(os.listdir(kept))
         refused(words, f"{work / name}: another run that goes on has its files there: another --proofs", work)
-        want((sorted(os.listdir(kept)), running.poll()), (before, None), "what is there, and the run")
+        want((sorted(os.listdir(kept)), running.poll()), (before, None), "the files, and the run's status")
         running.send_signal(ends)
         running.wait(LIMIT)
         none_left(mark)
@@ -177,14 +177,14 @@ def own_files(name: str, work: Path) -> None:
     own = work / "own"
     path, other = written("mine\n", own, name), written("mine\n", own, "round-5.cnf")
     refused(["--proofs", own, example("bmc.cnf")], f"{path} is there, and isn't of an earlier run: another --proofs", work)
-    want((path.read_text(), sorted(os.listdir(own))), ("mine\n", sorted([name, other.name])), "what stands there")
+    want((path.read_text(), sorted(os.listdir(own))), ("mine\n", sorted([name, other.name])), "the files' contents")
     path.unlink()
     want_answer(solve(["--proofs", own, example("bmc.cnf")]), 20)
-    want(other.read_text(), "mine\n", "what stands there")
+    want(other.read_text(), "mine\n", "the files' contents")
     (own / "files").unlink()
     said = solve(["--proofs", own, example("bmc.cnf")]).said
     wanted = f"lrup-solve: {own}/about is there, and isn't of an earlier run: another --proofs\n"
-    want(said, wanted, "what is said of a record without a list")
+    want(said, wanted, "the message on a record without a list")
     check_again(own)
     for text, status in ((FOUR, 20), ("x", 1), ("p cnf 1 0\n", 10), ("p cnf 1 1\n2 0\n", 1), (FOUR, 20)):
         want(solve(["--replace", "--proofs", work / "kept", "-"], given=text).status, status, f"the status with {text}")
@@ -199,9 +199,9 @@ def own_list(text: Optional[str], work: Path) -> None:
      "pipe": lambda: os.mkfifo(own / "files")}.get(str(text), lambda: written(str(text), own, "files"))()
     answer = solve(["--proofs", own, example("bmc.cnf")], limit=60)
     want((answer.out, answer.said, answer.status),
-         ("", f"lrup-solve: {own}/files is there, and isn't of an earlier run: another --proofs\n", 1), "what is said")
-    want([path.read_text() for path in (report, target, mine)], ["mine\n", "files\nreport\n", "mine\n"], "what stands there")
-    want(sorted(os.listdir(own)), ["files", "report"], "what is there")
+         ("", f"lrup-solve: {own}/files is there, and isn't of an earlier run: another --proofs\n", 1), "the messages")
+    want([path.read_text() for path in (report, target, mine)], ["mine\n", "files\nreport\n", "mine\n"], "the files' contents")
+    want(sorted(os.listdir(own)), ["files", "report"], "the files")
 
 
 def replaced(work: Path) -> None:
@@ -217,15 +217,15 @@ def replaced(work: Path) -> None:
         if status == 10:
             want_answer(answer, 20)
         else:
-            want((answer.out, answer.said, answer.status), ("", said, 1), "what is said of a record with a proof")
+            want((answer.out, answer.said, answer.status), ("", said, 1), "the message on a record with a proof")
             want({path.name: path.read_bytes() for path in kept.iterdir()}, files, "the record")
     other = written(b"", kept, "round-9.stream-1.xz")
     answer = solve([*words, "--replace", sat])
     own = f"lrup-solve: {other} is there, and isn't of an earlier run: another --proofs\n"
-    want((answer.out, answer.said, answer.status), ("", own, 1), "what is said of another packed stream")
+    want((answer.out, answer.said, answer.status), ("", own, 1), "the message on another compressed stream")
     other.unlink()
     stream = (kept / "round-1.stream-1").rename(kept / "round-1.stream-1.xz")
-    want((solve([*words, "--replace", sat]).status, stream.exists()), (10, False), "of a stream that somebody has packed")
+    want((solve([*words, "--replace", sat]).status, stream.exists()), (10, False), "the answer with a compressed stream, and whether that is left")
 
 
 LISTS = ["link", "hard link", "pipe", "", "\n", "files", "report\n", "files\n../mine\n", "files\n\nreport\n", "files\nround-1.cnf\n",
@@ -252,7 +252,7 @@ def unkept(work: Path) -> None:
     want((answer.answers, answer.status, answer.said), (["s UNSATISFIABLE"], 1,
          f"lrup-solve: cannot write {kept}/report: File exists\n"), "the answer")
     found = [name for name in os.listdir(kept) if not name.startswith("round-1.")]
-    want(sorted(found), ["files", "formula.sha256", "report"], "what is there")
+    want(sorted(found), ["files", "formula.sha256", "report"], "the files")
 
 
 def another_name(words: List[str], work: Path) -> None:
@@ -321,7 +321,7 @@ def contradicting(work: Path) -> None:
     formula, cube = written("p cnf 3 2\n1 2 0\n-1 2 0\n", work), written("3 1 -1 0\n", work, "cube")
     answer = solve(["-j", "2", "--assume", cube, formula])
     want_answer(answer, 0)
-    want(answer.comments[:-1], ["assumptions 1 and -1 contradict each other, which no clause shows"], "what is said")
+    want(answer.comments[:-1], ["assumptions 1 and -1 contradict each other, which no clause shows"], "the messages")
 
 
 # The run's temporary folder, and programs.
@@ -336,8 +336,8 @@ def open_to_others(mode: int, taken: bool, work: Path) -> None:
     if taken:
         want_answer(answer, 20)
     else:
-        want(answer.said, f"lrup-solve: {files}: others may write there: another TMPDIR\n", "what is said")
-    want(os.listdir(files), [], "what is left")
+        want(answer.said, f"lrup-solve: {files}: others may write there: another TMPDIR\n", "the messages")
+    want(os.listdir(files), [], "the files left")
 
 
 def another_in_place(ends: int, work: Path) -> None:
@@ -355,11 +355,11 @@ def another_in_place(ends: int, work: Path) -> None:
         written("mine", folder, "mine")
         os.kill(engines, ends)
         running.wait(60)
-    want((os.listdir(moved), (folder / "mine").read_text(), mine.read_text()), ([], "mine", "mine"), "what is left")
+    want((os.listdir(moved), (folder / "mine").read_text(), mine.read_text()), ([], "mine", "mine"), "the files left")
 
 
 def without_processes(work: Path) -> None:
-    """As another user, with this limit on processes: nothing is left, whichever process can't be
+    """With a limit on processes, as another user, no file is left, no matter which process can't be
     started."""
     (work / "bin").mkdir()
     for path in (SOLVE, SOLVE.with_name("lrup-engines"), Path(PROGRAM)):
@@ -372,8 +372,8 @@ def without_processes(work: Path) -> None:
                                    lambda: resource.setrlimit(resource.RLIMIT_NPROC, (most, most)), limit=60,
                                    env={**os.environ, "TMPDIR": str(files)}))
         proved += answer.status == 20
-        want(os.listdir(files), [], f"what is left, of at most {most} processes, with {answer.said}{answer.out}")
-    want(0 < proved < 24, True, f"whether {proved} of 24 are some")
+        want(os.listdir(files), [], f"the files left by at most {most} processes, with {answer.said}{answer.out}")
+    want(0 < proved < 24, True, f"whether {proved} of 24 are some, not all")
 
 
 def cleaner_stopped(work: Path) -> None:
@@ -408,12 +408,12 @@ def from_the_current_folder(how: str, work: Path) -> None:
             copy.write(SOLVE.with_name("lrup-engines").read_bytes())
     formula = written(FOUR, work)
     words: List[object] = [work / "bin" / "lrup-solve", *["--engines", f"/proc/self/fd/{place}/lrup-engines"] * (how != "PATH")]
-    no_mpi = "no program that can be run" if how == "PATH" else "cannot find this program"
-    for more, said in ((["--lrupd", PROGRAM, "--core", "core"], "no lrup-trim, neither"), ([], "no lrupd that can be run"),
+    no_mpi = ": cannot be run: " if how == "PATH" else "cannot find this program"
+    for more, said in ((["--lrupd", PROGRAM, "--core", "core"], "no lrup-trim next to this program"), ([], "no lrupd that can be run"),
                        (["--lrupd", PROGRAM, "--mpi", "echo"], no_mpi)):
         done = run([*words, *more, formula], cwd=work, env={**os.environ, "PATH": ":.:bin/..:/usr/bin:/bin:"}, pass_fds=[place])
-        want((done.out, said in done.err, done.status), ("", True, 1), f"what is said with {more}: {done.err}")
-    want((work / "ran").exists(), False, "whether something was run")
+        want((done.out, said in done.err, done.status), ("", True, 1), f"the message with {more}: {done.err}")
+    want((work / "ran").exists(), False, "whether a command was run")
     if how != "PATH":
         shutil.rmtree(work / "bin")
 
@@ -425,7 +425,7 @@ def control_bytes(what: bytes, shown: str, work: Path) -> None:
     cube = written(b"1" + what + b" 0\n", work, "cube")
     said = [solve(["--assume", cube, written(FOUR, work)]).said, solve([name], cwd=work).said]
     wanted = [f": not a number: 1{shown})\n", f"a{shown}': No such file or directory\n"]
-    want([text[-len(end):] for text, end in zip(said, wanted)], wanted, "what is said")
+    want([text[-len(end):] for text, end in zip(said, wanted)], wanted, "the messages")
     answer = solve(["-v", "-j", "1", written(FOUR, work, name).name], cwd=work)
     in_ascii = re.sub(rb"[^ -~]", b"?", os.fsencode(shown)).decode()
     want(f"a{in_ascii}" in answer.out, True, f"whether the name is shown in\n{answer.out}")
@@ -434,14 +434,14 @@ def control_bytes(what: bytes, shown: str, work: Path) -> None:
 def quiet(work: Path) -> None:
     """-q prints only the answer, even with -v."""
     for words in (["-q"], ["--quiet"], ["-qv"], ["-vq"], ["-v", "-q"], ["--quiet", "--verbose"]):
-        want(solve([*words, example("bmc.cnf")]).out, "s UNSATISFIABLE\n", f"what {words} leaves")
+        want(solve([*words, example("bmc.cnf")]).out, "s UNSATISFIABLE\n", f"the answer after {words}")
 
 
 def verbose(work: Path) -> None:
     for word in ("-v", "-vv", "--verbose"):
         answer = solve([word, example("bmc.cnf")])
         want_answer(answer, 20)
-        want(any(line.startswith("engine 1: ") for line in answer.comments), True, f"whether {word} tells of an engine\n{answer.out}")
+        want(any(line.startswith("engine 1: ") for line in answer.comments), True, f"whether {word} shows an engine\n{answer.out}")
 
 
 # Refusals.
@@ -454,14 +454,15 @@ def refused(words: Sequence[object], cause: str, work: Path) -> None:
         written(begins, work, name)
     answer = solve([str(word).format(work=work, formula=formula) for word in words])
     want((answer.out, answer.status, answer.said.count("\n"), answer.said.startswith("lrup-solve: ")), ("", 1, 1, True),
-         f"what is said of {words}: {answer.said}")
+         f"the message on {words}: {answer.said}")
     cause = cause.format(work=work)
     if cause not in answer.said:
-        raise Failure(f"wanted a word on '{cause}', and not\n{answer.said}")
+        raise Failure(f"expected a message on '{cause}', but found\n{answer.said}")
 
 
 def refused_by_lrupd(text: Text, words: List[str], known: str, work: Path) -> None:
-    """In lrupd's words, with the file's name and details; also for an input from a pipe."""
+    """The message has lrupd's words, with the file's name and details; also for an input from a
+    pipe."""
     formula = written(text, work, "a formula")
     words = [word.format(work=work) for word in words]
     for name, literals in (("bad", "-2 x 0\n"), ("beyond", "-7 0\n"), ("spaces", "1  2 0\n"), ("open", "1 2\n"),
@@ -474,7 +475,7 @@ def refused_by_lrupd(text: Text, words: List[str], known: str, work: Path) -> No
         answer = solve([*words, "-" if given else formula], given=given)
         told = f"{said} ({known.format(name=name, work=work)})\n"
         if given is None or given:
-            want((answer.out, answer.said, answer.status), ("", told, 1), "what is said")
+            want((answer.out, answer.said, answer.status), ("", told, 1), "the messages")
 
 
 def refused_by_all(text: Text, fault: str, line: int, known: str, work: Path) -> None:
@@ -490,7 +491,7 @@ def taken_by_all(text: Text, status: int, work: Path) -> None:
     """If the formula is unsatisfiable, the filter finds the empty clause by unit propagation."""
     formula = written(text, work, "a formula")
     stream, said, ended = run([FILTER, "--format", "drat", formula], "0\n" if status == 20 else "")
-    want((stream.count("\n"), said, ended), (int(status == 20), "", 0), "what the filter says")
+    want((stream.count("\n"), said, ended), (int(status == 20), "", 0), "the filter's messages")
     wanted, verdict = (0, "s UNSATISFIABLE") if status == 20 else (3, "s UNKNOWN")
     done = run([PROGRAM, formula, written(stream, work, "stream")])
     want((done.out.splitlines()[-1:], done.err, done.status), ([verdict], "", wanted), "lrupd's answer")
@@ -501,7 +502,7 @@ def refused_folder(work: Path) -> None:
     (work / "folder").mkdir()
     answer = solve([work / "folder"])
     want((answer.out, answer.said, answer.status),
-         ("", f"lrupd: cannot read formula ({work}/folder: Is a directory)\n", 1), "what is said")
+         ("", f"lrupd: cannot read formula ({work}/folder: Is a directory)\n", 1), "the messages")
 
 
 def read_late(text: str, said: str, work: Path) -> None:
@@ -512,7 +513,7 @@ def read_late(text: str, said: str, work: Path) -> None:
     lasts = time.monotonic() - begun
     want((answer.answers, answer.status), ([], 1) if said else (["s UNKNOWN"], 0), f"the answer of\n{answer.out}{answer.said}")
     want(answer.said, said and f"lrup-solve: {formula}, {said}\n", "standard error")
-    want(1 <= lasts < 5, True, f"whether {lasts} seconds are the time")
+    want(1 <= lasts < 5, True, f"whether it ended by its time limit, after {lasts} seconds")
 
 
 def refused_late(text: str, work: Path) -> None:
@@ -522,7 +523,7 @@ def refused_late(text: str, work: Path) -> None:
     formula = written(text, work)
     words = ["--lrupd", str(path), "-j", "1", formula]
     answer = solve(words, cwd=work)
-    want((answer.out, answer.said, answer.status), ("", f"lrupd: formula refused: limit ({formula})\n", 1), "what is said")
+    want((answer.out, answer.said, answer.status), ("", f"lrupd: formula refused: limit ({formula})\n", 1), "the messages")
     (work / "read").unlink()
     with started([SOLVE, *words], cwd=work, stdout=subprocess.PIPE, text=True) as running:
         until("the formula is read", lambda: (work / "read").exists())
@@ -537,7 +538,7 @@ def reading_killed(text: str, work: Path) -> None:
     path = in_place_of_lrupd("case \"$*\" in *' /dev/null') kill -9 $$;; esac\nexec " + shlex.quote(PROGRAM) + ' "$@"', work)
     answer = solve(["--lrupd", path, "-j", "1", written(text, work)])
     want((answer.answers, answer.status, answer.said), (["s UNKNOWN"], 0, ""), f"the answer of\n{answer.out}")
-    want("lrupd ended by a signal: Killed" in answer.comments, True, f"whether that is told in\n{answer.out}")
+    want("lrupd ended by a signal: Killed" in answer.comments, True, f"whether a comment says so:\n{answer.out}")
 
 
 # The tests.

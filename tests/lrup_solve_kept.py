@@ -57,16 +57,16 @@ def kept(words: Sequence[object], formula: Path, work: Path, tested: Optional[Di
     outputs = ["--core", names[0], "--lrat", names[1]] if names else ["--core", core, "--lrat", lrat]
     answer = solve([*outputs, *words], tested=tested, env_more={"TMPDIR": str(files)}, cwd=work, **how)
     want((answer.status, answer.answers, answer.said), (20, [verdict], ""), f"the answer of\n{answer.out[-3000:]}")
-    told = sum(line.endswith(f": lrupd says of it: {verdict}") for line in answer.comments)
-    want(told, 2, f"of how many it is told in\n{answer.out[-3000:]}")
+    told = sum(line.endswith(f": lrupd's verdict: {verdict}") for line in answer.comments)
+    want(told, 2, f"the number of such comments in\n{answer.out[-3000:]}")
     for path in () if names else (core, lrat):
-        want(f"{path}: lrupd says of it: {verdict}" in answer.comments, True, f"whether it is told of {path} in\n{answer.out[-3000:]}")
+        want(f"{path}: lrupd's verdict: {verdict}" in answer.comments, True, f"whether a comment names {path}:\n{answer.out[-3000:]}")
     clauses = read_formula(formula)
     found = core_of(core, clauses)
     want(any(re.fullmatch(rf"{len(found)} of {len(clauses)} clauses, \d+ lines of \d+", line) for line in answer.comments), True,
-         f"whether the counts are told in\n{answer.out[-3000:]}")
+         f"whether a comment has the counts:\n{answer.out[-3000:]}")
     wanted = "" if verdict == PROVED else "no empty clause"
-    want(lrat_fault(clauses, lrat.read_text()), wanted, "what the LRAT checker says")
+    want(lrat_fault(clauses, lrat.read_text()), wanted, "the LRAT checker's message")
     left_in(files)
     return answer
 
@@ -77,7 +77,7 @@ def of_random(words: str, formula_words: str, tested: Dict[str, object], work: P
     want(solve([work / "core.cnf"]).status, 20, "the status of the core by itself")
     told = [line for line in answer.comments if line.startswith(str(work / "proof.lrat")) and ": lrupd --" in line]
     done = run([PROGRAM, *shlex.split(told[0].split(": lrupd ")[1])])
-    want((done.out.splitlines()[-1], done.err, done.status), (PROVED, "", 0), "what lrupd says by the command that is told")
+    want((done.out.splitlines()[-1], done.err, done.status), (PROVED, "", 0), "lrupd's answer to the printed command")
 
 
 def from_a_pipe(work: Path) -> None:
@@ -101,14 +101,14 @@ def one_alone(option: str, work: Path) -> None:
     formula = generated("pigeons 5", work)
     answer = solve(["-j", 1, option, "there", formula], cwd=work)
     want((answer.status, answer.answers, (work / "there").exists()), (20, [PROVED], True), "the answer")
-    want("there: lrupd says of it: s UNSATISFIABLE" in answer.comments, True, f"whether that is told in\n{answer.out}")
+    want("there: lrupd's verdict: s UNSATISFIABLE" in answer.comments, True, f"whether a comment says so:\n{answer.out}")
 
 
 def no_proof(work: Path) -> None:
     formula = written("p cnf 1 1\n1 0\n", work)
     answer = solve(["--core", "core", "--lrat", "lrat", formula], cwd=work)
     want((answer.status, "no proof, and so no core and no LRAT text" in answer.comments), (10, True), f"the answer\n{answer.out}")
-    want([(work / name).exists() for name in ("core", "lrat")], [False, False], "what is written")
+    want([(work / name).exists() for name in ("core", "lrat")], [False, False], "the outputs")
 
 
 def there_before(work: Path) -> None:
@@ -133,9 +133,9 @@ def with_another(tools: Dict[str, str], said: str, work: Path) -> None:
     program, formula = programs_beside(tools, work), written(FOUR, work)
     done = run([program, "--lrupd", PROGRAM, "-j", 1, "--core", "core", "--lrat", "lrat", formula], cwd=work,
                env={**os.environ, "PATH": "/usr/bin:/bin"})
-    want((done.err.splitlines()[-1], done.status), (f"lrup-solve: {said}", 1), f"what is said beside\n{done.out}")
-    want(("s UNSATISFIABLE" in done.out.splitlines()), "no lrup-trim" not in said, "whether the verdict is told")
-    want([(work / name).exists() for name in ("core", "lrat")], [False, False], "what is written")
+    want((done.err.splitlines()[-1], done.status), (f"lrup-solve: {said}", 1), f"the message, besides\n{done.out}")
+    want(("s UNSATISFIABLE" in done.out.splitlines()), "no lrup-trim" not in said, "whether the verdict is printed")
+    want([(work / name).exists() for name in ("core", "lrat")], [False, False], "the outputs")
 
 
 WRONG_TRIM = r"""while [ "$1" != -- ]; do case $1 in --core) core=$2;; --stream) stream=$2;; --lrat) lrat=$2;; esac; shift; done
@@ -144,11 +144,11 @@ echo "c 1 of 4 clauses, 1 lines of 2"
 echo "c $stream: 1 bytes of 1: lrupd --lines 1 --room 0 $core $stream"
 echo "c $lrat: 1 bytes of 1: lrupd --lines 1 --room 0 $2 $lrat"
 """
-ANOTHERS = [("wrong outputs", {"lrup-trim": WRONG_TRIM}, "lrupd hasn't taken lrat, which is removed"),
+ANOTHERS = [("wrong outputs", {"lrup-trim": WRONG_TRIM}, "lrupd rejects lrat, which is removed"),
             ("no outputs", {"lrup-trim": "echo lrup-trim: no line derives the empty clause >&2; exit 1"},
              "no core and no LRAT text: lrup-trim: no line derives the empty clause"),
             ("lrup-trim killed", {"lrup-trim": "kill -9 $$"}, "no core and no LRAT text: lrup-trim ended by a signal: Killed"),
-            ("no lrup-trim", {}, "no lrup-trim, neither beside this program nor on the PATH: `make trim` makes it")]
+            ("no lrup-trim", {}, "no lrup-trim next to this program or on the PATH: `make trim` builds it")]
 
 
 # Records.
@@ -166,8 +166,8 @@ def another_formula(piped: bool, work: Path) -> None:
     check_again(work / "d")
     read.write_text(read.read_text() + "c another one\n")
     done = run(["sh", "d/command"], cwd=work)
-    want((done.out, done.status), ("", 1), f"what the record's check says, with {done.err}")
-    want(done.err.splitlines()[-1], f"{read} isn't the formula of this record, or was changed since", "what is said")
+    want((done.out, done.status), ("", 1), f"the output of the record's check, with {done.err}")
+    want(done.err.splitlines()[-1], f"{read} isn't the formula of this record, or was changed since", "the messages")
 
 
 def moved(words: str, piped: bool, tested: Optional[Dict[str, object]], work: Path) -> None:
@@ -185,7 +185,7 @@ def moved(words: str, piped: bool, tested: Optional[Dict[str, object]], work: Pa
     if piped:
         (kept / "formula.cnf").write_text("p cnf 1 1\n1 0\n")
         wanted = f"{kept / 'formula.cnf'} isn't the formula of this record, or was changed since\n"
-        want(run(["sh", kept / "command"], cwd=work), Ran("", wanted, 1), "what is said of another formula")
+        want(run(["sh", kept / "command"], cwd=work), Ran("", wanted, 1), "the message on another formula")
 
 
 def not_there(name: str, piped: bool, work: Path) -> None:
@@ -196,7 +196,7 @@ def not_there(name: str, piped: bool, work: Path) -> None:
     missing = work / (name or formula.name)
     missing.rename(work / "elsewhere")
     for cwd in work, "/":
-        want(run(["sh", work / "d" / "command"], cwd=cwd), Ran("", f"{missing} isn't there, or can't be read\n", 1), "what is said")
+        want(run(["sh", work / "d" / "command"], cwd=cwd), Ran("", f"{missing} isn't there, or can't be read\n", 1), "the messages")
 
 
 def strange_name(work: Path) -> None:
@@ -204,7 +204,7 @@ def strange_name(work: Path) -> None:
     formula = written(generated("pigeons 5", work).read_bytes(), work, "a\\ b\nc.cnf")
     want(solve(["-j", 1, "--proofs", "d", formula], cwd=work).status, 20, "the status")
     check_again(work / "d")
-    want(run(["sha256sum", "--quiet", "-c", "d/formula.sha256"], cwd=work).status, 0, "what sha256sum says")
+    want(run(["sha256sum", "--quiet", "-c", "d/formula.sha256"], cwd=work).status, 0, "sha256sum's status")
 
 
 def first_line(formula: Path) -> str:
@@ -215,7 +215,7 @@ def checked_by(words: Sequence[object], work: Path, formula: Path, **how: object
     """The first line names the formula that it checks."""
     done = run(words, cwd=work, **how)
     lines = done.out.splitlines()
-    want((lines[:1], lines[-1:], done.err, done.status), ([first_line(formula)], [PROVED], "", 0), f"what {words} says")
+    want((lines[:1], lines[-1:], done.err, done.status), ([first_line(formula)], [PROVED], "", 0), f"the output with {words}")
 
 
 def names_a_formula(work: Path) -> None:
@@ -232,7 +232,7 @@ def names_a_formula(work: Path) -> None:
                ([other], f"{other} isn't the formula of this record, or was changed since"), ([copy, copy], "usage: sh command [FORMULA]"),
                (["--serial", copy], "usage: sh command [FORMULA]"), (["--help"], f"{work}/--help isn't there, or can't be read")]
     for words, said in refused:
-        want(run(["sh", "d/command", *words], cwd=work), Ran("", said + "\n", 1), f"what is said of {words}")
+        want(run(["sh", "d/command", *words], cwd=work), Ran("", said + "\n", 1), f"the message on {words}")
 
 
 def moved_together(assumes: bool, work: Path) -> None:
@@ -250,13 +250,13 @@ def moved_together(assumes: bool, work: Path) -> None:
     done = run(["sh", moved / "records" / "d" / "command"], cwd="/")
     lines = done.out.splitlines()
     want((lines[0], lines[-1], done.status), (first_line(moved / "f.cnf"), PROVED_UNDER if assumes else PROVED, 8 if assumes else 0),
-         f"what is said, with {done.err}")
+         f"the output, with {done.err}")
     if assumes:
         want(lines[1], first_line(moved / "cubes" / "cube").replace("formula", "assumptions"), "the second line")
         (moved / "cubes" / "cube").write_text("-1 0\n")
         said = f"{moved}/cubes/cube isn't the assumptions of this record, or was changed since\n"
         done = run(["sh", moved / "records" / "d" / "command"])
-        want((done.err, done.status), (said, 1), "what is said of other assumptions")
+        want((done.err, done.status), (said, 1), "the message on other assumptions")
 
 
 def only_with(tools: Sequence[str], work: Path) -> Dict[str, str]:
@@ -278,11 +278,11 @@ def digests_by(tool: str, work: Path) -> None:
     want(solve(["-j", 1, "--proofs", "d", formula], cwd=work).status, 20, "the status")
     none = "no sha256sum, shasum or openssl on the PATH to find SHA-256s\n"
     if not tool:
-        return want(run(["sh", "d/command"], cwd=work, env=path), Ran("", none, 1), "what is said")
+        return want(run(["sh", "d/command"], cwd=work, env=path), Ran("", none, 1), "the messages")
     checked_by(["sh", "d/command"], work, formula, env=path)
     formula.write_text(formula.read_text() + "c another one\n")
     said = f"{formula} isn't the formula of this record, or was changed since\n"
-    want(run(["sh", "d/command"], cwd=work, env=path), Ran("", said, 1), "what is said of another formula")
+    want(run(["sh", "d/command"], cwd=work, env=path), Ran("", said, 1), "the message on another formula")
 
 
 PACKERS = {"xz": "xz", "gz": "gzip", "zst": "zstd"}
@@ -302,34 +302,34 @@ def packed(forms: Sequence[str], tested: Optional[Dict[str, object]], work: Path
         if number % (len(forms) + 1) < len(forms):
             form = forms[number % (len(forms) + 1)]
             want(run([PACKERS[form], "-q", *["--rm"] * (form == "zst"), path]).status, 0, "the packer's status")
-            want((path.exists(), path.with_name(f"{path.name}.{form}").exists()), (False, True), "whether it is packed")
+            want((path.exists(), path.with_name(f"{path.name}.{form}").exists()), (False, True), "whether it is compressed")
     check_again(work / "d", {"TMPDIR": str(files)})
-    want(os.listdir(files), [], "what is left")
+    want(os.listdir(files), [], "the files left")
     none_left(mark)
     read_by_tools(formula, work)
     first = streams[0].with_name(f"{streams[0].name}.{forms[0]}")
     said = f"no {PACKERS[forms[0]]} on the PATH for {first}\n"
     found = run(["sh", "d/command"], cwd=work, env=only_with(["sha256sum"], work))
-    want((found.err, found.status), (said, 1), "what is said where it can't be unpacked")
+    want((found.err, found.status), (said, 1), "the message if it can't be unpacked")
     first.write_bytes(first.read_bytes()[:first.stat().st_size // 2])
     found = run(["sh", "d/command"], cwd=work, env={**os.environ, "TMPDIR": str(files)})
-    want((found.err != "", os.listdir(files)), (True, []), f"whether it is said that one is cut, in {found.out}")
+    want((found.err != "", os.listdir(files)), (True, []), f"whether there is a message on the truncated one, in {found.out}")
     none_left(mark)
     for tool in ([TRIM, "--core", "another"], [EXPLAIN]):
         found = run([*tool, formula, "d"], cwd=work)
         said = f"{tool[0].name}: d/{first.name}: {PACKERS[forms[0]]} can't unpack it\n"
-        want((found.err.endswith(said), found.status, (work / "another").exists()), (True, 1, False), f"what is said: {found.err}")
+        want((found.err.endswith(said), found.status, (work / "another").exists()), (True, 1, False), f"the message: {found.err}")
 
 
 def read_by_tools(formula: Path, work: Path) -> None:
     """The tools read the record in d as if it weren't compressed."""
     names = sorted(os.listdir(work / "d"))
     want(run([TRIM, "--lrat", "unpacked.lrat", formula, "d"], cwd=work).status, 0, "the status of lrup-trim")
-    want(lrat_fault(read_formula(formula), (work / "unpacked.lrat").read_text()), "", "what the LRAT checker says")
-    want(run([EXPLAIN, formula, "d"], cwd=work), Ran("no line is bad\n", "", 0), "what lrup-explain says")
+    want(lrat_fault(read_formula(formula), (work / "unpacked.lrat").read_text()), "", "the LRAT checker's message")
+    want(run([EXPLAIN, formula, "d"], cwd=work), Ran("no line is bad\n", "", 0), "lrup-explain's output")
     done = run([LRUP_CHAIN, "--lrupd", PROGRAM, "--tries", 1000000, formula, "d"], cwd=work)
-    want((done.out.splitlines()[-1:], done.err, done.status), ([PROVED], "", 0), "what lrup-chain says")
-    want(sorted(os.listdir(work / "d")), names, "what is there")
+    want((done.out.splitlines()[-1:], done.err, done.status), ([PROVED], "", 0), "lrup-chain's output")
+    want(sorted(os.listdir(work / "d")), names, "the files")
 
 
 def packed_and_interrupted(number: int, work: Path) -> None:
@@ -345,7 +345,7 @@ def packed_and_interrupted(number: int, work: Path) -> None:
         until("it is checked", (work / "begun").exists)
         checking.send_signal(number)
         want(checking.wait(20), 143, "the status")
-    want(os.listdir(files), [], "what is left")
+    want(os.listdir(files), [], "the files left")
     none_left(mark)
 
 
@@ -359,7 +359,7 @@ def lrupd_moved(work: Path) -> None:
     lrupd.parent.rename(work / "elsewhere")
     path = only_with(["sha256sum"], work)
     said = "no lrupd, neither where this record's was nor on the PATH\n"
-    want(run(["sh", "d/command"], cwd=work, env=path), Ran("", said, 1), "what is said")
+    want(run(["sh", "d/command"], cwd=work, env=path), Ran("", said, 1), "the messages")
     checked_by(["sh", "d/command"], work, formula, env={**os.environ, "PATH": f"{work}/elsewhere:{os.environ['PATH']}"})
 
 
@@ -372,11 +372,11 @@ def about(engines: int, given: str, tested: Optional[Dict[str, object]], work: P
     want(solve(words, tested=tested, cwd=work, **how).status, 20, "the status")
     text, _, digests = (work / "d" / "about").read_text().partition("\n\n")
     found = dict(line.split(": ", 1) for line in text.splitlines())
-    want(list(found), ["date", "words", "folder", "programs", "kit", "machine", "verdict", "record"], "what it has")
+    want(list(found), ["date", "words", "folder", "programs", "kit", "machine", "verdict", "record"], "the fields")
     then = time.mktime(time.strptime(found["date"], "%Y-%m-%d %H:%M:%S UTC")) - time.timezone
     want(abs(time.time() - then) < 60, True, f"whether {found['date']} is now")
     want((found["words"].endswith("--proofs d" if given else "--proofs d 'a formula'"), found["folder"], found["verdict"]),
-         (True, str(work), PROVED), f"what it has of the run: {text}")
+         (True, str(work), PROVED), f"the run's fields: {text}")
     version = (ROOT / "VERSION").read_text().strip()
     want(found["programs"].startswith(f"lrupd {version}; lrup-solve {version}, with CaDiCaL "), True, found["programs"])
     want(f"`{found['kit']}`" in (ROOT / "README.md").read_text(), True, found["kit"])
@@ -418,8 +418,8 @@ def strange_names(names: Tuple[str, str], assumes: bool, tested: Optional[Dict[s
     want(len(shown), 1, f"how many commands are shown in\n{answer.out[-3000:]}")
     done = run(["sh", "-c", shown[0]], cwd=folder, env={**os.environ, **more})
     if "\n" not in "".join(names) and "".join(names).isascii():       # other bytes are shown as ?
-        want(done.out.splitlines()[-1:], ["s UNKNOWN" if tested else PROVED], f"what it says, with {done.err}")
-    want(mark.exists(), False, "whether a part of a name was run")
+        want(done.out.splitlines()[-1:], ["s UNKNOWN" if tested else PROVED], f"the verdict, with {done.err}")
+    want(mark.exists(), False, "whether a part of a name was run as a command")
 
 
 STRANGE = [("$(ran).cnf", "FORMULA;.cube"), ("`ran`;ran;", "ASSUME "), ("-$(ran)", "-x"), ("%s%proof %formula", "it's \"a\" $(ran)"),
@@ -433,11 +433,11 @@ def strange_outputs(core: str, lrat: str, name: str, assumes: bool, work: Path) 
     verdict = PROVED_UNDER if assumes else PROVED
     answer = kept(words, formula, work, verdict=verdict, names=(core, lrat))
     told = [found[1] for found in (re.search(r": \d+ bytes of \d+: (lrupd .*)", line)
-                                   for line in answer.comments if " says of it: " not in line) if found]
-    want(len(told), 1, "how many commands are told")
+                                   for line in answer.comments if ": lrupd's verdict: " not in line) if found]
+    want(len(told), 1, "the number of printed commands")
     if (core + lrat + name).isprintable() and (core + lrat + name).isascii():
         done = run(["sh", "-c", f"lrupd() {{ {shlex.quote(PROGRAM)} \"$@\"; }}; {told[0]}"], cwd=work)
-        want((done.out.splitlines()[-1:], done.err), ([verdict], ""), "what lrupd says by that")
+        want((done.out.splitlines()[-1:], done.err), ([verdict], ""), "lrupd's answer to that command")
 
 
 OUTPUTS = [("-.core", "-.lrat", "-f"), ("a\ncore", "an\nlrat", "a\nformula"),
@@ -452,9 +452,9 @@ def checked_in_rounds(core: str, lrat: str, name: str, work: Path) -> None:
     program = programs_beside({"lrup-trim": trim, "lrup-exact": f"exec {shlex.quote(str(FILTER))} \"$@\""}, work)
     formula = written(generated("pigeons 5", work).read_bytes(), work, name)
     done = run([program, "--lrupd", PROGRAM, "-j", 1, "--core", core, "--lrat", lrat, "--", name], cwd=work)
-    want((done.err, done.status, done.out.count(f": lrupd says of it: {PROVED}\n")), ("", 20, 2), f"what is said in\n{done.out}")
+    want((done.err, done.status, done.out.count(f": lrupd's verdict: {PROVED}\n")), ("", 20, 2), f"the messages in\n{done.out}")
     core_of(work / core, read_formula(formula))
-    want(lrat_fault(read_formula(formula), (work / lrat).read_text()), "", "what the LRAT checker says")
+    want(lrat_fault(read_formula(formula), (work / lrat).read_text()), "", "the LRAT checker's message")
 
 
 def pipe_in_a_record(name: str, work: Path) -> None:
@@ -464,11 +464,11 @@ def pipe_in_a_record(name: str, work: Path) -> None:
     path = work / (name or formula.name)
     path.unlink()
     os.mkfifo(path)
-    want(run(["sh", "d/command"], cwd=work, limit=20), Ran("", f"{path} is no regular file\n", 1), "what the record's check says")
+    want(run(["sh", "d/command"], cwd=work, limit=20), Ran("", f"{path} is no regular file\n", 1), "the output of the record's check")
     for tool in ([TRIM, "--core", "core"], [EXPLAIN]) if name == "d/formula.sha256" else ():
         done = run([*tool, formula, "d"], cwd=work, limit=20)
         want((done.status, done.err.endswith("d/formula.sha256: it is read more than once, so it has to be a file\n")), (1, True),
-             f"what {tool[0].name} says: {done.err}")
+             f"the output of {tool[0].name}: {done.err}")
 
 
 def several_checks(work: Path) -> None:
@@ -479,7 +479,7 @@ def several_checks(work: Path) -> None:
     (work / "d").chmod(0o555)
     check_again(work / "d")
     done = by_another(["sh", "-c", "sh d/command > /dev/null & sh d/command && wait \"$!\""], work)
-    want((done.out.splitlines()[-1:], done.err, done.status), ([PROVED], "", 0), "what two checks say, by a user who can't write there")
+    want((done.out.splitlines()[-1:], done.err, done.status), ([PROVED], "", 0), "the output of two checks by a user who can't write there")
 
 
 def check_interrupted(number: int, work: Path) -> None:
@@ -495,13 +495,13 @@ def check_interrupted(number: int, work: Path) -> None:
         want(len(os.listdir(files)), 1, "folders")
         checking.send_signal(number)
         want(checking.wait(20), 143, "the status")
-    want(os.listdir(files), [], "what is left")
+    want(os.listdir(files), [], "the files left")
     slow.unlink()
     check_again(work / "d", {"TMPDIR": str(files)})
     files.chmod(0o777)
     said = f"{files}: others may write there: another TMPDIR\n"
     want(run(["sh", "d/command"], cwd=work, env={**os.environ, "TMPDIR": str(files)}), Ran("", said, 1), "where others may write")
-    want(os.listdir(files), [], "what is left there")
+    want(os.listdir(files), [], "the files left there")
 
 
 # Space.
@@ -513,11 +513,11 @@ def shown_sizes(work: Path) -> None:
     answer = solve(["-j", 1, "--proofs", "d", formula], cwd=work)
     found = [re.fullmatch(r"d: ([\d.]+) MB kept, [\d,]+ MB free", line) for line in answer.comments]
     size = sum(path.stat().st_size for path in (work / "d").iterdir())
-    want([round(float(one[1]) - size / 1e6) for one in found if one], [0], f"whether it is told in\n{answer.out}")
+    want([round(float(one[1]) - size / 1e6) for one in found if one], [0], f"whether a comment says so:\n{answer.out}")
     answer = solve(["-j", 1, "--lrat", "lrat", formula], cwd=work, env_more={"TMPDIR": str(work)})
     wanted = rf"{work}/lrup-solve-\d+/kept: [\d.]+ MB kept, [\d,]+ MB free, until a core or LRAT text is written"
-    want(sum(re.fullmatch(wanted, line) is not None for line in answer.comments), 1, f"whether it is told in\n{answer.out}")
-    want([line for line in solve(["-j", 1, formula]).comments if " MB " in line], [], "what is said where nothing is kept")
+    want(sum(re.fullmatch(wanted, line) is not None for line in answer.comments), 1, f"whether a comment says so:\n{answer.out}")
+    want([line for line in solve(["-j", 1, formula]).comments if " MB " in line], [], "comments on sizes if nothing is kept")
 
 
 def unwritable(words: List[str], said: str, work: Path) -> None:
@@ -528,7 +528,7 @@ def unwritable(words: List[str], said: str, work: Path) -> None:
     lrupd = before_lrupd(f"touch {work}/began", work / "folder")
     answer = solve(["--lrupd", lrupd, *words, formula], cwd=work)
     want((answer.out, answer.said, answer.status), ("", f"lrup-solve: {said}\n", 1), "the answer")
-    want(sorted(os.listdir(work)), before, "what is there")
+    want(sorted(os.listdir(work)), before, "the files")
 
 
 def written_into_a_record(work: Path) -> None:
@@ -554,9 +554,9 @@ def on_a_full_disk(kilobytes: int, words: List[object], tested: Optional[Dict[st
     """The record is lost, which is reported, but not the verdict."""
     answer = on_a_disk(kilobytes, words, tested, work)
     want((answer.answers, answer.status), ([PROVED], 1), f"the answer of\n{answer.out[-3000:]}{answer.said}")
-    want(re.fullmatch(f"lrup-solve: {said}: No space left on device\n", answer.said) is not None, True, f"what is said: {answer.said}")
+    want(re.fullmatch(f"lrup-solve: {said}: No space left on device\n", answer.said) is not None, True, f"the message: {answer.said}")
     want(any(line.startswith("the record is lost: cannot write ") for line in answer.comments) or not tested, True,
-         f"whether it is told meanwhile in\n{answer.out}")
+         f"whether a comment says so meanwhile:\n{answer.out}")
     want(" rounds with " in answer.out, tested is not None, f"whether there are several rounds in\n{answer.out}")
 
 
@@ -564,7 +564,7 @@ def full_of_rounds(work: Path) -> None:
     """lrupd can't save a round: the message says where."""
     answer = on_a_disk(16, ["-j", 2], SMALL, work)
     want((answer.answers, answer.status), (["s UNKNOWN"], 0), f"the answer of\n{answer.out[-3000:]}{answer.said}")
-    want(f"lrupd ended with status 9: TMPDIR ({work}/full) has 0 MB left" in answer.comments, True, f"whether that is told in\n{answer.out}")
+    want(f"lrupd ended with status 9: TMPDIR ({work}/full) has 0 MB left" in answer.comments, True, f"whether a comment says so:\n{answer.out}")
 
 
 # Why a line is bad.
@@ -580,9 +580,9 @@ def explained(with_record: bool, work: Path) -> None:
     if with_record:
         at = answer.comments.index(f"stream 1 ({record}), line 1: no conflict")
         told = [any(word in line for line in answer.comments[at:]) for word in ("  why: ", "  a right chain: ")]
-        want(told, [True, True], f"what is told\n{answer.out[-3000:]}")
+        want(told, [True, True], f"the comments\n{answer.out[-3000:]}")
     else:
-        want("lrup-explain says why, of a record that --proofs DIR keeps" in answer.comments, True, f"what is told\n{answer.out[-3000:]}")
+        want("lrup-explain shows why, if --proofs DIR keeps the streams" in answer.comments, True, f"the comments\n{answer.out[-3000:]}")
 
 
 def rows() -> List[Row]:

@@ -3,11 +3,11 @@
 
     lrup_solve_kills.py PROGRAM [FLAGS [COUNT]]
 
-For each of COUNT formulas, 10 if it isn't said, a run is left alone, and then one for each process that a run has, which is killed some
-time after it has begun. Whatever is killed, the answer is right, or 's UNKNOWN', and of a front that is killed right or none; no process
-and no file is left.
-It builds as lrup_solve.py does. It shows what is off; the last line is 'N passed, M failed', and the status is 1 where a run failed.
-"""
+Each of COUNT formulas, 10 by default, is solved in an undisturbed run, and then once for each name
+of a process, which is killed some time after its start. The answer has to be right, or 's UNKNOWN';
+if the front is killed, right or none. No process and no file may be left. It builds as
+lrup_solve.py does. Failures are shown; the last line is 'N passed, M failed', and the status is 1
+if a run failed."""
 import os
 import random
 import signal
@@ -24,11 +24,12 @@ from solving import (EARLY, FRONT, READING, Answer, command, in_environment, is_
 
 COUNT = int((words_given(__doc__, most=3) + ["-O2", "10"][len(sys.argv) - 2:])[2])
 NAMES = [FRONT, "supervisor", "lrup-engines", "engine 1", "engine 2", "filter 1", "filter 2", "lrupd", READING, "opener", "cleaner"]
-SOON = 6        # seconds, after a run has come to its end
+SOON = 6        # seconds in which files are removed after a run's end
 
 
 def killed_one(name: str, after: float, formula: Path, hooks: Mapping[str, object], work: Path) -> Answer:
-    """It is killed so many seconds after it is there; the run may be over by then."""
+    """Runs lrup-solve, and kills this process some seconds after it is there, unless the run has
+    ended by then."""
     files, mark = work / name.replace(" ", "-"), marked(work)
     files.mkdir()
     with started(command(["-j", "2", "--memory", "64M", formula], hooks), env={**in_environment(hooks), "TMPDIR": str(files)},
@@ -54,9 +55,9 @@ def kills(seed: int, work: Path) -> None:
     lasts = time.monotonic() - begun
     want_answer(whole, whole.status if whole.status in (10, 20) else 20, formula)
     for name in NAMES:
-        after = numbers.uniform(0, lasts) if name != READING else 0        # which is over soon
+        after = numbers.uniform(0, lasts) if name != READING else 0        # it reads only briefly
         answer = killed_one(name, after, formula, hooks, work)
-        answer.said = ""        # an engine's last words
+        answer.said = ""        # has a message about the killed process
         if answer.status == -signal.SIGKILL:
             want((name, answer.answers in ([], whole.answers)), (FRONT, True), f"the answer of\n{answer.out}")
         else:

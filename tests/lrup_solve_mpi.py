@@ -150,7 +150,7 @@ def cores(processes: int, words: str, tested: Optional[Dict[str, object]], work:
     options = [word for option, path in kept.items() for word in (option, path)]
     answer = Answer(run(launched(processes, ["-j", "1", *options, formula], tested), env=in_environment(tested, {"TMPDIR": str(files)})))
     want_answer(answer, 20)
-    told = [f"{path}: lrupd says of it: s UNSATISFIABLE" in answer.comments for path in kept.values()]
+    told = [f"{path}: lrupd's verdict: s UNSATISFIABLE" in answer.comments for path in kept.values()]
     want(told, [True, True], f"whether both are told of in\n{answer.out}{answer.said}")
     clauses, core = read_formula(formula), read_formula(kept["--core"])
     want([clause for clause in core if clause not in clauses], [], "clauses of the core that aren't the formula's")
@@ -404,8 +404,8 @@ def deaths() -> List[Row]:
         (1, "carrier", "killed", signal.SIGKILL, "Terminated|MPI's process"),
         (0, "carrier", "killed", signal.SIGKILL, "MPI's process here ended by a signal"),
         (0, "run", "terminated", signal.SIGTERM, "Terminated"),
-        (1, "run", "stopped", signal.SIGSTOP, "process 1 has said nothing for 8 seconds"),
-        (1, "carrier", "stopped", signal.SIGSTOP, "process 1 has said nothing for 8 seconds"),
+        (1, "run", "stopped", signal.SIGSTOP, "no message from process 1 for 8 seconds"),
+        (1, "carrier", "stopped", signal.SIGSTOP, "no message from process 1 for 8 seconds"),
         (0, "mpirun", "interrupted", signal.SIGINT, "Terminated"),
         (0, "mpirun", "terminated", signal.SIGTERM, "Terminated"),
         (0, "front", "interrupted", signal.SIGINT, "ended by a signal: Interrupt"))]

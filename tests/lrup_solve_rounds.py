@@ -60,7 +60,7 @@ def in_rounds(words: str, size: int, most: int, options: List[str], status: int,
         want([name for name in names if not (kept / name).exists()], [], "files that aren't there")
         want((kept / f"round-{rounds + 1}.stream-1").exists(), False, "a round too many")
         chained = run([LRUP_CHAIN, "--lrupd", PROGRAM, "--tries", "1000000", formula, kept])
-        want(chained, Ran((kept / "report").read_text(), "", 0), "what lrup-chain says")
+        want(chained, Ran((kept / "report").read_text(), "", 0), "lrup-chain's output")
 
 
 def plainly(options: List[str], work: Path) -> None:
@@ -245,7 +245,7 @@ def says(answer: Answer, cause: str) -> bool:
 
 def want_cause(answer: Answer, cause: str) -> None:
     if not says(answer, cause):
-        raise Failure(f"wanted a word on '{cause}', and not\n{answer.out}")
+        raise Failure(f"expected a message on '{cause}', but found\n{answer.out}")
 
 
 def kill(words: Sequence[object], number: int, pause: bool, first_words: int, names: List[str], status: int, cause: str,
@@ -269,7 +269,7 @@ def kill(words: Sequence[object], number: int, pause: bool, first_words: int, na
         if says(answer, cause):
             return
         said.append(answer.out)
-    raise Failure(f"wanted a word on '{cause}', and not\n" + "\n".join(said))
+    raise Failure(f"expected a message on '{cause}', but found\n" + "\n".join(said))
 
 
 def killed(names: List[str], status: int, cause: str, work: Path) -> None:
@@ -314,7 +314,7 @@ def folder_removed(work: Path) -> None:
         answer = running.end()
     if answer.status == 1:      # the next round's files
         return want((answer.answers, re.search(r"cannot (open|make) \S*/round-\d+\.", answer.said) is not None), ([], True),
-                    f"what is said: {answer.said}")
+                    f"the message: {answer.said}")
     want_answer(answer, 0)
     want_cause(answer, r"^lrupd ended with status [459](: TMPDIR .*)?$|^lrupd hasn't taken|^engine \d is lost: its filter stopped: cannot open ")
 
@@ -357,9 +357,9 @@ def put_in_place(how: str, work: Path) -> None:
         {"link": lambda: place.symlink_to(mine), "file": lambda: os.link(mine, place)}[how]()
         os.kill(running.children["filter 1"], signal.SIGCONT)
         answer = running.end()
-    want((answer.answers, answer.said, answer.status), ([], f"lrup-solve: cannot write {place}: somebody has put another file there\n", 1),
+    want((answer.answers, answer.said, answer.status), ([], f"lrup-solve: cannot write {place}: replaced by another file\n", 1),
          "the end")
-    want(mine.read_text(), "mine", "what the file has")
+    want(mine.read_text(), "mine", "the file's content")
 
 
 def another_folder(work: Path) -> None:
@@ -375,7 +375,7 @@ def another_folder(work: Path) -> None:
         running.go_on()
         answer = running.end()
     want_answer(answer, 20)
-    want(([path.read_text() for path in mine], len(os.listdir(other))), (["mine"] * len(names), len(names)), "what stands in the other one")
+    want(([path.read_text() for path in mine], len(os.listdir(other))), (["mine"] * len(names), len(names)), "the files in the other folder")
     check_again(moved)
 
 
@@ -383,7 +383,7 @@ def no_folder(work: Path) -> None:
     answer = solve(["-j", "2", generated("pigeons 11", work)], tested={**SMALL, "FIRST_WORDS": 50000},
                    env_more={"TMPDIR": str(work / "none")})
     want((answer.out, answer.status, answer.said),
-         ("", 1, f"lrup-solve: cannot make a folder {work}/none/lrup-solve-XXXXXX: No such file or directory\n"), "what is said")
+         ("", 1, f"lrup-solve: cannot make a folder {work}/none/lrup-solve-XXXXXX: No such file or directory\n"), "the messages")
 
 
 def full(work: Path) -> None:
@@ -506,7 +506,7 @@ def what_happens() -> List[Row]:
                        ("nobody looks in a round", nobody_looks, False), ("nobody looks in a pause", nobody_looks, True),
                        ("the folder removed", folder_removed), ("another folder", another_folder), ("a forged formula", forged), ("no folder", no_folder), ("a full disk", full),
                        ("nothing grows", stays_small)]
-    rows += [(f"a {how} in the place of a stream", put_in_place, how) for how in ("link", "file")]
+    rows += [(f"a {how} in place of a stream", put_in_place, how) for how in ("link", "file")]
     rows += [(f"signal {number} in round {at}, pause {pause}", ended_by, number, at, pause) for number in
              (signal.SIGINT, signal.SIGTERM, signal.SIGHUP, signal.SIGKILL) for at, pause in ((3, False), (1, True), (2, True))]
     untaken, waits = "^lrupd hasn't taken the proof$", "exec sleep 1000 < $next.sizes"

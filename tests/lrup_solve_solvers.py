@@ -119,7 +119,7 @@ def gaps(work: Path) -> None:
     want_answer(solve([*by([with_gaps(formula, work)]), formula]), 20)
 
 
-def goes_on_sharing(work: Path) -> None:
+def small_outbox(work: Path) -> None:
     """Engines beside a solver, which reads no outbox: more goes through a small outbox than it
     holds, three words or more each. The proof is longer than a pipe, so that engines don't get
     ahead of their filters, which are slow in a build for tests."""
@@ -228,25 +228,25 @@ STANDING = ["sleep 1000 # %formula %proof", "sleep 1000 > %proof # %formula", "y
 
 
 def wrong(command: str, cause: str, work: Path) -> None:
-    """Alone it gives no verdict, but the reason; beside a good one that one answers."""
+    """A wrong solver alone gives no verdict, but the reason; with a good one, that one answers."""
     formula = given("random 120 5", work)
     answer = solve(["--time", "60", *by([command]), formula])
     want_answer(answer, 0)
     want([line.startswith("solver 1 is lost: " + cause) for line in answer.comments[:1]], [True], f"the cause in\n{answer.out}")
-    want(answer.comments[1], "no engine is left", "what is said then")
+    want(answer.comments[1], "no engine is left", "the next comment")
     beside_others(command, formula)
 
 
 def nothing_runs(command: str, cause: str, work: Path) -> None:
-    """It ends at its start: alone that is an error, not an answer."""
+    """If the only solver ends at its start, that is an error and not an answer."""
     formula = given("random 120 5", work)
     answer = solve(by([command]) + [formula])
     said = f"lrup-solve: nothing could run: {cause}"
     want((answer.answers, answer.status, answer.said.count("\n"), answer.said[:len(said)]), ([], 1, 1, said),
-         f"what is said: {answer.said}")
-    want(answer.comments[0].startswith("solver 1 is lost: " + cause), True, f"whether it is told in\n{answer.out}")
+         f"the message: {answer.said}")
+    want(answer.comments[0].startswith("solver 1 is lost: " + cause), True, f"whether a comment says so:\n{answer.out}")
     refused = solve(by([command]) + [written("p cnf 1 1\n", work, "bad")])
-    want((refused.status, "too few clauses" in refused.said), (1, True), f"what is said of a formula that lrupd refuses: {refused.said}")
+    want((refused.status, "too few clauses" in refused.said), (1, True), f"the message on a formula that lrupd refuses: {refused.said}")
     beside_others(command, formula)
 
 
@@ -260,7 +260,7 @@ def missing(work: Path) -> None:
     answer = solve([*by(["sleep 1; " + CADICAL, "no-such-solver %formula %proof"]), given("random 120 5", work)])
     want_answer(answer, 20)
     said = "solver 2 is lost: the solver ended with status 127: "
-    want((answer.comments[0][:len(said)], ", 1 of 2 engines, " in answer.comments[-1]), (said, True), f"what is told in\n{answer.out}")
+    want((answer.comments[0][:len(said)], ", 1 of 2 engines, " in answer.comments[-1]), (said, True), f"the comments in\n{answer.out}")
 
 
 def after_a_model(work: Path) -> None:
@@ -274,9 +274,9 @@ def after_a_model(work: Path) -> None:
     want_answer(solve([*by([MODEL.format("-2 0") + " # %formula %proof", CADICAL]), formula]), 10, formula)
 
 
-def standing(command: str, work: Path) -> None:
-    """It neither reads nor answers, for longer than the run. Alone time is up; beside a good one
-    that answers. It is ended, with its children."""
+def silent_solver(command: str, work: Path) -> None:
+    """A solver neither reads nor answers until the run ends. Alone, time is up; with a good one,
+    that one answers. The silent one is ended, with its children."""
     mark, formula = marked(work), given("random 120 5", work)
     answer = solve(["--time", "1", *by([command]), formula])
     want((answer.answers, answer.comments[0], answer.status), (["s UNKNOWN"], "time is up", 0), "the answer")
@@ -304,7 +304,7 @@ def killed(number: int, whom: str, work: Path) -> None:
         out = running.communicate(timeout=LIMIT)[0]
         none_left(mark)
     if whom != "first":
-        want("solver 1 is lost: " in out and out.endswith("s UNKNOWN\n"), True, f"that the engine is lost in\n{out}")
+        want("solver 1 is lost: " in out and out.endswith("s UNKNOWN\n"), True, f"whether the engine is lost, in\n{out}")
     elif number != signal.SIGKILL:
         want((out.endswith("s UNKNOWN\n"), running.returncode), (True, -number), "the end")
 
@@ -324,11 +324,11 @@ def stopped(work: Path) -> None:
         want(of_process(found["cadical"], "oom_score_adj"), "1000\n", "by which it gives way where memory is short")
         state = lambda: of_process(found["cadical"], "stat").rsplit(")", 1)[-1].split()[0]
         os.kill(found["engine 1"], signal.SIGTSTP)
-        until("the solver stands", lambda: state() == "T")
+        until("the solver is stopped", lambda: state() == "T")
         os.kill(found["engine 1"], signal.SIGCONT)
-        until("the solver goes on", lambda: state() != "T")
+        until("the solver continues", lambda: state() != "T")
         os.kill(found["engine 1"], signal.SIGTSTP)
-        until("the solver stands again", lambda: state() == "T")
+        until("the solver is stopped again", lambda: state() == "T")
         running.terminate()
         running.communicate(timeout=LIMIT)
     none_left(mark)
@@ -340,15 +340,15 @@ def stopped(work: Path) -> None:
 def refused(words: List[str], cause: str, work: Path) -> None:
     cube = written("1 0\n", work, "cube")
     answer = solve([*(word.format(cube=cube) for word in words), example("bmc.cnf")])
-    want((answer.out, answer.said, answer.status), ("", f"lrup-solve: {cause}\n", 1), "what is said")
+    want((answer.out, answer.said, answer.status), ("", f"lrup-solve: {cause}\n", 1), "the messages")
 
 
-def told(work: Path) -> None:
+def summary_counts(work: Path) -> None:
     """-v shows the command; the summary counts engines and solvers."""
     answer = solve(["-v", "-j", "2", *by([CADICAL]), example("bmc.cnf")])
     want_answer(answer, 20)
     commands = [line for line in answer.comments if line.startswith("solver 3: cadical -q ") and "/dev/fd/" in line]
-    want((len(commands), ", 3 engines, " in answer.comments[-1]), (1, True), f"what is told in\n{answer.out}")
+    want((len(commands), ", 3 engines, " in answer.comments[-1]), (1, True), f"the comments in\n{answer.out}")
 
 
 def rows() -> List[Row]:
@@ -360,15 +360,15 @@ def rows() -> List[Row]:
             found += [(f"{title}, {name}", answers_of, name, status, commands, words) for name, status in LARGER]
         found.append((f"{title} in rounds", in_rounds, "random 150 1", commands, []))
     found += [("rounds beside engines", in_rounds, "random 170 4", [CADICAL, CRYPTOMINISAT], ["-j", "2"]),
-              ("rounds of the example solver", in_rounds, "random 150 1", [], []), ("names", names), ("told", told),
+              ("rounds of the example solver", in_rounds, "random 150 1", [], []), ("names", names), ("the summary", summary_counts),
               ("missing", missing), ("sealed", sealed)]
-    found += [("gaps", gaps), ("outboxes beside a solver", goes_on_sharing)]
+    found += [("gaps", gaps), ("outboxes beside a solver", small_outbox)]
     found += [(f"late {form}", late, form) for form in ("DRAT", "DRUP", "FRAT", "LRAT", "PicoSAT")]
     found += [(f"the example solver, {name}", by_example, name, status) for name, status in LARGER]
     found += [(f"random {seed}", randomly, seed) for seed in range(60)]
     found += [(f"wrong: {command}", wrong, command, cause) for command, cause in WRONG]
     found += [(f"nothing runs: {command}", nothing_runs, command, cause) for command, cause in NOTHING]
-    found += [(f"standing: {command}", standing, command) for command in STANDING]
+    found += [(f"silent: {command}", silent_solver, command) for command in STANDING]
     found += [("models", after_a_model), ("in the background", background), ("stopped", stopped)]
     found += [(f"{whom} ended by {number}", killed, number, whom) for whom in ("first", "engine 1", "cadical")
               for number in (signal.SIGTERM, signal.SIGKILL)]

@@ -267,7 +267,7 @@ def watched() -> Iterator[Named]:
     said = ["0 added, 0 deleted, bad line 1 (spelling)", "0 added, 0 deleted, ended"]
     told = "".join(f"lrupd: stream {number}: {words}\n" for number, words in enumerate(said, 1))
     words = ["--watch", "--serial", "formula", "stream", "/dev/null"]
-    yield "two streams by turns, watched", Wanted(words, 3, report(said, 3), told, files={"formula": FOUR, "stream": "\n"})
+    yield "two streams with --serial, watched", Wanted(words, 3, report(said, 3), told, files={"formula": FOUR, "stream": "\n"})
     for options in WAYS:
         one = Wanted(["--watch", *options.split(), "formula", "two"], 0, report([BOTH_ADDED], 0), files=FILES)
         yield f"one stream, watched {options}", one._replace(err=f"lrupd: stream 1: {BOTH_ADDED}\n")
@@ -300,7 +300,7 @@ def largest() -> Iterator[Named]:
 
 
 def little_memory() -> Iterator[Named]:
-    """In a small address space, with stacks of 8 MB."""
+    """The program runs in a small address space, with stacks of 8 MB."""
     within = 'ulimit -s 8192 && ulimit -v {} && exec "$@"'
     yield refused("out of memory", 6, "--room", "268000000", "formula", "one", shell=within.format(1000000))
     yield refused("worker 1 not started", 6, "--lines", "1", "--room", "1", "formula", "one", shell=within.format(9000))
@@ -327,15 +327,15 @@ def usage(program: str, words: List[str], work: Path) -> None:
     want((out, status), ("", 2), "the output and the status")
     lines = err.splitlines()
     if not lines or lines.count(lines[0]) != 1 or any(line.startswith("lrupd: ") for line in lines):
-        raise Failure(f"wanted words of usage, once, and not\n{err}")
+        raise Failure(f"expected one usage message, but found\n{err}")
 
 
-def help_told(program: str, work: Path) -> None:
+def help_text(program: str, work: Path) -> None:
     """Options and sizes, in the words of the manual page, except for line breaks."""
     err = answered(program, Wanted(["--help"], 2), work).err
     shown = re.findall(r"^ {6}(--.*)\n((?: {10}.*\n)+)", err, re.M)
     want([(re.sub("[<>]", "", head), " ".join(text.split())) for head, text in shown],
-         [(option.head, option.text) for option in tables.options()], "what --help says of the options")
+         [(option.head, option.text) for option in tables.options()], "the options in --help")
     if tables.sizes() not in " ".join(err.split()):
         raise Failure(f"wanted '{tables.sizes()}' in\n{err}")
 
@@ -348,7 +348,7 @@ def many_watched(program: str, work: Path) -> None:
     want((out, sorted(err.splitlines()), status), (plain.out, sorted(told), 3), "the answer")
 
 
-def told_by_lines(program: str, words: Words, lines: int, work: Path) -> None:
+def watched_line_by_line(program: str, words: Words, lines: int, work: Path) -> None:
     """Each line of --watch is one write: a packet socket keeps writes apart."""
     for name, text in {**FILES, "d/round-1.stream-1": ONE, "d/round-2.stream-1": "6 0 5 3 4 0\n"}.items():
         written(text, work, name)
@@ -368,10 +368,10 @@ def rows(program: str) -> Iterator[Row]:
         yield name, with_memory, answers, program, wanted
     for name, words in USAGE:
         yield name, usage, program, words
-    yield "the words of help", help_told, program
+    yield "the words of help", help_text, program
     yield "64 streams, watched", many_watched, program
     for words, lines in TOLD:
-        yield f"a write for each line of {' '.join(words)}", told_by_lines, program, words, lines
+        yield f"a write for each line of {' '.join(words)}", watched_line_by_line, program, words, lines
 
 
 def main() -> int:

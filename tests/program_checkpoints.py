@@ -151,7 +151,7 @@ USAGE = [["--checkpoint"], ["--checkpoint", "saved"], ["--checkpoint", "saved", 
 
 def usage(program: str, words: List[str], work: Path) -> None:
     out, err, status = answered(program, Wanted(words, 2, files=FILES), work)
-    want((out, status, bool(err), sorted(os.listdir(work))), ("", 2, True, sorted(FILES)), "what is said, and what is there")
+    want((out, status, bool(err), sorted(os.listdir(work))), ("", 2, True, sorted(FILES)), "the messages, and the files")
 
 
 # Saving or the report fails.
@@ -212,14 +212,14 @@ def torn(program: str, way: List[str], limit: Optional[int], work: Path) -> None
     if not 0 < len(left) < len(whole) or not whole.encode().startswith(left):
         raise Failure(f"{len(left)} bytes are left, which aren't a part of the checkpoint")
     again = run([program, written(left, work, "torn"), "/dev/null"])
-    want((again.out, again.err[:24], again.status), ("", "lrupd: formula refused: ", 4), "what is said of them")
+    want((again.out, again.err[:24], again.status), ("", "lrupd: formula refused: ", 4), "the message on them")
 
 
 def each_beginning(program: str, work: Path) -> None:
     """No proper beginning of a checkpoint is a formula, except without the last LF."""
     for size in range(len(SAVED_DROPPING) - 1):
         found = run([program, written(SAVED_DROPPING[:size], work, "torn"), "/dev/null"])
-        want((found.out, found.err[:24], found.status), ("", "lrupd: formula refused: ", 4), f"what is said of {size} bytes")
+        want((found.out, found.err[:24], found.status), ("", "lrupd: formula refused: ", 4), f"the message on {size} bytes")
 
 
 def without_leave(program: str, work: Path) -> None:
@@ -239,7 +239,7 @@ def refused(fault: str, count: int, program: str, work: Path) -> None:
     found = run([program, "--lines", "10", "--room", "10", "--checkpoint", work / "saved", formula, stream])
     said = report([f"{count} added, 0 deleted, ended"], 3)
     want(found, Ran(said, fault, 9 if fault else 3), "the answer")
-    want((work / "saved").read_bytes() == (b"" if fault else formula.read_bytes()), True, "whether the checkpoint is as wanted")
+    want((work / "saved").read_bytes() == (b"" if fault else formula.read_bytes()), True, "whether the checkpoint is right")
 
 
 # Checkpoints of recorded streams.
@@ -261,7 +261,7 @@ def recorded(program: str, way: str, formula: Path, names: List[str], part: floa
     again = run([program, *way.split(), "--checkpoint", work / "again", saved, "/dev/null"])
     want(again, Ran(report([NOTHING], 3), "", 3), "the answer on what was saved")
     clauses = "".join(line for line in saved.read_text().splitlines(True) if not line.startswith("c"))
-    want((work / "again").read_text(), clauses, "what is saved of what was saved")
+    want((work / "again").read_text(), clauses, "the checkpoint of a checkpoint")
 
 
 RECORDED = [("pigeonhole.cnf", ["pigeonhole.lrup"]), ("bmc.cnf", ["bmc.lrup"]),

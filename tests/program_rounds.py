@@ -157,7 +157,7 @@ def formulas() -> Iterator[Named]:
 
 
 def assumptions() -> Iterator[Named]:
-    """They hold in each round; a round that ends under them is the last."""
+    """Assumptions hold in each round; a round that ends under them is the last."""
     def under(name: str, cube: str, *more: Any, **most: Any) -> Iterator[Named]:
         yield from rounds(f"under {name}", *more, options=f"{TRIES} --assume cube", others={"cube": cube}, **most)
 
@@ -458,7 +458,7 @@ def little_memory() -> Iterator[Named]:
 
 
 def want_checkpoints(count: int, work: Path) -> None:
-    """That many rounds have created one."""
+    """Each of these rounds has created a checkpoint."""
     want(sorted((work / "d").glob("*.cnf")), [work / saved_name(number) for number in range(2, count + 2)], "the checkpoints")
 
 
@@ -472,7 +472,7 @@ def torn(number: int, assumed: bool, program: str, way: List[str], work: Path) -
     out = last(number, ["20 added, 0 deleted, ended"], 8 if assumed else 3)
     want(found, Ran(out, fault(number, "checkpoint not written"), 9), "the answer")
     whole, left = FOUR.replace("2 4", "2 24") + "2 0\n" * 20, (work / saved_name(number + 1)).read_text()
-    want(left, whole[:min(len(left), len(FOUR))], "what is left of the checkpoint")
+    want(left, whole[:min(len(left), len(FOUR))], "the rest of the checkpoint")
     want_checkpoints(number, work)
 
 
@@ -500,7 +500,7 @@ def too_many_clauses(number: int, program: str, way: List[str], work: Path) -> N
     found = run([program, *way, "--lines", "10", "--room", "10", *first_words(texts)], cwd=work)
     want(found, Ran(last(number, [ADDED], 3), fault(number, "checkpoint refused: limit"), 9), "the answer")
     saved = [(work / saved_name(place)).read_bytes() for place in range(2, number + 2)]
-    want(saved == [formula.read_bytes()] * (number - 1) + [b""], True, "whether the checkpoints are as wanted")
+    want(saved == [formula.read_bytes()] * (number - 1) + [b""], True, "whether the checkpoints are right")
 
 
 # Pipes.
@@ -558,7 +558,7 @@ def whole_when_opened(program: str, way: List[str], work: Path) -> None:
                     written(text, work, stream_name(number, stream))
                 pipe.write(b"2 4 4\n")
         out, err = running.communicate(timeout=LIMIT)
-    want((seen, Ran(out, err, running.returncode)), (saved[:2], Ran(last(3, said[2], 0), "", 0)), "what was saved, and the answer")
+    want((seen, Ran(out, err, running.returncode)), (saved[:2], Ran(last(3, said[2], 0), "", 0)), "the checkpoints, and the answer")
 
 
 def rename(place: Path) -> None:
@@ -592,7 +592,7 @@ def forged(forge: Callable[[Path], None], at: str, program: str, way: List[str],
         piped(held_back)
         with started([program, *TRIES.split(), *way, *first_words(texts)], cwd=folder, **HEARD) as running:
             with read_from(held_back) as pipe:
-                want((folder / saved_name(2)).read_text(), SAVED, "what was saved")
+                want((folder / saved_name(2)).read_text(), SAVED, "the checkpoints")
                 forge(folder / saved_name(2))
                 (folder / "formula").write_text(OTHER)
                 pipe.write(text)
@@ -618,19 +618,19 @@ def killed(program: str, way: List[str], work: Path) -> None:
     with held(work / stream_name(2)), started([program, *way, *first_words(texts)], cwd=work, **HEARD) as running:
         until("the checkpoint of round 2 is created", (work / saved_name(3)).exists)
         running.kill()
-        want(running.communicate(timeout=LIMIT), ("", ""), "what was said")
-    want([(work / saved_name(number)).read_text() for number in (2, 3)], [SAVED, ""], "what is left")
+        want(running.communicate(timeout=LIMIT), ("", ""), "the output")
+    want([(work / saved_name(number)).read_text() for number in (2, 3)], [SAVED, ""], "the files left")
     lay(texts[1:], work / "next")
     shutil.move(work / saved_name(2), work / "next/formula")
     found = run([program, *TRIES.split(), *way, *first_words(texts)], cwd=work / "next")
     want(found, Ran(last(2, said[2], 0), "", 0), "the answer of the run that goes on")
-    want((work / "next" / saved_name(2)).read_text(), saved[1], "what it saved")
+    want((work / "next" / saved_name(2)).read_text(), saved[1], "its checkpoint")
 
 
 # Reports during the run.
 
 
-def told(texts: Texts, out: str, lines: Sequence[str], program: str, way: List[str], work: Path) -> None:
+def watched_rounds(texts: Texts, out: str, lines: Sequence[str], program: str, way: List[str], work: Path) -> None:
     """With --watch standard error has these lines; the streams of a round may end in any order."""
     lay(texts, work)
     found = run([program, "--watch", *TRIES.split(), *way, *first_words(texts)], cwd=work)
@@ -691,7 +691,7 @@ def many(count: int, limits: str, options: str, program: str, way: List[str], wo
     found = answered(program, Wanted(words, 0, shell=f'{limits} && exec "$@"'), work)
     want(found, Ran(last(count, [ADDED], 0), "", 0), "the answer")
     left = [(work / saved_name(number)).read_text() for number in range(2, count + 2)]
-    want(left, [*saved, ""], "what was saved")
+    want(left, [*saved, ""], "the checkpoints")
 
 
 def special_rows(way: List[str]) -> Iterator[Row]:
@@ -709,7 +709,7 @@ def special_rows(way: List[str]) -> Iterator[Row]:
     for proof, literals in (ONE, (7, 6)), (TWO, (7, 6)):
         lines = [f"lrupd: round {number}: 4 clauses, {count} literals, paused" for number, count in zip((2, 3), literals)]
         texts, said, _ = proof
-        yield (f"watched, {len(texts[0])}", told, texts, last(3, said[2], 0),
+        yield (f"watched, {len(texts[0])}", watched_rounds, texts, last(3, said[2], 0),
                [*lines_of(said[0]), lines[0], *lines_of(said[1]), lines[1], *lines_of(said[2])])
     yield "paused", pause
     yield "200 rounds", many, 200, "ulimit -n 32", ""

@@ -62,12 +62,12 @@ def want_same(program: str, options: Sequence[object], streams: int, work: Path,
     want(found, last._replace(out=f"c round {count}\n" * (count > 1) + last.out), "the answer")
     saved = [(work / saved_name(number)).read_bytes() for number in range(2, count + 2)]
     want([left == right for left, right in zip(saved, alone.saved)], [True] * count, "which checkpoints are the same")
-    want((work / saved_name(count + 2)).exists(), False, "whether there is a checkpoint more")
+    want((work / saved_name(count + 2)).exists(), False, "whether there is another checkpoint")
 
 
 def recorded(formula: Path, names: Sequence[str], count: int, program: str, way: List[str], work: Path) -> None:
     cut = run([sys.executable, EXAMPLES / "chain.py", count, formula, work / "d", *map(example, names)])
-    want(cut, Ran("", "", 0), "what chain.py says")
+    want(cut, Ran("", "", 0), "chain.py's output")
     for path in (work / "d").glob("*.sizes"):
         path.unlink()
     shutil.copy(formula, work / "formula")
@@ -89,8 +89,8 @@ class Writer:
         self.lines: List[str] = []
 
     def resolvent(self) -> Optional[Tuple[Clause, List[int]]]:
-        """Of two clauses that clash in one variable: the first becomes unit, and the second the
-        conflict. A short one of several."""
+        """A short resolvent of two clauses that clash in one variable: the first clause becomes
+        unit, and the second is the conflict."""
         found: List[Tuple[Clause, List[int]]] = []
         for _ in range(50):
             first, second = self.numbers.sample(sorted(self.clauses), 2)

@@ -1,9 +1,11 @@
-/* Loaded before a program's libraries (LD_PRELOAD), this refuses one of its calls, and then creates the file MARK.
+/* Loaded before a program's libraries (LD_PRELOAD), this refuses one of its calls, and then creates
+   the file MARK.
    REFUSE is KIND:N or KIND:N:HOW: the N-th call of that kind, counted from 1.
      allocate:N     malloc, calloc, realloc and the like return NULL
-     thread:N       pthread_create returns EAGAIN. Each started thread begins LATE milliseconds later, so a program that
-                    doesn't wait for it goes on before it has begun. At the next write MARK gets three numbers: how many
-                    threads were started, how many of them had begun, and how many ended within ten seconds
+     thread:N       pthread_create returns EAGAIN. Each started thread begins LATE milliseconds
+                    later, so a program that doesn't wait for it continues before that. At the next
+                    write MARK gets three numbers: how many threads were started, how many of them
+                    had begun, and how many ended within ten seconds
      read:N:HOW     read; HOW is EIO, EINTR, or short or half: one byte, or half of those asked for
      write:N:HOW    write; HOW is EIO, ENOSPC, EPIPE, or short or half
      open:N:HOW     an open without O_CREAT; HOW is EACCES, EMFILE, ENOENT or ELOOP
@@ -111,8 +113,8 @@ int pthread_create(pthread_t *thread, const pthread_attr_t *attributes, void *(*
     return error;
 }
 
-/* Reports once, after a refused start, what has become of the started threads. A program that waits for a thread may go on a
-   moment before the system has ended the thread. */
+/* Reports once, after a refused start, how many of the started threads had begun and ended. A
+   program that waits for a thread may continue a moment before the system has ended the thread. */
 static void tell_threads(void) {
     if (!atomic_exchange(&to_be_told, 0)) return;
     long had_begun = atomic_load(&begun);

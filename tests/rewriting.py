@@ -61,7 +61,7 @@ def rewritten(seed: int, paths: Sequence[Path]) -> Iterator[None]:
     """Rewrites them while the block runs."""
     words = [sys.executable, __file__, seed, *paths]
     with started(words, stdout=subprocess.PIPE, text=True) as process:
-        want(process.stdout and process.stdout.readline(), "begins\n", "what is said first")
+        want(process.stdout and process.stdout.readline(), "begins\n", "the first line")
         yield
 
 
@@ -108,9 +108,9 @@ def cut_while_read(command: Words, name: str, work: Path) -> None:
             os.truncate(stream, 0)
             found.append((running.communicate(timeout=LIMIT)[1], running.returncode))
         if found[-1] == (f"{name}: {CUT}", 1):
-            want(os.listdir(folder), [], "what is left")
+            want(os.listdir(folder), [], "the files left")
             return
-    raise Failure(f"what is said: {found}")
+    raise Failure(f"the message: {found}")
 
 
 if __name__ == "__main__":

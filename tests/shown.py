@@ -106,7 +106,7 @@ def shown(name: str, files: Sequence[str], packages: Sequence[str], work: Path) 
     for command, said in zip(commands, pieces):
         if command.wanted and not re.fullmatch(pattern(command.wanted), said + "\n" * (said != "" and not said.endswith("\n"))):
             wanted = "\n".join(command.wanted)
-            raise Failure(f"line {command.line}, $ {command.text}: wanted\n{wanted}\nand not\n{said[:2000]}")
+            raise Failure(f"line {command.line}, $ {command.text}: expected\n{wanted}\nbut found\n{said[:2000]}")
 
 
 PROGRAMS = {"lrupd": Path(PROGRAM), "lrup-solve": SOLVE, "lrup-check": SOLVE.with_name("lrup-check"),
@@ -129,11 +129,12 @@ def unknown(text: str, work: Path) -> None:
 
 def refused(script: str, words: Sequence[str], given: bytes, said: str, status: int, work: Path) -> None:
     done = run([EXAMPLES / script, *words], given, cwd=work)
-    want((done.out, done.err, done.status), ("", f"{said}\n", status), f"what is said of {words}")
+    want((done.out, done.err, done.status), ("", f"{said}\n", status), f"the message on {words}")
 
 
 def wrong_answers(script: str, words: Sequence[str], what: str) -> Iterator[Row]:
-    """To a question that has an assignment. One that is too short isn't for its formula."""
+    """The scripts refuse these answers to a satisfiable question; one is too short for its
+    formula."""
     name, cause = Path(script).name, "the answer isn't s SATISFIABLE with an assignment of this formula"
     for given in (b"s UNSATISFIABLE\n", b"", b"c time is up\ns UNKNOWN\n", b"\0garbage\n\377", b"s SATISFIABLE\nv 1 2 0\n"):
         yield f"{name}, {given!r}", refused, script, ["--show", *words], given, f"{name}: no {what}: {cause}", 1

@@ -46,19 +46,21 @@ class Answer:
 
 
 def command(words: Sequence[object], tested: Optional[Mapping[str, object]] = None) -> List[str]:
-    """With `tested`, a build for tests, whose hooks are in `in_environment`."""
+    """lrup-solve's command. With `tested` it is a build for tests, whose hooks are in
+    `in_environment`."""
     return [str(word) for word in (TESTED if tested is not None else SOLVE, "--lrupd", PROGRAM, *words)]
 
 
 def hooks(tested: Mapping[str, object]) -> str:
-    """As in `tools/solve/test_hooks.h`; WITHOUT and LATE are followed by a part of the name."""
+    """The value of LRUP_SOLVE_HOOKS, by `tools/solve/test_hooks.h`; WITHOUT and LATE are followed
+    by a part of the name."""
     named = {f"{name}_{word}" if name in ("WITHOUT", "LATE") else name: 1 if name in ("WITHOUT", "LATE") else word
              for name, word in tested.items()}
     return ";".join(f"{name.lower()}={word}" for name, word in named.items())
 
 
 def in_environment(tested: Optional[Mapping[str, object]] = None, more: Optional[Mapping[str, str]] = None) -> Dict[str, str]:
-    """In a build for tests all engines start at once."""
+    """The environment of lrup-solve; in a build for tests all engines start at once."""
     given = {} if tested is None else {"LRUP_SOLVE_HOOKS": hooks({"AT_ONCE": 1, **tested})}
     return {**os.environ, **(more or {}), **given}
 
@@ -130,8 +132,8 @@ def of_process(pid: int, name: str) -> str:
 
 
 def children_of(pid: int) -> Dict[str, int]:
-    """Their names and ids, with the front's children. Of two lrupds the one that reads streams
-    counts."""
+    """The names and ids of a process's descendants. Of two lrupds it takes the one that reads
+    streams."""
     found = {}
     for child in map(int, of_process(pid, f"task/{pid}/children").split()):
         title = of_process(child, "comm").strip()
@@ -143,7 +145,7 @@ def children_of(pid: int) -> Dict[str, int]:
 
 
 def processes_of_run(pid: int) -> Dict[str, int]:
-    """With the front and the probe."""
+    """The names and ids of a run's processes, with the front and the probe."""
     found = {**children_of(pid), FRONT: pid}
     for child in map(int, of_process(pid, f"task/{pid}/children").split()):
         title, words = of_process(child, "comm").strip(), of_process(child, "cmdline")
@@ -179,7 +181,7 @@ def goes_on(process: "subprocess.Popen[Any]") -> None:
     """Waits until it has passed its loop several times, each with a wait, or has ended."""
     looping = children_of(process.pid).get("lrup-engines", 0)
     before = waits_of(looping)
-    until("the program goes on", lambda: process.poll() is not None or waits_of(looping) > before + 10)
+    until("the program continues", lambda: process.poll() is not None or waits_of(looping) > before + 10)
 
 
 def is_alive(pid: int) -> bool:

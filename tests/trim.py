@@ -60,7 +60,7 @@ def core_of(path: Path) -> Tuple[int, List[int], List[Clause]]:
     numbers = [int(line[len("c id "):]) for line in lines[::2] if line.startswith("c id ")]
     clauses = [[int(word) for word in line.split()] for line in lines[1::2]]
     want(header.split()[:2] + [int(header.split()[3]), len(clauses)], ["p", "cnf", len(numbers), len(numbers)], "the core's header")
-    want({clause.pop() for clause in clauses} | {0}, {0}, "what its clauses end with")
+    want({clause.pop() for clause in clauses} | {0}, {0}, "the ends of its clauses")
     return int(header.split()[2]), numbers, clauses
 
 
@@ -72,7 +72,7 @@ def is_tight(steps: Sequence[Step], clauses: int) -> None:
         last.update({hint: step.identity for hint in step.hints if step.kind == "a"})
     added = [step.identity for step in steps if step.kind == "a"]
     want(added, list(range(clauses + 1, clauses + len(added) + 1)), "the identities")
-    want(sorted(last), list(range(1, clauses + len(added))), "what is cited")
+    want(sorted(last), list(range(1, clauses + len(added))), "the cited clauses")
     deleted, now = {}, 0
     for step in steps:
         now = step.identity if step.kind == "a" else now
@@ -105,18 +105,18 @@ def are_right(formula: Path, said: str, work: Path, status: int = 0) -> None:
     outside = sorted(set(range(1, len(clauses) + 1)) - set(core))
     first = [Step("d", len(clauses), [], outside)] if outside else []
     want(lrat, first + over_formula(steps, core, len(clauses)), "the lines over the formula")
-    want(lrat_fault(clauses, (work / "lrat").read_text()), "no empty clause" if status == 8 else "", "what the LRAT checker says")
+    want(lrat_fault(clauses, (work / "lrat").read_text()), "no empty clause" if status == 8 else "", "the LRAT checker's message")
     added = sum(step.kind == "a" for step in steps)
-    want(said.startswith(f"c {len(core)} of {len(clauses)} clauses, {added} lines of "), True, f"what is told:\n{said}")
+    want(said.startswith(f"c {len(core)} of {len(clauses)} clauses, {added} lines of "), True, f"the summary:\n{said}")
     for done in verdicts(said, work):
-        want((done.out.splitlines()[-1:], done.err, done.status), ([VERDICTS[status]], "", status), "what lrupd says")
+        want((done.out.splitlines()[-1:], done.err, done.status), ([VERDICTS[status]], "", status), "lrupd's answer")
 
 
 def trimmed(formula: Path, proof: Sequence[Path], work: Path, assumptions: Optional[Path] = None, rehints: bool = False) -> str:
     """The printed lines."""
     words = [*(["--assume", assumptions] if assumptions else []), *["--re-hint"] * rehints]
     done = trim([*outputs_of(work), *words, formula, *proof], work)
-    want((done.err, done.status, (work / "lrat.re-hint").exists()), ("", 0, False), "what is said, and whether a file is left")
+    want((done.err, done.status, (work / "lrat.re-hint").exists()), ("", 0, False), "the message, and whether a file is left")
     are_right(formula, done.out, work, 8 if assumptions else 0)
     return done.out
 
@@ -132,7 +132,7 @@ def proof_in_rounds(formula: Path, streams: List[Path], rounds: int, work: Path)
     """The streams, or a folder of that many rounds."""
     if rounds == 0:
         return streams
-    want(run([sys.executable, CHAIN, rounds, formula, work / "rounds", *streams]), Ran("", "", 0), "what chain.py says")
+    want(run([sys.executable, CHAIN, rounds, formula, work / "rounds", *streams]), Ran("", "", 0), "chain.py's output")
     return [work / "rounds"]
 
 
@@ -168,7 +168,7 @@ def longer_than_a_row(output: str, formula: str, work: Path) -> None:
     told = f'"$1" --rounds live --memory 48K {formula} {output} | {{ read ready && "$2" --rounds live {formula} live/round-1.stream-1; }}'
     done = run(["sh", "-c", told, "sh", FILTER, PROGRAM], cwd=work)
     found = re.fullmatch(r"c round (\d+)\n.*\ns UNSATISFIABLE\n", done.out)
-    want((found is not None and int(found[1]) > 5, done.err, done.status), (True, "", 0), f"what lrupd says, {done.out}")
+    want((found is not None and int(found[1]) > 5, done.err, done.status), (True, "", 0), f"lrupd's answer, {done.out}")
 
 
 def two_halves(count: int, rounds: int, work: Path) -> None:
@@ -231,14 +231,14 @@ OF_THREE = BEGINS + "6 -1 0 5 4 0\n6 d 4 0\n7 0 5 6 3 0\n"
 def few(streams: Sequence[str], core: str, stream: str, lrat: str, formula: str, work: Path) -> None:
     proof = [written(text, work, f"f{number}") for number, text in enumerate(streams, 1)]
     trimmed(written(formula, work), proof, work)
-    want([(work / name).read_text() for name in OUTPUTS], [core, stream, lrat], "what is written")
+    want([(work / name).read_text() for name in OUTPUTS], [core, stream, lrat], "the outputs")
 
 
 def few_in_rounds(proof: Proof, stream: str, work: Path) -> None:
     for name, text in round_files(proof.texts).items():
         written(text, work, name)
     trimmed(work / "formula", [work / "d"], work)
-    want([(work / name).read_text() for name in OUTPUTS], [CORE, stream, stream], "what is written")
+    want([(work / name).read_text() for name in OUTPUTS], [CORE, stream, stream], "the outputs")
 
 
 def fewer_streams(work: Path) -> None:
@@ -250,7 +250,7 @@ def fewer_streams(work: Path) -> None:
         written(text, work, f"d/{name}")
     formula = written(FOUR, work)
     done = run([PROGRAM, "--rounds", "d", formula, "d/round-1.stream-1", "d/round-1.stream-2"], cwd=work)
-    want((done.err, done.status), ("", 0), "what lrupd says of the record")
+    want((done.err, done.status), ("", 0), "lrupd's answer on the record")
     trimmed(formula, [work / "d"], work)
     want((work / "stream").read_text(), OF_FEWER, "the stream")
 
@@ -317,9 +317,9 @@ def garbled_trim(found: Garbled, formula: Path, rehints: bool, work: Path) -> Op
     left = [name for name in [*OUTPUTS, "lrat.re-hint"] if (work / name).exists()]
     for line in done.err.splitlines():
         if not re.fullmatch(FAULT, line):
-            raise Failure(f"what is said: {line}")
+            raise Failure(f"the message: {line}")
     if done.status == 1:
-        want((done.out, left, done.err != ""), ("", [], True), "what is left")
+        want((done.out, left, done.err != ""), ("", [], True), "the files left")
         return None
     want((done.status, left), (0, OUTPUTS), f"the status, and what is written, of\n{done.err}")
     return lrat_fault(read_formula(formula), (work / "lrat").read_text()) == "", verdicts(done.out, work)
@@ -342,7 +342,7 @@ def no_hints(work: Path) -> None:
     formula, stream = written(FOUR, work), written("5 0 0\n", work, "stream")
     done = trim(["--lrat", "lrat", formula, stream], work)
     lines = "4 d 1 2 3 4 0\n5 0 0\n"
-    want((done.err, done.status, (work / "lrat").read_text()), ("", 0, lines), "what is written")
+    want((done.err, done.status, (work / "lrat").read_text()), ("", 0, lines), "the outputs")
     want(run([PROGRAM, formula, work / "lrat"]).status, 3, "lrupd's status")
 
 
@@ -364,7 +364,7 @@ def satisfiable(number: int, work: Path) -> None:
     if rehints or not is_garbled:
         want(answers is None, rehints, "whether nothing is written")
     if answers:
-        want((answers[0], [done.status for done in answers[1]]), (False, [3, 3]), "what is said of a formula that is satisfiable")
+        want((answers[0], [done.status for done in answers[1]]), (False, [3, 3]), "the answers on a satisfiable formula")
 
 
 def fault(streams: Sequence[str], said: Sequence[str], work: Path) -> None:
@@ -373,8 +373,8 @@ def fault(streams: Sequence[str], said: Sequence[str], work: Path) -> None:
         written(text, work, f"f{number}")
     done = trim([*outputs_of(work), written(FOUR, work), *(f"f{number}" for number in range(1, len(streams) + 1))], work)
     last = "no line derives the empty clause"
-    want(done, Ran("", "".join(f"lrup-trim: {line}\n" for line in [*said, last]), 1), "what is said")
-    want([name for name in OUTPUTS if (work / name).exists()], [], "what is written")
+    want(done, Ran("", "".join(f"lrup-trim: {line}\n" for line in [*said, last]), 1), "the messages")
+    want([name for name in OUTPUTS if (work / name).exists()], [], "the outputs")
 
 
 FIRST = "5 2 0 1 2 0\n"
@@ -400,12 +400,12 @@ FAULTS = [("spelling", [FIRST + "6  0 5 3 4 0\n"], ["f1, line 2: spelling"]), ("
           ("an import without an end", ["4 i 1\n"], ["f1, line 1: spelling"])]
 
 
-def goes_on_beside_a_fault(work: Path) -> None:
+def other_stream_faulty(work: Path) -> None:
     """Another stream has the empty clause."""
     for name, text in (("f1", "5 1 0 9 0\n"), ("f2", "6 2 0 1 2 0\n8 0 6 3 4 0\n")):
         written(text, work, name)
     done = trim([*outputs_of(work), written(FOUR, work), "f1", "f2"], work)
-    want((done.err, done.status), ("lrup-trim: f1, line 1: missing 9\n", 0), "what is said")
+    want((done.err, done.status), ("lrup-trim: f1, line 1: missing 9\n", 0), "the messages")
     are_right(work / "formula.cnf", done.out, work)
 
 
@@ -413,7 +413,7 @@ def bad_round(files: Dict[str, str], said: str, work: Path) -> None:
     for name, text in files.items():
         written(text, work, f"d/{name}")
     done = trim([written(FOUR, work), "d"], work)
-    want((done.out, done.err.splitlines()[-1:], done.status), ("", [f"lrup-trim: {said}"], 1), "what is said")
+    want((done.out, done.err.splitlines()[-1:], done.status), ("", [f"lrup-trim: {said}"], 1), "the messages")
 
 
 ROUND = {"round-1.stream-1": FIRST, "round-2.stream-1": "6 0 5 3 4 0\n"}
@@ -425,8 +425,8 @@ BAD_ROUNDS += [(f"sizes '{text[:9]}'", {**ROUND, "round-2.sizes": text}, "d/roun
 
 
 def digests(work: Path) -> None:
-    """Of formulas of each length up to some blocks, against expected values; another formula is
-    refused."""
+    """Formulas of each length up to some blocks are compared with the record's SHA-256; another
+    formula is refused."""
     for name, text in ROUND.items():
         written(text, work, f"d/{name}")
     for length in [*range(9, 75), 140, 65535, 65536, 65537]:
@@ -435,7 +435,7 @@ def digests(work: Path) -> None:
         for kept, said in ((digest, ""), ("\\" + digest, ""), (digest[:-1] + f"{15 - int(digest[-1], 16):x}", CHANGED), ("", CHANGED)):
             written(f"{kept}  {formula}\n", work, "d/formula.sha256")
             done = trim([formula, "d"], work)
-            want((done.err, done.status), (said.format(formula), 1 if said else 0), f"what is said of {kept}, with {length} bytes")
+            want((done.err, done.status), (said.format(formula), 1 if said else 0), f"the message on {kept}, with {length} bytes")
 
 
 CHANGED = "lrup-trim: {} isn't the formula of d, or was changed since: its digest isn't that of d/formula.sha256\n"
@@ -453,8 +453,8 @@ def refuses(words: str, status: int, said: str, work: Path) -> None:
     piped(work / "p")
     (work / "d").mkdir()
     done = trim(words.split(), work)
-    want((done.out, done.err.splitlines()[-1:], done.status), ("", [f"lrup-trim: {said}"], status), "what is said")
-    want((sorted(os.listdir(work)), (work / "there").read_text()), (sorted([*files, "d", "p"]), "mine"), "what is there")
+    want((done.out, done.err.splitlines()[-1:], done.status), ("", [f"lrup-trim: {said}"], status), "the messages")
+    want((sorted(os.listdir(work)), (work / "there").read_text()), (sorted([*files, "d", "p"]), "mine"), "the files")
 
 
 REFUSED = [("", 2, "error: no FORMULA"), ("f", 2, "error: no DIR or STREAM"), ("--cores x f s", 2, "error: no such option: --cores"),
@@ -482,7 +482,7 @@ def cut(work: Path) -> None:
 
 
 def while_rewritten(seed: int, work: Path) -> None:
-    """It writes all or nothing."""
+    """Files are rewritten meanwhile: lrup-trim writes all outputs or none."""
     command = lambda number, folder: [SANITIZED_TRIM, *outputs_of(folder),
                                       *["--re-hint"] * (number % 4 == 3)]
     for status, folder in withstands(command, (0, 1), 15, seed, work):
@@ -556,7 +556,7 @@ def rows() -> List[Row]:
     found += [(f"two halves, {count} solvers, {rounds} rounds", two_halves, count, rounds) for count, rounds in ((1, 0), (3, 0), (2, 4))]
     found += [(f"{output} in rows", longer_than_a_row, output, name) for output, name in (("stream", "core"), ("lrat", "bmc.cnf"))]
     found += [(f"fault: {name}", fault, streams, said) for name, streams, said in FAULTS]
-    found += [("beside a fault", goes_on_beside_a_fault), ("no place", no_place), ("a file that is cut", cut)]
+    found += [("beside a fault", other_stream_faulty), ("no place", no_place), ("a file that is cut", cut)]
     found += [("help", help_of), ("digests", digests)]
     if IS_SANITIZED:
         found += [(f"rewritten {seed}", while_rewritten, seed) for seed in range(4)]

@@ -1,5 +1,6 @@
 #!/bin/sh
-# Makes a Debian package of the programs installed below ROOT with PREFIX=/usr, and puts it beside ROOT:
+# Makes a Debian package of the programs installed below ROOT with PREFIX=/usr, and puts it beside
+# ROOT:
 #
 #     sh tools/deb.sh ROOT VERSION
 #
@@ -22,7 +23,8 @@ cp "$top/README.md" "$top"/docs/USING.md "$top"/docs/FORMAT.md "$top"/docs/EMITT
 cp "$top"/examples/README.md "$top"/examples/*.cnf "$top"/examples/*.cube "$top"/examples/*.lrup "$top"/examples/*.[1-4] \
     "$top"/examples/*.out "$top"/examples/chain.py "$top"/examples/acl2.py "$top"/examples/*.awk "$documents/examples"
 gzip -9nc "$top/CHANGELOG.md" > "$documents/changelog.gz"
-# All pages are in one folder here, and a link to a file that isn't in the package becomes plain text.
+# All pages are in one folder here, and a link to a file that isn't in the package becomes plain
+# text.
 sed -i -e 's#](\(\.\./\)*docs/#](#g' -e 's#](\.\./#](#g' "$documents"/*.md
 for target in $(grep -ohE '\]\([^)#]+' "$documents"/*.md "$documents"/examples/*.md | sed 's/^](//' | sort -u); do
     for page in "$documents"/*.md "$documents"/examples/*.md; do

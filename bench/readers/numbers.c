@@ -1,5 +1,5 @@
-/* numbers whole|pieces FILE: adds up a file's numbers without checking the syntax, in the mapped file or in pieces of 65,536
- * bytes. Prints the nanoseconds of each pass. */
+/* numbers whole|pieces FILE: adds up a file's numbers without checking the syntax, in the mapped
+ * file or in pieces of 65,536 bytes. Prints the nanoseconds of each pass. */
 #include <fcntl.h>
 #include <stdint.h>
 #include <stdio.h>

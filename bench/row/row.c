@@ -1,7 +1,8 @@
-/* row store LINES ROOM LOOKS: keeps the store's words in plain memory, with C's sequentially consistent loads, stores and
- * exchanges. Four streams publish clauses of 3 to 5 literals, and then all clauses are read, in order and at random places.
- * row open WORDS: touches each page of zeroed memory for a row.
- * Prints the nanoseconds and a checksum of each pass. */
+/* row store LINES ROOM LOOKS: keeps the store's words in plain memory, with C's sequentially
+ * consistent loads, stores and exchanges. Four streams publish clauses of 3 to 5 literals, and
+ * then all clauses are read, in order and at random places.
+ * row open WORDS: touches each page of zeroed memory for a row. Prints the nanoseconds and a
+ * checksum of each pass. */
 #include <pthread.h>
 #include <stdint.h>
 #include <stdio.h>
@@ -33,7 +34,8 @@ static inline uint64_t load(const uint64_t *row, uint64_t place) {
     return __atomic_load_n(&row[place], __ATOMIC_SEQ_CST);
 }
 
-/* The clause of an identity: sets five codes of literals, and returns how many of them the clause has. */
+/* The clause of an identity: sets five codes of literals, and returns how many of them the
+ * clause has. */
 static inline uint64_t clause_of(uint64_t id, uint32_t *clause) {
     uint32_t first = (uint32_t)(id & 0x1fffff) + 1;
     for (uint32_t k = 0; k < LONGEST; k++) clause[k] = 2 * (first + k * 0x200000);

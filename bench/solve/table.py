@@ -3,11 +3,14 @@
 
     table.py [OPTIONS] SOLVE LRUPD
 
-    --rounds N              how often each runs, 3 by default; the medians count. 0 only prints FILE's results
-    --results FILE          keep each run's result there, and continue from those that it has. A call may be stopped at any time
+    --rounds N              how often each runs, 3 by default; the medians count. 0 only prints
+                            FILE's results
+    --results FILE          keep each run's result there, and continue from those that it has: a
+                            call may be stopped at any time
     --formulas NAME,..      only these: a family's name, a formula's words, or its first word
     --engines N,..          the numbers of engines, 1,2,4 by default
-    --others CORES          repeat runs during which other work used more cores, and wait for a quieter moment before each turn
+    --others CORES          repeat runs during which other work used more cores, and wait for a
+                            quieter moment before each turn
     --limit SECONDS         the time limit of a run, 600 by default
     --svg FILE              draw the first table
     --easy                  easy.py's formulas, which CaDiCaL refutes at once

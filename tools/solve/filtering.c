@@ -140,7 +140,7 @@ static void open_stream(void) {
     }
     snprintf(name, sizeof name, "round-%llu.stream-%llu", (unsigned long long)round_number, (unsigned long long)filter.stream);
     int file = openat(own->record, name, O_WRONLY | O_NOFOLLOW | O_NONBLOCK | O_CLOEXEC);
-    if (file < 0 ? errno == ELOOP : !is_as_made(file)) leave_unwritten("somebody has put another file there");
+    if (file < 0 ? errno == ELOOP : !is_as_made(file)) leave_unwritten("replaced by another file");
     if (file < 0 || dup2(file, own->stream) < 0) leave_unwritten(strerror(errno));
     close(file);
 }

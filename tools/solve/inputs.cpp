@@ -181,7 +181,7 @@ void Inputs::read_cubes() {
     check_plain(options.cubes, name);
     std::ifstream file(options.cubes);
     for (uint64_t number = 1; std::getline(file, line); number++)
-        if (!read_cube(line)) refuse(name + ", line " + std::to_string(number) + ": no cube of the formula's literals, as 'a 1 -2 0'");
+        if (!read_cube(line)) refuse(name + ", line " + std::to_string(number) + ": not a cube of the formula's literals, like 'a 1 -2 0'");
     if (file.bad()) refuse("cannot read " + name);
 }
 

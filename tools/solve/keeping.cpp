@@ -1,4 +1,4 @@
-// Unverified, as all of this solver. Other tools are called once a proof is there.
+// Unverified, like the whole solver. Calls other tools once there is a proof.
 #include <algorithm>
 #include <cctype>
 #include <csignal>
@@ -13,7 +13,7 @@
 
 namespace {
 
-// As they are installed, or built.
+// Finds a tool next to this program, where it is installed or built, or on the PATH.
 std::string find_tool(const std::string &name) {
     std::string whole = own_path(), folder = whole.substr(0, whole.rfind('/') + 1);
     for (const char *place : { "", "../../bin/" })
@@ -28,7 +28,7 @@ std::vector<std::string> lines_of(const std::string &text) {
     return lines;
 }
 
-// What it says on both outputs. False where this run ends meanwhile.
+// Runs a tool; `said` gets what it prints. False if this run is ended meanwhile.
 bool run_tool(const std::vector<std::string> &words, Child &child, std::string &said,
               const Keeping::Wait &wait) {
     int file = file_in_memory();
@@ -46,7 +46,8 @@ bool run_tool(const std::vector<std::string> &words, Child &child, std::string &
     return goes_on;
 }
 
-// A text of which all is known but its numbers: a name in it may have anything in it.
+// Compares a text with an expected one in which only numbers are unknown. Names in the text may
+// contain anything, so it isn't split into words.
 struct Known {
     std::string text;
     size_t at = 0;
@@ -68,7 +69,7 @@ struct Known {
     }
 };
 
-// With what lrup-trim says of it next, where that is understood.
+// Reads what lrup-trim prints next about this output.
 void read_output(Known &said, const std::string &assume, Keeping::Output &output) {
     std::string over = quoted(output.over), stream = quoted(output.stream);
     size_t begin = said.at;
@@ -87,17 +88,17 @@ void read_output(Known &said, const std::string &assume, Keeping::Output &output
         said.words("lrupd " + assume + "--rounds live " + over + " live/round-1.stream-1; }\n");
     }
     if (said.is_so) output.told = said.text.substr(begin + 2, said.at - begin - 3);
-    else output.lines = "";     // it is checked in rounds
+    else output.lines = "";     // lrupd checks it in rounds
 }
 
-// No option.
+// The path as a word that isn't an option.
 std::string as_word(const char *path) {
     return path ? (path[0] == '-' ? "./" : "") + std::string(path) : "";
 }
 
 }
 
-// The streams are kept, too, in the front's folder where the user doesn't name one.
+// lrup-trim needs the streams: they are kept in the front's folder, unless the user names one.
 void Keeping::prepare(const std::string &program) {
     Options &options = inputs.options;
     checker_program = program;
@@ -105,13 +106,13 @@ void Keeping::prepare(const std::string &program) {
     for (const char *path : { options.core, options.lrat })
         if (path && is_there(path)) refuse(std::string(path) + ": exists, not overwritten");
     check_outputs(false);
-    if (find_tool("lrup-trim").empty()) refuse("no lrup-trim, neither beside this program nor on the PATH: `make trim` makes it");
+    if (find_tool("lrup-trim").empty()) refuse("no lrup-trim next to this program or on the PATH: `make trim` builds it");
     folder = Folder::name() + "/kept";
     if (!options.proofs) options.proofs = folder.c_str();
 }
 
-// What lrupd says of it, in rounds where the lines don't fit into a row; empty if it isn't taken.
-// lrupd gets open files: names may be such that it takes none of them.
+// lrupd's verdict on the output, in rounds if the lines don't fit into a row; empty if it is
+// rejected. lrupd gets open files, since it doesn't accept every name.
 std::string Keeping::verdict_on(const Output &output, const Wait &wait) const {
     static const char in_rounds[] =
         "exact=$1 lrupd=$2 folder=$3 formula=$4 stream=$5; shift 5; \"$exact\" --rounds \"$folder\" \"$formula\" \"$stream\" | "
@@ -145,7 +146,7 @@ bool Keeping::is_in_record(const std::string &path) const {
     return record && absolute(path).compare(0, place.size(), place) == 0;
 }
 
-// Each is there for a moment. They may be in the record's folder, which may be made first.
+// Creates each output for a moment. One in the record's folder is checked once the folder exists.
 void Keeping::check_outputs(bool has_record) const {
     const int how = O_WRONLY | O_CREAT | O_EXCL | O_NOFOLLOW | O_CLOEXEC;
     std::string why;
@@ -166,13 +167,13 @@ bool Keeping::wait_for_version(Child &child, std::string &said, const Wait &wait
     return goes_on;
 }
 
-// What was written stays where lrupd takes it.
+// Removes the output if lrupd rejects it.
 std::string Keeping::keep_if_right(const char *path, const Output &output, const Wait &wait) const {
     std::string verdict = verdict_on(output, wait);
-    if (!verdict.empty()) display.tell(quoted(path) + ": lrupd says of it: " + verdict);
+    if (!verdict.empty()) display.tell(quoted(path) + ": lrupd's verdict: " + verdict);
     if (!verdict.empty()) return "";
     unlink(path);
-    return "lrupd hasn't taken " + quoted(path) + ", which is removed";
+    return "lrupd rejects " + quoted(path) + ", which is removed";
 }
 
 std::string Keeping::keep(bool is_proved, const std::string &lost, const Wait &wait) const {
@@ -207,7 +208,8 @@ std::string Keeping::keep(bool is_proved, const std::string &lost, const Wait &w
     return other.empty() ? why : other;
 }
 
-// The front doesn't wait long once lrupd has ended, so large files aren't read again.
+// Digests that are known already. The front doesn't wait long after lrupd's end, so large files
+// aren't read again.
 std::vector<std::string> Keeping::known_digests(const Checker &checker) const {
     std::vector<std::string> known = checker.digests, lines = lines_of(inputs.digests);
     const std::string *const paths[] = { &inputs.formula_path, &inputs.assume_path };
@@ -219,7 +221,8 @@ std::vector<std::string> Keeping::known_digests(const Checker &checker) const {
     return known;
 }
 
-// What ran, where and when, and what is in the record. lrupd says its version on standard error.
+// Writes the file `about`: what ran, where and when, and the record's files. lrupd prints its
+// version to standard error.
 std::string Keeping::describe(const Checker &checker, uint64_t rounds, const Wait &wait) const {
     const Options &options = inputs.options;
     Child child;
@@ -245,18 +248,18 @@ std::string Keeping::describe(const Checker &checker, uint64_t rounds, const Wai
     return write_file(std::string(options.proofs) + "/about", text);
 }
 
-// Why lrupd hasn't taken a line.
+// Shows why lrupd rejected a line.
 void Keeping::explain(const std::string &report, const Wait &wait) const {
     if (!inputs.options.verbose || report.find(", bad line ") == std::string::npos) return;
     std::string program = find_tool("lrup-explain");
-    if (program.empty() || !inputs.options.proofs) return display.tell_more("lrup-explain says why, of a record that --proofs DIR keeps");
+    if (program.empty() || !inputs.options.proofs) return display.tell_more("lrup-explain shows why, if --proofs DIR keeps the streams");
     Child child;
     std::string said;
     run_tool({ program, "--", inputs.formula_path, inputs.options.proofs }, child, said, wait);
     for (const std::string &line : lines_of(said)) display.tell_more(line);
 }
 
-// Whether a clause that doesn't follow would, if no clause had been deleted before it.
+// Whether a clause that doesn't follow would follow if no clause had been deleted before it.
 std::string Keeping::explain_proof(const std::string &cause, const std::string &path, const Wait &wait) const {
     std::string program = find_tool("lrup-exact"), said, line = "exec \"$@\" > /dev/null";
     if (program.empty() || cause.find("doesn't follow from those") == std::string::npos || !is_read_again(path)) return "";

@@ -1,5 +1,5 @@
-// Unverified, as all of this solver. What is made of a proof once it is there: an unsatisfiable core and LRAT text, by lrup-trim, which
-// lrupd then checks; and of a line that lrupd hasn't taken, why, by lrup-explain.
+// Unverified, like the whole solver. Uses of a complete proof: lrup-trim makes an unsatisfiable
+// core and LRAT text, which lrupd then checks; lrup-explain shows why lrupd rejected a line.
 #ifndef KEEPING_H
 #define KEEPING_H
 
@@ -11,19 +11,22 @@
 
 class Keeping {
 public:
-    using Wait = std::function<bool(Child &child)>;     // for its end; false where this run is ended meanwhile
+    // waits for its end; false if this run is ended meanwhile
+    using Wait = std::function<bool(Child &child)>;
 
-    // Of lrup-trim's: a stream over a formula, and lines and room of a row that does for it.
+    // An output of lrup-trim: a stream, its formula, and the lines and room that it needs.
     struct Output { std::string what, over, stream, lines = "", room = "", told = ""; };
 
     Keeping(Inputs &its_inputs, const Display &its_display) : inputs(its_inputs), display(its_display) {}
-    void prepare(const std::string &program);           // before anything is solved; the one that is lrupd
-    void check_outputs(bool has_record) const;          // that they can be written; its folder is there
-    // Why it can't, where it can't. lost: why the record is.
+    void prepare(const std::string &program);           // before solving; program: lrupd
+    // refuses unwritable ones; has_record: its folder exists
+    void check_outputs(bool has_record) const;
+    // Returns why the outputs aren't kept; empty if they are. lost: why the record is incomplete.
     std::string keep(bool is_proved, const std::string &lost, const Wait &wait) const;
     std::string describe(const Checker &checker, uint64_t rounds, const Wait &wait) const;
     void explain(const std::string &report, const Wait &wait) const;
-    std::string explain_proof(const std::string &cause, const std::string &path, const Wait &wait) const;     // more of it
+    // adds to the cause
+    std::string explain_proof(const std::string &cause, const std::string &path, const Wait &wait) const;
 
 private:
     Inputs &inputs;

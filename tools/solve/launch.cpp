@@ -14,10 +14,10 @@ const std::string ENDING = "-mpi";
 
 std::string program_for_mpi() {
     std::string path = own_path();
-    if (path.empty()) refuse("cannot find this program, and so no lrup-engines-mpi beside it");
+    if (path.empty()) refuse("cannot find this program's folder, which has lrup-engines-mpi");
     bool is_it = path.size() > ENDING.size() && path.compare(path.size() - ENDING.size(), ENDING.size(), ENDING) == 0;
     if (!is_it) path += ENDING;
-    if (!is_program(path)) refuse("no program that can be run: " + quoted(path) + ": `make solve-mpi` makes lrup-engines-mpi");
+    if (!is_program(path)) refuse(quoted(path) + ": cannot be run: `make solve-mpi` builds lrup-engines-mpi");
     return path;
 }
 

@@ -92,14 +92,14 @@ private:
         Message message;
         while (LOAD(teams.shared->most_lines) == 0)
             if (link.wait(message, STARTING)) look_at(message);
-            else refuse("process 0 says nothing");
+            else refuse("no message from process 0");
         teams.start(false);
     }
 
     static void keep(int file, const char *bytes, size_t length) {
         while (length > 0) {
             ssize_t count = write(file, bytes, length);
-            if (count < 0 && errno != EINTR) refuse("cannot keep what comes from process 0: " + error_text());
+            if (count < 0 && errno != EINTR) refuse("cannot store data from process 0: " + error_text());
             if (count > 0) bytes += count, length -= size_t(count);
         }
     }
@@ -212,7 +212,7 @@ private:
     void look_here() {
         // mpirun ends all, or has done so
         if (loop.ended_by || link.carrier.ended()) end_children(), _exit(1);
-        if (peer.silent_process() >= 0) refuse("process 0 has said nothing for some seconds");
+        if (peer.silent_process() >= 0) refuse("no message from process 0 for some seconds");
         for (size_t k = 0; k < teams.size(); k++) {
             if (!teams.is_here(k)) continue;
             Team &team = teams[k];

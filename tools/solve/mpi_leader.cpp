@@ -222,7 +222,7 @@ private:
         for (size_t k = 0; k < run.teams.size(); k++)
             if (run.teams.is_here(k)) peer.exchange.clear(int(k), LOAD(run.teams.engine_status(k).outbox_used));
         if (link.carrier.ended()) return "MPI's process here " + link.carrier.end();
-        if (peer.silent_process() >= 0) return format("process %d has said nothing for %.0f seconds", peer.silent_process(), SILENCE);
+        if (peer.silent_process() >= 0) return format("no message from process %d for %.0f seconds", peer.silent_process(), SILENCE);
         share_cubes();
         say();
         return "";

@@ -64,7 +64,7 @@ void Link::open(int engines_here) {
     close_file(in.write);
     for (int file : { out.write, in.read }) fcntl(file, F_SETFL, O_NONBLOCK);
     Message message;
-    if (!wait(message, STARTING) || message.head.word != HELLO) refuse("the processes of MPI don't find each other");
+    if (!wait(message, STARTING) || message.head.word != HELLO) refuse("the MPI processes can't reach each other");
     process = message.head.process;
     for (int32_t one; message.take(one);) engines.push_back(one);
 }

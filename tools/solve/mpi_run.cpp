@@ -1,4 +1,5 @@
-// Unverified, like the whole solver. lrup-engines-mpi: its start, and what process 0 and the others have in common.
+// Unverified, like the whole solver. lrup-engines-mpi: its start, and what process 0 and the others
+// have in common.
 #include <algorithm>
 #include <cmath>
 #include <cstdlib>
@@ -26,7 +27,8 @@ bool is_process_0() {
 
 }
 
-// Only one process reports an error. The others must not end before it with another status than 0: mpirun would then kill it, and nothing would be reported.
+// Only one process reports an error. The others must not end before it with another status than 0:
+// mpirun would then kill it, and nothing would be reported.
 int solve(int count, char **words) {
     if (front.is_there() && is_process_0()) front.open();
     Options options = read_words(count, words);
@@ -105,7 +107,8 @@ bool Peer::keeps(const Message &message) {
     if (test_hooks.late_gifts) return word == GIFTS && !is_due(message);
     if (word == GIFTS && message.head.process == 0) awaited--;
     bool is_kept = test_hooks.late_saved && word == CONTROL && beginning<Control>(message).saved_round > LOAD(teams.shared->saved_round);
-    if (is_kept && kept.empty()) awaited = 3;       // one may be on its way; the others share until the last one
+    // one may be on its way; the others share until the last one
+    if (is_kept && kept.empty()) awaited = 3;
     return is_kept;
 }
 

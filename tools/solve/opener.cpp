@@ -41,7 +41,7 @@ void Opener::start() {
 void Opener::say(const std::string &path) const { send(socket, path.c_str(), path.size() + 1, MSG_NOSIGNAL); }
 
 void Opener::ask(const std::string &path) {
-    if (path.size() >= LONGEST_PATH) refuse("too long a name: " + path);
+    if (path.size() >= LONGEST_PATH) refuse(path + ": file name too long");
     if (socket < 0 && child.pid == 0) start();
     asked.push_back(path);
     if (asked.size() == 1) say(path);

@@ -272,7 +272,7 @@ Options read_words(int count, char **list) {
     if (options.save_every > 0 && !options.proofs) refuse("--save-every without --proofs or --resume");
     if (options.save_every == 0) options.save_every = USUAL_SAVING;
     if (options.solvers.size() + size_t(options.engines) > MOST_ENGINES) refuse("more than 64 engines, with those of --solver");
-    if (options.cubes && options.engines == 0 && !options.solvers.empty()) refuse("--cubes without engines: -j says how many");
+    if (options.cubes && options.engines == 0 && !options.solvers.empty()) refuse("--cubes without engines: -j sets how many");
     if (options.cubes && !options.share && options.engines != 1) refuse("--cubes and --no-share: refuted cubes are shared");
     if (!options.solvers.empty() && options.mpi) refuse("--solver and --mpi: a solver shares nothing with engines elsewhere");
     if (!options.solvers.empty() && options.assume && !options.check) refuse("--assume and --solver: a solver doesn't get the assumptions");

@@ -113,7 +113,7 @@ int open_pipe(const std::string &path, int bytes) {
     struct stat found;
     int file = open(path.c_str(), O_WRONLY | O_NONBLOCK | O_NOFOLLOW | O_CLOEXEC);
     if (file < 0) return -1;
-    if (fstat(file, &found) != 0 || !S_ISFIFO(found.st_mode)) refuse("somebody has put another file in the place of " + path);
+    if (fstat(file, &found) != 0 || !S_ISFIFO(found.st_mode)) refuse(path + ": replaced by another file");
     unlink(path.c_str());
     if (bytes > 0) fcntl(file, F_SETPIPE_SZ, bytes);
     return kept_open(file);

@@ -1,4 +1,4 @@
-// Unverified, as all of this solver. Paths, and the folder of --proofs.
+// Unverified, like the whole solver. Paths, and the folder of --proofs.
 #include <algorithm>
 #include <cctype>
 #include <cerrno>
@@ -20,7 +20,7 @@
 
 namespace {
 
-const double ENDING = 10;       // seconds that the processes of a run have to end
+const double ENDING = 10;       // seconds that an earlier run's processes have to end
 const useconds_t PAUSE = 20000;
 
 std::string record_name;        // absolute, with a slash
@@ -39,16 +39,17 @@ bool is_standard_input(const std::string &path) {
     return path == "-" || (find(path, found) && find("-", standard) && is_same(found, standard));
 }
 
-// Beside what rounds leave.
+// The record's files, besides those of rounds.
 const char *const NAMES[] = { "about",          "assumptions", "command",      "formula.cnf",
                               "formula.sha256", "report",      "rounds.sha256" };
 
-// The record's list of its files, itself the first one. A name is there before its file is made.
+// The list of the record's files begins with its own name. A name is listed before its file is
+// made.
 const char LIST[] = "files", NEW_LIST[] = ".files.new";
 int list_file = -1;
 std::set<std::string> listed;
 
-// As it was before somebody packed it.
+// The name without the ending of a compressed file.
 std::string without_ending(const std::string &name) {
     for (const auto &form : PACKED) {
         size_t length = name.size() - std::min(name.size(), strlen(form.ending));
@@ -57,7 +58,7 @@ std::string without_ending(const std::string &name) {
     return name;
 }
 
-// round-R.stream-K, which somebody may have packed, round-R.sizes, or checkpoint-R.cnf.
+// round-R.stream-K, also compressed, round-R.sizes, or checkpoint-R.cnf.
 bool is_of_a_round(const std::string &name) {
     auto is_number = [](const std::string &word) {
         return !word.empty() && word[0] != '0' && word.find_first_not_of("0123456789") == std::string::npos;
@@ -71,7 +72,7 @@ bool is_of_a_round(const std::string &name) {
     return name.compare(0, line, "round") == 0 && (rest == "sizes" || is_stream);
 }
 
-// A name that a run gives a file, also while that is written.
+// A name that a run gives a file, complete or not.
 bool is_of_a_record(const std::string &name) {
     for (const char *known : NAMES)
         if (name == known || name == unfinished(known)) return true;
@@ -80,7 +81,7 @@ bool is_of_a_record(const std::string &name) {
     return is_of_a_round(is_unfinished ? name.substr(1, length - 5) : name);
 }
 
-// All files with such names, also those that no run made.
+// The paths of all files with such names, also of those that no run made.
 std::vector<std::string> files_of(const std::string &folder) {
     std::vector<std::string> paths;
     int file = openat(record_folder, ".", O_RDONLY | O_DIRECTORY | O_CLOEXEC);
@@ -102,8 +103,8 @@ bool write_list(const std::string &text) {
     return write(list_file, text.data(), text.size()) == ssize_t(text.size());
 }
 
-// An end without LF is a name whose file wasn't made. A list of another user's may name what that
-// one can't remove.
+// A last name without LF has no file, since the run ended before making it. Another user's list is
+// refused: it may name files that this user can remove, and that one can't.
 void read_list(const std::string &path) {
     struct stat found;
     const int how = O_RDWR | O_APPEND | O_NOFOLLOW | O_NONBLOCK | O_CLOEXEC;
@@ -123,7 +124,7 @@ void read_list(const std::string &path) {
     kept_open(list_file);
 }
 
-// By its report, which is lrupd's.
+// Whether the record has a proof, by lrupd's report.
 bool has_proof() {
     if (listed.count("report") == 0) return false;
     int file = openat(record_folder, "report", O_RDONLY | O_NOFOLLOW | O_NONBLOCK | O_CLOEXEC);
@@ -132,7 +133,7 @@ bool has_proof() {
     return report.find("\ns UNSATISFIABLE") != std::string::npos;
 }
 
-// In the place of the one before as soon as it is whole.
+// Writes a new list, which replaces the old one once it is complete.
 bool list_anew(const std::set<std::string> &names) {
     std::string text = std::string(LIST) + "\n";
     for (const std::string &name : names)
@@ -169,13 +170,13 @@ bool is_there(const std::string &path) {
     return fstatat(place.folder, place.name.c_str(), &found, AT_SYMLINK_NOFOLLOW) == 0;
 }
 
-// To a shell it is one word as it stands.
+// Whether a shell reads the unquoted text as one word.
 bool is_plain(const std::string &word) {
     auto is_usual = [](unsigned char letter) { return isalnum(letter) || strchr("-_./+=,:@%", letter); };
     return !word.empty() && std::all_of(word.begin(), word.end(), is_usual);
 }
 
-// For a shell.
+// The word, quoted for a shell.
 std::string quoted(const std::string &word) {
     if (is_plain(word)) return word;
     std::string text = "'";
@@ -183,7 +184,7 @@ std::string quoted(const std::string &word) {
     return text + "'";
 }
 
-// The bytes of the letter that begins there, in UTF-8; 0 where none does.
+// Reads the UTF-8 character at this place. Returns its length in bytes, or 0 if there is none.
 static size_t read_letter(const std::string &text, size_t at, uint32_t &letter) {
     static const uint32_t least[] = { 0, 0x80, 0x800, 0x10000 };
     auto first = static_cast<unsigned char>(text[at]);
@@ -198,7 +199,7 @@ static size_t read_letter(const std::string &text, size_t at, uint32_t &letter) 
     return letter < least[more] || letter > 0x10ffff || is_surrogate ? 0 : size_t(more) + 1;
 }
 
-// As lrupd's words have to be.
+// lrupd's arguments have to be UTF-8.
 bool is_utf8(const std::string &text) {
     uint32_t letter;
     for (size_t at = 0, length; at < text.size(); at += length)
@@ -206,7 +207,8 @@ bool is_utf8(const std::string &text) {
     return true;
 }
 
-// A name may have any byte in it. Controls are ASCII's, and 128 to 159, also as single bytes.
+// The text with LF as \n, and other control characters as '?', since a name may contain any byte.
+// Control characters are ASCII's, and 128 to 159, also as single bytes.
 std::string one_line(const std::string &text) {
     std::string line;
     for (size_t at = 0, length; at < text.size(); at += length) {
@@ -219,7 +221,7 @@ std::string one_line(const std::string &text) {
     return line;
 }
 
-// Not of a folder that this process doesn't see: that one has no slash in front.
+// Empty if the path isn't known: one that this process can't see doesn't begin with a slash.
 std::string own_path() {
     char path[LONGEST_PATH];
     ssize_t length = readlink("/proc/self/exe", path, sizeof path);
@@ -239,19 +241,20 @@ std::string real_path(const std::string &folder) {
     return path.empty() || path.back() == '/' ? path : path + "/";
 }
 
-// The name that a file has until all of it is written.
+// A file's name until it is complete.
 std::string unfinished(const std::string &path) {
     size_t name = path.rfind('/') + 1;
     return path.substr(0, name) + "." + path.substr(name) + ".new";
 }
 
-// What is opened.
+// Opening files.
 
 void check_input(const std::string &path) {
     if (!is_standard_input(path) && access(path.c_str(), R_OK) != 0) refuse(quoted(path) + ": " + error_text());
 }
 
-// Standard input has other names, but lrupd has another standard input.
+// Whether lrupd can open the path again. It can't if the path is a name of standard input, since
+// lrupd has another one.
 bool is_read_again(const std::string &path) {
     struct stat found;
     bool is_ours = is_standard_input(path) || path.rfind("/dev/fd/", 0) == 0 || path.rfind("/proc/", 0) == 0;
@@ -275,9 +278,9 @@ void check_plain(const std::string &path, const std::string &name) {
 
 // The folder.
 
-// No other run has it until this process ends, however it does; where the system has no locks nobody is told. Where others may
-// remove files and make new ones, streams that are opened again by their names may be anything.
-// A run that is over may have processes that end only now.
+// Locks the folder until this process ends, in any way; without locks in the file system, another
+// run isn't noticed. Refuses a folder in which others may write, since they could replace streams
+// that are opened again by name. An earlier run's processes may still be ending, so it waits.
 static void hold_folder(const std::string &folder, double seconds) {
     int file = open(folder.c_str(), O_RDONLY | O_DIRECTORY | O_CLOEXEC);
     if (file < 0) refuse(folder + ": " + error_text());
@@ -285,11 +288,13 @@ static void hold_folder(const std::string &folder, double seconds) {
     kept_open(file);
     for (double until = now() + seconds; flock(file, LOCK_EX | LOCK_NB) != 0 && errno == EWOULDBLOCK; usleep(PAUSE))
         if (now() >= until) refuse(folder + ": another run that goes on has its files there: another --proofs");
-    record_folder = kept_open(openat(file, ".", O_PATH | O_DIRECTORY | O_CLOEXEC));     // a child that has it doesn't hold the lock
+    // opened again, so it doesn't hold the lock
+    record_folder = kept_open(openat(file, ".", O_PATH | O_DIRECTORY | O_CLOEXEC));
     record_name = absolute(folder) + "/";
 }
 
-// A file with a name of a record's that no list names is somebody's own, but a packed stream isn't.
+// Refuses files with a record's names that aren't in the list, since no run made them; a listed
+// stream may be compressed.
 static void check_own(const std::string &folder, const std::vector<std::string> &paths) {
     for (const std::string &path : paths)
         if (listed.count(without_ending(path.substr(folder.size() + 1))) == 0) refuse_own(path);
@@ -311,7 +316,7 @@ void open_record(const std::string &folder, const std::vector<std::string> &inpu
     if (list_file < 0 && !list_anew({})) refuse_unlisted(folder);
 }
 
-// Of a run that didn't come to its end.
+// Opens the record of an unfinished run.
 void open_record_again(const std::string &folder) {
     hold_folder(folder, ENDING);
     read_list(folder + "/" + LIST);
@@ -329,7 +334,7 @@ bool claim(const Place &place) {
     return false;
 }
 
-// Of a stream also what somebody has packed.
+// Removes the record's files, also compressed streams, except those in `kept`.
 void clear_record(const std::string &folder, const std::vector<std::string> &kept) {
     std::set<std::string> left, names = listed;
     for (const auto &form : PACKED)
@@ -344,12 +349,12 @@ void clear_record(const std::string &folder, const std::vector<std::string> &kep
     if (!list_anew(left)) refuse_unlisted(folder);
 }
 
-// To be read.
+// Opens a file of the record for reading.
 int open_in_record(const std::string &name) {
     return openat(record_folder, name.c_str(), O_RDONLY | O_NOFOLLOW | O_NONBLOCK | O_CLOEXEC);
 }
 
-// By which a run could go on, which has its proof.
+// Removes the files for resuming a run, which has its proof now.
 void remove_checkpoints(const std::string &folder) {
     std::set<std::string> left;
     for (const std::string &name : listed) {
@@ -389,7 +394,7 @@ uint64_t free_bytes() {
     return fstatvfs(record_folder, &found) == 0 ? uint64_t(found.f_bavail) * found.f_frsize : 0;
 }
 
-// Of an open file, and of a text.
+// The digests of an open file, and of a text.
 std::string digest_of(int file, const std::string &path) {
     char digest[DIGEST_DIGITS + 1];
     digest_file(file, path.c_str(), digest);
@@ -405,7 +410,7 @@ std::string digest_of(const std::string &text) {
     return found;
 }
 
-// As sha256sum writes it: it marks a name that has such bytes in it.
+// A line in sha256sum's form, which begins with a backslash if bytes of the name are escaped.
 std::string digest_line(const std::string &path) {
     int file = open_input(path);
     std::string name, whole = absolute(path), digest = digest_of(file, path);

@@ -34,7 +34,7 @@ int half_of_the_cores() {
 }
 
 void copy_name(char (&place)[LONGEST_PATH], const std::string &name) {
-    if (name.size() >= sizeof place) refuse("too long a name: " + name);
+    if (name.size() >= sizeof place) refuse(name + ": file name too long");
     memcpy(place, name.c_str(), name.size() + 1);
 }
 

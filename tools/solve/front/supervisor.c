@@ -11,12 +11,12 @@
 #include <time.h>
 #include <unistd.h>
 
-enum { BLOCK = 4096 };      // of what the front reads
+enum { BLOCK = 4096 };      // bytes that the front reads at once
 
 static pid_t engines;
-static int end = -1;        // of lrup-engines, as wait gives it; -1 is neither an exit nor a signal
+static int end = -1;        // lrup-engines' wait status; -1 is neither an exit nor a signal
 
-// False where no child is left.
+// False if no child is left.
 static bool take_ends(void) {
     int found;
     pid_t pid;
@@ -48,7 +48,7 @@ static bool all_end_within(long milliseconds) {
 }
 
 // Each child gets SIGTERM once a step; lrup-engines removes its files when it gets the first one.
-// SIGKILL comes more often: what a child has started is a child here only once that has ended.
+// SIGKILL comes more often: what a child started becomes a child here only when that child ends.
 static void end_children(void) {
     static const long steps[] = { 20, 300, 2000, 6000 };    // milliseconds
     for (size_t k = 0; k < sizeof steps / sizeof *steps; k++) {
