@@ -52,6 +52,7 @@ public:
     bool feed(size_t stream, uint64_t bytes, bool drop);    // from the file, which has so many by now; true where all are fed
     void go_on_in(size_t stream, int file) { streams[stream].file = file; }     // the next bytes
     void end_stream(size_t stream);
+    bool has_digest(size_t stream) const { return streams[stream].has_digest; }
     uint64_t fed(size_t stream) const { return streams[stream].fed; }
     uint64_t read_of(size_t stream) const;                  // bytes that it has read
     void read_on();                                         // what it says
@@ -67,6 +68,7 @@ private:
         uint64_t fed = 0, dropped = 0;
         std::string name = "";          // without the folder
         Digest digest = {};
+        bool has_digest = false;        // among `digests`
     };
 
     std::vector<Stream> streams;
