@@ -32,7 +32,7 @@ STREAMS ?= $(addprefix examples/bmc-four.,1 2 3 4)
 OPTIONS ?= --tries 1000000
 
 .PHONY: run build install built install-solve no-solve uninstall examples live checkpoints rounds demo solver exact trim explain solve solver-test filter-test trim-test
-.PHONY: peers hol explain-test solve-test neighbours sweep leaks instructions quotes promises pages test toolchain c-and-python
+.PHONY: peers hol explain-test solve-test days neighbours sweep leaks instructions quotes promises pages test toolchain c-and-python
 .PHONY: libcadical beside-it mpicxx help try deb dist quick edits packages warnings builds shown quotes-test
 
 help:
@@ -225,12 +225,18 @@ explain-test: $(BUILT) solver explain ## check: lrup-explain against lrupd, on 2
 # run, as in the gate.
 MPI ?= yes
 SOLVE_TESTS := lrup_solve_rounds lrup_solve lrup_solve_inputs lrup_solve_solvers lrup_check lrup_solve_kept lrup_solve_front \
-	lrup_solve_trusted lrup_solve_hostile lrup_solve_kills lrup_solve_cubes lrup_solve_resume lrup_solve_mpi
+	lrup_solve_trusted lrup_solve_hostile lrup_solve_kills lrup_solve_cubes lrup_solve_resume lrup_solve_days lrup_solve_mpi
 .PHONY: $(SOLVE_TESTS)
 solve-test: $(SOLVE_TESTS) ## check: lrup-solve, on 300 random formulas, and with everything that may fail
 
 $(SOLVE_TESTS): $(BUILT) exact c-and-python
 	@python3 tests/$@.py $(PROGRAM) $(if $(MPI),,$(if $(filter %_mpi,$@),-O2 small))
+
+# On larger formulas than the gate's. SEED chooses them, and is printed.
+MINUTES ?= 60
+SEED ?= $(shell date +%s)
+days: $(BUILT) exact c-and-python ## check: kill processes of lrup-solve for MINUTES=60, and resume from what they saved
+	@python3 tests/lrup_solve_days.py $(PROGRAM) -O2 $(SEED) $(MINUTES)
 
 neighbours: $(BUILT) c-and-python ## check: hostile streams never change the report on a good proof
 	@python3 tests/program_neighbours.py $(PROGRAM)
@@ -297,7 +303,7 @@ packages: ## check: install, as root, the Debian packages that tests need
 # two more than there are cores, since most of them wait now and then. The output of each comes when
 # it has ended. `make -n` first checks that every test target exists.
 TESTS := lrup_solve_rounds sweep filter_mutants lrup_solve lrup_solve_solvers lrup_solve_cubes filter_rounds lrup_solve_resume explain-test \
-	trim-test lrup_solve_front \
+	trim-test lrup_solve_front lrup_solve_days \
 	lrup_solve_hostile lrup_solve_mpi lrup_solve_inputs lrup_solve_kept lrup_solve_kills lrup_solve_trusted lrup_check leaks filter_chains \
 	filter_streams filter_solvers checkpoints rounds examples solver-test instructions neighbours live warnings builds shown quotes-test
 SIDE_BY_SIDE := --output-sync=target -j $(shell expr $$(nproc) + 2)

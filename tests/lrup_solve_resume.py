@@ -8,7 +8,6 @@ takes it. COUNT formulas are solved so, 3 if it isn't said. A record that was ch
 the right answer, to 's UNKNOWN', or to a message that names the file; one of another formula is refused, and nothing of it is touched. It
 builds as lrup_solve.py does. It shows what is off; the last line is 'N passed, M failed'. The status is 1 where a run failed.
 """
-import hashlib
 import os
 import random
 import re
@@ -18,20 +17,18 @@ import subprocess
 import sys
 import time
 from pathlib import Path
-from typing import Callable, Dict, List, Mapping, Optional, Sequence, Tuple
+from typing import Callable, List, Mapping, Optional, Sequence, Tuple
 
 sys.dont_write_bytecode = True
-from harness import (LIMIT, ROOT, TRIM, Failure, Ran, Row, dimacs, generated, left_out, random_clauses, run, run_all, started, until, want,
-                     words_given, written)
-from lrat import lrat_fault
-from proof_forms import read_formula
+from harness import (LIMIT, ROOT, Failure, Ran, Row, dimacs, generated, left_out, random_clauses, run, run_all, started, until, want, words_given,
+                     written)
+from records import CHANGES, UNKNOWN, checkpoints, recorded, saved_rounds, want_no_other, whole, with_digests
 from solving import (ANSWERS, EARLY, PROGRAM, SOLVE, Answer, before_lrupd, build, check_again, children_of, command, end_all, end_group,
                      in_environment, marked, none_left, solve, want_answer)
 
 COUNT = int((words_given(__doc__, most=3) + ["-O2", "3"][len(sys.argv) - 2:])[2])
 SMALL = {"SAME_WORDS": 1, "SLICE": 20, "FIRST_WORDS": 4000}
-UNKNOWN, PROVED = "s UNKNOWN", "s UNSATISFIABLE"
-TRIES = 20
+PROVED = "s UNSATISFIABLE"
 SCRIPT = ROOT / "examples" / "resume" / "slurm.sh"
 SOON = 20       # seconds, after which a run should have ended
 
@@ -47,37 +44,6 @@ def ended(words: Sequence[object], tested: Mapping[str, object], after: float, n
             out, said = running.communicate(timeout=LIMIT)
     none_left(mark)
     return Answer(Ran(out, said, running.returncode))
-
-
-def saved_rounds(kept: Path) -> int:
-    """The round that a run would begin with, or 1."""
-    found = re.search(r"  checkpoint-(\d+)\.cnf\n$", (kept / "rounds.sha256").read_text()) if (kept / "rounds.sha256").exists() else None
-    return int(found[1]) if found else 1
-
-
-def recorded(words: Sequence[object], kept: Path, least: int, tested: Mapping[str, object]) -> None:
-    """The record of a run that was killed once it had saved this many rounds. One that has ended by then is tried again."""
-    for _ in range(TRIES):
-        with started(command(["--proofs", kept, "--replace", *words], tested), env=in_environment(tested), stdout=subprocess.DEVNULL) as running:
-            until(f"{least} rounds are saved", lambda: saved_rounds(kept) > least or running.poll() is not None)
-            running.kill()
-        none_left(f"LRUP_MARK={os.environ['LRUP_MARK']}")
-        if running.returncode == -signal.SIGKILL and saved_rounds(kept) > least:
-            return
-    raise Failure(f"it has ended {TRIES} times before it had saved {least} rounds")
-
-
-def checkpoints(kept: Path) -> List[str]:
-    return sorted(path.name for path in kept.iterdir() if re.match(r"\.|checkpoint|rounds", path.name))
-
-
-def whole(kept: Path, formula: Path, work: Path) -> None:
-    """The record of a run that has proved it."""
-    check_again(kept)
-    lrat = work / "lrat"
-    want(run([TRIM, "--lrat", lrat, formula, kept]).status, 0, "the status of lrup-trim")
-    want(lrat_fault(read_formula(formula), lrat.read_text()), "", "what the LRAT checker says")
-    lrat.unlink()
 
 
 # Runs that are killed.
@@ -279,92 +245,6 @@ def in_jobs(work: Path) -> None:
 
 # Records that aren't what they were.
 
-Change = Callable[[Path, random.Random], str]
-
-
-def any_of(kept: Path, numbers: random.Random, pattern: str) -> Path:
-    """Of the rounds that are saved."""
-    named = [line[66:] for line in (kept / "rounds.sha256").read_text().splitlines()]
-    return kept / numbers.choice([name for name in named if re.fullmatch(pattern, name)])
-
-
-def flipped(pattern: str) -> Change:
-    def change(kept: Path, numbers: random.Random) -> str:
-        path = any_of(kept, numbers, pattern)
-        data = bytearray(path.read_bytes())
-        data[numbers.randrange(len(data))] ^= 1 << numbers.randrange(8)
-        path.write_bytes(data)
-        return path.name
-    return change
-
-
-def cut(pattern: str) -> Change:
-    def change(kept: Path, numbers: random.Random) -> str:
-        path = any_of(kept, numbers, pattern)
-        os.truncate(path, numbers.randrange(path.stat().st_size))
-        return path.name
-    return change
-
-
-def swapped(pattern: str) -> Change:
-    def change(kept: Path, numbers: random.Random) -> str:
-        one = any_of(kept, numbers, pattern)
-        other = one
-        while other == one:
-            other = any_of(kept, numbers, pattern)
-        texts = one.read_bytes(), other.read_bytes()
-        one.write_bytes(texts[1])
-        other.write_bytes(texts[0])
-        return f"{one.name}|{other.name}"
-    return change
-
-
-def removed(pattern: str, then: Callable[[Path], object] = lambda path: None) -> Change:
-    def change(kept: Path, numbers: random.Random) -> str:
-        path = any_of(kept, numbers, pattern)
-        path.unlink()
-        then(path)
-        return path.name
-    return change
-
-
-def written_anew(name: str, text: str) -> Change:
-    def change(kept: Path, numbers: random.Random) -> str:
-        (kept / name).write_text(text)
-        return name
-    return change
-
-
-def list_changed(pattern: str, by: str) -> Change:
-    def change(kept: Path, numbers: random.Random) -> str:
-        path = kept / "rounds.sha256"
-        path.write_text(re.sub(pattern, by, path.read_text(), flags=re.M))
-        return "rounds.sha256|round-1"
-    return change
-
-
-STREAM, SIZES, CHECKPOINT = r"round-\d+\.stream-\d+", r"round-\d+\.sizes", r"checkpoint-\d+\.cnf"
-CHANGES: Dict[str, Change] = {
-    **{f"{what} of {pattern}": made for pattern in (STREAM, SIZES, CHECKPOINT) for what, made in (
-        ("a bit", flipped(pattern)), ("another bit", flipped(pattern)), ("the end", cut(pattern)), ("all", removed(pattern)))},
-    "streams swapped": swapped(STREAM), "sizes swapped": swapped(SIZES), "a pipe as a stream": removed(STREAM, os.mkfifo),
-    "a folder as sizes": removed(SIZES, os.mkdir), "a link as a checkpoint": removed(CHECKPOINT, lambda path: path.symlink_to("/dev/zero")),
-    "an empty list": written_anew("rounds.sha256", ""), "a list of nothing": written_anew("rounds.sha256", "x\n"),
-    "a list without its end": list_changed(r"\n\Z", ""), "a list without its last line": list_changed(r"^.*checkpoint.*\n", ""),
-    "a list with a stream less": list_changed(r"^.*round-1.stream-1\n", ""), "a list with two of one": list_changed(r"stream-2$", "stream-1"),
-    "another folder's file": list_changed(r"checkpoint-", "../checkpoint-"), "another digest": list_changed(r"^[0-9a-f]", "g"),
-    "digests of nothing": list_changed(r"^[0-9a-f]{64}", "0" * 64)}
-
-
-def want_no_other(answer: Answer, status: int, formula: Path, kept: Path, names: str) -> None:
-    """The right answer, none, or a message; and one of these files is named where there is none."""
-    if answer.status == status:
-        answer.said = ""
-        return want_answer(answer, status, formula)
-    want((answer.answers, answer.status in (0, 1)), ([UNKNOWN] if answer.status == 0 else [], True), f"the answer of\n{answer.out}{answer.said}")
-    said = answer.said if answer.status == 1 else answer.out
-    want(any(f"{kept}/{name}" in said for name in names.split("|")), True, f"whether one of {names} is named in\n{answer.out}{answer.said}")
-
 
 def changed(status: int, seed: int, work: Path) -> None:
     """One record, and each change of it."""
@@ -384,16 +264,30 @@ def changed(status: int, seed: int, work: Path) -> None:
         shutil.rmtree(kept)
 
 
+def cut_short(number: int, work: Path) -> None:
+    """A stream of that round was changed: the record has the rounds before it then, and a run goes on from there."""
+    marked(work)
+    formula, kept = generated("pigeons 7", work), work / "kept"
+    recorded(["-j", "2", formula], kept, 3, SMALL)
+    path, rounds = kept / f"round-{number}.stream-2", saved_rounds(kept)
+    path.write_bytes(b"x" + path.read_bytes())
+    before = {name: (kept / name).read_bytes() for name in checkpoints(kept)}
+    answer = solve(["-j", "2", "--resume", kept, formula], tested=SMALL)
+    want_answer(answer, 0)
+    end = ": the run can't go on" if number == 1 else ""
+    said = f"{path} was changed since it was saved{end}"
+    want(said in answer.comments, True, f"whether it is said in\n{answer.out}")
+    if number == 1:
+        after = {name: (kept / name).read_bytes() for name in checkpoints(kept)}
+        return want((saved_rounds(kept), after == before), (rounds, True), "whether the record is as it was")
+    want((way_on(answer, kept, formula), saved_rounds(kept)), ((number - 1, True), number), f"what is left, in\n{answer.out}")
+    want_answer(solve(["-j", "2", "--resume", kept, formula], tested=SMALL), 20)
+    whole(kept, formula, work)
+
+
 def hard(status: int, work: Path) -> Path:
     """For some rounds of small rows."""
     return generated("pigeons 7", work) if status == 20 else written(dimacs(230, random_clauses(random.Random(17), 230, 975)), work)
-
-
-def with_digests(kept: Path) -> None:
-    """The list is that of the files that are there."""
-    lines = (kept / "rounds.sha256").read_text().splitlines()
-    names = [line[66:] for line in lines if (kept / line[66:]).exists()]
-    (kept / "rounds.sha256").write_text("".join(f"{hashlib.sha256((kept / name).read_bytes()).hexdigest()}  {name}\n" for name in names))
 
 
 def contradictory(kept: Path) -> None:
@@ -526,6 +420,7 @@ def rows() -> List[Row]:
     found += [("in jobs", in_jobs), ("a second signal", second_signal), ("saved by the clock", by_the_clock)]
     found += [("by a pipe", by_a_pipe), ("moved", moved), ("nothing saved", nothing_saved), ("a slow lrupd", lasting)]
     found += [(f"changed, {ANSWERS[status]}", changed, status, seed) for status in (10, 20) for seed in range(1 + COUNT // 50)]
+    found += [(f"a stream of round {number} was changed", cut_short, number) for number in (1, 2, 3)]
     found += [(f"forged, {change.__name__}, {ANSWERS[status]}", forged, status, change) for change in FORGED for status in (10, 20)]
     return found + [("another formula", of_another), ("of two runs", of_two), ("can't be saved", unsaved)]
 

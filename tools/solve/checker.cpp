@@ -226,7 +226,7 @@ bool Checker::feed(size_t number, uint64_t bytes, bool drop) {
     while (stream.pipe >= 0 && stream.fed < bytes) {
         size_t wanted = size_t(std::min<uint64_t>(piece.size(), bytes - stream.fed));
         ssize_t got = pread(stream.file, piece.data(), wanted, off_t(stream.fed));
-        if (got <= 0) refuse("cannot read a stream again: " + (got < 0 ? error_text() : "it is cut"));
+        if (got <= 0) refuse("cannot read " + stream.name + " again: " + (got < 0 ? error_text() : "it is cut"));
         ssize_t count = write(stream.pipe, piece.data(), size_t(got));
         if (count < 0 && errno == EAGAIN) stream.is_full = true;
         if (stream.is_full) break;
@@ -249,6 +249,7 @@ void Checker::end_stream(size_t number) {
     if (!keeps_digests) return;
     digest_end(&stream.digest, text);
     digests.push_back(text + ("  " + stream.name));
+    stream.has_digest = true;
 }
 
 uint64_t Checker::read_of(size_t number) const {

@@ -57,6 +57,7 @@ public:
     // with the stream's next bytes
     void go_on_in(size_t stream, int file) { streams[stream].file = file; }
     void end_stream(size_t stream);
+    bool has_digest(size_t stream) const { return streams[stream].has_digest; }
     uint64_t fed(size_t stream) const { return streams[stream].fed; }
     uint64_t read_of(size_t stream) const;                  // bytes that lrupd has read
     void read_on();                                         // reads its output
@@ -72,6 +73,7 @@ private:
         uint64_t fed = 0, dropped = 0;
         std::string name = "";          // without its folder
         Digest digest = {};
+        bool has_digest = false;        // among `digests`
     };
 
     std::vector<Stream> streams;

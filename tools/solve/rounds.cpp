@@ -11,6 +11,7 @@
 namespace {
 
 const uint64_t SHORT_STREAMS = UINT64_C(1) << 20;   // bytes of all streams, that don't want lrupd yet
+const uint64_t ALL_FED = UINT64_MAX / 2;     // bytes of a stream, so that nobody waits
 const double CROWDED = 0.75;        // of the largest row, that live clauses take
 
 std::string in_a_row_of(uint64_t words) { return " in a row of " + counted(8 * words, "byte"); }
@@ -299,23 +300,58 @@ void Rounds::open_saved() {
 
 // Meanwhile filters don't wait for it.
 std::string Rounds::feed_saved() {
-    for (size_t k = 0; k < teams.size(); k++) teams.tell_fed(k, UINT64_MAX);
-    for (size_t k = 0; k < saved_streams.size(); k++)
+    bool are_compared = true;
+    for (size_t k = 0; k < teams.size(); k++) teams.tell_fed(k, ALL_FED);
+    for (size_t k = 0; k < saved_streams.size(); k++) {
         if (checker.feed(k, saved_bytes[k], false)) checker.end_stream(k);
-    for (; compared < checker.digests.size(); compared++) {
-        const std::string &line = checker.digests[compared];
-        if (inputs.saved.is_changed(line))
-            return teams.record + line.substr(DIGEST_DIGITS + 2) + " was changed since it was saved";
+        are_compared &= checker.has_digest(k);
     }
+    const std::string changed = changed_file();
+    if (!changed.empty()) return end_record(changed);
+    if (are_compared) unlink(checkpoint_path().c_str());
     if (checker.awaits_sizes()) begin_next();
     return "";
+}
+
+// Of those that lrupd has read.
+std::string Rounds::changed_file() {
+    for (; compared < checker.digests.size(); compared++)
+        if (inputs.saved.is_changed(checker.digests[compared]))
+            return teams.record + checker.digests[compared].substr(DIGEST_DIGITS + 2);
+    return "";
+}
+
+// What lrupd has saved last: the round that it is at begins with that.
+std::string Rounds::checkpoint_path() const {
+    return Folder::name() + "/" + name_of_round(checked) + ".cnf";
+}
+
+// The round that lrupd is at was changed. It is no use, nor are those after it; the record ends
+// before it, so that a run may go on from there.
+std::string Rounds::end_record(const std::string &path) {
+    std::vector<std::string> &digests = checker.digests;
+    size_t named = 0;
+    if (inputs.saved.is_as_saved(path)) return path + " has other bytes now than it had: disk or memory is at fault";
+    const std::string cause = path + " was changed since it was saved", sizes = name_of_round(checked) + ".sizes";
+    if (checked > 1) {
+        while (named < digests.size() && digests[named].substr(DIGEST_DIGITS + 2) != sizes) named++;
+        digests.resize(named);
+        saver.save(checked, inputs.options.record, checkpoint_path(), digests);
+        wait_for(saver.child);
+    }
+    std::string unsaved = saver.look();
+    if (!unsaved.empty()) display.tell(unsaved);
+    if (saver.saved == checked) return cause;
+    saver.saved = 0;
+    return cause + ": the run can't go on";
 }
 
 // It has saved what the round came to, as it had for the run before.
 void Rounds::begin_next() {
     for (int &file : saved_streams) close_file(file);
-    unlink((Folder::name() + "/" + name_of_round(++checked) + ".cnf").c_str());
+    checked++;
     if (!is_behind()) {
+        unlink(checkpoint_path().c_str());
         display.tell_more("lrupd has read what was saved");
         return checker.begin_round(rows.row, teams.stream_files());
     }

@@ -61,6 +61,9 @@ private:
     size_t first_streams() const;
     void open_saved();
     std::string feed_saved();
+    std::string changed_file();
+    std::string end_record(const std::string &path);
+    std::string checkpoint_path() const;
     void feed_teams(bool is_last);
     void begin_next();
     void start_checker(Row wanted);

@@ -112,11 +112,15 @@ bool SavedRounds::is_changed(const std::string &line) const {
     return found == digests.end() || line.compare(0, DIGEST_DIGITS, found->second) != 0;
 }
 
-void SavedRounds::check(const std::string &path) const {
+bool SavedRounds::is_as_saved(const std::string &path) const {
     int file = open_regular(path);
     std::string digest = digest_of(file, path);
     close(file);
-    if (is_changed(digest + "  " + path.substr(folder.size()))) refuse_changed(path);
+    return !is_changed(digest + "  " + path.substr(path.rfind('/') + 1));
+}
+
+void SavedRounds::check(const std::string &path) const {
+    if (!is_as_saved(path)) refuse_changed(path);
 }
 
 std::vector<std::string> SavedRounds::paths() const {

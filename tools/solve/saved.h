@@ -20,6 +20,7 @@ public:
     std::vector<int> open(uint64_t round) const;        // its streams
     std::string checkpoint() const;                     // its path
     void check(const std::string &path) const;          // refuses it where it was changed
+    bool is_as_saved(const std::string &path) const;
     bool is_changed(const std::string &line) const;     // of a digest and a name
     std::vector<std::string> paths() const;             // of all that the record needs
 

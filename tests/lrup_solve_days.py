@@ -1,0 +1,314 @@
+#!/usr/bin/env python3
+"""Kills processes of lrup-solve at random moments, and goes on with the record, until there is a verdict.
+
+    lrup_solve_days.py PROGRAM [FLAGS [SEED [MINUTES]]]
+
+Any process of a run is killed, with the first one and the front, and one run may lose several. Each time what was saved before is still
+there, and nothing is left beside the record: no file, process or shared memory. Some records are copied, and changed, cut or swapped, or
+a run goes on with another formula: that leads to no wrong answer, and a message names the file. The disk of some records is full now and
+then. The verdict is checked by the assignment, or by the record's command and by the LRAT text that lrup-trim makes.
+
+SEED, 1 if it isn't said, decides on formulas and options, and the clock on much of the rest. With MINUTES larger formulas are solved, of
+this seed and of those after it, for so long; else one row of each kind, in less than a minute. It builds as lrup_solve.py does. It shows
+what is off; the last line is 'N passed, M failed'. The status is 1 where a run failed.
+"""
+import contextlib
+import os
+import random
+import shlex
+import shutil
+import signal
+import subprocess
+import sys
+import time
+from pathlib import Path
+from typing import Callable, Iterator, List, Optional, Sequence, Tuple
+
+sys.dont_write_bytecode = True
+from hard_formulas import miter, parity
+from harness import (Failure, Ran, Row, Skipped, dimacs, generated, left_out, random_clauses, run, run_all, started, until, want, within,
+                     words_given, written)
+from records import CHANGES, UNKNOWN, saved_rounds, want_no_other, whole
+from solving import (ANSWERS, EARLY, FLAGS, FRONT, PROGRAM, Answer, build, command, in_environment, is_alive, marked, none_left, of_process,
+                     processes_of_run, solve, want_answer)
+
+GIVEN = words_given(__doc__, most=4)[2:]
+SEED, MINUTES = int([*GIVEN, "1"][0]), float([*GIVEN[1:], "0"][0])
+SIZE = 1 if MINUTES else 0
+RUNS = 100      # of one formula
+SOON = 10       # seconds, after which files are removed
+KILOBYTE = 1024
+
+
+# Formulas, each with the status that is right, or None where only a run finds it.
+
+
+def of_pigeons(numbers: random.Random, work: Path) -> Tuple[Path, Optional[int]]:
+    return generated(f"pigeons {8 + SIZE}", work), 20
+
+
+def of_fewer(numbers: random.Random, work: Path) -> Tuple[Path, Optional[int]]:
+    return generated(f"pigeons {7 + SIZE}", work), 20
+
+
+def of_parity(numbers: random.Random, work: Path) -> Tuple[Path, Optional[int]]:
+    is_odd = numbers.random() < 0.8
+    return written(parity(numbers, numbers.randrange(70, 78, 2) + 14 * SIZE, is_odd), work), 20 if is_odd else 10
+
+
+def at_random(numbers: random.Random, work: Path) -> Tuple[Path, Optional[int]]:
+    size = numbers.randrange(190, 210) + 50 * SIZE
+    return written(dimacs(size, random_clauses(numbers, size, round(numbers.uniform(4.2, 4.4) * size))), work), None
+
+
+def of_multipliers(numbers: random.Random, work: Path) -> Tuple[Path, Optional[int]]:
+    is_faulty = numbers.random() < 0.2
+    return written(miter(7 + SIZE, numbers, is_faulty), work), 10 if is_faulty else 20
+
+
+KINDS = {"pigeons": of_pigeons, "fewer pigeons": of_fewer, "parity": of_parity, "random": at_random, "miter": of_multipliers}
+
+
+# Runs, and what is killed in them.
+
+
+class Chain:
+    """A record, and the runs that go on with it."""
+
+    def __init__(self, kind: str, seed: int, work: Path) -> None:
+        self.mark, self.work = marked(work), work
+        self.numbers = random.Random(f"{seed} {kind}")
+        self.formula, self.status = KINDS[kind](self.numbers, work)
+        self.kept = work / "kept"
+        self.temporary, self.here = work / "temporary", work / "here"
+        self.temporary.mkdir()
+        self.here.mkdir()
+        slice_size, words = self.numbers.choice((20, 50, 200)), self.numbers.choice((10000, 30000, 100000))
+        small = {"SET": EARLY, "SAME_WORDS": 1, "SLICE": slice_size, "FIRST_WORDS": words}
+        self.tested = small if self.numbers.random() < 0.7 else None
+        self.log: List[str] = []
+
+    def words(self) -> List[object]:
+        """Each time with other options."""
+        numbers = self.numbers
+        how = ["--resume" if (self.kept / "files").exists() else "--proofs", self.kept]
+        clock = ["--save-every", numbers.choice((0.1, 0.3))] if self.tested is None else []
+        alone = ["--no-share"] * (numbers.random() < 0.2)
+        return ["-j", numbers.randint(1, 3), *alone, "--seed", numbers.randrange(5), *clock, *how, self.formula]
+
+    def environment(self) -> "dict[str, str]":
+        return in_environment(self.tested, {"TMPDIR": str(self.temporary)})
+
+    @contextlib.contextmanager
+    def begun(self, before: Callable[[], None]) -> Iterator["subprocess.Popen[str]"]:
+        with started(command(self.words(), self.tested), env=self.environment(), cwd=self.here, text=True, stdout=subprocess.PIPE,
+                     stderr=subprocess.PIPE, preexec_fn=before) as running:
+            yield running
+
+    def killed(self, pause: float, before: Callable[[], None] = lambda: None) -> Answer:
+        """A run in which after each pause one process is killed. Whatever was saved before is saved then."""
+        saved, names = saved_rounds(self.kept), []
+        with self.begun(before) as running:
+            while running.poll() is None:
+                try:
+                    out, said = running.communicate(timeout=self.numbers.uniform(0, pause))
+                    break
+                except subprocess.TimeoutExpired:
+                    names += self.kill_one(running.pid)
+            else:
+                out, said = running.communicate()
+        self.log.append(f"{', '.join(names) or 'nothing'}: status {running.returncode}, {saved_rounds(self.kept) - 1} rounds")
+        self.none_left("cleaner" in names)
+        is_proved = (self.kept / "command").exists()
+        want(is_proved or saved_rounds(self.kept) >= saved, True, f"whether no round of {saved - 1} is lost")
+        return Answer(Ran(out, said, running.returncode))
+
+    def kill_one(self, front: int) -> List[str]:
+        found = processes_of_run(front)
+        shared = [line for pid in found.values() for line in of_process(pid, "maps").splitlines() if "/dev/shm/" in line or "/SYSV" in line]
+        want(shared, [], "shared memory that has a name")
+        name = self.numbers.choice(sorted(found))
+        if not is_alive(found[name]):
+            return []
+        with contextlib.suppress(ProcessLookupError):
+            os.kill(found[name], signal.SIGKILL)
+        return [name]
+
+    def none_left(self, is_unclean: bool) -> None:
+        """Without its cleaner a run that is killed leaves its folder."""
+        none_left(self.mark)
+        if is_unclean:
+            for path in self.temporary.iterdir():
+                shutil.rmtree(path)
+        until("files of the run are removed", lambda: not os.listdir(self.temporary), SOON)
+        want(os.listdir(self.here), [], "files in the current folder")
+
+    # Answers.
+
+    def is_answered(self, answer: Answer) -> bool:
+        """It is the right one, or none."""
+        if answer.said.endswith(" checks it\n"):        # it was killed once it had the proof
+            self.found(20)
+            return True
+        if not answer.answers or answer.answers == [UNKNOWN]:
+            want(answer.status in (0, -signal.SIGKILL), True, f"the status {answer.status} of\n{answer.out}{answer.said}")
+            return False
+        status = {line: number for number, line in ANSWERS.items()}[answer.answers[0]]
+        if answer.status == -signal.SIGKILL:        # the front had said it by then
+            return False
+        answer.said = ""        # an engine's last words
+        want_answer(answer, status, self.formula)
+        self.found(status)
+        return True
+
+    def found(self, status: int) -> None:
+        want(self.status in (None, status), True, f"whether {status} is right, and not {self.status}")
+        self.status = status
+        if status == 10:
+            return
+        whole(self.kept, self.formula, self.work)
+        done = run(["sh", self.kept / "command", self.formula], cwd=self.here)
+        want((done.out.splitlines()[-1:], done.status), ([ANSWERS[20]], 0), f"what the record's command says, with {done.err}")
+
+
+def solved(kind: str, seed: int, work: Path, log: List[str]) -> None:
+    chain = Chain(kind, seed, work)
+    chain.log = log
+    log.append(f"{chain.formula.read_text().splitlines()[0]}, {'small rows' if chain.tested else 'one row'}")
+    has_changed = False
+    for count in range(RUNS):
+        answer = chain.killed(0.3 * 1.4 ** count)
+        if chain.is_answered(answer):
+            return
+        if saved_rounds(chain.kept) > 2 and (not has_changed or chain.numbers.random() < 0.2 * SIZE):
+            has_changed = True
+            changed(chain)
+            of_another(chain)
+    raise Failure(f"no answer by {RUNS} runs")
+
+
+# Records that aren't what they were.
+
+
+def changed(chain: Chain) -> None:
+    """A copy, with which a run goes on for some seconds."""
+    kept, numbers = chain.work / "changed", chain.numbers
+    shutil.copytree(chain.kept, kept)
+    name, change = numbers.choice(sorted(CHANGES.items()))
+    try:
+        names = change(kept, numbers)
+    except (IndexError, ValueError):        # there is no such file, or an empty one
+        return shutil.rmtree(kept)
+    chain.log.append(f"a copy with {name}, {names}")
+    answer = solve(["-j", 2, "--time", 3, "--resume", kept, chain.formula], tested=chain.tested, env_more={"TMPDIR": str(chain.temporary)})
+    if answer.status in (10, 20) and chain.status is None:
+        want_answer(answer, answer.status, chain.formula)
+    elif answer.status != 0 or "time is up" not in answer.comments:
+        want_no_other(answer, -1 if chain.status is None else chain.status, chain.formula, kept, names)
+    if answer.status == 20:
+        whole(kept, chain.formula, chain.work)
+    chain.none_left(False)
+    shutil.rmtree(kept)
+
+
+def contents(folder: Path) -> "dict[str, bytes]":
+    return {path.name: path.read_bytes() for path in folder.iterdir()}
+
+
+def of_another(chain: Chain) -> None:
+    """Nothing is touched."""
+    other, before = written(chain.formula.read_text() + "c more\n", chain.work, "other.cnf"), contents(chain.kept)
+    answer = solve(["--resume", chain.kept, other], tested=chain.tested)
+    said = f"lrup-solve: {other} isn't the formula of {chain.kept}, or was changed since\n"
+    want((answer.out, answer.said, answer.status), ("", said, 1), "what is said of another formula")
+    want(contents(chain.kept) == before, True, "whether the record is as it was")
+
+
+# Disks that fill.
+
+
+@contextlib.contextmanager
+def disk(place: Path) -> Iterator[Callable[[int], None]]:
+    """A file system of its own there, of so many kilobytes."""
+    def sized(kilobytes: int, how: str = "remount,") -> bool:
+        return run(["mount", "-t", "tmpfs", "-o", f"{how}size={kilobytes}k", "none", place]).status == 0
+    place.mkdir()
+    if not shutil.which("mount") or not sized(64, ""):
+        raise Skipped("no file system can be mounted")
+    try:
+        yield lambda kilobytes: want(sized(kilobytes), True, f"whether the disk has {kilobytes} kB")
+    finally:
+        run(["umount", "-l", place])
+
+
+def is_lost(answer: Answer, why: str) -> bool:
+    """The answer is right or there is none, and a message says what couldn't be written."""
+    text = answer.out + answer.said
+    want("cannot write " in text and why in text, True, f"whether it says what can't be written in\n{text}")
+    return answer.answers == [ANSWERS[20]]
+
+
+def with_little(chain: Chain, why: str, limited: Callable[[int], Callable[[], None]]) -> None:
+    """More and more, so that one run gets to a verdict. Those before have a disk that is full soon."""
+    for count in range(RUNS):
+        kilobytes = 100 * 3 ** min(count, 10)
+        before = limited(kilobytes)
+        answer = chain.killed(1.5 if count < 4 else 1000, before)
+        if answer.status == 1 and not answer.said.endswith(" checks it\n"):
+            is_lost(answer, why)
+        elif chain.is_answered(answer):
+            return
+    raise Failure(f"no answer by {RUNS} runs")
+
+
+def on_disks(seed: int, work: Path, log: List[str]) -> None:
+    chain = Chain("fewer pigeons", seed, work)
+    chain.log, chain.tested = log, chain.tested or {"SAME_WORDS": 1, "FIRST_WORDS": 20000}
+    with disk(work / "disk") as sized:
+        chain.kept = work / "disk" / "kept"
+
+        def limited(kilobytes: int) -> Callable[[], None]:
+            sized(kilobytes)
+            return lambda: None
+        with_little(chain, "No space left on device", limited)
+
+
+def in_small_files(seed: int, work: Path, log: List[str]) -> None:
+    chain = Chain("fewer pigeons", seed, work)
+    chain.log, chain.tested = log, chain.tested or {"SAME_WORDS": 1, "FIRST_WORDS": 20000}
+    with_little(chain, "File too large", lambda kilobytes: lambda: within(kilobytes * KILOBYTE))
+
+
+# Rows.
+
+
+def repeatable(function: Callable[..., None], *arguments: object) -> None:
+    """A failure shows what happened before, and how to repeat it."""
+    *given, work = arguments
+    log: List[str] = []
+    try:
+        function(*given, work, log)
+    except (Failure, OSError, LookupError, ValueError, subprocess.SubprocessError) as found:
+        again = shlex.join([sys.executable, sys.argv[0], PROGRAM, FLAGS, str(given[-1]), *["0.01"] * SIZE])
+        raise Failure(f"{type(found).__name__}: {found}\nbefore it, in turn:\n  " + "\n  ".join(log) + f"\nagain: {again}") from found
+
+
+def rows(seed: int) -> List[Row]:
+    found: List[Row] = [(f"seed {seed}, {kind}", repeatable, solved, kind, seed) for kind in KINDS if kind != "fewer pigeons"]
+    return found + [(f"seed {seed}, a full disk", repeatable, on_disks, seed),
+                    (f"seed {seed}, small files", repeatable, in_small_files, seed)]
+
+
+def all_rows() -> int:
+    cause = build("solve", for_tests=True)
+    if cause:
+        return left_out(f"all of lrup-solve: {cause}")
+    end, status = time.monotonic() + 60 * MINUTES, 0
+    for seed in range(SEED, SEED + 1_000_000):
+        status |= run_all(rows(seed), f"seed {seed}: ")
+        if time.monotonic() >= end:
+            break
+    return status
+
+
+sys.exit(all_rows())

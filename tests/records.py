@@ -1,0 +1,154 @@
+"""What tests of records share: the rounds that one has, what a whole one is, and changes after which it isn't what it was."""
+import hashlib
+import os
+import random
+import re
+import shutil
+import signal
+import subprocess
+from pathlib import Path
+from typing import Callable, Dict, List, Mapping, Optional, Sequence
+
+from harness import TRIM, Failure, run, started, until, want
+from lrat import lrat_fault
+from proof_forms import read_formula
+from solving import Answer, check_again, command, in_environment, none_left, want_answer
+
+UNKNOWN = "s UNKNOWN"
+TRIES = 20
+
+
+def saved_rounds(kept: Path) -> int:
+    """The round that a run would begin with, or 1."""
+    found = re.search(r"  checkpoint-(\d+)\.cnf\n$", (kept / "rounds.sha256").read_text()) if (kept / "rounds.sha256").exists() else None
+    return int(found[1]) if found else 1
+
+
+def recorded(words: Sequence[object], kept: Path, least: int, tested: Optional[Mapping[str, object]]) -> None:
+    """The record of a run that was killed once it had saved this many rounds. One that has ended by then is tried again."""
+    for _ in range(TRIES):
+        with started(command(["--proofs", kept, "--replace", *words], tested), env=in_environment(tested), stdout=subprocess.DEVNULL) as running:
+            until(f"{least} rounds are saved", lambda: saved_rounds(kept) > least or running.poll() is not None)
+            running.kill()
+        none_left(f"LRUP_MARK={os.environ['LRUP_MARK']}")
+        if running.returncode == -signal.SIGKILL and saved_rounds(kept) > least:
+            return
+    raise Failure(f"it has ended {TRIES} times before it had saved {least} rounds")
+
+
+def checkpoints(kept: Path) -> List[str]:
+    return sorted(path.name for path in kept.iterdir() if re.match(r"\.|checkpoint|rounds", path.name))
+
+
+def whole(kept: Path, formula: Path, work: Path) -> None:
+    """The record of a run that has proved it."""
+    check_again(kept)
+    lrat = work / "lrat"
+    want(run([TRIM, "--lrat", lrat, formula, kept]).status, 0, "the status of lrup-trim")
+    want(lrat_fault(read_formula(formula), lrat.read_text()), "", "what the LRAT checker says")
+    lrat.unlink()
+
+
+# Changes. Each names the files, one of which a message has to name.
+
+Change = Callable[[Path, random.Random], str]
+
+
+def any_of(kept: Path, numbers: random.Random, pattern: str) -> Path:
+    """Of the rounds that are saved."""
+    named = [line[66:] for line in (kept / "rounds.sha256").read_text().splitlines()]
+    return kept / numbers.choice([name for name in named if re.fullmatch(pattern, name)])
+
+
+def flipped(pattern: str) -> Change:
+    def change(kept: Path, numbers: random.Random) -> str:
+        path = any_of(kept, numbers, pattern)
+        data = bytearray(path.read_bytes())
+        data[numbers.randrange(len(data))] ^= 1 << numbers.randrange(8)
+        path.write_bytes(data)
+        return path.name
+    return change
+
+
+def filled(pattern: str) -> Change:
+    """At its beginning, by lines that nobody takes, more than a pipe takes."""
+    def change(kept: Path, numbers: random.Random) -> str:
+        path = any_of(kept, numbers, pattern)
+        path.write_bytes(b"x\n" * (1 << 20) + path.read_bytes())
+        return path.name
+    return change
+
+
+def cut(pattern: str) -> Change:
+    def change(kept: Path, numbers: random.Random) -> str:
+        path = any_of(kept, numbers, pattern)
+        os.truncate(path, numbers.randrange(path.stat().st_size))
+        return path.name
+    return change
+
+
+def swapped(pattern: str) -> Change:
+    def change(kept: Path, numbers: random.Random) -> str:
+        one = any_of(kept, numbers, pattern)
+        other = one
+        while other == one:
+            other = any_of(kept, numbers, pattern)
+        texts = one.read_bytes(), other.read_bytes()
+        one.write_bytes(texts[1])
+        other.write_bytes(texts[0])
+        return f"{one.name}|{other.name}"
+    return change
+
+
+def removed(pattern: str, then: Callable[[Path], object] = lambda path: None) -> Change:
+    def change(kept: Path, numbers: random.Random) -> str:
+        path = any_of(kept, numbers, pattern)
+        path.unlink()
+        then(path)
+        return path.name
+    return change
+
+
+def written_anew(name: str, text: str) -> Change:
+    def change(kept: Path, numbers: random.Random) -> str:
+        (kept / name).write_text(text)
+        return name
+    return change
+
+
+def list_changed(pattern: str, by: str) -> Change:
+    def change(kept: Path, numbers: random.Random) -> str:
+        path = kept / "rounds.sha256"
+        path.write_text(re.sub(pattern, by, path.read_text(), flags=re.M))
+        return "rounds.sha256|round-1"
+    return change
+
+
+STREAM, SIZES, CHECKPOINT = r"round-\d+\.stream-\d+", r"round-\d+\.sizes", r"checkpoint-\d+\.cnf"
+CHANGES: Dict[str, Change] = {
+    **{f"{what} of {pattern}": made for pattern in (STREAM, SIZES, CHECKPOINT) for what, made in (
+        ("a bit", flipped(pattern)), ("another bit", flipped(pattern)), ("the end", cut(pattern)), ("all", removed(pattern)))},
+    "a long beginning": filled(STREAM), "streams swapped": swapped(STREAM), "sizes swapped": swapped(SIZES), "a pipe as a stream": removed(STREAM, os.mkfifo),
+    "a folder as sizes": removed(SIZES, os.mkdir), "a link as a checkpoint": removed(CHECKPOINT, lambda path: path.symlink_to("/dev/zero")),
+    "an empty list": written_anew("rounds.sha256", ""), "a list of nothing": written_anew("rounds.sha256", "x\n"),
+    "a list without its end": list_changed(r"\n\Z", ""), "a list without its last line": list_changed(r"^.*checkpoint.*\n", ""),
+    "a list with a stream less": list_changed(r"^.*round-1.stream-1\n", ""), "a list with two of one": list_changed(r"stream-2$", "stream-1"),
+    "another folder's file": list_changed(r"checkpoint-", "../checkpoint-"), "another digest": list_changed(r"^[0-9a-f]", "g"),
+    "digests of nothing": list_changed(r"^[0-9a-f]{64}", "0" * 64)}
+
+
+def want_no_other(answer: Answer, status: int, formula: Path, kept: Path, names: str) -> None:
+    """The right answer, none, or a message; and one of these files is named where there is none."""
+    if answer.status == status:
+        answer.said = ""
+        return want_answer(answer, status, formula)
+    want((answer.answers, answer.status in (0, 1)), ([UNKNOWN] if answer.status == 0 else [], True), f"the answer of\n{answer.out}{answer.said}")
+    said = answer.said if answer.status == 1 else answer.out
+    want(any(f"{kept}/{name}" in said for name in names.split("|")), True, f"whether one of {names} is named in\n{answer.out}{answer.said}")
+
+
+def with_digests(kept: Path) -> None:
+    """The list is that of the files that are there."""
+    lines = (kept / "rounds.sha256").read_text().splitlines()
+    names = [line[66:] for line in lines if (kept / line[66:]).exists()]
+    (kept / "rounds.sha256").write_text("".join(f"{hashlib.sha256((kept / name).read_bytes()).hexdigest()}  {name}\n" for name in names))
