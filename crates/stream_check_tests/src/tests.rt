@@ -1,19 +1,15 @@
-//! The worked rows at a plain map, each whole, byte by byte and in pieces of two, with the calls of the gate.
-ghost use Rattle.std.specs.Prelude.{◌≡◌, ◌<◌, IsSome};
-ghost use Rattle.checker_support.specs.Opened.{IsPlainOpened};
+//! Rows at a map that counts its calls, each whole, byte by byte and in pieces of two.
+ghost use Rattle.std.specs.Prelude.{◌≡◌, IsSome};
 ghost use Rattle.lrup_model.specs.Event.{History};
-ghost use Rattle.lrup_model.specs.Layout.{IsStream};
-ghost use Rattle.lrup_model.specs.Plain.{plain_caller_view};
 ghost use Rattle.stream_check.specs.Checker.{IsReadyAt};
 
-use checker_support::{checker_under, open_map};
-use lrup_model::{ClauseMap, Cube, Id, Layout, PlainMap};
-use lrup_text::LineFault;
-use std::alloc::Global;
+use late_map::{Late, judged};
+use lrup_model::{ClauseMap, Cube, Id, Layout, Lit};
+use std::alloc::{AllocError, Global};
 use std::fmt;
 use std::process::Abort;
 use std::test::Fail;
-use stream_check::{CheckStatus, Checker, Ending, Fault, Gate, Report};
+use stream_check::{CheckStatus, Checker, Ending, Gate, Report};
 
 mod assumptions;
 mod finishing;
@@ -27,15 +23,21 @@ fn same<T: PartialEq + fmt::Debug + Drop>(rt: &impl Abort, value: T, wanted: T) 
     assert_eq!(rt; value, wanted);
 }
 
-/// What a gate was told.
+/// The calls that a gate had.
 #[derive(Clone, Copy, Debug, PartialEq, Eq)]
-struct Told {
+struct GateCalls {
     fetches: u64,
     most_attempts: u64,
     publishes: u64,
 }
 
-impl Gate for Told {
+const NO_CALLS: GateCalls = GateCalls {
+    fetches: 0,
+    most_attempts: 0,
+    publishes: 0,
+};
+
+impl Gate for GateCalls {
     fn before_fetch(&mut self, _stream: u64, _id: Id, attempt: u64) {
         self.fetches = self.fetches.saturating_add(1);
         self.most_attempts = self.most_attempts.max(attempt);
@@ -46,31 +48,108 @@ impl Gate for Told {
     }
 }
 
-fn told_of(fetches: u64, most_attempts: u64, publishes: u64) -> Told {
-    Told {
-        fetches,
-        most_attempts,
-        publishes,
-    }
-}
-
-/// What a stream is judged under.
+/// What a stream is judged under. The cube's literals are parted by commas.
 #[derive(Clone, Copy)]
-struct Options {
+struct Options<'a> {
     streams: u64,
-    stream: u64,
     lines: u64,
     room: u64,
     tries: u64,
+    cube: &'a str,
+    late: Late,
 }
 
-const DEFAULTS: Options = Options {
+/// The program's defaults, but for the tries.
+const ONE_STREAM: Options = Options {
     streams: 1,
-    stream: 1,
     lines: 65_536,
     room: 1_048_576,
     tries: 3,
+    cube: "",
+    late: Late::Never,
 };
+
+/// 5 and 7 are the stream's own, and 6 and 8 the other's. Each has room for two literals.
+const TWO_STREAMS: Options = Options {
+    streams: 2,
+    lines: 2,
+    room: 2,
+    ..ONE_STREAM
+};
+
+impl<'a> Options<'a> {
+    /// Changes an option, by a word as `tries=3`.
+    fn set(&mut self, word: &'a str) -> Result<(), Fail> {
+        let (name, value) = word.split_once('=').ok_or("no value")?;
+        match name {
+            "streams" => self.streams = value.parse()?,
+            "lines" => self.lines = value.parse()?,
+            "room" => self.room = value.parse()?,
+            "tries" => self.tries = value.parse()?,
+            "cube" => self.cube = value,
+            "published" => self.late = Late::Published(value.parse()?),
+            "retired" => self.late = Late::Retired(value.parse()?),
+            _ => return Err("no such option".into()),
+        }
+        Ok(())
+    }
+}
+
+/// The options, lines and report of a row `WORDS: LINES => REPORT`. Words change the options; there
+/// may be none.
+fn parts<'a>(
+    mut options: Options<'a>,
+    row: &'a str,
+) -> Result<(Options<'a>, &'a str, &'a str), Fail> {
+    let (stream, report) = row.split_once(" => ").ok_or("no report")?;
+    let (words, lines) = stream.split_once(": ").unwrap_or(("", stream));
+    for word in words.split_whitespace() {
+        options.set(word)?;
+    }
+    Ok((options, lines, report))
+}
+
+/// The cube of literals that are parted by commas.
+fn cube_of(alloc: Global, text: &str) -> Result<Cube, Fail> {
+    let mut literals = Vec::new(alloc);
+    for word in text.split_terminator(',') {
+        literals.push(Lit::new(word.parse()?).ok_or("no literal")?)?;
+    }
+    Ok(Cube::of(alloc, literals.as_slice())?)
+}
+
+/// The words of a report, and then the calls: how many fetches there were; the most attempts of a
+/// hint, if more than one; retires, if any.
+fn shown(
+    alloc: Global,
+    report: Report,
+    calls: GateCalls,
+    retires: u64,
+) -> Result<String, AllocError> {
+    let (added, deleted) = (report.added, report.deleted);
+    let mut text = format!(in alloc; "{added} added, {deleted} deleted, ")?;
+    match report.ending {
+        Ending::Ended => text.push_str("ended")?,
+        Ending::Bad(line, fault) => write!(text, "bad line {line} ({fault})")?,
+        Ending::ReadFailed(line) => write!(text, "read failed at line {line}")?,
+        Ending::Memory(line) => write!(text, "out of memory at line {line}")?,
+    }
+    if report.empty {
+        text.push_str(", empty")?;
+    }
+    if report.within {
+        text.push_str(", within")?;
+    }
+    let (fetches, attempts) = (calls.fetches, calls.most_attempts);
+    write!(text, "; fetches {fetches}")?;
+    if attempts > 1 {
+        write!(text, ", attempts {attempts}")?;
+    }
+    if retires > 0 {
+        write!(text, ", retires {retires}")?;
+    }
+    Ok(text)
+}
 
 /// Feeds a piece to its end, or until the checker is over.
 fn feed_whole<M: ClauseMap, G: Gate>(checker: &mut Checker, map: &mut M, gate: &mut G, piece: &[u8])
@@ -97,608 +176,213 @@ fn feed_cut<M: ClauseMap, G: Gate>(
     bytes: &[u8],
     cut: usize,
 )
-    requires ready { IsReadyAt checker.old (M.caller_view map.old) }
-    requires cut { 0 < cut }
+    requires { IsReadyAt checker.old (M.caller_view map.old) }
     ensures { IsSome checker.new.ending }
 {
-    for piece in bytes.chunks(cut) {
+    for piece in bytes.chunks(cut.max(1)) {
         feed_whole(checker, map, gate, piece);
     }
     checker.end();
     checker.read_failed();
 }
 
-/// What is said of a stream that is fed at its desk in pieces of one length, and what its gate was told.
-fn said_at_desk(
-    map: &mut PlainMap,
-    stream: u64,
-    checker: &mut Checker,
-    bytes: &[u8],
-    cut: usize,
-) -> (Report, Told)
-    requires stream { IsStream map.old.layout stream }
-    requires ready { IsReadyAt checker.old (plain_caller_view map.old stream) }
-    requires cut { 0 < cut }
-{
-    let mut gate = told_of(0, 0, 0);
-    feed_cut(checker, &mut map.desk(stream), &mut gate, bytes, cut);
-    (checker.report(), gate)
-}
-
-/// The same by a checker under this cube.
-fn judged_under(
+/// The stream of a row has its report and calls, in pieces of this length.
+fn has_report(
+    rt: &impl Abort,
     alloc: Global,
-    map: &mut PlainMap,
-    cube: &Cube,
-    stream: u64,
-    tries: u64,
-    bytes: &[u8],
+    defaults: Options,
+    row: &str,
     cut: usize,
-) -> Result<(Report, Told), Fail>
-    requires opened { IsPlainOpened map.old }
-    requires cut { 0 < cut }
-{
-    let mut checker = checker_under(alloc, map, cube, stream, tries)?;
-    Ok(said_at_desk(map, stream, &mut checker, bytes, cut))
-}
-
-/// What is said of a stream in pieces of one length, and what its gate was told.
-fn judged(alloc: Global, options: Options, bytes: &[u8], cut: usize) -> Result<(Report, Told), Fail>
-    requires { 0 < cut }
-{
-    let Options { stream, tries, .. } = options;
-    let mut map = open_map(alloc, options.streams, options.lines, options.room)?;
-    let none = Cube::empty(alloc);
-    judged_under(alloc, &mut map, &none, stream, tries, bytes, cut)
-}
-
-/// Under the empty cube, where a clause is within it exactly if it is empty.
-fn said_of(added: u64, deleted: u64, empty: bool, ending: Ending) -> Report {
-    Report {
-        added,
-        deleted,
-        empty,
-        within: empty,
-        ending,
-    }
-}
-
-/// The report of a stream, which is the same whole, byte by byte and in pieces of two, and so are the gate's calls.
-fn one_report(alloc: Global, options: Options, bytes: &[u8]) -> Result<(Report, Told), Fail> {
-    let whole = judged(alloc, options, bytes, 65_536)?;
-    let singly = judged(alloc, options, bytes, 1)?;
-    let by_two = judged(alloc, options, bytes, 2)?;
-    if whole != singly || whole != by_two {
-        return Err("the pieces make a difference".into());
-    }
-    Ok(whole)
-}
-
-/// The second of two streams isn't read before the first.
-const FIRST_OF_TWO: Options = Options {
-    streams: 2,
-    stream: 1,
-    lines: 65_536,
-    room: 1_048_576,
-    tries: 0,
-};
-
-/// The same, where a vacant identity is fetched once more, and three times more.
-const ONE_MORE: Options = Options {
-    tries: 1,
-    ..FIRST_OF_TWO
-};
-
-const THREE_MORE: Options = Options {
-    tries: 3,
-    ..FIRST_OF_TWO
-};
-
-/// What is said of a stream: its additions and deletions, whether one's clause is empty, and its ending.
-type Said = (u64, u64, bool, Ending);
-
-fn report_of(said: Said) -> Report {
-    let (added, deleted, empty, ending) = said;
-    said_of(added, deleted, empty, ending)
-}
-
-/// What a stream is judged under, its lines, what is said of it, and, where it stands there, what its gate is told.
-type Row = (Options, &'static str, Said, Option<(u64, u64, u64)>);
-
-/// The row's stream has its report; where it stands there, its gate is told this.
-fn has_report(rt: &impl Abort, alloc: Global, row: Row) -> Result<(), Fail> {
-    let (options, lines, said, told) = row;
-    let (report, gate) = one_report(alloc, options, lines.as_bytes())?;
-    let wanted = match told {
-        Some((fetches, most_attempts, publishes)) => told_of(fetches, most_attempts, publishes),
-        None => gate,
-    };
-    let given = (options.streams, options.stream, options.room, lines);
-    same(rt, (given, report, gate), (given, report_of(said), wanted));
+) -> Result<(), Fail> {
+    let (options, lines, report) = parts(defaults, row)?;
+    let found = judged(alloc, options, lines, cut)?;
+    same(rt, (row, found.as_str()), (row, report));
     Ok(())
 }
 
-/// The same of each row.
-fn have_reports(rt: &impl Abort, alloc: Global, rows: &[Row]) -> Result<(), Fail> {
+/// The same of each row, in whichever pieces its stream comes.
+fn have_reports(
+    rt: &impl Abort,
+    alloc: Global,
+    defaults: Options,
+    rows: &[&str],
+) -> Result<(), Fail> {
     for row in rows {
-        has_report(rt, alloc, *row)?;
+        for cut in [65_536, 2, 1] {
+            has_report(rt, alloc, defaults, row, cut)?;
+        }
     }
     Ok(())
 }
 
-const LITTLE_ROOM: Options = Options {
-    room: 1,
-    ..DEFAULTS
-};
-
-static GOOD_LINES: [Row; 3] = [
-    (
-        DEFAULTS,
-        "5 2 0 1 2 0\n6 0 5 3 4 0\n",
-        (2, 0, true, Ending::Ended),
-        Some((5, 1, 2)),
-    ),
-    (DEFAULTS, "", (0, 0, false, Ending::Ended), None),
-    (
-        LITTLE_ROOM,
-        "5 2 2 0 1 2 0\n",
-        (1, 0, false, Ending::Ended),
-        None,
-    ),
+static GOOD_LINES: &[&str] = &[
+    " => 0 added, 0 deleted, ended; fetches 0",
+    "5 2 0 1 2 0\n6 0 5 3 4 0\n => 2 added, 0 deleted, ended, empty, within; fetches 5",
+    "7 2 0 1 2 0\n9 0 7 3 4 0\n => 2 added, 0 deleted, ended, empty, within; fetches 5",
+    // A bad line takes nothing back.
+    "5 2 0 1 2 0\n6 0 5 3 4 0\n7 2 0 1 0\n \
+     => 2 added, 0 deleted, bad line 3 (no conflict), empty, within; fetches 6",
 ];
 
 #[test]
 fn good_lines_are_counted(rt: HostRuntime) -> Result<(), Fail> {
-    have_reports(&rt, rt.alloc(), &GOOD_LINES)
+    have_reports(&rt, rt.alloc(), ONE_STREAM, GOOD_LINES)
 }
 
-#[test]
-fn an_empty_clause_stays_counted(rt: HostRuntime) -> Result<(), Fail> {
-    let lines = "5 2 0 1 2 0\n6 0 5 3 4 0\n7 2 0 1 0\n";
-    let said = (2, 0, true, Ending::Bad(3, Fault::NoConflict));
-    has_report(&rt, rt.alloc(), (DEFAULTS, lines, said, None))
-}
-
-static HINTS: [Row; 5] = [
-    (
-        DEFAULTS,
-        "5 2 0 2 3 0\n",
-        (0, 0, false, Ending::Bad(1, Fault::NotUnit(3))),
-        Some((2, 1, 0)),
-    ),
-    (
-        DEFAULTS,
-        "5 2 0 1 2 3 0\n",
-        (0, 0, false, Ending::Bad(1, Fault::Excess(3))),
-        Some((2, 1, 0)),
-    ),
-    (
-        DEFAULTS,
-        "5 2 0 1 0\n",
-        (0, 0, false, Ending::Bad(1, Fault::NoConflict)),
-        None,
-    ),
-    (
-        DEFAULTS,
-        "5 2 0 0\n",
-        (0, 0, false, Ending::Bad(1, Fault::NoConflict)),
-        Some((0, 0, 0)),
-    ),
-    (
-        DEFAULTS,
-        "5 2 0 5 0\n",
-        (0, 0, false, Ending::Bad(1, Fault::Missing(5))),
-        Some((1, 1, 0)),
-    ),
+/// Each fault of a line, in the order in which they are tested; those of imports are in `imports`.
+static FAULTS: &[&str] = &[
+    "5  2 0 1 2 0\n6 0 5 3 4 0\n => 0 added, 0 deleted, bad line 1 (spelling); fetches 0",
+    "1000000000000000000 2 0 1 2 0\n => 0 added, 0 deleted, bad line 1 (too long); fetches 0",
+    "5 2 0 1 2 0 => 0 added, 0 deleted, bad line 1 (truncated); fetches 0",
+    "5 2 0 1 2 0\n6 => 1 added, 0 deleted, bad line 2 (truncated); fetches 2",
+    "5 1 0 -2 0\n => 0 added, 0 deleted, bad line 1 (rat hint); fetches 0",
+    "999999999999999999 2 0 1 2 0\n => 0 added, 0 deleted, bad line 1 (identity); fetches 0",
+    "streams=2: 6 2 0 1 2 0\n => 0 added, 0 deleted, bad line 1 (identity); fetches 0",
+    "lines=1: 5 2 0 1 2 0\n6 0 5 3 4 0\n => 1 added, 0 deleted, bad line 2 (identity); fetches 2",
+    "7 2 0 1 2 0\n7 0 7 3 4 0\n => 1 added, 0 deleted, bad line 2 (identity); fetches 2",
+    "7 2 0 1 2 0\n6 0 7 3 4 0\n => 1 added, 0 deleted, bad line 2 (identity); fetches 2",
+    "5 3 0 1 2 0\n => 0 added, 0 deleted, bad line 1 (literal); fetches 0",
+    "5 1 -1 0 1 0\n => 0 added, 0 deleted, bad line 1 (tautology); fetches 0",
+    "room=0: 5 2 0 1 2 0\n => 0 added, 0 deleted, bad line 1 (no room); fetches 0",
+    "5 2 0 1 2 3 0\n => 0 added, 0 deleted, bad line 1 (excess 3); fetches 2",
+    "5 d 1 0\n5 2 0 1 2 0\n => 0 added, 1 deleted, bad line 2 (dropped 1); fetches 0",
+    "5 2 0 5 0\n => 0 added, 0 deleted, bad line 1 (missing 5); fetches 1",
+    "5 2 0 1 2 0\n5 d 5 0\n6 0 5 3 4 0\n \
+     => 1 added, 1 deleted, bad line 3 (retired 5); fetches 3, retires 1",
+    "5 2 0 2 3 0\n => 0 added, 0 deleted, bad line 1 (not unit 3); fetches 2",
+    "5 2 0 1 0\n => 0 added, 0 deleted, bad line 1 (no conflict); fetches 1",
+    "5 2 0 0\n => 0 added, 0 deleted, bad line 1 (no conflict); fetches 0",
+    "5 2 0 1 2 0\n5 d 5 5 0\n => 1 added, 1 deleted, bad line 2 (not live 5); fetches 2, retires 2",
+    "5 d 1 1 0\n => 0 added, 1 deleted, bad line 1 (not live 1); fetches 0",
 ];
 
 #[test]
-fn hints_are_judged_one_after_the_other(rt: HostRuntime) -> Result<(), Fail> {
-    have_reports(&rt, rt.alloc(), &HINTS)
+fn bad_lines_have_faults(rt: HostRuntime) -> Result<(), Fail> {
+    have_reports(&rt, rt.alloc(), ONE_STREAM, FAULTS)
 }
 
-static TWO_FAULTS: [Row; 4] = [
-    (
-        DEFAULTS,
-        "5 d 3 0\n5 2 0 1 2 3 0\n",
-        (0, 1, false, Ending::Bad(2, Fault::Excess(3))),
-        None,
-    ),
-    (
-        DEFAULTS,
-        "5 2 0 1 2 5 0\n",
-        (0, 0, false, Ending::Bad(1, Fault::Excess(5))),
-        None,
-    ),
-    (
-        FIRST_OF_TWO,
-        "5 d 6 0\n5 2 0 6 0\n",
-        (0, 1, false, Ending::Bad(2, Fault::Dropped(6))),
-        Some((0, 0, 0)),
-    ),
-    (
-        DEFAULTS,
-        "9999999 3 -3 0 1 0\n",
-        (0, 0, false, Ending::Bad(1, Fault::Identity)),
-        None,
-    ),
+/// Lines of which two tests fail.
+static TWO_FAULTS: &[&str] = &[
+    "9999999 3 -3 0 1 0\n => 0 added, 0 deleted, bad line 1 (identity); fetches 0",
+    "5 3 -3 0 1 0\n => 0 added, 0 deleted, bad line 1 (literal); fetches 0",
+    "5 d 3 0\n5 2 0 1 2 3 0\n => 0 added, 1 deleted, bad line 2 (excess 3); fetches 2",
+    "5 2 0 1 2 5 0\n => 0 added, 0 deleted, bad line 1 (excess 5); fetches 2",
+    "streams=2: 5 2 0 1 2 6 0\n => 0 added, 0 deleted, bad line 1 (excess 6); fetches 2",
+    "streams=2: 5 d 6 0\n5 2 0 6 0\n => 0 added, 1 deleted, bad line 2 (dropped 6); fetches 0",
 ];
 
 #[test]
 fn the_first_test_that_fails_decides(rt: HostRuntime) -> Result<(), Fail> {
-    have_reports(&rt, rt.alloc(), &TWO_FAULTS)
+    have_reports(&rt, rt.alloc(), ONE_STREAM, TWO_FAULTS)
 }
 
-static VACANT_HINTS: [Row; 4] = [
-    (
-        FIRST_OF_TWO,
-        "5 0 6 0\n",
-        (0, 0, false, Ending::Bad(1, Fault::Missing(6))),
-        Some((1, 1, 0)),
-    ),
-    (
-        ONE_MORE,
-        "5 0 6 0\n",
-        (0, 0, false, Ending::Bad(1, Fault::Missing(6))),
-        Some((2, 2, 0)),
-    ),
-    (
-        THREE_MORE,
-        "5 0 6 0\n",
-        (0, 0, false, Ending::Bad(1, Fault::Missing(6))),
-        Some((4, 4, 0)),
-    ),
-    (
-        THREE_MORE,
-        "5 0 9999999 0\n",
-        (0, 0, false, Ending::Bad(1, Fault::Missing(9_999_999))),
-        Some((0, 0, 0)),
-    ),
+/// Hints that are outside, the formula's, and own ones: vacant and live.
+static HINTS_FETCHED_ONCE: &[&str] = &[
+    "5 2 0 9 0\n => 0 added, 0 deleted, bad line 1 (missing 9); fetches 0",
+    "5 2 0 9999999 0\n => 0 added, 0 deleted, bad line 1 (missing 9999999); fetches 0",
+    "5 1 2 0 1 0\n => 1 added, 0 deleted, ended; fetches 1",
+    "5 2 0 7 0\n => 0 added, 0 deleted, bad line 1 (missing 7); fetches 1",
+    "5 2 0 1 2 0\n7 2 0 5 0\n => 2 added, 0 deleted, ended; fetches 3",
 ];
 
 #[test]
-fn a_vacant_hint_is_fetched_again(rt: HostRuntime) -> Result<(), Fail> {
-    have_reports(&rt, rt.alloc(), &VACANT_HINTS)
+fn hints_that_are_not_foreign_are_fetched_once(rt: HostRuntime) -> Result<(), Fail> {
+    have_reports(&rt, rt.alloc(), TWO_STREAMS, HINTS_FETCHED_ONCE)
 }
 
-static DELETIONS: [Row; 4] = [
-    (
-        DEFAULTS,
-        "5 2 0 1 2 0\n5 d 5 0\n6 0 5 3 4 0\n",
-        (1, 1, false, Ending::Bad(3, Fault::Retired(5))),
-        Some((3, 1, 1)),
-    ),
-    (
-        DEFAULTS,
-        "5 2 0 1 2 0\n5 d 5 5 0\n",
-        (1, 1, false, Ending::Bad(2, Fault::NotLive(5))),
-        None,
-    ),
-    (
-        DEFAULTS,
-        "5 d 1 1 0\n",
-        (0, 1, false, Ending::Bad(1, Fault::NotLive(1))),
-        None,
-    ),
-    (
-        DEFAULTS,
-        "5 d 1 0\n5 2 0 1 2 0\n",
-        (0, 1, false, Ending::Bad(2, Fault::Dropped(1))),
-        None,
-    ),
+/// The other stream publishes 6 never or right before some fetch, and may retire it at once.
+static FOREIGN_HINTS: &[&str] = &[
+    "tries=0: 5 -2 0 6 0\n => 0 added, 0 deleted, bad line 1 (missing 6); fetches 1",
+    "tries=0 published=1: 5 -2 0 6 0\n => 1 added, 0 deleted, ended; fetches 1",
+    "tries=0 retired=1: 5 -2 0 6 0\n => 0 added, 0 deleted, bad line 1 (retired 6); fetches 1",
+    "tries=0 published=2: 5 -2 0 6 0\n => 0 added, 0 deleted, bad line 1 (missing 6); fetches 1",
+    "tries=1: 5 -2 0 6 0\n => 0 added, 0 deleted, bad line 1 (missing 6); fetches 2, attempts 2",
+    "tries=1 published=1: 5 -2 0 6 0\n => 1 added, 0 deleted, ended; fetches 1",
+    "tries=1 published=2: 5 -2 0 6 0\n => 1 added, 0 deleted, ended; fetches 2, attempts 2",
+    "tries=1 retired=2: 5 -2 0 6 0\n \
+     => 0 added, 0 deleted, bad line 1 (retired 6); fetches 2, attempts 2",
+    "tries=1 published=3: 5 -2 0 6 0\n \
+     => 0 added, 0 deleted, bad line 1 (missing 6); fetches 2, attempts 2",
+    "5 -2 0 6 0\n => 0 added, 0 deleted, bad line 1 (missing 6); fetches 4, attempts 4",
+    "published=1: 5 -2 0 6 0\n => 1 added, 0 deleted, ended; fetches 1",
+    "published=2: 5 -2 0 6 0\n => 1 added, 0 deleted, ended; fetches 2, attempts 2",
+    "published=4: 5 -2 0 6 0\n => 1 added, 0 deleted, ended; fetches 4, attempts 4",
+    "retired=1: 5 -2 0 6 0\n => 0 added, 0 deleted, bad line 1 (retired 6); fetches 1",
+    "retired=2: 5 -2 0 6 0\n => 0 added, 0 deleted, bad line 1 (retired 6); fetches 2, attempts 2",
+    "retired=4: 5 -2 0 6 0\n => 0 added, 0 deleted, bad line 1 (retired 6); fetches 4, attempts 4",
+    "published=5: 5 -2 0 6 0\n \
+     => 0 added, 0 deleted, bad line 1 (missing 6); fetches 4, attempts 4",
+];
+
+#[test]
+fn a_foreign_hint_is_fetched_until_it_comes(rt: HostRuntime) -> Result<(), Fail> {
+    have_reports(&rt, rt.alloc(), TWO_STREAMS, FOREIGN_HINTS)
+}
+
+/// As many tries as there may be.
+static MOST_TRIES: &[&str] = &[
+    "tries=1000000: 5 -2 0 6 0\n \
+     => 0 added, 0 deleted, bad line 1 (missing 6); fetches 1000001, attempts 1000001",
+    "tries=1000000 published=1000001: 5 -2 0 6 0\n \
+     => 1 added, 0 deleted, ended; fetches 1000001, attempts 1000001",
+];
+
+#[test]
+fn a_hint_may_come_at_the_last_try(rt: HostRuntime) -> Result<(), Fail> {
+    for row in MOST_TRIES {
+        has_report(&rt, rt.alloc(), TWO_STREAMS, row, 65_536)?;
+    }
+    Ok(())
+}
+
+/// One retire for each own identity that is reached, and nothing for others.
+static DELETIONS: &[&str] = &[
+    "5 d 0\n => 0 added, 0 deleted, ended; fetches 0",
+    "5 d 1 6 0\n => 0 added, 2 deleted, ended; fetches 0",
+    "5 d 4 8 0\n => 0 added, 2 deleted, ended; fetches 0",
+    "5 2 0 1 2 0\n5 d 1 5 6 0\n => 1 added, 3 deleted, ended; fetches 2, retires 1",
+    "5 2 0 1 2 0\n7 2 0 5 0\n5 d 5 7 0\n => 2 added, 2 deleted, ended; fetches 3, retires 2",
+    "5 d 7 5 0\n => 0 added, 0 deleted, bad line 1 (not live 7); fetches 0, retires 1",
+    "5 d 9 5 0\n => 0 added, 0 deleted, bad line 1 (not live 9); fetches 0",
+    "5 d 1 1 5 0\n => 0 added, 1 deleted, bad line 1 (not live 1); fetches 0",
 ];
 
 #[test]
 fn identities_are_deleted_from_the_left(rt: HostRuntime) -> Result<(), Fail> {
-    have_reports(&rt, rt.alloc(), &DELETIONS)
+    have_reports(&rt, rt.alloc(), TWO_STREAMS, DELETIONS)
 }
 
-const NO_ROOM: Options = Options {
-    room: 0,
-    ..DEFAULTS
-};
-
-const ROOM_FOR_TWO: Options = Options {
-    room: 2,
-    ..DEFAULTS
-};
-
-const ROOM_FOR_THREE: Options = Options {
-    room: 3,
-    ..DEFAULTS
-};
-
-static ROOMS: [Row; 8] = [
-    (
-        NO_ROOM,
-        "5 0 1 0\n",
-        (0, 0, false, Ending::Bad(1, Fault::NotUnit(1))),
-        None,
-    ),
-    (
-        NO_ROOM,
-        "5 2 0 1 2 0\n",
-        (0, 0, false, Ending::Bad(1, Fault::NoRoom)),
-        None,
-    ),
-    (
-        LITTLE_ROOM,
-        "5 2 2 0 1 2 0\n",
-        (1, 0, false, Ending::Ended),
-        None,
-    ),
-    (
-        LITTLE_ROOM,
-        "5 1 2 0 1 0\n",
-        (0, 0, false, Ending::Bad(1, Fault::NoRoom)),
-        None,
-    ),
-    (
-        ROOM_FOR_TWO,
-        "5 1 2 0 1 0\n",
-        (1, 0, false, Ending::Ended),
-        None,
-    ),
-    (
-        ROOM_FOR_TWO,
-        "5 1 2 0 1 0\n6 2 0 1 2 0\n",
-        (1, 0, false, Ending::Bad(2, Fault::NoRoom)),
-        None,
-    ),
+static ROOMS: &[&str] = &[
+    "room=0: 5 0 1 0\n => 0 added, 0 deleted, bad line 1 (not unit 1); fetches 1",
+    "room=1: 5 2 2 0 1 2 0\n => 1 added, 0 deleted, ended; fetches 2",
+    "room=1: 5 1 2 0 1 0\n => 0 added, 0 deleted, bad line 1 (no room); fetches 0",
+    "room=2: 5 1 2 0 1 0\n => 1 added, 0 deleted, ended; fetches 1",
+    "room=2: 5 1 2 0 1 0\n6 2 0 1 2 0\n => 1 added, 0 deleted, bad line 2 (no room); fetches 1",
     // The empty clause takes none.
-    (
-        ROOM_FOR_THREE,
-        "5 1 2 0 1 0\n6 2 0 1 2 0\n7 0 6 3 4 0\n",
-        (3, 0, true, Ending::Ended),
-        None,
-    ),
+    "room=3: 5 1 2 0 1 0\n6 2 0 1 2 0\n7 0 6 3 4 0\n \
+     => 3 added, 0 deleted, ended, empty, within; fetches 6",
     // A retired clause gives none back.
-    (
-        LITTLE_ROOM,
-        "5 2 0 1 2 0\n5 d 5 0\n6 2 0 1 2 0\n",
-        (1, 1, false, Ending::Bad(3, Fault::NoRoom)),
-        None,
-    ),
+    "room=1: 5 2 0 1 2 0\n5 d 5 0\n6 2 0 1 2 0\n \
+     => 1 added, 1 deleted, bad line 3 (no room); fetches 2, retires 1",
 ];
 
 #[test]
 fn the_room_ends(rt: HostRuntime) -> Result<(), Fail> {
-    have_reports(&rt, rt.alloc(), &ROOMS)
+    have_reports(&rt, rt.alloc(), ONE_STREAM, ROOMS)
 }
 
-/// A stream that is alone, and each of two, with two identities for each.
-const ALONE: Options = Options {
-    lines: 2,
-    ..DEFAULTS
-};
-
-const FIRST: Options = Options {
-    streams: 2,
-    ..ALONE
-};
-
-const SECOND: Options = Options { stream: 2, ..FIRST };
-
-static IDENTITIES: [Row; 14] = [
-    (
-        ALONE,
-        "4 2 0 1 2 0\n",
-        (0, 0, false, Ending::Bad(1, Fault::Identity)),
-        None,
-    ),
-    (ALONE, "5 2 0 1 2 0\n", (1, 0, false, Ending::Ended), None),
-    (ALONE, "6 2 0 1 2 0\n", (1, 0, false, Ending::Ended), None),
-    (
-        ALONE,
-        "7 2 0 1 2 0\n",
-        (0, 0, false, Ending::Bad(1, Fault::Identity)),
-        None,
-    ),
-    (FIRST, "7 2 0 1 2 0\n", (1, 0, false, Ending::Ended), None),
-    (
-        FIRST,
-        "8 2 0 1 2 0\n",
-        (0, 0, false, Ending::Bad(1, Fault::Identity)),
-        None,
-    ),
-    (
-        FIRST,
-        "9 2 0 1 2 0\n",
-        (0, 0, false, Ending::Bad(1, Fault::Identity)),
-        None,
-    ),
-    (
-        SECOND,
-        "5 2 0 1 2 0\n",
-        (0, 0, false, Ending::Bad(1, Fault::Identity)),
-        None,
-    ),
-    (SECOND, "8 2 0 1 2 0\n", (1, 0, false, Ending::Ended), None),
-    (
-        SECOND,
-        "10 2 0 1 2 0\n",
-        (0, 0, false, Ending::Bad(1, Fault::Identity)),
-        None,
-    ),
-    (FIRST, "5 d 4 8 0\n", (0, 2, false, Ending::Ended), None),
-    (
-        FIRST,
-        "5 d 9 0\n",
-        (0, 0, false, Ending::Bad(1, Fault::NotLive(9))),
-        None,
-    ),
-    (SECOND, "5 d 7 0\n", (0, 1, false, Ending::Ended), None),
-    (
-        SECOND,
-        "5 d 9 0\n",
-        (0, 0, false, Ending::Bad(1, Fault::NotLive(9))),
-        None,
-    ),
+/// With two identities a stream, one stream has 5 and 6, and the first of two has 5 and 7.
+static IDENTITIES: &[&str] = &[
+    "streams=1: 4 2 0 1 2 0\n => 0 added, 0 deleted, bad line 1 (identity); fetches 0",
+    "streams=1: 5 2 0 1 2 0\n => 1 added, 0 deleted, ended; fetches 2",
+    "streams=1: 6 2 0 1 2 0\n => 1 added, 0 deleted, ended; fetches 2",
+    "streams=1: 7 2 0 1 2 0\n => 0 added, 0 deleted, bad line 1 (identity); fetches 0",
+    "7 2 0 1 2 0\n => 1 added, 0 deleted, ended; fetches 2",
+    "8 2 0 1 2 0\n => 0 added, 0 deleted, bad line 1 (identity); fetches 0",
+    "9 2 0 1 2 0\n => 0 added, 0 deleted, bad line 1 (identity); fetches 0",
 ];
 
-/// With two identities a stream: 5 and 6 for one stream; for two streams 5 and 7, and 6 and 8.
 #[test]
 fn the_identities_end(rt: HostRuntime) -> Result<(), Fail> {
-    have_reports(&rt, rt.alloc(), &IDENTITIES)
-}
-
-static RISING: [Row; 3] = [
-    (
-        DEFAULTS,
-        "7 2 0 1 2 0\n9 0 7 3 4 0\n",
-        (2, 0, true, Ending::Ended),
-        None,
-    ),
-    (
-        DEFAULTS,
-        "7 2 0 1 2 0\n7 0 7 3 4 0\n",
-        (1, 0, false, Ending::Bad(2, Fault::Identity)),
-        None,
-    ),
-    (
-        DEFAULTS,
-        "7 2 0 1 2 0\n6 0 7 3 4 0\n",
-        (1, 0, false, Ending::Bad(2, Fault::Identity)),
-        None,
-    ),
-];
-
-/// An identity is above each one that the stream published; gaps are allowed.
-#[test]
-fn identities_rise(rt: HostRuntime) -> Result<(), Fail> {
-    have_reports(&rt, rt.alloc(), &RISING)
-}
-
-const ONE_LINE: Options = Options {
-    lines: 1,
-    ..DEFAULTS
-};
-
-static BAD_IDENTITIES: [Row; 2] = [
-    (
-        FIRST_OF_TWO,
-        "6 2 0 1 2 0\n",
-        (0, 0, false, Ending::Bad(1, Fault::Identity)),
-        Some((0, 0, 0)),
-    ),
-    (
-        ONE_LINE,
-        "5 2 0 1 2 0\n6 0 5 3 4 0\n",
-        (1, 0, false, Ending::Bad(2, Fault::Identity)),
-        Some((2, 1, 1)),
-    ),
-];
-
-#[test]
-fn a_bad_identity_fetches_nothing(rt: HostRuntime) -> Result<(), Fail> {
-    have_reports(&rt, rt.alloc(), &BAD_IDENTITIES)
-}
-
-static BAD_CLAUSES: [Row; 3] = [
-    (
-        DEFAULTS,
-        "5 1 -1 0 1 0\n",
-        (0, 0, false, Ending::Bad(1, Fault::Tautology)),
-        Some((0, 0, 0)),
-    ),
-    (
-        DEFAULTS,
-        "5 3 -3 0 1 0\n",
-        (0, 0, false, Ending::Bad(1, Fault::Literal)),
-        None,
-    ),
-    (
-        DEFAULTS,
-        "999999999999999999 2 0 1 2 0\n",
-        (0, 0, false, Ending::Bad(1, Fault::Identity)),
-        None,
-    ),
-];
-
-#[test]
-fn bad_clauses_are_refused_before_their_hints(rt: HostRuntime) -> Result<(), Fail> {
-    have_reports(&rt, rt.alloc(), &BAD_CLAUSES)
-}
-
-static BAD_TEXTS: [Row; 5] = [
-    (
-        DEFAULTS,
-        "5 1 0 -2 0\n",
-        (0, 0, false, Ending::Bad(1, Fault::Text(LineFault::RatHint))),
-        None,
-    ),
-    (
-        DEFAULTS,
-        "5  2 0 1 2 0\n6 0 5 3 4 0\n",
-        (
-            0,
-            0,
-            false,
-            Ending::Bad(1, Fault::Text(LineFault::Spelling)),
-        ),
-        None,
-    ),
-    (
-        DEFAULTS,
-        "1000000000000000000 2 0 1 2 0\n",
-        (0, 0, false, Ending::Bad(1, Fault::Text(LineFault::TooLong))),
-        None,
-    ),
-    (
-        DEFAULTS,
-        "5 2 0 1 2 0",
-        (
-            0,
-            0,
-            false,
-            Ending::Bad(1, Fault::Text(LineFault::Truncated)),
-        ),
-        None,
-    ),
-    (
-        DEFAULTS,
-        "5 2 0 1 2 0\n6",
-        (
-            1,
-            0,
-            false,
-            Ending::Bad(2, Fault::Text(LineFault::Truncated)),
-        ),
-        None,
-    ),
-];
-
-#[test]
-fn bad_texts_end_the_reading(rt: HostRuntime) -> Result<(), Fail> {
-    have_reports(&rt, rt.alloc(), &BAD_TEXTS)
-}
-
-/// The checker is over, and tells of a failed read.
-fn step_of_read(rt: &impl Abort, checker: &Checker) {
-    let said = said_of(0, 0, false, Ending::ReadFailed(1));
-    assert!(rt; checker.is_over());
-    same(rt, checker.report(), said);
-}
-
-/// The read of a checker fails before its first byte.
-fn fails_reading(rt: &impl Abort, checker: &mut Checker) {
-    same(rt, checker.is_over(), false);
-    checker.read_failed();
-    step_of_read(rt, checker);
-    checker.end();
-    step_of_read(rt, checker);
-}
-
-/// A checker at no map.
-fn new_checker(alloc: Global) -> Result<Checker, Fail> {
-    let layout = Layout::new(2, 4, 8, 1, 9, 9)?;
-    let checker = Checker::new(alloc, 1, &layout, &Cube::empty(alloc), 0)?;
-    Ok(checker)
-}
-
-#[test]
-fn a_failed_read_is_told(rt: HostRuntime) -> Result<(), Fail> {
-    let mut checker = new_checker(rt.alloc())?;
-    fails_reading(&rt, &mut checker);
-    Ok(())
+    have_reports(&rt, rt.alloc(), TWO_STREAMS, IDENTITIES)
 }

@@ -8,7 +8,7 @@ ghost use Rattle.stream_check_tests.specs.Worked.{first_stream, at_start, after_
 
 use stream_check::Fault;
 
-/// A clause is within a cube that has the complements of its literals, and not within one that has these literals.
+/// A clause is within a cube of its literals' complements, and not within one of its literals.
 fn clauses_within_are_judged()
     ensures within { is_within (pos 1 ∷ negsuc 1 ∷ []) (pos 2 ∷ []) ≡ true }
     ensures itself { is_within (pos 2 ∷ []) (pos 2 ∷ []) ≡ false }
@@ -16,7 +16,7 @@ fn clauses_within_are_judged()
     ensures nothing { is_within [] [] ≡ true }
 {}
 
-/// An addition that is good, and its last event; and one with a hint after the conflict, which isn't fetched.
+/// A good addition, and its last event; and one whose hint after the conflict isn't fetched.
 fn additions_are_judged()
     ensures good { JudgesLine first_stream at_start (Addition 5 (pos 2 ∷ []) (1 ∷ 2 ∷ []))
         (first_found ∷ second_found ∷ unit_published ∷ []) Good }
@@ -40,7 +40,8 @@ fn tests_are_judged()
         [] (Bad 0 Fault.NoRoom) }
 {}
 
-/// Hints that aren't found: one of another stream is fetched once more, one outside isn't fetched, nor is a dropped one.
+/// Hints that aren't found: one of another stream is fetched once more; one that is outside or was
+/// dropped isn't fetched.
 fn missing_hints_are_judged()
     ensures foreign { JudgesLine first_stream at_start (Addition 5 (pos 2 ∷ []) (6 ∷ []))
         (six_vacant ∷ six_vacant ∷ []) (Bad 0 (Fault.Missing 6)) }
@@ -66,7 +67,7 @@ fn deletions_are_judged()
         (Bad 0 (Fault.NotLive 9)) }
 {}
 
-/// Imports: a clause of the formula is compared, one of another stream is fetched once more, and none is added.
+/// Imports: the formula's are compared, another stream's are fetched once more, and none is added.
 fn imports_are_judged()
     ensures good { JudgesLine first_stream at_start (Import 1 (pos 2 ∷ pos 1 ∷ pos 2 ∷ []))
         (first_found ∷ []) Good }

@@ -1,21 +1,21 @@
-//! The end of a stream is told to the gate, once.
-use crate::tests::{new_checker, same};
-use lrup_model::Id;
+//! The end of a stream, and a read that fails: the gate gets the report once.
+use super::same;
+use lrup_model::{Cube, Id, Layout};
 use lrup_text::StreamEnd;
 use std::alloc::Global;
 use std::process::Abort;
 use std::test::Fail;
-use stream_check::{Ending, Gate, Report};
+use stream_check::{Checker, Ending, Gate, Report};
 
-/// How often a gate was told that its checker is over, and what it was told last.
+/// How often a gate got a report, and the last one's stream and ending.
 #[derive(Clone, Copy, Debug, PartialEq, Eq)]
-struct LastWord {
+struct LastReport {
     calls: u64,
     stream: u64,
     ending: Option<Ending>,
 }
 
-impl Gate for LastWord {
+impl Gate for LastReport {
     fn before_fetch(&mut self, _stream: u64, _id: Id, _attempt: u64) {}
 
     fn after_publish(&mut self, _stream: u64, _id: Id) {}
@@ -27,46 +27,61 @@ impl Gate for LastWord {
     }
 }
 
-/// Finishes a new checker twice. The gate gets the first ending alone.
-fn finishes(
-    rt: &impl Abort,
-    alloc: Global,
-    first: StreamEnd,
-    second: StreamEnd,
-    ending: Ending,
-) -> Result<(), Fail> {
-    let mut checker = new_checker(alloc)?;
-    let mut gate = LastWord {
+/// A checker at no map.
+fn new_checker(alloc: Global) -> Result<Checker, Fail> {
+    let layout = Layout::new(2, 4, 8, 1, 9, 9)?;
+    Ok(Checker::new(alloc, 1, &layout, &Cube::empty(alloc), 0)?)
+}
+
+/// The checker is over, with an ending before its first line.
+fn has_ended(rt: &impl Abort, checker: &Checker, ending: Ending) {
+    let wanted = Report {
+        added: 0,
+        deleted: 0,
+        empty: false,
+        within: false,
+        ending,
+    };
+    assert!(rt; checker.is_over());
+    same(rt, checker.report(), wanted);
+}
+
+/// Finishes a checker in two ways, of which the first counts.
+fn finish_twice(rt: &impl Abort, checker: &mut Checker, ends: [StreamEnd; 2], ending: Ending) {
+    let mut gate = LastReport {
         calls: 0,
         stream: 0,
         ending: None,
     };
+    let [first, second] = ends;
     checker.finish(&mut gate, first);
     checker.finish(&mut gate, second);
-    let told = LastWord {
+    let wanted = LastReport {
         calls: 1,
         stream: 1,
         ending: Some(ending),
     };
-    same(rt, gate, told);
+    same(rt, gate, wanted);
+    has_ended(rt, checker, ending);
+}
+
+#[test]
+fn finish_calls_the_gate_once(rt: HostRuntime) -> Result<(), Fail> {
+    let (ended, failed) = (StreamEnd::Ended, StreamEnd::Failed);
+    let mut checker = new_checker(rt.alloc())?;
+    finish_twice(&rt, &mut checker, [ended, failed], Ending::Ended);
+    let mut checker = new_checker(rt.alloc())?;
+    finish_twice(&rt, &mut checker, [failed, ended], Ending::ReadFailed(1));
     Ok(())
 }
 
 #[test]
-fn finish_tells_the_gate_once(rt: HostRuntime) -> Result<(), Fail> {
-    let alloc = rt.alloc();
-    finishes(
-        &rt,
-        alloc,
-        StreamEnd::Ended,
-        StreamEnd::Failed,
-        Ending::Ended,
-    )?;
-    finishes(
-        &rt,
-        alloc,
-        StreamEnd::Failed,
-        StreamEnd::Ended,
-        Ending::ReadFailed(1),
-    )
+fn a_failed_read_is_reported(rt: HostRuntime) -> Result<(), Fail> {
+    let mut checker = new_checker(rt.alloc())?;
+    same(&rt, checker.is_over(), false);
+    checker.read_failed();
+    has_ended(&rt, &checker, Ending::ReadFailed(1));
+    checker.end();
+    has_ended(&rt, &checker, Ending::ReadFailed(1));
+    Ok(())
 }

@@ -1,25 +1,24 @@
-//! How many events a line makes, at a map where another stream publishes late.
-ghost use Rattle.std.specs.Prelude.{◌≡◌, ◌≤◌, [], IfOk};
+//! The events of a stream at a map where another stream publishes late.
+ghost use Rattle.std.specs.Prelude.{◌≡◌, ◌<◌, [], IfOk};
 ghost use Rattle.checker_support.specs.Opened.{IsPlainOpened};
 ghost use Rattle.lrup_model.specs.Event.{History};
+ghost use Rattle.lrup_model.specs.Layout.{IsStream};
 ghost use Rattle.lrup_model.specs.CallerView.{CallerStep};
 ghost use Rattle.lrup_model.specs.Plain.{PlainMoves, formula_of, free_at, plain_caller_view};
 ghost use Rattle.test_support.specs.Worked.{four};
 
-use super::{Told, feed_cut, same, told_of};
-use checker_support::{checker_at, open_map};
+use super::{NO_CALLS, Options, TWO_STREAMS, cube_of, feed_cut, same, shown};
+use checker_support::{checker_under, open_map};
 use lrup_model::{ClauseMap, Clip, Fetched, Id, Lit, Owner, PlainMap, Published, Retired};
-use lrup_text::LineFault;
 use std::alloc::Global;
-use std::process::Abort;
 use std::sync::atomic::{AtomicU64, Ordering};
 use std::test::Fail;
-use stream_check::{Ending, Fault, Gate};
+use stream_check::{Gate, Report};
 use test_support::lit;
 
 /// When stream 2 publishes `-2` under identity 6.
 #[derive(Clone, Copy, Debug, PartialEq, Eq)]
-enum Late {
+pub enum Late {
     Never,
     /// Right before this fetch of stream 1, counted from 1.
     Published(u64),
@@ -28,15 +27,16 @@ enum Late {
 }
 
 /// The events that stream 1 made.
-#[derive(Clone, Copy, Debug, PartialEq, Eq)]
+#[derive(Clone, Copy)]
 struct Events {
     fetches: u64,
     publishes: u64,
     retires: u64,
 }
 
-/// Calls in their order, each as two digits, up to nine of them: what it is, and its identity. 1 to 4 are what comes before
-/// an attempt to fetch, by its number; 5 is a fetch, 6 a publish, 7 what comes after it, 8 a retire, 9 another stream's.
+/// Calls in their order, each as two digits, up to nine of them: what it is, and its identity. 1 to
+/// 4 come before an attempt to fetch, by its number; 5 is a fetch, 6 a publish, 7 comes after it, 8
+/// is a retire, 9 another stream's.
 #[derive(Drop)]
 struct Log {
     calls: AtomicU64,
@@ -68,8 +68,8 @@ struct NotingGate<'a> {
 
 impl Gate for NotingGate<'_> {
     fn before_fetch(&mut self, stream: u64, id: Id, attempt: u64) {
-        self.log
-            .note(if stream == 1 { attempt.min(4) } else { 9 }, id);
+        let call = if stream == 1 { attempt.min(4) } else { 9 };
+        self.log.note(call, id);
     }
 
     fn after_publish(&mut self, stream: u64, id: Id) {
@@ -77,7 +77,7 @@ impl Gate for NotingGate<'_> {
     }
 }
 
-/// Stream 1's place at a map that has at least two streams. It notes the calls of stream 1.
+/// Stream 1's place at a map. It notes and counts the calls of stream 1.
 #[derive(Drop)]
 struct LateMap<'a> {
     log: &'a Log,
@@ -88,7 +88,7 @@ struct LateMap<'a> {
     events: Events,
     ghost room_left: { room ≡ free_at map 1 },
     ghost formula: { formula_of map ≡ four },
-    ghost streams: { 2 ≤ map.layout.streams },
+    ghost streams: { 0 < map.layout.streams },
 }
 
 /// Publishes `-2` under identity 6, or retires it.
@@ -109,7 +109,7 @@ fn call_at_six<M: ClauseMap>(desk: &mut M, retires: bool)
 /// The same by stream 2.
 fn call_second(map: &mut PlainMap, retires: bool)
     requires formula { formula_of map.old ≡ four }
-    requires streams { 2 ≤ map.old.layout.streams }
+    requires stream { IsStream map.old.layout 2 }
     ensures { (es : History) × PlainMoves map.old map.new 2 es }
 {
     call_at_six(&mut map.desk(2), retires);
@@ -117,13 +117,13 @@ fn call_second(map: &mut PlainMap, retires: bool)
 
 /// The calls of stream 2 that are due before this fetch of stream 1.
 fn call_late(map: &mut PlainMap, late: Late, fetch: u64)
-    requires formula { formula_of map.old ≡ four }
-    requires streams { 2 ≤ map.old.layout.streams }
+    requires { formula_of map.old ≡ four }
     ensures { CallerStep (plain_caller_view map.old 1) (plain_caller_view map.new 1) [] }
 {
+    let two = map.layout().streams() >= 2;
     match late {
-        Late::Published(at) if at == fetch => call_second(map, false),
-        Late::Retired(at) if at == fetch => {
+        Late::Published(at) if two && at == fetch => call_second(map, false),
+        Late::Retired(at) if two && at == fetch => {
             call_second(map, false);
             call_second(map, true);
         }
@@ -197,268 +197,85 @@ impl ClauseMap for LateMap<'_> {
     ghost moves_are_step = { λ a b es moves. moves };
 }
 
-const NOTHING: Events = Events {
-    fetches: 0,
-    publishes: 0,
-    retires: 0,
-};
-
-/// Stream 1's place, with room for two literals. Its own identities are 5 and 7, the other's 6 and 8.
-fn open_late<'a>(alloc: Global, late: Late, log: &'a Log) -> Result<LateMap<'a>, Fail>
+/// Stream 1's place at a map that was just opened.
+fn open_late<'a>(alloc: Global, options: Options<'_>, log: &'a Log) -> Result<LateMap<'a>, Fail>
     ensures { IfOk result (λ late. IsPlainOpened late.map) }
 {
-    let map = open_map(alloc, 2, 2, 2)?;
+    if options.streams == 0 {
+        return Err("no stream".into());
+    }
+    let map = open_map(alloc, options.streams, options.lines, options.room)?;
     Ok(LateMap {
         log,
         map,
-        room: 2,
-        late,
-        events: NOTHING,
+        room: options.room,
+        late: options.late,
+        events: Events {
+            fetches: 0,
+            publishes: 0,
+            retires: 0,
+        },
     })
 }
 
-/// How a stream of these lines ends there.
-fn feed_late_map<G: Gate>(
-    alloc: Global,
-    tries: u64,
-    map: &mut LateMap<'_>,
-    lines: &str,
-    gate: &mut G,
-) -> Result<Ending, Fail>
-    requires { IsPlainOpened map.old.map }
-{
-    let mut checker = checker_at(alloc, &map.map, 1, tries)?;
-    feed_cut(&mut checker, map, gate, lines.as_bytes(), 65_536);
-    Ok(checker.report().ending)
-}
-
-/// The same where the map was just opened, and what events it made.
+/// What is said of a stream that comes in pieces of one length, and its events.
 fn feed_late<G: Gate>(
     alloc: Global,
-    tries: u64,
-    late: Late,
+    options: Options<'_>,
     lines: &str,
+    cut: usize,
     log: &Log,
     gate: &mut G,
-) -> Result<(Ending, Events), Fail> {
-    let mut map = open_late(alloc, late, log)?;
-    let ending = feed_late_map(alloc, tries, &mut map, lines, gate)?;
-    Ok((ending, map.events))
+) -> Result<(Report, Events), Fail> {
+    let mut map = open_late(alloc, options, log)?;
+    let cube = cube_of(alloc, options.cube)?;
+    let mut checker = checker_under(alloc, &map.map, &cube, 1, options.tries)?;
+    feed_cut(&mut checker, &mut map, gate, lines.as_bytes(), cut);
+    Ok((checker.report(), map.events))
 }
 
-/// The same, and what the gate is told.
-fn events_of(
+/// The same in words. Each fetch is the gate's call, and each publish is, and adds a clause.
+pub fn judged(
     alloc: Global,
-    tries: u64,
-    late: Late,
+    options: Options<'_>,
     lines: &str,
-) -> Result<(Ending, Events, Told), Fail> {
-    let mut gate = told_of(0, 0, 0);
-    let (ending, events) = feed_late(alloc, tries, late, lines, &Log::new(), &mut gate)?;
-    Ok((ending, events, gate))
-}
-
-/// Where stream 2 publishes nothing, the lines make so many fetches, publishes and retires, and end so. No hint is fetched again.
-fn makes(
-    rt: &impl Abort,
-    alloc: Global,
-    lines: &str,
-    events: (u64, u64, u64),
-    ending: Ending,
-) -> Result<(), Fail> {
-    let (fetches, publishes, retires) = events;
-    let wanted = Events {
-        fetches,
-        publishes,
-        retires,
-    };
-    let found = events_of(alloc, 3, Late::Never, lines)?;
-    let told = told_of(fetches, fetches.min(1), publishes);
-    same(rt, (lines, found), (lines, (ending, wanted, told)));
-    Ok(())
-}
-
-/// Lines, how many fetches, publishes and retires they make, and the ending.
-type Made = (&'static str, (u64, u64, u64), Ending);
-
-/// The same of each row.
-fn make(rt: &impl Abort, alloc: Global, rows: &[Made]) -> Result<(), Fail> {
-    for &(lines, events, ending) in rows {
-        makes(rt, alloc, lines, events, ending)?;
+    cut: usize,
+) -> Result<String, Fail> {
+    let mut gate = NO_CALLS;
+    let (report, events) = feed_late(alloc, options, lines, cut, &Log::new(), &mut gate)?;
+    if (gate.fetches, gate.publishes) != (events.fetches, events.publishes) {
+        return Err("the gate has other calls".into());
     }
-    Ok(())
-}
-
-static OTHER_HINTS: [Made; 8] = [
-    ("5 2 0 9 0\n", (0, 0, 0), Ending::Bad(1, Fault::Missing(9))),
-    ("5 1 2 0 1 0\n", (1, 1, 0), Ending::Ended),
-    ("5 2 0 7 0\n", (1, 0, 0), Ending::Bad(1, Fault::Missing(7))),
-    ("5 2 0 5 0\n", (1, 0, 0), Ending::Bad(1, Fault::Missing(5))),
-    ("5 2 0 1 2 0\n7 2 0 5 0\n", (3, 2, 0), Ending::Ended),
-    (
-        "5 2 0 1 2 0\n5 d 5 0\n7 2 0 5 0\n",
-        (3, 1, 1),
-        Ending::Bad(3, Fault::Retired(5)),
-    ),
-    (
-        "5 2 0 1 2 6 0\n",
-        (2, 0, 0),
-        Ending::Bad(1, Fault::Excess(6)),
-    ),
-    (
-        "5 d 6 0\n5 2 0 6 0\n",
-        (0, 0, 0),
-        Ending::Bad(2, Fault::Dropped(6)),
-    ),
-];
-
-/// Hints that are outside, the formula's, or own ones: vacant, the line's own, live and retired. A hint that isn't reached,
-/// and one that was dropped.
-#[test]
-fn hints_that_are_not_foreign_are_fetched_once(rt: HostRuntime) -> Result<(), Fail> {
-    make(&rt, rt.alloc(), &OTHER_HINTS)
-}
-
-static OWN_DELETIONS: [Made; 7] = [
-    ("5 d 0\n", (0, 0, 0), Ending::Ended),
-    ("5 d 1 6 0\n", (0, 0, 0), Ending::Ended),
-    ("5 2 0 1 2 0\n5 d 1 5 6 0\n", (2, 1, 1), Ending::Ended),
-    (
-        "5 2 0 1 2 0\n7 2 0 5 0\n5 d 5 7 0\n",
-        (3, 2, 2),
-        Ending::Ended,
-    ),
-    ("5 d 7 5 0\n", (0, 0, 1), Ending::Bad(1, Fault::NotLive(7))),
-    ("5 d 9 5 0\n", (0, 0, 0), Ending::Bad(1, Fault::NotLive(9))),
-    (
-        "5 d 1 1 5 0\n",
-        (0, 0, 0),
-        Ending::Bad(1, Fault::NotLive(1)),
-    ),
-];
-
-/// One retire for each own identity that is reached, and nothing for others.
-#[test]
-fn deletions_retire_own_identities_alone(rt: HostRuntime) -> Result<(), Fail> {
-    make(&rt, rt.alloc(), &OWN_DELETIONS)
-}
-
-static EARLY_FAULTS: [Made; 8] = [
-    (
-        "5  2 0 1 2 0\n",
-        (0, 0, 0),
-        Ending::Bad(1, Fault::Text(LineFault::Spelling)),
-    ),
-    (
-        "1000000000000000000 2 0 1 2 0\n",
-        (0, 0, 0),
-        Ending::Bad(1, Fault::Text(LineFault::TooLong)),
-    ),
-    (
-        "5 2 0 1 2 0",
-        (0, 0, 0),
-        Ending::Bad(1, Fault::Text(LineFault::Truncated)),
-    ),
-    (
-        "5 1 0 -2 0\n",
-        (0, 0, 0),
-        Ending::Bad(1, Fault::Text(LineFault::RatHint)),
-    ),
-    ("6 2 0 1 2 0\n", (0, 0, 0), Ending::Bad(1, Fault::Identity)),
-    ("5 3 0 1 2 0\n", (0, 0, 0), Ending::Bad(1, Fault::Literal)),
-    (
-        "5 1 -1 0 1 0\n",
-        (0, 0, 0),
-        Ending::Bad(1, Fault::Tautology),
-    ),
-    (
-        "5 1 2 0 1 0\n7 2 0 1 2 0\n",
-        (1, 1, 0),
-        Ending::Bad(2, Fault::NoRoom),
-    ),
-];
-
-/// The faults of the text and those of an addition before its hints.
-#[test]
-fn early_faults_make_no_event(rt: HostRuntime) -> Result<(), Fail> {
-    make(&rt, rt.alloc(), &EARLY_FAULTS)
-}
-
-static FOREIGN_HINTS: [(u64, Late, u64, Ending); 19] = [
-    (0, Late::Never, 1, Ending::Bad(1, Fault::Missing(6))),
-    (0, Late::Published(1), 1, Ending::Ended),
-    (0, Late::Retired(1), 1, Ending::Bad(1, Fault::Retired(6))),
-    (0, Late::Published(2), 1, Ending::Bad(1, Fault::Missing(6))),
-    (1, Late::Never, 2, Ending::Bad(1, Fault::Missing(6))),
-    (1, Late::Published(1), 1, Ending::Ended),
-    (1, Late::Published(2), 2, Ending::Ended),
-    (1, Late::Retired(2), 2, Ending::Bad(1, Fault::Retired(6))),
-    (1, Late::Published(3), 2, Ending::Bad(1, Fault::Missing(6))),
-    (3, Late::Never, 4, Ending::Bad(1, Fault::Missing(6))),
-    (3, Late::Published(1), 1, Ending::Ended),
-    (3, Late::Published(2), 2, Ending::Ended),
-    (3, Late::Published(4), 4, Ending::Ended),
-    (3, Late::Retired(1), 1, Ending::Bad(1, Fault::Retired(6))),
-    (3, Late::Retired(2), 2, Ending::Bad(1, Fault::Retired(6))),
-    (3, Late::Retired(4), 4, Ending::Bad(1, Fault::Retired(6))),
-    (3, Late::Published(5), 4, Ending::Bad(1, Fault::Missing(6))),
-    (
-        1_000_000,
-        Late::Never,
-        1_000_001,
-        Ending::Bad(1, Fault::Missing(6)),
-    ),
-    (
-        1_000_000,
-        Late::Published(1_000_001),
-        1_000_001,
-        Ending::Ended,
-    ),
-];
-
-/// The row of a foreign hint: how often it may be fetched again, when it comes, how often it is fetched, and the ending. An
-/// accepted addition makes one publish.
-#[test]
-fn a_foreign_hint_is_fetched_until_it_comes(rt: HostRuntime) -> Result<(), Fail> {
-    for &(tries, late, fetches, ending) in &FOREIGN_HINTS {
-        let found = events_of(rt.alloc(), tries, late, "5 -2 0 6 0\n")?;
-        let publishes = u64::from(ending == Ending::Ended);
-        let made = Events {
-            fetches,
-            publishes,
-            retires: 0,
-        };
-        let wanted = (ending, made, told_of(fetches, fetches, publishes));
-        same(&rt, (tries, late, found), (tries, late, wanted));
+    if report.added != events.publishes {
+        return Err("a publish that isn't counted".into());
     }
-    Ok(())
+    Ok(shown(alloc, report, gate, events.retires)?)
 }
 
 /// The calls of the map and of the gate while these lines are checked.
-fn calls_of(alloc: Global, tries: u64, late: Late, lines: &str) -> Result<u64, Fail> {
+fn calls_of(alloc: Global, options: Options<'_>, lines: &str) -> Result<u64, Fail> {
     let log = Log::new();
     let mut gate = NotingGate { log: &log };
-    feed_late(alloc, tries, late, lines, &log, &mut gate)?;
+    feed_late(alloc, options, lines, 65_536, &log, &mut gate)?;
     Ok(log.calls())
 }
 
-/// How often 6 may be fetched again, when it comes, the lines, and the calls as a `Log` has them.
-static CALLS: [(u64, Late, &str, u64); 3] = [
-    (
-        0,
-        Late::Never,
-        "5 2 0 1 2 0\n5 d 5 0\n",
-        11_51_12_52_65_75_85,
-    ),
-    (3, Late::Never, "5 -2 0 6 0\n", 16_56_26_56_36_56_46_56),
-    (3, Late::Published(2), "5 -2 0 6 0\n", 16_56_26_56_65_75),
+/// When 6 comes, the lines, and the calls as a `Log` has them.
+static CALLS: [(Late, &str, u64); 3] = [
+    (Late::Never, "5 2 0 1 2 0\n5 d 5 0\n", 11_51_12_52_65_75_85),
+    (Late::Never, "5 -2 0 6 0\n", 16_56_26_56_36_56_46_56),
+    (Late::Published(2), "5 -2 0 6 0\n", 16_56_26_56_65_75),
 ];
 
 /// The gate is called right before each fetch, and right after each publish.
 #[test]
 fn the_gate_stands_between_the_calls_of_the_map(rt: HostRuntime) -> Result<(), Fail> {
-    for &(tries, late, lines, calls) in &CALLS {
-        let found = calls_of(rt.alloc(), tries, late, lines)?;
+    for &(late, lines, calls) in &CALLS {
+        let options = Options {
+            late,
+            ..TWO_STREAMS
+        };
+        let found = calls_of(rt.alloc(), options, lines)?;
         same(&rt, (lines, late, found), (lines, late, calls));
     }
     Ok(())

@@ -1,11 +1,11 @@
-//! Where memory runs out. With ample memory it never does. These tests are also run with one allocation of each refused, by
-//! `rt try --test --fail-alloc N`.
+//! Where memory runs out. With ample memory it never does. These tests are also run with one
+//! allocation of each refused, by `rt try --test --fail-alloc N`.
 ghost use Rattle.std.specs.Prelude.{IsSome, IsTrue};
 ghost use Rattle.lrup_model.specs.Layout.{IsStream};
 ghost use Rattle.lrup_model.specs.Plain.{plain_caller_view};
 ghost use Rattle.stream_check.specs.Checker.{IsReadyAt};
 
-use super::{said_of, same, told_of};
+use super::{NO_CALLS, same};
 use checker_support::{checker_at, open_map};
 use lrup_model::{ClauseMap, PlainMap};
 use std::alloc::Global;
@@ -13,31 +13,12 @@ use std::process::Abort;
 use std::test::Fail;
 use stream_check::{CheckStatus, Checker, Ending, Report};
 
-/// The first line is an addition, with three literals, and takes no memory. Each other deletes one identity more that is
-/// kept, and the second an own one before it: where line `L` is the one that wants memory, `L - 1` identities were deleted
-/// before.
-static LINES: [&str; 20] = [
-    "5 1 2 1 0 1 0\n",
-    "5 d 5 1 0\n",
-    "5 d 2 0\n",
-    "5 d 3 0\n",
-    "5 d 4 0\n",
-    "5 d 6 0\n",
-    "5 d 8 0\n",
-    "5 d 10 0\n",
-    "5 d 12 0\n",
-    "5 d 14 0\n",
-    "5 d 16 0\n",
-    "5 d 18 0\n",
-    "5 d 20 0\n",
-    "5 d 22 0\n",
-    "5 d 24 0\n",
-    "5 d 26 0\n",
-    "5 d 28 0\n",
-    "5 d 30 0\n",
-    "5 d 32 0\n",
-    "5 d 34 0\n",
-];
+/// The first line is an addition, with three literals, and takes no memory. Each other deletes one
+/// identity more that is kept, and the second an own one before it: where line `L` is the one that
+/// is refused memory, `L - 1` identities were deleted before.
+const LINES: &str = "5 1 2 1 0 1 0\n5 d 5 1 0\n\
+    5 d 2 0\n5 d 3 0\n5 d 4 0\n5 d 6 0\n5 d 8 0\n5 d 10 0\n5 d 12 0\n5 d 14 0\n5 d 16 0\n\
+    5 d 18 0\n5 d 20 0\n5 d 22 0\n5 d 24 0\n5 d 26 0\n5 d 28 0\n5 d 30 0\n5 d 32 0\n5 d 34 0\n";
 
 /// Feeds a line, of which all is used. Is the checker over then?
 fn feed_line<R: Abort, M: ClauseMap>(rt: &R, checker: &mut Checker, map: &mut M, line: &str) -> bool
@@ -45,7 +26,7 @@ fn feed_line<R: Abort, M: ClauseMap>(rt: &R, checker: &mut Checker, map: &mut M,
     ensures ready { IsReadyAt checker.new (M.caller_view map.new) }
     ensures over { IsTrue result → IsSome checker.new.ending }
 {
-    let progress = checker.feed(map, &mut told_of(0, 0, 0), line.as_bytes());
+    let progress = checker.feed(map, &mut NO_CALLS, line.as_bytes());
     let is_over = checker.is_over();
     let status = if is_over {
         CheckStatus::Over
@@ -57,12 +38,12 @@ fn feed_line<R: Abort, M: ClauseMap>(rt: &R, checker: &mut Checker, map: &mut M,
     is_over
 }
 
-/// Feeds these lines, each alone. Where the checker is over before the last it has used the whole line.
+/// Feeds these lines, each alone. If the checker is over early, it has used the whole line.
 fn feed_lines<R: Abort, M: ClauseMap>(rt: &R, checker: &mut Checker, map: &mut M)
     requires { IsReadyAt checker.old (M.caller_view map.old) }
     ensures { IsSome checker.new.ending }
 {
-    for line in &LINES {
+    for line in LINES.split_inclusive('\n') {
         if feed_line(rt, checker, map, line) {
             stays_over(rt, checker, map);
             break;
@@ -87,7 +68,7 @@ fn fed_more<M: ClauseMap>(checker: &mut Checker, map: &mut M) -> (usize, CheckSt
     requires over { IsSome checker.old.ending }
     ensures { IsSome checker.new.ending }
 {
-    let more = checker.feed(map, &mut told_of(0, 0, 0), b"7 2 0 1 2 0\n");
+    let more = checker.feed(map, &mut NO_CALLS, b"7 2 0 1 2 0\n");
     (more.used, more.status)
 }
 
@@ -107,13 +88,24 @@ fn said_of_lines(rt: &impl Abort, alloc: Global) -> Result<Report, Fail> {
     Ok(said_at_desk(rt, &mut map, &mut checker))
 }
 
-/// What is dropped is counted, and what came before a refused growth stays counted, its own line's identities too.
+/// One addition was good, and this many identities were deleted before the stream ended so.
+fn ends_after(deleted: u64, ending: Ending) -> Report {
+    Report {
+        added: 1,
+        deleted,
+        empty: false,
+        within: false,
+        ending,
+    }
+}
+
+/// What came before a refused growth stays counted, its own line's identities too.
 #[test]
 fn a_refused_growth_ends_the_reading(rt: HostRuntime) -> Result<(), Fail> {
     let said = said_of_lines(&rt, rt.alloc())?;
     let wanted = match said.ending {
-        Ending::Memory(line) => said_of(1, line.saturating_sub(1), false, said.ending),
-        _ => said_of(1, 20, false, Ending::Ended),
+        Ending::Memory(line) => ends_after(line.saturating_sub(1), said.ending),
+        _ => ends_after(20, Ending::Ended),
     };
     same(&rt, said, wanted);
     Ok(())
@@ -123,6 +115,6 @@ fn a_refused_growth_ends_the_reading(rt: HostRuntime) -> Result<(), Fail> {
 #[test]
 fn every_growth_has_memory(rt: HostRuntime) -> Result<(), Fail> {
     let said = said_of_lines(&rt, rt.alloc())?;
-    same(&rt, said, said_of(1, 20, false, Ending::Ended));
+    same(&rt, said, ends_after(20, Ending::Ended));
     Ok(())
 }
