@@ -7,8 +7,8 @@ use Rattle.lrup_model.specs.Formula.{Cnf}
 use Rattle.lrup_model.specs.declared.layout.LayoutFault.TheVariants as layouts
 use Rattle.lrup_text.specs.ReadOut.{SourceView}
 use Rattle.dimacs.specs.FormulaText.{IsFormulaText}
-use Rattle.portfolio.specs.declared.outcome.Verdict.{Verdict}
-use Rattle.portfolio.specs.declared.outcome.Verdict.TheVariants.{Unsatisfiable, UnsatisfiableUnder, Unknown}
+use Rattle.run_outcome.specs.declared.outcome.Verdict.{Verdict}
+use Rattle.run_outcome.specs.declared.outcome.Verdict.TheVariants.{Unsatisfiable, UnsatisfiableUnder, Unknown}
 use Rattle.checkpoint.specs.Checkpoints.{IsCheckpoint, Saves}
 use Rattle.checkpoint.specs.Live.{Entry}
 use Rattle.checkpoint.specs.Printing.{formula_text}

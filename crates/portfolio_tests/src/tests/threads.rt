@@ -2,7 +2,7 @@
 //! have come as far, so that one thread that takes the streams one after the other never passes them.
 ghost use Rattle.std.specs.Prelude.{◌≡◌, [], Some, false, length, map, IfOk, vec_len};
 ghost use Rattle.std.specs.List.{AllByRecursion};
-ghost use Rattle.portfolio.specs.Outcomes.{run_params_of};
+ghost use Rattle.run_outcome.specs.Outcomes.{run_params_of};
 ghost use Rattle.test_support.specs.Worked.{four};
 
 use super::{

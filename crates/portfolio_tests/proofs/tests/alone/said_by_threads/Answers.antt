@@ -4,7 +4,7 @@ use Rattle.test_support.specs.declared.devices.Pieces.{Pieces}
 use Rattle.lrup_text.specs.ReadOut.{source_view}
 use Rattle.lrup_text.specs.Reads.{GivesLeft}
 use Rattle.stream_check.specs.Closed.{IsOfStream}
-use Rattle.portfolio.specs.lemmas.ResultLemmas.{if_both}
+use Rattle.run_outcome.specs.lemmas.ResultLemmas.{if_both}
 use Rattle.portfolio_tests.proofs.AloneLemmas.{two_isolated, report_alone}
 use Rattle.portfolio_tests.proofs.tests.alone.said_by_threads.Goals as goal
 
