@@ -47,7 +47,7 @@ impl TableRule<u8, Knowledge, Plan> for RowInvariant {
 pub type WordTable = Table<u8, Knowledge, Plan, RowInvariant, Global>;
 
 /// The right to take steps at the table, which `atomic_table` calls a seat. A `Seat` of this crate
-/// has such a token and a few numbers.
+/// has such a token and a few numbers. The table's field `shared` has the steps.
 pub type StepToken = atomic_table::Seat<u8, Knowledge>;
 
 /// The load of a fetch.

@@ -97,9 +97,10 @@ fn main(rt: HostRuntime) -> ExitCode {
     let mut out = Writing::new(rt.stdout());
     let mut err = Writing::new(rt.stderr());
     let arguments = env::args(&rt);
+    let (threads, clock) = (&rt, &rt);
     command_with_arguments(
-        &rt,
-        &rt,
+        threads,
+        clock,
         rt.alloc(),
         arguments,
         &mut files,

@@ -55,7 +55,7 @@ impl Clauses {
     {
         match self {
             Clauses::Shared(store, passes) => {
-                save_live(alloc, &store, passes, dropped, goes_on, sink)
+                save_shared(alloc, &store, passes, dropped, goes_on, sink)
             }
             Clauses::Plain(mut map) => save_plain(alloc, &mut map, dropped, goes_on, sink),
         }
@@ -77,7 +77,7 @@ impl Wanted for NotAllDropped<'_> {
 }
 
 /// Saves the clauses of a run with threads. It consumes the passes.
-fn save_live<W: Sink>(
+fn save_shared<W: Sink>(
     alloc: Global,
     store: &Store,
     passes: Vec<Pass>,

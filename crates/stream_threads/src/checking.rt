@@ -169,6 +169,7 @@ fn check_received<W: Wait, G: Gate, M: ClauseMap>(
             Received::Abandoned => return None,
         }
     }
+    // The loop has no end.
     unreachable!()
 }
 

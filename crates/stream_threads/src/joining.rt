@@ -191,7 +191,7 @@ fn start_and_join<
     }
     // An `Err` means that the signal had been set to leave. The signal is the run's own, so this
     // can't be, but no contract of `OnceLock` says so. `Spawn` has to name an existing stream, so
-    // without streams the result is the empty lists.
+    // without streams the result is the empty lists; a run always has some, by its layout.
     let Ok(signalled) = signal_start(threads, signal) else {
         if started.is_empty() {
             return Ok(found);

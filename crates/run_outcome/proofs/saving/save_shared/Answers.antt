@@ -10,7 +10,7 @@ use Rattle.stream_check.specs.SequentialConsistency.{HaveOneHistory}
 use Rattle.checkpoint.specs.Checkpoints.{WritesCheckpoint}
 use Rattle.run_outcome.specs.Saving.{is_wanted}
 use Rattle.run_outcome.proofs.SavingLemmas.{SavesFound, fetched_so, last_at, other_last}
-use Rattle.run_outcome.proofs.saving.save_live.Goals as goal
+use Rattle.run_outcome.proofs.saving.save_shared.Goals as goal
 
 -- the last of the passes has the history's formula
 pub returns-clause-checkpoint : goal.returns-clause-checkpoint
