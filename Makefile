@@ -32,7 +32,7 @@ STREAMS ?= $(addprefix examples/bmc-four.,1 2 3 4)
 OPTIONS ?= --tries 1000000
 
 .PHONY: run build install built install-solve no-solve uninstall examples live checkpoints rounds demo solver exact trim explain solve solver-test filter-test trim-test
-.PHONY: peers hol explain-test solve-test days neighbours sweep leaks instructions quotes promises pages test toolchain c-and-python
+.PHONY: building peers hol explain-test solve-test days neighbours sweep leaks instructions quotes promises pages test toolchain c-and-python
 .PHONY: libcadical beside-it mpicxx help try deb dist quick edits packages warnings builds shown quotes-test
 
 help:
@@ -250,6 +250,9 @@ leaks: $(BUILT) c-and-python ## measure: memory leaks, by valgrind
 
 instructions: $(BUILT) c-and-python ## measure: how many instructions lines take, by valgrind, against the recorded figures
 	@python3 gate/instructions.py $(PROGRAM)
+
+building: toolchain ## measure: the first build, crate by crate, in a clone of HEAD; on a quiet machine without kept proofs
+	@python3 bench/first_build.py $(RT)
 
 # These need packages that the gate doesn't: acl2, acl2-books and acl2-books-certs; hol-light and
 # libnum-ocaml-dev.

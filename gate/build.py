@@ -12,6 +12,7 @@ again: nothing depends on this script."""
 import fcntl
 import os
 import re
+import resource
 import shutil
 import signal
 import subprocess
@@ -34,10 +35,10 @@ GB_EACH = 3.5  # with four jobs; at most 3.3 was seen
 
 LINES = {line.split(":")[0]: line for line in (ROOT / "crates.txt").read_text().splitlines() if ":" in line}
 USES = {name: [word for word in line.split() if word in LINES] for name, line in LINES.items()}  # of the repository
-# Processor seconds that rt ci took on four cores for a crate's proofs from nothing.
+# Processor seconds of a crate's proofs from nothing, about; `make building` measures them.
 SECONDS = {
     "lrup_model": 90, "dimacs": 80, "lrup_text": 180, "propagate": 65, "stream_check": 180, "idwords": 60, "clause_store": 60,
-    "checkpoint": 70, "portfolio": 330, "stream_threads": 385, "run_laws": 35,
+    "checkpoint": 70, "run_outcome": 120, "serial_run": 120, "portfolio": 110, "stream_threads": 385, "run_laws": 35,
     "command_line": 95, "command": 180, "lrupd": 80}
 
 
@@ -94,7 +95,7 @@ class Lane:
     """A library that is being proved."""
 
     def __init__(self, name):
-        self.name, self.began, self.run = name, time.monotonic(), None
+        self.name, self.began, self.run, self.used = name, time.monotonic(), None, 0
         self.home, self.top = CRATES / name, LANES / name
         self.here = self.top / "crates" / name
         self.lock = locked(self.home)
@@ -122,11 +123,21 @@ class Lane:
             os.close(lock)
         shutil.rmtree(self.top, ignore_errors=True)
 
+    def has_ended(self):
+        """Whether the run has ended. Then `used` has the processor seconds that it and its children took."""
+        if self.run.returncode is None:
+            pid, status, usage = os.wait4(self.run.pid, os.WNOHANG)
+            if pid:
+                self.run.returncode = os.waitstatus_to_exitcode(status)
+                self.used = round(usage.ru_utime + usage.ru_stime)
+        return self.run.returncode is not None
+
     def end(self):
         """Ends the run, if it was started, and returns its status and what it printed."""
-        if self.run and self.run.poll() is None:
+        if self.run and not self.has_ended():
             self.run.terminate()
-        status = self.run.wait() if self.run else 1
+            self.run.wait()
+        status = self.run.returncode if self.run else 1
         self.go_home()
         stamp = self.home / "out/rlib/stamp"
         if status == 0 and stamp.is_file():
@@ -141,11 +152,11 @@ def left(done):
     return 100 * seconds(*ALL - done) // seconds(*ALL)
 
 
-def tell(done, name, began):
-    """Prints the line of a proved crate."""
+def print_proved(done, name, began, used):
+    """Prints the line of a proved crate: its time by the clock, and its processor seconds."""
     took = int(time.monotonic() - began)
     rest = f"; {left(done)} % left" * bool(left(done))
-    print(f"{len(done)} of {len(ALL)}: {name}, {took // 60}:{took % 60:02}{rest}", flush=True)
+    print(f"{len(done)} of {len(ALL)}: {name}, {took // 60}:{took % 60:02}, processor {used} s{rest}", flush=True)
 
 
 def prove_libraries(rt, done):
@@ -164,27 +175,33 @@ def prove_libraries(rt, done):
                 running.append(Lane(name))
                 running[-1].start(*[] if is_first else ["nice"], rt, "lib", "--jobs", str(JOBS if is_first else min(2, JOBS)))
             time.sleep(0.1)
-            for lane in [lane for lane in running if lane.run.poll() is not None]:
+            for lane in [lane for lane in running if lane.has_ended()]:
                 running.remove(lane)
                 status, said = lane.end()
                 if status:
                     return status, said
                 done.add(lane.name)
-                tell(done, lane.name, lane.began)
+                print_proved(done, lane.name, lane.began, lane.used)
     finally:
         for lane in running:
             lane.end()
     return 0, ""
 
 
-def prove_program(rt, is_told):
+def processor_seconds():
+    """Of all runs that have ended."""
+    usage = resource.getrusage(resource.RUSAGE_CHILDREN)
+    return round(usage.ru_utime + usage.ru_stime)
+
+
+def prove_program(rt, were_libraries):
     """Prints that the program is proved, unless it was before and no library's line was printed."""
-    began = time.monotonic()
+    began, before = time.monotonic(), processor_seconds()
     files = [ROOT / "examples" / f"four-clause.{end}" for end in ("cnf", "lrup")]
     words = [rt, "run", "--jobs", str(JOBS), "--", *files]
     ran = subprocess.run(words, cwd=CRATES / PROGRAM, stdout=subprocess.PIPE, stderr=subprocess.STDOUT, errors="replace")
-    if not ran.returncode and (is_told or re.search(rf"^crate {PROGRAM}:", ran.stdout, re.M)):
-        tell(ALL, PROGRAM, began)
+    if not ran.returncode and (were_libraries or re.search(rf"^crate {PROGRAM}:", ran.stdout, re.M)):
+        print_proved(ALL, PROGRAM, began, processor_seconds() - before)
     return ran.returncode, ran.stdout
 
 

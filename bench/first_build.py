@@ -1,0 +1,57 @@
+#!/usr/bin/env python3
+"""Measures the first build, and writes bench/building.md.
+
+    python3 bench/first_build.py RT
+
+Builds a clone of HEAD from nothing. rt shares proofs among the checkouts of a machine: measure on
+one that hasn't built this repository, with nothing else running.
+"""
+import os
+import platform
+import re
+import resource
+import subprocess
+import sys
+import tempfile
+import time
+from datetime import date
+from pathlib import Path
+
+PAGE = Path(__file__).with_name("building.md")
+ROOT = PAGE.parent.parent
+
+
+def clock(seconds):
+    return f"{int(seconds) // 60}:{int(seconds) % 60:02}"
+
+
+def processor():
+    return re.search(r"^model name\s*: (.*)", Path("/proc/cpuinfo").read_text(), re.M)[1]
+
+
+def main():
+    commit = subprocess.check_output(["git", "rev-parse", "--short", "HEAD"], cwd=ROOT, text=True).strip()
+    with tempfile.TemporaryDirectory() as clone:
+        subprocess.run(["git", "clone", "-q", ROOT, clone], check=True)
+        began = time.monotonic()
+        words = [sys.executable, "gate/build.py", sys.argv[1]]
+        printed = subprocess.run(words, cwd=clone, check=True, stdout=subprocess.PIPE, text=True).stdout
+        took = time.monotonic() - began
+    rows = re.findall(r"^\d+ of \d+: (\w+), ([\d:]+), processor (\d+) s", printed, re.M)
+    usage = resource.getrusage(resource.RUSAGE_CHILDREN)
+    table = "".join(f"| `{name}` | {by_clock} | {seconds} |\n" for name, by_clock, seconds in rows)
+    first, _, rest = PAGE.read_text().partition("## Before")
+    first = first[:first.index("## Now")]
+    PAGE.write_text(f"""{first}## Now
+
+{date.today()}, at {commit}, {len(os.sched_getaffinity(0))} cores ({processor()}), Python {platform.python_version()}: **{clock(took)} by the clock**,
+{clock(usage.ru_utime)} of user and {clock(usage.ru_stime)} of system time.
+
+| Crate, in the order of their ends | By the clock | Processor seconds |
+|---|---|---|
+{table}
+## Before{rest}""")
+
+
+if __name__ == "__main__":
+    main()
