@@ -1,5 +1,5 @@
 -- The row 'a neighbour': its first stream, and what two runs say of it (this project's own).
-use Rattle.std.specs.Prelude.{◌≡◌, ◌==◌, ◌↔◌, ℕ, IsTrue, List, [], codes, length}
+use Rattle.std.specs.Prelude.{◌≡◌, ◌==◌, ◌↔◌, ℕ, Bool, IsTrue, List, [], codes, false, length}
 use Rattle.std.specs.List.{list_any}
 use Rattle.lrup_model.specs.Layout.{LayoutValue}
 use Rattle.lrup_model.specs.Event.{published}
@@ -8,12 +8,12 @@ use Rattle.stream_check.specs.DroppedIdsValue.{DroppedIdsValue}
 use Rattle.stream_check.specs.Excuses.{OutOfMemory, IsExcused}
 use Rattle.stream_check.specs.declared.report.Report.{Report}
 use Rattle.lrup_text.specs.declared.device.StreamEnd.TheVariants as stream_ends
-use Rattle.run_outcome.specs.Outcomes.{OptionsValue, layout_of, run_params_of}
-use Rattle.run_outcome.specs.declared.outcome.Verdict.{Verdict}
-use Rattle.run_outcome.specs.declared.outcome.Verdict.TheVariants.{Unsatisfiable}
-use Rattle.stream_check.specs.Closed.{IsOfStream}
+use Rattle.portfolio.specs.Outcomes.{OptionsValue, layout_of, run_params_of}
+use Rattle.portfolio.specs.declared.outcome.Verdict.{Verdict}
+use Rattle.portfolio.specs.declared.outcome.Verdict.TheVariants.{Unsatisfiable}
+use Rattle.stream_check.specs.Closed.{CiteWithin, IsOfStream}
 use Rattle.stream_check.specs.Streams.{Block, RunParamsValue, events_in}
-use Rattle.run_laws.specs.Groups.{IsReportAlone}
+use Rattle.run_laws.specs.Groups.{IsReportAlone, one}
 use Rattle.test_support.specs.Worked.{four}
 
 -- the first stream's bytes
@@ -36,6 +36,12 @@ pub record IsOnlyReport (bytes : List ℕ) (report : Report) : Type 0 where
   pub alone : IsReportAlone four two_terms 1 bytes stream_ends.Ended report
   pub only : (other : Report) → IsReportAlone four two_terms 1 bytes stream_ends.Ended other
       → other ≡ report
+
+-- stream 1 has such a report, where it has these bytes, cites within itself, no read of it failed and memory didn't run out
+abbrev pub HasOnlyReport : List ℕ → List Report → List Bool → Type 0
+HasOnlyReport bytes reports failed = CiteWithin layout_of_two (one 1) bytes → (report : Report)
+    → IsOfStream reports 1 report → IsOfStream failed 1 false → ¬ IsExcused OutOfMemory report
+    → IsOnlyReport bytes report
 
 -- where a report says that memory ran out, its stream has no room for one identity more among those that it dropped
 abbrev pub AreFullAtMemory : List Report → List DroppedIdsValue → Type 0

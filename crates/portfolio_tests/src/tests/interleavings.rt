@@ -1,226 +1,115 @@
-//! Interleavings that gates force, each a hundred times: a thread at one call stays there until another call was made.
-use super::threads::found_with;
-use super::{CITING, bad_line, ended, options, report, same};
-use lrup_model::Id;
-use portfolio::{Options, Verdict};
-use std::alloc::{AllocError, Global};
-use std::process::Abort;
-use std::sync::Wait;
-use std::sync::atomic::{AtomicU64, Ordering};
+//! Threads at work at once: gates and readers hold some until others have come as far.
+use super::holding::{Hold, HoldingGate, Holds, holding_readers, run_held};
+use super::{
+    ADDS, BOTH, CITING, Machine, Mode, REFUTES, Said, defaults, options, run_with, same, says,
+};
+use lrup_text::LineFault;
+use portfolio::Verdict::{Unknown, Unsatisfiable};
 use std::test::Fail;
-use std::thread::{Threads, yield_now};
-use stream_check::{Ending, Fault, Gate, Report};
+use stream_check::Ending::{Bad, Ended};
+use stream_check::Fault;
 
-/// What a gate is told: the stream, the identity and the attempt, where 0 stands for a publish.
-type Call = [u64; 3];
-
-/// A thread at one call waits until another was made so often.
-#[derive(Clone, Copy)]
-struct Hold {
-    at: Call,
-    until: Call,
-    times: u64,
+/// Stream 1 asks for 6 once stream 2 has published it.
+#[test]
+fn a_held_stream_finds_the_others_clause(rt: HostRuntime) -> Result<(), Fail> {
+    let found = run_held(&rt, defaults(), &CITING, &[([1, 6, 1], [2, 6, 0], 1)])?;
+    says(&rt, CITING, &found, &[REFUTES, ADDS])
 }
 
-fn until(at: Call, other: Call) -> Hold {
-    Hold {
-        at,
-        until: other,
-        times: 1,
-    }
+/// Each first fetch waits for the other stream's, which one thread for both would do in vain.
+#[test]
+fn workers_one_after_the_other(rt: HostRuntime) -> Result<(), Fail> {
+    let holds = [([1, 1, 1], [2, 3, 1], 1), ([2, 3, 1], [1, 1, 1], 1)];
+    let _found = run_held(&rt, defaults(), &CITING, &holds)?;
+    Ok(())
 }
 
-/// How often each of the awaited calls was made, and how many waits were in vain.
-#[derive(Drop)]
-struct Counts {
-    made: Vec<AtomicU64>,
-    late: AtomicU64,
-}
+const EIGHT: [&str; 8] = [
+    "5 2 0 1 2 0\n",
+    "6 2 0 1 2 0\n",
+    "7 2 0 1 2 0\n",
+    "8 2 0 1 2 0\n",
+    "9 2 0 1 2 0\n",
+    "10 2 0 1 2 0\n",
+    "11 2 0 1 2 0\n",
+    "12 2 0 1 2 0\n",
+];
 
-impl Counts {
-    fn new(alloc: Global, count: usize) -> Result<Counts, AllocError> {
-        let mut made = Vec::new(alloc);
-        for _ in 0..count {
-            made.push(AtomicU64::new(0))?;
-        }
-        Ok(Counts {
-            made,
-            late: AtomicU64::new(0),
-        })
-    }
-}
-
-/// How often a gate looks before it gives up.
-const TURNS: u64 = 10_000_000;
-
-/// Waits until the counter is there, and says whether it was in time.
-fn waits_for(counter: &AtomicU64, wanted: u64) -> bool {
-    for _ in 0..TURNS {
-        if counter.load(Ordering::SeqCst) >= wanted {
-            return true;
-        }
-        yield_now();
-    }
-    false
-}
-
-/// Holds the threads so.
-#[derive(Clone, Copy)]
-struct Forces<'a> {
-    holds: &'a [Hold],
-    counts: &'a Counts,
-}
-
-impl Forces<'_> {
-    fn called(&self, call: Call) {
-        for (one, made) in self.holds.iter().zip(&self.counts.made) {
-            if one.until == call {
-                made.fetch_add(1, Ordering::SeqCst);
-            }
-        }
-        for (one, made) in self.holds.iter().zip(&self.counts.made) {
-            if one.at == call && !waits_for(made, one.times) {
-                self.counts.late.fetch_add(1, Ordering::SeqCst);
-            }
+/// Each first fetch waits for all others. A stream has one identity and room for one literal.
+#[test]
+fn eight_threads_are_at_work_at_once(rt: HostRuntime) -> Result<(), Fail> {
+    let mut holds = Vec::new(rt.alloc());
+    for stream in 1..9u64 {
+        for other in 1..9u64 {
+            holds.push(([stream, 1, 1], [other, 1, 1], 1))?;
         }
     }
+    let found = run_held(&rt, options(1_000, 1, 1), &EIGHT, &holds)?;
+    says(&rt, EIGHT, &found, &[ADDS; 8])
 }
 
-impl Gate for Forces<'_> {
-    fn before_fetch(&mut self, stream: u64, id: Id, attempt: u64) {
-        self.called([stream, id, attempt]);
-    }
-
-    fn after_publish(&mut self, stream: u64, id: Id) {
-        self.called([stream, id, 0]);
-    }
-}
-
-/// The reports and the verdict of such a run, and how many waits were in vain.
-fn forced<T: Threads + Wait + Sync>(
+/// A run whose readers give these texts, and are held, too, says this of its streams.
+fn held_says<T: Machine>(
     rt: &T,
-    alloc: Global,
-    options: Options,
-    streams: &[&str],
+    mode: Mode,
+    streams: &[&'static [&'static str]],
     holds: &[Hold],
-) -> Result<(Vec<Report>, Verdict, u64), Fail> {
-    let counts = Counts::new(alloc, holds.len())?;
-    let gate = Forces {
-        holds,
-        counts: &counts,
-    };
-    let (reports, verdict) = found_with(rt, alloc, options, gate, streams)?;
-    Ok((reports, verdict, counts.late.load(Ordering::SeqCst)))
-}
-
-/// A hundred runs have these reports, and no wait is in vain.
-fn always<T: Threads + Wait + Sync + Abort>(
-    rt: &T,
-    alloc: Global,
-    options: Options,
-    streams: &[&str],
-    holds: &[Hold],
-    wanted: (&[Report], Verdict),
+    said: &[Said],
 ) -> Result<(), Fail> {
-    for _ in 0..100 {
-        let (reports, verdict, late) = forced(rt, alloc, options, streams, holds)?;
-        same(
-            rt,
-            (reports.as_slice(), verdict, late),
-            (wanted.0, wanted.1, 0),
-        );
+    let holding = Holds::new(rt.alloc(), holds)?;
+    let readers = holding_readers(rt.alloc(), streams, &holding)?;
+    let found = run_with(rt, mode, defaults(), readers, HoldingGate(&holding))?;
+    says(rt, (mode, streams), &found, said)?;
+    same(rt, (mode, streams, holding.late()), (mode, streams, 0));
+    Ok(())
+}
+
+/// The second line of stream 1 comes only once the last lines of streams 2 and 3 were checked.
+#[test]
+fn a_blocked_reader_holds_up_no_other(rt: HostRuntime) -> Result<(), Fail> {
+    let streams: [&'static [&'static str]; 3] = [
+        &["5 2 0 1 2 0\n", "8 0 5 6 0\n"],
+        &["6 -2 0 3 4 0\n", "9 2 0 1 2 0\n"],
+        &["7 2 0 1 2 0\n", "10 -2 0 3 4 0\n"],
+    ];
+    let holds = [([1, 0, 2], [2, 9, 0], 1), ([1, 0, 2], [3, 10, 0], 1)];
+    let two = (2, 0, Unknown, Ended);
+    held_says(&rt, Mode::Threads, &streams, &holds, &[REFUTES, two, two])
+}
+
+/// While a line is checked, the next one is read.
+#[test]
+fn reads_and_checks_on_one_thread(rt: HostRuntime) -> Result<(), Fail> {
+    let stream: &'static [&'static str] = &["5 2 0 1 2 0\n", "6 0 5 3 4 0\n"];
+    let holds = [([1, 1, 1], [1, 0, 2], 1)];
+    held_says(&rt, Mode::Threads, &[stream], &holds, &[REFUTES])
+}
+
+/// The gate hears of a bad line before the ends of its stream and of another come.
+#[test]
+fn a_bad_line_is_reported_while_streams_are_open(rt: HostRuntime) -> Result<(), Fail> {
+    let streams: [&'static [&'static str]; 2] = [&["6 6\n5 2 0 1 2 0\n"], &["6 -2 0 3 4 0\n"]];
+    let holds = [([1, 0, 2], [1, 0, 0], 1), ([2, 0, 2], [1, 0, 0], 1)];
+    let bad = (0, 0, Unknown, Bad(1, Fault::Text(LineFault::Spelling)));
+    for mode in BOTH {
+        held_says(&rt, mode, &streams, &holds, &[bad, ADDS])?;
     }
     Ok(())
 }
 
-/// With one try more, stream 1 has asked for 6 in vain before stream 2 begins, and asks again once it is published. The last
-/// wait ends at once, since attempt 1 was told before: it is there to want that.
-#[test]
-fn a_hint_that_comes_at_the_second_try(rt: HostRuntime) -> Result<(), Fail> {
-    let holds = [
-        until([2, 3, 1], [1, 6, 2]),
-        until([1, 6, 2], [2, 6, 0]),
-        until([1, 6, 2], [1, 6, 1]),
-    ];
-    let wanted = [ended(2, true), ended(1, false)];
-    let wanted = (wanted.as_slice(), Verdict::Unsatisfiable);
-    always(&rt, rt.alloc(), options(1, 2, 16), &CITING, &holds, wanted)
-}
+/// Streams, tries, holds, and what is said of the streams.
+type Row<'a> = (&'a [&'a str], u64, &'a [Hold], &'a [Said]);
 
 /// The first deletes a clause that the second cites.
 const RETIRING: [&str; 2] = ["5 2 0 1 2 0\n5 d 5 0\n7 2 0 1 2 0\n", "6 0 5 3 4 0\n"];
 
 /// What is said of them where the second finds the clause, and where it finds it retired.
-fn said_of_retiring() -> [([Report; 2], Verdict); 2] {
-    let first = report(2, 1, Ending::Ended);
-    [
-        ([first, ended(1, true)], Verdict::Unsatisfiable),
-        ([first, bad_line(1, Fault::Retired(5))], Verdict::Unknown),
-    ]
-}
+const FOUND: [Said; 2] = [(2, 1, Unknown, Ended), (1, 0, Unsatisfiable, Ended)];
 
-#[test]
-fn found_before_it_was_retired(rt: HostRuntime) -> Result<(), Fail> {
-    let holds = [until([2, 5, 1], [1, 5, 0]), until([1, 5, 0], [2, 3, 1])];
-    let [(reports, verdict), _] = said_of_retiring();
-    let wanted = (reports.as_slice(), verdict);
-    always(
-        &rt,
-        rt.alloc(),
-        options(0, 2, 16),
-        &RETIRING,
-        &holds,
-        wanted,
-    )
-}
-
-/// Stream 1 fetches 1 a second time for the line after the deletion.
-#[test]
-fn retired_before_it_was_found(rt: HostRuntime) -> Result<(), Fail> {
-    let holds = [Hold {
-        at: [2, 5, 1],
-        until: [1, 1, 1],
-        times: 2,
-    }];
-    let [_, (reports, verdict)] = said_of_retiring();
-    let wanted = (reports.as_slice(), verdict);
-    always(
-        &rt,
-        rt.alloc(),
-        options(0, 2, 16),
-        &RETIRING,
-        &holds,
-        wanted,
-    )
-}
-
-/// Both go on at the same moment, one to retire the clause and one to fetch it: it is found, or found retired.
-#[test]
-fn a_retire_and_a_fetch_at_once(rt: HostRuntime) -> Result<(), Fail> {
-    let holds = [until([2, 5, 1], [1, 5, 0]), until([1, 5, 0], [2, 5, 1])];
-    let [(found, refuted), (retired, unknown)] = said_of_retiring();
-    for _ in 0..100 {
-        let (reports, verdict, late) = forced(
-            &rt,
-            rt.alloc(),
-            options(0, 2, 16),
-            &RETIRING,
-            &holds,
-        )?;
-        let was_found = verdict == Verdict::Unsatisfiable;
-        let (wanted, said) = if was_found {
-            (found, refuted)
-        } else {
-            (retired, unknown)
-        };
-        same(
-            &rt,
-            (reports.as_slice(), verdict, late),
-            (wanted.as_slice(), said, 0),
-        );
-    }
-    Ok(())
-}
+const RETIRED: [Said; 2] = [
+    (2, 1, Unknown, Ended),
+    (0, 0, Unknown, Bad(1, Fault::Retired(5))),
+];
 
 /// The first two publish at neighbouring identities, and the third reads both clauses.
 const NEIGHBOURS: [&str; 3] = [
@@ -229,25 +118,86 @@ const NEIGHBOURS: [&str; 3] = [
     "7 2 0 5 0\n10 -2 0 6 0\n13 0 5 6 0\n",
 ];
 
-/// Both are held at their last fetch until the other is there, and the third until both have published.
+/// A hundred runs whose gates hold them so say this of their streams.
+fn always_says<T: Machine>(rt: &T, row: Row<'_>) -> Result<(), Fail> {
+    let (streams, tries, holds, said) = row;
+    for _ in 0..100 {
+        let found = run_held(rt, options(tries, 3, 16), streams, holds)?;
+        says(rt, streams, &found, said)?;
+    }
+    Ok(())
+}
+
+/// Stream 1 has asked for 6 in vain before stream 2 begins, and asks again once it is published.
+/// The last wait ends at once; it requires that attempt 1 came before.
+static SECOND_TRY: Row = (
+    &CITING,
+    1,
+    &[
+        ([2, 3, 1], [1, 6, 2], 1),
+        ([1, 6, 2], [2, 6, 0], 1),
+        ([1, 6, 2], [1, 6, 1], 1),
+    ],
+    &[REFUTES, ADDS],
+);
+
+#[test]
+fn a_hint_that_comes_at_the_second_try(rt: HostRuntime) -> Result<(), Fail> {
+    always_says(&rt, SECOND_TRY)
+}
+
+static FOUND_FIRST: Row = (
+    &RETIRING,
+    0,
+    &[([2, 5, 1], [1, 5, 0], 1), ([1, 5, 0], [2, 3, 1], 1)],
+    &FOUND,
+);
+
+#[test]
+fn found_before_it_was_retired(rt: HostRuntime) -> Result<(), Fail> {
+    always_says(&rt, FOUND_FIRST)
+}
+
+/// Stream 1 fetches 1 a second time for the line after the deletion.
+static RETIRED_FIRST: Row = (&RETIRING, 0, &[([2, 5, 1], [1, 1, 1], 2)], &RETIRED);
+
+#[test]
+fn retired_before_it_was_found(rt: HostRuntime) -> Result<(), Fail> {
+    always_says(&rt, RETIRED_FIRST)
+}
+
+/// The first two wait at their last fetch for each other, and the third until both published.
+static AT_ONCE: Row = (
+    &NEIGHBOURS,
+    0,
+    &[
+        ([1, 2, 1], [2, 4, 1], 1),
+        ([2, 4, 1], [1, 2, 1], 1),
+        ([3, 5, 1], [1, 5, 0], 1),
+        ([3, 5, 1], [2, 6, 0], 1),
+    ],
+    &[ADDS, ADDS, (3, 0, Unsatisfiable, Ended)],
+);
+
 #[test]
 fn neighbours_publish_at_once(rt: HostRuntime) -> Result<(), Fail> {
-    let holds = [
-        until([1, 2, 1], [2, 4, 1]),
-        until([2, 4, 1], [1, 2, 1]),
-        until([3, 5, 1], [1, 5, 0]),
-        until([3, 5, 1], [2, 6, 0]),
-    ];
-    let wanted = [ended(1, false), ended(1, false), ended(3, true)];
-    let wanted = (wanted.as_slice(), Verdict::Unsatisfiable);
-    always(
-        &rt,
-        rt.alloc(),
-        options(0, 3, 16),
-        &NEIGHBOURS,
-        &holds,
-        wanted,
-    )
+    always_says(&rt, AT_ONCE)
+}
+
+/// One retires the clause as the other fetches it: it is found, or found retired.
+#[test]
+fn a_retire_and_a_fetch_at_once(rt: HostRuntime) -> Result<(), Fail> {
+    let holds = [([2, 5, 1], [1, 5, 0], 1), ([1, 5, 0], [2, 5, 1], 1)];
+    for _ in 0..100 {
+        let found = run_held(&rt, options(0, 2, 16), &RETIRING, &holds)?;
+        let said = if found.verdict == Unsatisfiable {
+            FOUND
+        } else {
+            RETIRED
+        };
+        says(&rt, RETIRING, &found, &said)?;
+    }
+    Ok(())
 }
 
 /// Each cites what the next one has published, and the last what the first has.
@@ -263,21 +213,17 @@ const RING: [&str; 8] = [
 ];
 
 /// Each stream is held, before it fetches the next one's clause, until all have published theirs.
-fn holds_of_ring(alloc: Global) -> Result<Vec<Hold>, AllocError> {
-    let mut holds = Vec::new(alloc);
-    for stream in 1..9u64 {
-        for other in 1..9u64 {
-            let at = [stream, 5 + stream % 8, 1];
-            holds.push(until(at, [other, 4 + other, 0]))?;
-        }
-    }
-    Ok(holds)
-}
-
 #[test]
 fn eight_streams_in_a_ring(rt: HostRuntime) -> Result<(), Fail> {
-    let holds = holds_of_ring(rt.alloc())?;
-    let wanted = [ended(2, false); 8];
-    let wanted = (wanted.as_slice(), Verdict::Unknown);
-    always(&rt, rt.alloc(), options(0, 2, 16), &RING, &holds, wanted)
+    let mut holds = Vec::new(rt.alloc());
+    for stream in 1..9u64 {
+        for other in 1..9u64 {
+            holds.push(([stream, 5 + stream % 8, 1], [other, 4 + other, 0], 1))?;
+        }
+    }
+    for _ in 0..100 {
+        let found = run_held(&rt, options(0, 2, 16), &RING, &holds)?;
+        says(&rt, RING, &found, &[(2, 0, Unknown, Ended); 8])?;
+    }
+    Ok(())
 }

@@ -1,24 +1,24 @@
-//! What runs with threads say is what a checker of one thread says in some order of the lines; and where a clause is deleted
-//! that another stream has cited, it need not be.
+//! Runs with threads have the reports of some order of the lines, checked on one thread. They
+//! need not where a clause is deleted that another stream has cited.
 ghost use Rattle.std.specs.Prelude.{◌≡◌, ◌≤◌, length};
 ghost use Rattle.lrup_model.specs.Event.{History};
 ghost use Rattle.lrup_model.specs.Layout.{IsStream};
 ghost use Rattle.lrup_model.specs.Plain.{PlainMoves, plain_caller_view};
 ghost use Rattle.stream_check.specs.Checker.{IsReadyAt};
 
-use super::threads::{found_with, waits_for};
-use super::{By, CITING, Open, bad_line, ended, options, readers_of, report, reports_of, same};
+use super::holding::{Hold, run_held};
+use super::{
+    ADDS, CITING, Machine, Mode, Open, REFUTES, Said, options, readers_of, report, reports,
+    run_with, same, says,
+};
 use checker_support::{checker_at, open_map};
-use lrup_model::{ClauseMap, Id, PlainMap};
-use portfolio::Verdict;
+use lrup_model::{ClauseMap, PlainMap};
+use portfolio::Verdict::{Unknown, Unsatisfiable};
 use std::alloc::Global;
-use std::process::Abort;
-use std::sync::Wait;
-use std::sync::atomic::{AtomicBool, Ordering};
 use std::test::Fail;
-use std::thread::Threads;
+use stream_check::Ending::{Bad, Ended};
 use stream_check::laws::ready_beside;
-use stream_check::{Checker, Ending, Fault, Gate, Report};
+use stream_check::{Checker, Fault, Report};
 
 /// Feeds bytes through the end of a line, or all of them, and says how many.
 fn take_line<M: ClauseMap>(checker: &mut Checker, map: &mut M, bytes: &[u8]) -> usize
@@ -76,21 +76,6 @@ impl Two {
         take_at(&mut self.map, 2, &mut self.second, bytes)
     }
 
-    /// Takes lines in this order, and says whether each stream was then read whole.
-    fn take_in(&mut self, streams: [&str; 2], order: &[u64]) -> (bool, bool) {
-        let (mut first, mut second) = (streams[0].as_bytes(), streams[1].as_bytes());
-        for stream in order {
-            if *stream == 1 {
-                let used = self.take_first(first);
-                first = &first[used..];
-            } else {
-                let used = self.take_second(second);
-                second = &second[used..];
-            }
-        }
-        (first.is_empty(), second.is_empty())
-    }
-
     /// What is said of both, where each was read whole or is over.
     fn end(&mut self, first_whole: bool, second_whole: bool) -> Option<[Report; 2]> {
         if !first_whole && !self.first.is_over() || !second_whole && !self.second.is_over() {
@@ -105,7 +90,7 @@ impl Two {
     }
 }
 
-/// What is said of the streams where their lines come in this order, which lists whose line is next. None where a line is left.
+/// The reports where this is the order of the lines, by streams. None if a line is left.
 fn said_in(
     alloc: Global,
     lines: u64,
@@ -114,96 +99,68 @@ fn said_in(
     order: &[u64],
 ) -> Result<Option<[Report; 2]>, Fail> {
     let mut two = Two::open(alloc, lines, tries)?;
-    let (first_whole, second_whole) = two.take_in(streams, order);
-    Ok(two.end(first_whole, second_whole))
-}
-
-/// What is said of a stream: its additions, whether one is empty, and its ending.
-type Said = (u64, bool, Ending);
-
-fn report_of(said: Said) -> Report {
-    let (added, empty, ending) = said;
-    Report {
-        empty,
-        within: empty,
-        ..report(added, 0, ending)
-    }
-}
-
-const REFUTES: Said = (2, true, Ending::Ended);
-
-const ADDS: Said = (1, false, Ending::Ended);
-
-const MISSES_FIVE: Said = (1, false, Ending::Bad(2, Fault::Missing(5)));
-
-const MISSES_SIX: Said = (1, false, Ending::Bad(2, Fault::Missing(6)));
-
-/// What is said of two streams where all comes in time, where 6 comes too late, and where 5 does.
-const IN_TIME: (Said, Said) = (REFUTES, ADDS);
-
-const SIX_LATE: (Said, Said) = (MISSES_SIX, ADDS);
-
-const FIVE_LATE: (Said, Said) = (REFUTES, MISSES_FIVE);
-
-fn reports_of_two(said: (Said, Said)) -> [Report; 2] {
-    [report_of(said.0), report_of(said.1)]
-}
-
-/// What is said of CITING where the second stream's line comes in time, and where it comes too late.
-fn said_of_citing() -> [[Report; 2]; 2] {
-    [reports_of_two(IN_TIME), reports_of_two(SIX_LATE)]
-}
-
-/// Whose line is next, and what is said then.
-static ORDERS_OF_CITING: [([u64; 3], (Said, Said)); 3] = [
-    ([2, 1, 1], IN_TIME),
-    ([1, 2, 1], IN_TIME),
-    ([1, 1, 2], SIX_LATE),
-];
-
-/// The reports of the three orders of its lines.
-#[test]
-fn orders_of_citing(rt: HostRuntime) -> Result<(), Fail> {
-    for &(order, wanted) in &ORDERS_OF_CITING {
-        let said = said_in(rt.alloc(), 2, 0, CITING, &order)?;
-        same(&rt, (order, said), (order, Some(reports_of_two(wanted))));
-    }
-    Ok(())
-}
-
-/// Whether the reports are one of these lists.
-fn is_among(reports: &[Report], lists: &[[Report; 2]]) -> bool {
-    for list in lists {
-        if list.as_slice() == reports {
-            return true;
+    let (mut first, mut second) = (streams[0].as_bytes(), streams[1].as_bytes());
+    for stream in order {
+        if *stream == 1 {
+            let used = two.take_first(first);
+            first = &first[used..];
+        } else {
+            let used = two.take_second(second);
+            second = &second[used..];
         }
     }
-    false
+    Ok(two.end(first.is_empty(), second.is_empty()))
 }
 
-/// A hundred runs with threads, each of which has one of these lists of reports.
-fn runs_are_among<T: Threads + Wait + Sync + Abort>(
-    rt: &T,
-    alloc: Global,
-    streams: [&str; 2],
-    lists: &[[Report; 2]],
-) -> Result<(), Fail> {
-    for _ in 0..100 {
-        let readers = readers_of(alloc, &streams, 5)?;
-        let reports = reports_of(rt, alloc, By::Threads, options(0, 2, 16), readers)?;
-        let among = is_among(&reports, lists);
-        same(
-            rt,
-            (streams, reports.as_slice(), among),
-            (streams, reports.as_slice(), true),
-        );
+/// Whose line is next, and what is said of both streams then.
+type Order = (&'static [u64], [Said; 2]);
+
+/// What is said of two streams where all comes in time, where 6 comes too late, and where 5 does.
+const IN_TIME: [Said; 2] = [REFUTES, ADDS];
+
+const SIX_LATE: [Said; 2] = [(1, 0, Unknown, Bad(2, Fault::Missing(6))), ADDS];
+
+const FIVE_LATE: [Said; 2] = [REFUTES, (1, 0, Unknown, Bad(2, Fault::Missing(5)))];
+
+/// In each order of their lines this is said of the streams.
+fn orders_say<T: Machine>(rt: &T, streams: [&str; 2], orders: &[Order]) -> Result<(), Fail> {
+    for &(order, [first, second]) in orders {
+        let said = said_in(rt.alloc(), 2, 0, streams, order)?;
+        let wanted = Some([report(first), report(second)]);
+        same(rt, (streams, order, said), (streams, order, wanted));
     }
     Ok(())
 }
 
+/// A hundred runs with threads each say what is said in one of these orders.
+fn runs_have_an_order<T: Machine>(
+    rt: &T,
+    streams: [&str; 2],
+    orders: &[Order],
+) -> Result<(), Fail> {
+    for _ in 0..100 {
+        let readers = readers_of(rt.alloc(), &streams, 5)?;
+        let found = run_with(rt, Mode::Threads, options(0, 2, 16), readers, Open)?;
+        let mut has_order = false;
+        for (_, said) in orders {
+            has_order |= reports(rt.alloc(), said)?.as_slice() == found.reports.as_slice();
+        }
+        let reports = found.reports.as_slice();
+        same(rt, (streams, reports, has_order), (streams, reports, true));
+    }
+    Ok(())
+}
+
+static ORDERS_OF_CITING: [Order; 3] = [
+    (&[2, 1, 1], IN_TIME),
+    (&[1, 2, 1], IN_TIME),
+    (&[1, 1, 2], SIX_LATE),
+];
+
 #[test]
-fn runs_of_citing_have_an_order(rt: HostRuntime) -> Result<(), Fail> {
-    runs_are_among(&rt, rt.alloc(), CITING, &said_of_citing())
+fn orders_of_citing(rt: HostRuntime) -> Result<(), Fail> {
+    orders_say(&rt, CITING, &ORDERS_OF_CITING)?;
+    runs_have_an_order(&rt, CITING, &ORDERS_OF_CITING)
 }
 
 /// Each imports what the other derives.
@@ -212,42 +169,23 @@ const IMPORTING: [&str; 2] = [
     "6 -2 0 3 4 0\n5 i 2 0\n",
 ];
 
-/// What is said of IMPORTING where both clauses come in time, where 6 comes too late, and where 5 does.
-fn said_of_importing() -> [[Report; 2]; 3] {
-    [
-        reports_of_two(IN_TIME),
-        reports_of_two(SIX_LATE),
-        reports_of_two(FIVE_LATE),
-    ]
-}
-
-/// The columns are those of `ORDERS_OF_CITING`.
-static ORDERS_OF_IMPORTING: [([u64; 5], (Said, Said)); 10] = [
-    ([1, 1, 1, 2, 2], SIX_LATE),
-    ([1, 1, 2, 1, 2], SIX_LATE),
-    ([1, 1, 2, 2, 1], SIX_LATE),
-    ([1, 2, 1, 1, 2], IN_TIME),
-    ([1, 2, 1, 2, 1], IN_TIME),
-    ([1, 2, 2, 1, 1], IN_TIME),
-    ([2, 1, 1, 1, 2], IN_TIME),
-    ([2, 1, 1, 2, 1], IN_TIME),
-    ([2, 1, 2, 1, 1], IN_TIME),
-    ([2, 2, 1, 1, 1], FIVE_LATE),
+static ORDERS_OF_IMPORTING: [Order; 10] = [
+    (&[1, 1, 1, 2, 2], SIX_LATE),
+    (&[1, 1, 2, 1, 2], SIX_LATE),
+    (&[1, 1, 2, 2, 1], SIX_LATE),
+    (&[1, 2, 1, 1, 2], IN_TIME),
+    (&[1, 2, 1, 2, 1], IN_TIME),
+    (&[1, 2, 2, 1, 1], IN_TIME),
+    (&[2, 1, 1, 1, 2], IN_TIME),
+    (&[2, 1, 1, 2, 1], IN_TIME),
+    (&[2, 1, 2, 1, 1], IN_TIME),
+    (&[2, 2, 1, 1, 1], FIVE_LATE),
 ];
 
-/// The reports of the ten orders of its lines.
 #[test]
 fn orders_of_importing(rt: HostRuntime) -> Result<(), Fail> {
-    for &(order, wanted) in &ORDERS_OF_IMPORTING {
-        let said = said_in(rt.alloc(), 2, 0, IMPORTING, &order)?;
-        same(&rt, (order, said), (order, Some(reports_of_two(wanted))));
-    }
-    Ok(())
-}
-
-#[test]
-fn runs_of_importing_have_an_order(rt: HostRuntime) -> Result<(), Fail> {
-    runs_are_among(&rt, rt.alloc(), IMPORTING, &said_of_importing())
+    orders_say(&rt, IMPORTING, &ORDERS_OF_IMPORTING)?;
+    runs_have_an_order(&rt, IMPORTING, &ORDERS_OF_IMPORTING)
 }
 
 /// The first deletes a clause that the second has found by then.
@@ -259,127 +197,66 @@ const DELETING_IMPORTED: [&str; 2] = [
     "5 i 2 0\n6 0 5 7 0\n",
 ];
 
-/// Holds stream 2 before its first fetch of 5 until it is published, stream 1 then until stream 2 wants 7, having found 5, and
-/// stream 2 until 7 is published.
-#[derive(Clone, Copy)]
-struct FindsBefore<'a> {
-    five: &'a AtomicBool,
-    wanted: &'a AtomicBool,
-    seven: &'a AtomicBool,
-    late: &'a AtomicBool,
-}
-
-impl FindsBefore<'_> {
-    fn hold(&self, flag: &AtomicBool) {
-        if !waits_for(flag) {
-            self.late.store(true, Ordering::SeqCst);
-        }
-    }
-}
-
-impl Gate for FindsBefore<'_> {
-    fn before_fetch(&mut self, stream: u64, id: Id, attempt: u64) {
-        if stream != 2 || attempt != 1 {
-            return;
-        }
-        if id == 5 {
-            self.hold(self.five);
-        }
-        if id == 7 {
-            self.wanted.store(true, Ordering::SeqCst);
-            self.hold(self.seven);
-        }
-    }
-
-    fn after_publish(&mut self, stream: u64, id: Id) {
-        if stream == 1 && id == 5 {
-            self.five.store(true, Ordering::SeqCst);
-            self.hold(self.wanted);
-        }
-        if stream == 1 && id == 7 {
-            self.seven.store(true, Ordering::SeqCst);
-        }
-    }
-}
-
-/// What is said of these streams with such gates, the verdict, and whether one waited in vain.
-fn run_deleting<T: Threads + Wait + Sync>(
-    rt: &T,
-    alloc: Global,
-    streams: [&str; 2],
-) -> Result<(Vec<Report>, Verdict, bool), Fail> {
-    let (five, wanted) = (AtomicBool::new(false), AtomicBool::new(false));
-    let (seven, late) = (AtomicBool::new(false), AtomicBool::new(false));
-    let gate = FindsBefore {
-        five: &five,
-        wanted: &wanted,
-        seven: &seven,
-        late: &late,
-    };
-    let (reports, verdict) = found_with(rt, alloc, options(0, 2, 16), gate, &streams)?;
-    Ok((reports, verdict, late.load(Ordering::SeqCst)))
-}
-
-/// The second stream finds 5 before it is deleted, and 7 after it, and is said to add the empty clause.
-fn finds_both<T: Threads + Wait + Sync + Abort>(
-    rt: &T,
-    alloc: Global,
-    streams: [&str; 2],
-) -> Result<(), Fail> {
-    let wanted = [report(2, 1, Ending::Ended), ended(1, true)];
-    let (reports, verdict, late) = run_deleting(rt, alloc, streams)?;
-    same(
-        rt,
-        (streams, reports.as_slice(), verdict, late),
-        (streams, wanted.as_slice(), Verdict::Unsatisfiable, false),
-    );
-    Ok(())
-}
-
-/// Whose line is next, and the fault of the second stream's line 1.
-static ORDERS_OF_DELETING: [([u64; 4], Fault); 4] = [
-    ([2, 1, 1, 1], Fault::Missing(5)),
-    ([1, 2, 1, 1], Fault::Missing(7)),
-    ([1, 1, 2, 1], Fault::Retired(5)),
-    ([1, 1, 1, 2], Fault::Retired(5)),
+/// Stream 2 finds 5 once it is published. Then stream 1 waits until 7 is asked for, and 2 for 7.
+static FINDS_BOTH: [Hold; 3] = [
+    ([2, 5, 1], [1, 5, 0], 1),
+    ([1, 5, 0], [2, 7, 1], 1),
+    ([2, 7, 1], [1, 7, 0], 1),
 ];
 
-/// No order of whole lines has these reports.
+const DELETES: Said = (2, 1, Unknown, Ended);
+
+/// What is said where the second stream's line has this fault.
+const MISSES_5: [Said; 2] = [DELETES, (0, 0, Unknown, Bad(1, Fault::Missing(5)))];
+
+const MISSES_7: [Said; 2] = [DELETES, (0, 0, Unknown, Bad(1, Fault::Missing(7)))];
+
+const FINDS_5_RETIRED: [Said; 2] = [DELETES, (0, 0, Unknown, Bad(1, Fault::Retired(5)))];
+
+const MISSES_7_LATER: [Said; 2] = [DELETES, (0, 0, Unknown, Bad(2, Fault::Missing(7)))];
+
+const FINDS_5_RETIRED_LATER: [Said; 2] = [DELETES, (0, 0, Unknown, Bad(2, Fault::Retired(5)))];
+
+/// The second stream finds 5 before it is deleted, and 7 after that, as in no order of the lines.
+fn no_order_says_so<T: Machine>(rt: &T, streams: [&str; 2], orders: &[Order]) -> Result<(), Fail> {
+    let found = run_held(rt, options(0, 2, 16), &streams, &FINDS_BOTH)?;
+    says(
+        rt,
+        streams,
+        &found,
+        &[DELETES, (1, 0, Unsatisfiable, Ended)],
+    )?;
+    orders_say(rt, streams, orders)
+}
+
+static ORDERS_OF_DELETING: [Order; 4] = [
+    (&[2, 1, 1, 1], MISSES_5),
+    (&[1, 2, 1, 1], MISSES_7),
+    (&[1, 1, 2, 1], FINDS_5_RETIRED),
+    (&[1, 1, 1, 2], FINDS_5_RETIRED),
+];
+
 #[test]
 fn a_deleted_clause_that_was_found(rt: HostRuntime) -> Result<(), Fail> {
-    finds_both(&rt, rt.alloc(), DELETING)?;
-    for &(order, fault) in &ORDERS_OF_DELETING {
-        let said = said_in(rt.alloc(), 2, 0, DELETING, &order)?;
-        let other = [report(2, 1, Ending::Ended), bad_line(1, fault)];
-        same(&rt, (order, said), (order, Some(other)));
-    }
-    Ok(())
+    no_order_says_so(&rt, DELETING, &ORDERS_OF_DELETING)
 }
 
-/// Whose line is next, the second stream's line that is bad, and its fault.
-static ORDERS_OF_DELETING_IMPORTED: [([u64; 5], u64, Fault); 10] = [
-    ([1, 1, 1, 2, 2], 1, Fault::Retired(5)),
-    ([1, 1, 2, 1, 2], 1, Fault::Retired(5)),
-    ([1, 1, 2, 2, 1], 1, Fault::Retired(5)),
-    ([1, 2, 1, 1, 2], 2, Fault::Retired(5)),
-    ([1, 2, 1, 2, 1], 2, Fault::Retired(5)),
-    ([1, 2, 2, 1, 1], 2, Fault::Missing(7)),
-    ([2, 1, 1, 1, 2], 1, Fault::Missing(5)),
-    ([2, 1, 1, 2, 1], 1, Fault::Missing(5)),
-    ([2, 1, 2, 1, 1], 1, Fault::Missing(5)),
-    ([2, 2, 1, 1, 1], 1, Fault::Missing(5)),
+static ORDERS_OF_DELETING_IMPORTED: [Order; 10] = [
+    (&[1, 1, 1, 2, 2], FINDS_5_RETIRED),
+    (&[1, 1, 2, 1, 2], FINDS_5_RETIRED),
+    (&[1, 1, 2, 2, 1], FINDS_5_RETIRED),
+    (&[1, 2, 1, 1, 2], FINDS_5_RETIRED_LATER),
+    (&[1, 2, 1, 2, 1], FINDS_5_RETIRED_LATER),
+    (&[1, 2, 2, 1, 1], MISSES_7_LATER),
+    (&[2, 1, 1, 1, 2], MISSES_5),
+    (&[2, 1, 1, 2, 1], MISSES_5),
+    (&[2, 1, 2, 1, 1], MISSES_5),
+    (&[2, 2, 1, 1, 1], MISSES_5),
 ];
 
-/// The second stream's first fetch of 5 is its import's; no order of whole lines has these reports.
 #[test]
 fn a_deleted_clause_that_was_imported(rt: HostRuntime) -> Result<(), Fail> {
-    finds_both(&rt, rt.alloc(), DELETING_IMPORTED)?;
-    for &(order, line, fault) in &ORDERS_OF_DELETING_IMPORTED {
-        let said = said_in(rt.alloc(), 2, 0, DELETING_IMPORTED, &order)?;
-        let other = [report(2, 1, Ending::Ended), bad_line(line, fault)];
-        same(&rt, (order, said), (order, Some(other)));
-    }
-    Ok(())
+    no_order_says_so(&rt, DELETING_IMPORTED, &ORDERS_OF_DELETING_IMPORTED)
 }
 
 /// Numbers that look random, and are the same each time.
@@ -389,53 +266,42 @@ struct Dice {
 }
 
 impl Dice {
-    fn roll(&mut self, sides: u64) -> u64 {
+    /// One of these.
+    fn pick(&mut self, numbers: &[u64]) -> u64 {
         self.state ^= self.state << 13;
         self.state ^= self.state >> 7;
         self.state ^= self.state << 17;
-        self.state.checked_rem(sides).unwrap_or(0)
-    }
-
-    /// One of these.
-    fn pick(&mut self, ids: &[u64]) -> u64 {
-        let place = self.roll(ids.len() as u64);
-        ids.get(place as usize).copied().unwrap_or(1)
+        let count = numbers.len() as u64;
+        let place = self.state.checked_rem(count).unwrap_or(0);
+        numbers.get(place as usize).copied().unwrap_or(1)
     }
 }
 
-/// Each stream's identities.
-const OWN: [[u64; 3]; 2] = [[5, 7, 9], [6, 8, 10]];
-
-/// An addition or a deletion under this identity, of a clause of the formula or of another stream, or an import of one of another
-/// stream. It may be bad.
-fn put_line(dice: &mut Dice, text: &mut String, id: u64, others: &[u64]) -> Result<(), Fail> {
-    let hint = dice.pick(&[5, 6, 7, 8, 9, 10]);
-    let more = dice.pick(&[3, 4, 5, 6, 7, 8, 9, 10]);
-    match dice.roll(10) {
-        0 => write!(text, "{id} 2 0 1 2 0\n")?,
-        1 => write!(text, "{id} -2 0 3 4 0\n")?,
-        2 => write!(text, "{id} 2 0 {hint} 0\n")?,
-        3 => write!(text, "{id} -2 0 {hint} 0\n")?,
-        4 => write!(text, "{id} 0 {hint} {more} 0\n")?,
-        5 => write!(text, "{id} d {} 0\n", dice.pick(others))?,
-        6 => write!(text, "{} i 2 0\n", dice.pick(others))?,
-        7 => write!(text, "{} i -2 0\n", dice.pick(others))?,
-        8 => write!(text, "{} i 0\n", dice.pick(others))?,
-        _ => write!(text, "{id} d {} 0\n", dice.pick(&[1, 2, 3, 4]))?,
-    }
-    Ok(())
-}
-
-/// A stream of three lines.
+/// Three lines under these identities: additions, deletions of clauses of the formula or another
+/// stream, and imports of the latter. They may be bad.
 fn small_stream(
     alloc: Global,
     dice: &mut Dice,
-    own: [u64; 3],
+    own: &[u64],
     others: &[u64],
 ) -> Result<String, Fail> {
     let mut text = String::new(alloc);
     for id in own {
-        put_line(dice, &mut text, id, others)?;
+        let hint = dice.pick(&[5, 6, 7, 8, 9, 10]);
+        let more = dice.pick(&[3, 4, 5, 6, 7, 8, 9, 10]);
+        let other = dice.pick(others);
+        match dice.pick(&[0, 1, 2, 3, 4, 5, 6, 7, 8, 9]) {
+            0 => write!(text, "{id} 2 0 1 2 0\n")?,
+            1 => write!(text, "{id} -2 0 3 4 0\n")?,
+            2 => write!(text, "{id} 2 0 {hint} 0\n")?,
+            3 => write!(text, "{id} -2 0 {hint} 0\n")?,
+            4 => write!(text, "{id} 0 {hint} {more} 0\n")?,
+            5 => write!(text, "{id} d {other} 0\n")?,
+            6 => write!(text, "{other} i 2 0\n")?,
+            7 => write!(text, "{other} i -2 0\n")?,
+            8 => write!(text, "{other} i 0\n")?,
+            _ => write!(text, "{id} d {} 0\n", dice.pick(&[1, 2, 3, 4]))?,
+        }
     }
     Ok(text)
 }
@@ -453,24 +319,6 @@ fn order_of(digits: u64) -> [u64; 6] {
     order
 }
 
-/// Whether each of the two streams has three of the six turns.
-fn has_three_turns_each(order: [u64; 6]) -> bool {
-    let mut turns = 0u64;
-    for stream in order {
-        if stream == 2 {
-            turns = turns.saturating_add(1);
-        }
-    }
-    turns == 3
-}
-
-fn has_reports(said: Option<[Report; 2]>, reports: &[Report]) -> bool {
-    match said {
-        Some(said) => said.as_slice() == reports,
-        None => false,
-    }
-}
-
 /// Whether some order of the lines of two streams with three lines each has these reports.
 fn has_order(
     alloc: Global,
@@ -478,42 +326,37 @@ fn has_order(
     streams: [&str; 2],
     reports: &[Report],
 ) -> Result<bool, Fail> {
-    for digits in 0..64 {
-        let order = order_of(digits);
-        if has_three_turns_each(order)
-            && has_reports(said_in(alloc, 3, tries, streams, &order)?, reports)
-        {
-            return Ok(true);
+    for digits in 0..64u64 {
+        if digits.count_ones() != 3 {
+            continue;
+        }
+        if let Some(said) = said_in(alloc, 3, tries, streams, &order_of(digits))? {
+            if said.as_slice() == reports {
+                return Ok(true);
+            }
         }
     }
     Ok(false)
 }
 
 /// Runs of two streams with threads have an order of lines.
-fn runs_have_order<T: Threads + Wait + Sync + Abort>(
-    rt: &T,
-    alloc: Global,
-    streams: [&str; 2],
-) -> Result<(), Fail> {
-    for tries in [0, 3] {
-        let readers = readers_of(alloc, &streams, 5)?;
-        let reports = reports_of(rt, alloc, By::Threads, options(tries, 3, 16), readers)?;
-        let found = has_order(alloc, tries, streams, &reports)?;
-        same(rt, (streams, tries, found), (streams, tries, true));
-    }
-    Ok(())
-}
-
 #[test]
 fn runs_of_small_streams_have_an_order(rt: HostRuntime) -> Result<(), Fail> {
     let mut dice = Dice {
         state: 0x9e37_79b9_7f4a_7c15,
     };
-    let [first_own, second_own] = OWN;
+    let (first_own, second_own) = ([5, 7, 9], [6, 8, 10]);
     for _ in 0..200 {
-        let first = small_stream(rt.alloc(), &mut dice, first_own, &second_own)?;
-        let second = small_stream(rt.alloc(), &mut dice, second_own, &first_own)?;
-        runs_have_order(&rt, rt.alloc(), [first.as_str(), second.as_str()])?;
+        let first = small_stream(rt.alloc(), &mut dice, &first_own, &second_own)?;
+        let second = small_stream(rt.alloc(), &mut dice, &second_own, &first_own)?;
+        let streams = [first.as_str(), second.as_str()];
+        for tries in [0, 3] {
+            let readers = readers_of(rt.alloc(), &streams, 5)?;
+            let options = options(tries, 3, 16);
+            let found = run_with(&rt, Mode::Threads, options, readers, Open)?;
+            let has_order = has_order(rt.alloc(), tries, streams, &found.reports)?;
+            same(&rt, (streams, tries, has_order), (streams, tries, true));
+        }
     }
     Ok(())
 }

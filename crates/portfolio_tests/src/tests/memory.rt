@@ -1,77 +1,60 @@
-//! Runs of which the gate refuses each allocation and each start of a thread in turn (`make sweep`). A test that fails there
-//! tells what the run said.
-use super::{By, defaults, ended, readers_of, report, reports_of};
-use std::alloc::Global;
-use std::sync::Wait;
+//! Runs of which `make sweep` refuses each allocation and each start of a thread in turn. A test
+//! that fails there gives the run's fault, or its reports.
+use super::{
+    ADDS, APART, Machine, Mode, Open, REFUTES, Said, defaults, readers_of, reports, run_with,
+};
+use portfolio::Verdict::Unknown;
 use std::test::Fail;
-use std::thread::Threads;
-use stream_check::{Ending, Fault, Report};
+use stream_check::Ending::Bad;
+use stream_check::Fault;
 
-/// The run has these reports, or the test fails and tells those that it has.
-fn has_reports<T: Threads + Wait + Sync>(
+/// The run says this of these streams, or the test fails with its reports.
+fn says_or_fails<T: Machine>(
     rt: &T,
-    alloc: Global,
-    by: By,
+    mode: Mode,
     streams: &[&str],
-    wanted: &[Report],
+    said: &[Said],
 ) -> Result<(), Fail> {
-    let readers = readers_of(alloc, streams, 7)?;
-    let reports = reports_of(rt, alloc, by, defaults(), readers)?;
-    if reports.as_slice() == wanted {
+    let readers = readers_of(rt.alloc(), streams, 7)?;
+    let found = run_with(rt, mode, defaults(), readers, Open)?;
+    let wanted = reports(rt.alloc(), said)?;
+    if found.reports.as_slice() == wanted.as_slice() {
         return Ok(());
     }
-    Err(reports.into())
-}
-
-/// Two streams that cite none of each other.
-fn two_streams<T: Threads + Wait + Sync>(rt: &T, alloc: Global, by: By) -> Result<(), Fail> {
-    let streams = ["5 2 0 1 2 0\n7 0 5 3 4 0\n", "6 -2 0 3 4 0\n"];
-    has_reports(rt, alloc, by, &streams, &[ended(2, true), ended(1, false)])
+    Err(found.reports.into())
 }
 
 /// A stream that drops a clause of the formula and cites it then, and one beside it.
 const DROPS: [&str; 2] = ["5 d 1 0\n5 2 0 1 2 0\n", "6 -2 0 3 4 0\n"];
 
-/// The first alone, or both.
-fn a_dropped_clause<T: Threads + Wait + Sync>(
-    rt: &T,
-    alloc: Global,
-    by: By,
-    alone: bool,
-) -> Result<(), Fail> {
-    let dropped = report(0, 1, Ending::Bad(2, Fault::Dropped(1)));
-    if alone {
-        return has_reports(rt, alloc, by, &DROPS[..1], &[dropped]);
-    }
-    has_reports(rt, alloc, by, &DROPS, &[dropped, ended(1, false)])
-}
+const DROPPED: Said = (0, 1, Unknown, Bad(2, Fault::Dropped(1)));
 
 #[test]
 fn two_streams_by_threads(rt: HostRuntime) -> Result<(), Fail> {
-    two_streams(&rt, rt.alloc(), By::Threads)
+    says_or_fails(&rt, Mode::Threads, &APART, &[REFUTES, ADDS])
 }
 
 #[test]
 fn two_streams_by_turns(rt: HostRuntime) -> Result<(), Fail> {
-    two_streams(&rt, rt.alloc(), By::Turns)
+    says_or_fails(&rt, Mode::Serial, &APART, &[REFUTES, ADDS])
 }
 
 #[test]
 fn a_dropped_clause_by_threads(rt: HostRuntime) -> Result<(), Fail> {
-    a_dropped_clause(&rt, rt.alloc(), By::Threads, true)
+    says_or_fails(&rt, Mode::Threads, &DROPS[..1], &[DROPPED])
 }
 
 #[test]
 fn a_dropped_clause_by_turns(rt: HostRuntime) -> Result<(), Fail> {
-    a_dropped_clause(&rt, rt.alloc(), By::Turns, true)
+    says_or_fails(&rt, Mode::Serial, &DROPS[..1], &[DROPPED])
 }
 
 #[test]
 fn a_dropped_clause_beside_another_by_threads(rt: HostRuntime) -> Result<(), Fail> {
-    a_dropped_clause(&rt, rt.alloc(), By::Threads, false)
+    says_or_fails(&rt, Mode::Threads, &DROPS, &[DROPPED, ADDS])
 }
 
 #[test]
 fn a_dropped_clause_beside_another_by_turns(rt: HostRuntime) -> Result<(), Fail> {
-    a_dropped_clause(&rt, rt.alloc(), By::Turns, false)
+    says_or_fails(&rt, Mode::Serial, &DROPS, &[DROPPED, ADDS])
 }

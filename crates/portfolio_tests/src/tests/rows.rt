@@ -1,184 +1,272 @@
-//! Rows of one stream, by a run with a thread and by one on one thread.
-ghost use Rattle.std.specs.Prelude.{◌≡◌, false, IfOk};
-ghost use Rattle.std.specs.List.{AllByRecursion};
-
-use super::{BOTH, bad_line, defaults, ended, found_under, options, report, same};
-use lrup_model::Cube;
-use lrup_text::LineFault;
-use portfolio::{Options, Verdict};
-use std::alloc::{AllocError, Global};
-use std::process::Abort;
-use std::sync::Wait;
+//! Runs of both kinds: streams that are cut or fail after any byte, long ones, no layout; turns.
+use super::holding::{Hold, Holds, holding_readers};
+use super::{
+    ADDS, APART, BOTH, CITING, Machine, Mode, NOTHING, Open, REFUTATION, REFUTES, Said, defaults,
+    failing_readers, options, readers_of, run_with, same, says,
+};
+use lrup_model::LayoutFault;
+use lrup_text::{LineFault, Source};
+use portfolio::Verdict::{Unknown, Unsatisfiable};
+use portfolio::{Options, RunFault};
+use std::alloc::Global;
 use std::test::Fail;
-use std::thread::Threads;
-use stream_check::{Ending, Fault, Report};
-use test_support::Pieces;
+use stream_check::Ending::{Bad, Ended, ReadFailed};
+use stream_check::Fault;
 
-/// A reader of this text, whose read of some number fails.
-fn one_reader<'a>(
-    alloc: Global,
-    text: &'a str,
-    most: usize,
-    fails_at: usize,
-) -> Result<Vec<Pieces<'a>>, AllocError>
-    ensures { IfOk result (λ readers. AllByRecursion (λ r. r.failed ≡ false) readers.items) }
-{
-    let mut readers = Vec::new(alloc);
-    readers.push(Pieces::new(text, most, fails_at))?;
-    Ok(readers)
-}
+/// Streams, and what is said of them.
+static ROWS: [(&[&str], &[Said]); 3] = [
+    (&[REFUTATION], &[REFUTES]),
+    (&APART, &[REFUTES, ADDS]),
+    (
+        &["5 d 1 0\n5 2 0 1 2 0\n"],
+        &[(0, 1, Unknown, Bad(2, Fault::Dropped(1)))],
+    ),
+];
 
-/// Both runs say this of the stream, and have this verdict.
-pub(super) fn both_say<T: Threads + Wait + Sync + Abort>(
-    rt: &T,
-    alloc: Global,
-    options: Options,
-    text: &str,
-    most: usize,
-    fails_at: usize,
-    wanted: (Report, Verdict),
-) -> Result<(), Fail> {
-    let cube = Cube::empty(alloc);
-    let (report, said) = wanted;
-    for by in BOTH {
-        let readers = one_reader(alloc, text, most, fails_at)?;
-        let (reports, verdict) = found_under(rt, alloc, by, &cube, options, readers)?;
-        same(
-            rt,
-            (by, text.len(), most, fails_at, reports.as_slice(), verdict),
-            (by, text.len(), most, fails_at, [report].as_slice(), said),
-        );
+/// A run that always answered want of memory, or a ring's fault at an end, would fail these.
+#[test]
+fn always_a_fault(rt: HostRuntime) -> Result<(), Fail> {
+    for mode in BOTH {
+        for &(streams, said) in &ROWS {
+            let readers = readers_of(rt.alloc(), streams, 5)?;
+            let found = run_with(&rt, mode, defaults(), readers, Open)?;
+            says(&rt, (mode, streams), &found, said)?;
+        }
     }
     Ok(())
 }
 
-/// Room enough for the refutation.
-fn small() -> Options {
-    options(0, 8, 64)
+/// Both kinds of run say this of the stream. With threads it is read to its end or failing read.
+fn one_says<T: Machine>(
+    rt: &T,
+    options: Options,
+    text: &str,
+    most: usize,
+    fails_at: usize,
+    said: Said,
+) -> Result<(), Fail> {
+    for mode in BOTH {
+        let row = (mode, text.len(), most, fails_at);
+        let readers = failing_readers(rt.alloc(), &[text], most, &[fails_at])?;
+        let found = run_with(rt, mode, options, readers, Open)?;
+        says(rt, row, &found, &[said])?;
+        for reader in &found.readers {
+            same(rt, (row, reader.asked <= 65_536), (row, true));
+            if mode == Mode::Threads {
+                let ended = (reader.failed(), reader.failed() || reader.left.is_empty());
+                same(rt, (row, ended), (row, (fails_at > 0, true)));
+            }
+        }
+    }
+    Ok(())
 }
 
-/// The refutation's 24 bytes.
-const REFUTATION: &str = "5 2 0 1 2 0\n6 0 5 3 4 0\n";
-
-/// How a stream of so many bytes of the refutation is judged, at its end and at a read that fails.
-fn judged_cut(bytes: usize) -> (Report, Report) {
+/// What is said of the first bytes of the refutation, at their end and at a read that fails.
+fn said_of_cut(bytes: usize) -> [Said; 2] {
     let truncated = Fault::Text(LineFault::Truncated);
     match bytes {
-        0 => (ended(0, false), report(0, 0, Ending::ReadFailed(1))),
-        1..=11 => (bad_line(1, truncated), report(0, 0, Ending::ReadFailed(1))),
-        12 => (ended(1, false), report(1, 0, Ending::ReadFailed(2))),
-        13..=23 => (
-            report(1, 0, Ending::Bad(2, truncated)),
-            report(1, 0, Ending::ReadFailed(2)),
-        ),
-        _ => (
-            ended(2, true),
-            Report {
-                empty: true,
-                within: true,
-                ..report(2, 0, Ending::ReadFailed(3))
-            },
-        ),
-    }
-}
-
-/// The verdict, which is that of the whole refutation alone.
-fn verdict_of_cut(bytes: usize) -> Verdict {
-    if bytes == 24 {
-        Verdict::Unsatisfiable
-    } else {
-        Verdict::Unknown
+        0 => [NOTHING, (0, 0, Unknown, ReadFailed(1))],
+        1..=11 => [
+            (0, 0, Unknown, Bad(1, truncated)),
+            (0, 0, Unknown, ReadFailed(1)),
+        ],
+        12 => [ADDS, (1, 0, Unknown, ReadFailed(2))],
+        13..=23 => [
+            (1, 0, Unknown, Bad(2, truncated)),
+            (1, 0, Unknown, ReadFailed(2)),
+        ],
+        _ => [REFUTES, (2, 0, Unsatisfiable, ReadFailed(3))],
     }
 }
 
 #[test]
 fn cut_anywhere(rt: HostRuntime) -> Result<(), Fail> {
-    for bytes in 0..=24 {
-        let text = REFUTATION.get(..bytes).ok_or("a cut letter")?;
-        let (at_end, _) = judged_cut(bytes);
-        let wanted = (at_end, verdict_of_cut(bytes));
-        for most in [1, 7, usize::MAX] {
-            both_say(&rt, rt.alloc(), small(), text, most, 0, wanted)?;
-        }
-    }
-    Ok(())
-}
-
-#[test]
-fn fails_anywhere(rt: HostRuntime) -> Result<(), Fail> {
     for bytes in 0..=24usize {
         let text = REFUTATION.get(..bytes).ok_or("a cut letter")?;
-        let (_, at_failure) = judged_cut(bytes);
-        let wanted = (at_failure, verdict_of_cut(bytes));
+        let [at_end, at_failure] = said_of_cut(bytes);
         for most in [1, 7, usize::MAX] {
             let fails_at = bytes.div_ceil(most) + 1;
-            both_say(&rt, rt.alloc(), small(), text, most, fails_at, wanted)?;
+            one_says(&rt, options(0, 8, 64), text, most, 0, at_end)?;
+            one_says(&rt, options(0, 8, 64), text, most, fails_at, at_failure)?;
         }
     }
     Ok(())
 }
 
-/// A line of a head, a word so many times, and a tail.
-pub(super) fn repeated(
-    alloc: Global,
-    head: &str,
-    word: &str,
-    times: usize,
-    tail: &str,
-) -> Result<String, Fail> {
-    let mut line = String::new(alloc);
-    line.push_str(head)?;
+/// A text that often.
+fn repeated(alloc: Global, text: &str, times: usize) -> Result<String, Fail> {
+    let mut all = String::new(alloc);
     for _ in 0..times {
-        line.push_str(word)?;
+        all.push_str(text)?;
     }
-    line.push_str(tail)?;
-    Ok(line)
+    Ok(all)
 }
 
-/// The most literals, which are one, so that it fits into room for one; the most hints, of which the first isn't unit.
+/// The most literals, all of them one, in room for one; the most hints, the first of them bad.
 #[test]
 fn longest_lines(rt: HostRuntime) -> Result<(), Fail> {
-    let literals = repeated(rt.alloc(), "5", " 2", 65_535, " 0 1 2 0\n")?;
-    let hints = repeated(rt.alloc(), "5 2 0", " 1", 65_536, " 0\n")?;
-    let not_unit = bad_line(1, Fault::NotUnit(1));
-    for (options, line, wanted) in [
-        (defaults(), literals.as_str(), ended(1, false)),
-        (
-            options(1_000, 65_536, 1),
-            literals.as_str(),
-            ended(1, false),
-        ),
-        (defaults(), hints.as_str(), not_unit),
-    ] {
-        for most in [1, 7, usize::MAX] {
-            both_say(
-                &rt,
-                rt.alloc(),
-                options,
-                line,
-                most,
-                0,
-                (wanted, Verdict::Unknown),
-            )?;
+    let alloc = rt.alloc();
+    let literals = format!(in alloc; "5{} 0 1 2 0\n", repeated(alloc, " 2", 65_535)?)?;
+    let hints = format!(in alloc; "5 2 0{} 0\n", repeated(alloc, " 1", 65_536)?)?;
+    let not_unit = (0, 0, Unknown, Bad(1, Fault::NotUnit(1)));
+    for most in [1, 7, usize::MAX] {
+        one_says(&rt, options(0, 1, 1), &literals, most, 0, ADDS)?;
+        one_says(&rt, defaults(), &hints, most, 0, not_unit)?;
+    }
+    Ok(())
+}
+
+/// The most bytes of a read, around the size of a ring.
+const SIZES: [usize; 6] = [1, 2, 65_535, 65_536, 65_537, usize::MAX];
+
+#[test]
+fn long_bytes(rt: HostRuntime) -> Result<(), Fail> {
+    let text = repeated(rt.alloc(), "\n", 200_000)?;
+    let bad = (0, 0, Unknown, Bad(1, Fault::Text(LineFault::Spelling)));
+    for most in SIZES {
+        let last = 200_000usize.div_ceil(most.min(65_536));
+        for fails_at in [0, 2, last, last + 1] {
+            one_says(&rt, defaults(), &text, most, fails_at, bad)?;
         }
     }
     Ok(())
 }
 
+/// All lines count that came whole, however the bytes came. At first no read fails.
 #[test]
-fn greatest_number(rt: HostRuntime) -> Result<(), Fail> {
-    let line = "5 2 0 999999999999999999 0\n";
-    let missing = bad_line(1, Fault::Missing(999_999_999_999_999_999));
-    for most in [1, 7, usize::MAX] {
-        both_say(
-            &rt,
-            rt.alloc(),
-            defaults(),
-            line,
-            most,
-            0,
-            (missing, Verdict::Unknown),
-        )?;
+fn many_lines_before_a_failing_read(rt: HostRuntime) -> Result<(), Fail> {
+    let mut text = String::new(rt.alloc());
+    for id in 5..20_005u64 {
+        write!(text, "{id} 2 0 1 2 0\n")?;
+    }
+    for most in SIZES {
+        let many = (20_000, 0, Unknown, Ended);
+        one_says(&rt, defaults(), &text, most, 0, many)?;
+        let piece = most.min(65_536);
+        let reads = text.len().div_ceil(piece);
+        for good in [0, 1, reads / 2, reads] {
+            let came = text.as_bytes().iter().take(good.saturating_mul(piece));
+            let lines = came.filter(|byte| **byte == b'\n').count() as u64;
+            let failed = (lines, 0, Unknown, ReadFailed(lines.saturating_add(1)));
+            one_says(&rt, defaults(), &text, most, good + 1, failed)?;
+        }
+    }
+    Ok(())
+}
+
+/// What each stream's reads give, where no text is its end, and how many there are. What comes
+/// later would change the report.
+static GROWING: [(&'static [&'static str], usize, Said); 4] = [
+    (&["5 2 0 1 2 0\n", "", "9 0 5 3 4 0\n"], 2, ADDS),
+    (&["6 -2 0 3 4 0\n", "", "6 6\n"], 2, ADDS),
+    (
+        &["7 2 0 1", " 2 0", "", "\n"],
+        3,
+        (0, 0, Unknown, Bad(1, Fault::Text(LineFault::Truncated))),
+    ),
+    (&["", "8 2 0 1 2 0\n"], 1, NOTHING),
+];
+
+#[test]
+fn no_read_after_the_first_end(rt: HostRuntime) -> Result<(), Fail> {
+    let (streams, wanted) = (GROWING.map(|row| row.0), GROWING.map(|row| row.2));
+    for mode in BOTH {
+        let holding = Holds::new(rt.alloc(), &[])?;
+        let readers = holding_readers(rt.alloc(), &streams, &holding)?;
+        let found = run_with(&rt, mode, defaults(), readers, Open)?;
+        says(&rt, mode, &found, &wanted)?;
+        for (reader, (texts, reads, _)) in found.readers.iter().zip(&GROWING) {
+            same(&rt, (mode, *texts, reader.reads), (mode, *texts, *reads));
+        }
+    }
+    Ok(())
+}
+
+/// How many streams there are, the identities of each, and the fault.
+static LAYOUTS: [(usize, u64, Option<LayoutFault>); 5] = [
+    (0, 1, Some(LayoutFault::BadStreamCount)),
+    (1, 1, None),
+    (64, 1, None),
+    (65, 1, Some(LayoutFault::BadStreamCount)),
+    (1, 268_435_456, Some(LayoutFault::RowTooLong)),
+];
+
+#[test]
+fn no_layout_no_read(rt: HostRuntime) -> Result<(), Fail> {
+    for mode in BOTH {
+        for &(count, lines, fault) in &LAYOUTS {
+            let stream: &'static [&'static str] = &[""];
+            let streams = vec![in rt.alloc(); stream; count]?;
+            let holds: [Hold; 1] = [([0, 0, 0], [1, 0, 1], 1)];
+            let holding = Holds::new(rt.alloc(), &holds)?;
+            let readers = holding_readers(rt.alloc(), &streams, &holding)?;
+            let found = run_with(&rt, mode, options(0, lines, 0), readers, Open).err();
+            let reads = if fault.is_some() { 0 } else { 1 };
+            same(
+                &rt,
+                (mode, count, lines, found, holding.made()),
+                (mode, count, lines, fault.map(RunFault::Layout), reads),
+            );
+        }
+    }
+    Ok(())
+}
+
+/// Lines cite lines that come in time if stream 1 is first, and each turn takes one line.
+static TURNS: [(&[&str], &[Said]); 3] = [
+    // With two lines a turn, line 2 of the first stream would miss 6.
+    (&CITING, &[REFUTES, ADDS]),
+    // In reverse, each stream but the first would miss the clause of the one before it.
+    (
+        &["5 2 0 1 2 0\n", "6 2 0 5 0\n", "7 2 0 6 0\n"],
+        &[ADDS, ADDS, ADDS],
+    ),
+    // Each line cites the line before it, of the other stream.
+    (
+        &[
+            "5 2 0 1 2 0\n7 2 0 6 0\n9 2 0 8 0\n",
+            "6 2 0 5 0\n8 2 0 7 0\n",
+        ],
+        &[(3, 0, Unknown, Ended), (2, 0, Unknown, Ended)],
+    ),
+];
+
+#[test]
+fn serial_takes_streams_whole(rt: HostRuntime) -> Result<(), Fail> {
+    for &(streams, said) in &TURNS {
+        for most in [1, 2, usize::MAX] {
+            let readers = readers_of(rt.alloc(), streams, most)?;
+            let found = run_with(&rt, Mode::Serial, options(0, 9, 9), readers, Open)?;
+            says(&rt, (streams, most), &found, said)?;
+        }
+    }
+    Ok(())
+}
+
+/// A stream, and how many of its bytes are read, and one more if its end is, too.
+static NEEDED: [(&str, usize); 5] = [
+    ("5 2 0 1 0\n5 2 0 1 2 0\n", 10),
+    ("5 2 0 1 2 0\n7 0 5 3 0\n9 2 0 1 2 0\n", 22),
+    ("5  2 0 1 2 0\n", 3),
+    ("5 2 0 1 2 0\n5 1 0 -2 0\n", 19),
+    (REFUTATION, 25),
+];
+
+/// A stream is read through the byte that ended it, and a whole one once more.
+#[test]
+fn nothing_is_read_after_a_bad_line(rt: HostRuntime) -> Result<(), Fail> {
+    for &(stream, needed) in &NEEDED {
+        for most in [1, 4, 64] {
+            let reads = if needed > stream.len() {
+                stream.len().div_ceil(most) + 1
+            } else {
+                needed.div_ceil(most)
+            };
+            let readers = readers_of(rt.alloc(), &[stream], most)?;
+            let found = run_with(&rt, Mode::Serial, options(0, 9, 9), readers, Open)?;
+            let reader = found.readers.first().ok_or("no reader")?;
+            same(&rt, (stream, most, reader.reads), (stream, most, reads));
+        }
     }
     Ok(())
 }

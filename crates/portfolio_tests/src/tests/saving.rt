@@ -1,24 +1,21 @@
-//! What is live after a run, saved.
-ghost use Rattle.std.specs.Prelude.{◌≡◌, IfOk, false, vec_len};
+//! What is live after a run, saved, and a second run over it.
+ghost use Rattle.std.specs.Prelude.{◌≡◌, false};
 ghost use Rattle.std.specs.List.{AllByRecursion};
 
-use super::{BOTH, By, Open, readers_of, same};
+use super::{APART, BOTH, Machine, Mode, NOTHING, Open, options, readers_of, report, same};
 use checkpoint::SaveFault;
 use lrup_model::{Cube, Formula};
-use portfolio::{Clauses, Options, Outcome, Pause, SerialOutcome, run, run_serial};
-use std::alloc::{AllocError, Global};
-use std::process::Abort;
-use std::sync::Wait;
+use portfolio::Verdict::Unsatisfiable;
+use portfolio::{Clauses, Outcome, SerialOutcome, run, run_serial};
 use std::test::Fail;
-use std::thread::Threads;
-use std::time::Clock;
+use stream_check::Ending::Ended;
+use stream_check::Report;
 use test_support::{Paper, Pieces, four_clauses};
 
 /// Saves what is live after a run over the four clauses, and gives its formula if the run goes on.
-pub(super) fn saved_after<'a, T: Threads + Wait + Clock + Sync>(
+fn saved_after<'a, T: Machine>(
     rt: &T,
-    alloc: Global,
-    by: By,
+    mode: Mode,
     readers: Vec<Pieces<'a>>,
     goes_on: bool,
     paper: &mut Paper,
@@ -26,13 +23,13 @@ pub(super) fn saved_after<'a, T: Threads + Wait + Clock + Sync>(
     requires readers { AllByRecursion (λ r. r.failed ≡ false) readers.items }
     requires paper { paper.old.failed ≡ false }
 {
+    let alloc = rt.alloc();
     let formula = four_clauses(alloc)?;
     let cube = Cube::empty(alloc);
-    let options = Options::new(1_000_000, 4, 8).ok_or("no options")?;
-    match by {
-        By::Threads => {
-            let gates = pauses(rt, alloc, readers.len())?;
-            let outcome = run(rt, alloc, &formula, &cube, options, readers, gates)?;
+    let gates = vec![in alloc; Open; readers.len()]?;
+    match mode {
+        Mode::Threads => {
+            let outcome = run(rt, alloc, &formula, &cube, options(0, 4, 8), readers, gates)?;
             let Outcome {
                 passes,
                 store,
@@ -46,111 +43,93 @@ pub(super) fn saved_after<'a, T: Threads + Wait + Clock + Sync>(
             }
             Ok(Clauses::Shared(store, passes).save(alloc, &dropped, goes_on, paper))
         }
-        By::Turns => {
-            let gates = vec![in alloc; Open; readers.len()]?;
-            let outcome = run_serial(rt, alloc, &formula, &cube, options, readers, gates)?;
+        Mode::Serial => {
+            let outcome = run_serial(rt, alloc, &formula, &cube, options(0, 4, 8), readers, gates)?;
             let SerialOutcome { map, dropped, .. } = outcome;
             Ok(Clauses::Plain(map).save(alloc, &dropped, goes_on, paper))
         }
     }
 }
 
-/// Gates that sleep, so that a stream waits for another one's clause however late that one's thread is.
-pub(super) fn pauses<C: Clock + Sync>(
-    clock: &C,
-    alloc: Global,
-    count: usize,
-) -> Result<Vec<Pause<&C>>, AllocError>
-    ensures { IfOk result (λ gates. vec_len gates ≡ count) }
-{
-    let mut gates = Vec::with_capacity(alloc, count)?;
-    for _gate in 0..count {
-        gates.push_reserved(Pause::new(clock));
-    }
-    Ok(gates)
+/// The reports of a second run, of one stream over the formula that was given.
+fn reports_of_next<T: Machine>(rt: &T, next: &Formula, stream: &str) -> Result<Vec<Report>, Fail> {
+    let alloc = rt.alloc();
+    let readers = readers_of(alloc, &[stream], 7)?;
+    let gates = vec![in alloc; Open; readers.len()]?;
+    let none = Cube::empty(alloc);
+    let outcome = run_serial(rt, alloc, next, &none, options(0, 1, 0), readers, gates)?;
+    let SerialOutcome { reports, .. } = outcome;
+    Ok(reports)
 }
 
-/// After a run of these streams, with threads and by turns, this text is saved.
-fn saves<T: Threads + Wait + Clock + Sync + Abort>(
-    rt: &T,
-    alloc: Global,
-    streams: &[&str],
-    text: &str,
-) -> Result<(), Fail> {
-    for by in BOTH {
-        let readers = readers_of(alloc, streams, 7)?;
-        let mut paper = Paper::new(alloc, 9, 0);
-        let saved = saved_after(rt, alloc, by, readers, false, &mut paper)?;
-        same(
-            rt,
-            (by, saved.map(|next| next.is_some()), paper.bytes.as_slice()),
-            (by, Ok(false), text.as_bytes()),
-        );
-    }
-    Ok(())
-}
+/// The four clauses; these and `2`; and `2` in place of the first.
+const FOUR: &str = "p cnf 2 4\n1 2 0\n-1 2 0\n1 -2 0\n-1 -2 0\n";
 
-static LIVE: [([&str; 2], &str); 3] = [
+const WITH_5: &str = "p cnf 2 5\n1 2 0\n-1 2 0\n1 -2 0\n-1 -2 0\n2 0\n";
+
+const WITHOUT_1: &str = "p cnf 2 4\nc id 2\n-1 2 0\nc id 3\n1 -2 0\nc id 4\n-1 -2 0\nc id 5\n2 0\n";
+
+/// Streams, the text that is saved, and a stream that refutes its formula, if it isn't empty.
+static SAVED: [(&[&str], &str, &str); 9] = [
     (
-        ["5 2 0 1 2 0\n7 0 5 6 0\n", "6 -2 0 3 4 0\n"],
+        &APART,
         "p cnf 2 7\n1 2 0\n-1 2 0\n1 -2 0\n-1 -2 0\n2 0\n-2 0\n0\n",
+        "8 0 7 0\n",
     ),
+    // A clause that its stream retired is left out.
     (
-        ["5 2 0 1 2 0\n5 d 5 0\n", "6 -2 0 3 4 0\n"],
+        &["5 2 0 1 2 0\n5 d 5 0\n", "6 -2 0 3 4 0\n"],
         "p cnf 2 5\n1 2 0\n-1 2 0\n1 -2 0\n-1 -2 0\nc id 6\n-2 0\n",
+        "6 0 5 1 2 0\n",
+    ),
+    // A clause that wasn't added isn't saved.
+    (&["", "5 2 0 1 2 0\n"], FOUR, ""),
+    // What all streams dropped is left out, also before a bad line.
+    (&["5 2 0 1 2 0\n7 d 1 0\n"], WITHOUT_1, "5 0 4 2 3 0\n"),
+    (
+        &["5 2 0 1 2 0\n5 d 1 0\n", "6 d 1 0\n"],
+        WITHOUT_1,
+        "5 0 4 2 3 0\n",
     ),
     (
-        ["", "5 2 0 1 2 0\n"],
-        "p cnf 2 4\n1 2 0\n-1 2 0\n1 -2 0\n-1 -2 0\n",
+        &["5 2 0 1 2 0\n5 d 1 0\n", "6 d 1 0\n6 d 1 0\n"],
+        WITHOUT_1,
+        "5 0 4 2 3 0\n",
+    ),
+    // What a stream keeps stays: one drops a clause, each drops another, or one of the other.
+    (&["5 2 0 1 2 0\n5 d 1 0\n", ""], WITH_5, "6 0 5 3 4 0\n"),
+    (&["5 d 1 0\n", "6 d 2 0\n"], FOUR, ""),
+    (
+        &["5 2 0 1 2 0\n", "6 -2 0 3 4 0\n6 d 5 0\n"],
+        "p cnf 2 6\n1 2 0\n-1 2 0\n1 -2 0\n-1 -2 0\n2 0\n-2 0\n",
+        "7 0 5 6 0\n",
     ),
 ];
 
+/// The text is saved, whether the run goes on or not, and the stream refutes the next formula.
 #[test]
 fn what_is_live_is_saved(rt: HostRuntime) -> Result<(), Fail> {
-    for (streams, text) in &LIVE {
-        saves(&rt, rt.alloc(), streams, text)?;
-    }
-    Ok(())
-}
-
-static DROPPED: [[&str; 2]; 2] = [
-    ["5 2 0 1 2 0\n5 d 1 0\n", "6 d 1 0\n"],
-    // A bad line takes back nothing of what was dropped before it.
-    ["5 2 0 1 2 0\n5 d 1 0\n", "6 d 1 0\n6 d 1 0\n"],
-];
-
-#[test]
-fn what_all_streams_dropped_is_left_out(rt: HostRuntime) -> Result<(), Fail> {
-    let text = "p cnf 2 4\nc id 2\n-1 2 0\nc id 3\n1 -2 0\nc id 4\n-1 -2 0\nc id 5\n2 0\n";
-    saves(&rt, rt.alloc(), &["5 2 0 1 2 0\n7 d 1 0\n"], text)?;
-    for streams in &DROPPED {
-        saves(&rt, rt.alloc(), streams, text)?;
-    }
-    Ok(())
-}
-
-static KEPT: [([&str; 2], &str); 3] = [
-    // The second keeps what the first drops.
-    (
-        ["5 2 0 1 2 0\n5 d 1 0\n", ""],
-        "p cnf 2 5\n1 2 0\n-1 2 0\n1 -2 0\n-1 -2 0\n2 0\n",
-    ),
-    // Each drops another clause.
-    (
-        ["5 d 1 0\n", "6 d 2 0\n"],
-        "p cnf 2 4\n1 2 0\n-1 2 0\n1 -2 0\n-1 -2 0\n",
-    ),
-    // The second drops a clause of the first.
-    (
-        ["5 2 0 1 2 0\n", "6 -2 0 3 4 0\n6 d 5 0\n"],
-        "p cnf 2 6\n1 2 0\n-1 2 0\n1 -2 0\n-1 -2 0\n2 0\n-2 0\n",
-    ),
-];
-
-#[test]
-fn what_a_stream_keeps_stays(rt: HostRuntime) -> Result<(), Fail> {
-    for (streams, text) in &KEPT {
-        saves(&rt, rt.alloc(), streams, text)?;
+    for mode in BOTH {
+        for goes_on in [false, true] {
+            for &(streams, text, next_stream) in &SAVED {
+                let row = (mode, goes_on, streams);
+                let readers = readers_of(rt.alloc(), streams, 7)?;
+                let mut paper = Paper::new(rt.alloc(), 9, 0);
+                let next = saved_after(&rt, mode, readers, goes_on, &mut paper)??;
+                let saved = (next.is_some(), paper.bytes.as_slice());
+                same(&rt, (row, saved), (row, (goes_on, text.as_bytes())));
+                if let Some(next) = next {
+                    let reports = reports_of_next(&rt, &next, next_stream)?;
+                    let refutes = (1, 0, Unsatisfiable, Ended);
+                    let said = if next_stream.is_empty() {
+                        NOTHING
+                    } else {
+                        refutes
+                    };
+                    same(&rt, (row, reports.as_slice()), (row, &[report(said)]));
+                }
+            }
+        }
     }
     Ok(())
 }

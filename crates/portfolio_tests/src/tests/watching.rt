@@ -1,15 +1,18 @@
-//! Gates that tell what goes on, by a clock and sinks of the tests' own.
+//! Gates that report progress, by a clock and sinks of the tests' own.
 ghost use Rattle.std.specs.Prelude.{None};
 
-use super::{Calls, Notes, Open, report, same};
+use self::Step::{Adds, Asks, Breaks, Later, Mended, Over};
+use super::gates::Notes;
+use super::{Open, counters, report, same};
 use lrup_text::{Sink, WriteFault};
+use portfolio::Verdict::Unknown;
 use portfolio::{TurnWatch, Watch};
 use std::alloc::{AllocError, Global};
 use std::io;
 use std::sync::atomic::{AtomicBool, AtomicU64, Ordering};
 use std::test::Fail;
 use std::time::{Clock, Duration};
-use stream_check::{Ending, Fault, Gate, Report};
+use stream_check::{Ending, Fault, Gate};
 
 /// A clock that tests move, and that goes on at each sleep.
 #[derive(Drop)]
@@ -60,21 +63,17 @@ pub(super) struct Tape {
 }
 
 impl Tape {
-    /// A tape with room for so many bytes.
+    /// A tape with room for that many bytes.
     pub(super) fn new(alloc: Global, most: usize) -> Result<Tape, AllocError> {
-        let mut bytes = Vec::new(alloc);
-        for _ in 0..most {
-            bytes.push(AtomicU64::new(0))?;
-        }
         Ok(Tape {
             writes: AtomicU64::new(0),
             len: AtomicU64::new(0),
-            bytes,
+            bytes: counters(alloc, most)?,
         })
     }
 
     /// Takes a write.
-    fn note(&self, bytes: &[u8]) {
+    pub(super) fn note(&self, bytes: &[u8]) {
         let from = self.len.fetch_add(bytes.len() as u64, Ordering::SeqCst);
         for (cell, byte) in self.bytes.iter().skip(from as usize).zip(bytes) {
             cell.store(u64::from(*byte), Ordering::SeqCst);
@@ -141,264 +140,206 @@ impl Sink for Pen<'_> {
 /// What happens to the gate of stream 3.
 #[derive(Clone, Copy, Debug, PartialEq)]
 enum Step {
-    /// The clock goes on by so many milliseconds.
+    /// The clock goes on by these milliseconds.
     Later(u64),
     /// The clock fails from now on.
     Breaks,
     /// It doesn't any more.
     Mended,
-    /// The attempts of hint 555 from this number on, so many.
-    Attempts(u64, u64),
-    /// So many publishes.
-    Publishes(u64),
-    /// The stream is over.
+    /// The stream asks for 555: the number of the first attempt, and how many there are.
+    Asks(u64, u64),
+    /// It publishes that many clauses.
+    Adds(u64),
+    /// It ends.
     Over,
-}
-
-/// A stream whose line 28 misses 555.
-fn twenty_seven() -> Report {
-    report(27, 0, Ending::Bad(28, Fault::Missing(555)))
 }
 
 /// Does to a gate what happens.
 fn take_steps<G: Gate>(gate: &mut G, clock: &Hand, steps: &[Step]) {
     for step in steps {
         match *step {
-            Step::Later(millis) => {
+            Later(millis) => {
                 clock.millis.fetch_add(millis, Ordering::SeqCst);
             }
-            Step::Breaks => clock.is_broken.store(true, Ordering::SeqCst),
-            Step::Mended => clock.is_broken.store(false, Ordering::SeqCst),
-            Step::Attempts(from, count) => {
+            Breaks => clock.is_broken.store(true, Ordering::SeqCst),
+            Mended => clock.is_broken.store(false, Ordering::SeqCst),
+            Asks(from, count) => {
                 for n in 0..count {
                     gate.before_fetch(3, 555, from.saturating_add(n));
                 }
             }
-            Step::Publishes(count) => {
+            Adds(count) => {
                 for _ in 0..count {
                     gate.after_publish(3, 1);
                 }
             }
-            Step::Over => gate.when_over(3, &twenty_seven()),
+            Over => {
+                let missing = Ending::Bad(28, Fault::Missing(555));
+                gate.when_over(3, &report((27, 0, Unknown, missing)));
+            },
         }
     }
 }
 
-/// What a gate tells of these steps, where the write of this number fails, and how many writes there were.
-fn told(alloc: Global, waits: bool, fails_at: u64, steps: &[Step]) -> Result<(String, u64), Fail> {
+/// What a gate reports at these steps, and in how many writes. The write of this number fails.
+fn reported(
+    alloc: Global,
+    is_alone: bool,
+    fails_at: u64,
+    steps: &[Step],
+) -> Result<(String, u64), Fail> {
     let clock = Hand::new(0);
     let tape = Tape::new(alloc, 1_000)?;
     let pen = Pen::new(&tape, fails_at);
-    if waits {
-        take_steps(&mut Watch::new(Open, &clock, Some(pen)), &clock, steps);
-    } else {
+    if is_alone {
         take_steps(&mut TurnWatch::new(&clock, Some(pen)), &clock, steps);
+    } else {
+        take_steps(&mut Watch::new(Open, &clock, Some(pen)), &clock, steps);
     }
     Ok((tape.text(alloc)?, tape.writes()))
 }
 
 const WAITS: &str = "lrupd: stream 3: waits for 555\n";
 
-const TWICE: &str = "lrupd: stream 3: waits for 555\nlrupd: stream 3: waits for 555\n";
-
 const OVER: &str = "lrupd: stream 3: 27 added, 0 deleted, bad line 28 (missing 555)\n";
 
 const COUNTED: &str = "lrupd: stream 3: 128 added\n";
 
-/// Steps, and what is told of them.
+/// Steps, and the lines that are written at them, each by one write.
 static ROWS: [(&[Step], &str); 14] = [
-    (&[Step::Over], OVER),
+    (&[Over], OVER),
     // A hint that has been looked up again for a second, or for less.
+    (&[Asks(1, 2), Later(1_000), Asks(3, 1_021)], ""),
+    (&[Asks(1, 2), Later(1_000), Asks(3, 1_022)], WAITS),
     (
         &[
-            Step::Attempts(1, 2),
-            Step::Later(1_000),
-            Step::Attempts(3, 1_021),
-        ],
-        "",
-    ),
-    (
-        &[
-            Step::Attempts(1, 2),
-            Step::Later(1_000),
-            Step::Attempts(3, 1_022),
-        ],
-        WAITS,
-    ),
-    (
-        &[
-            Step::Attempts(1, 2),
-            Step::Later(999),
-            Step::Attempts(3, 2_046),
-            Step::Later(1),
-            Step::Attempts(2_049, 1_023),
+            Asks(1, 2),
+            Later(999),
+            Asks(3, 2_046),
+            Later(1),
+            Asks(2_049, 1_023),
         ],
         "",
     ),
     // From the second attempt on.
-    (
-        &[
-            Step::Attempts(1, 1),
-            Step::Later(1_000),
-            Step::Attempts(2, 1_023),
-        ],
-        "",
-    ),
+    (&[Asks(1, 1), Later(1_000), Asks(2, 1_023)], ""),
     // Once for each look-up.
+    (&[Asks(1, 2), Later(1_000), Asks(3, 9_000)], WAITS),
     (
         &[
-            Step::Attempts(1, 2),
-            Step::Later(1_000),
-            Step::Attempts(3, 9_000),
+            Asks(1, 2),
+            Later(5_000),
+            Asks(3, 1_022),
+            Asks(1, 2),
+            Later(1_000),
+            Asks(3, 1_022),
         ],
-        WAITS,
-    ),
-    (
-        &[
-            Step::Attempts(1, 2),
-            Step::Later(5_000),
-            Step::Attempts(3, 1_022),
-            Step::Attempts(1, 2),
-            Step::Later(1_000),
-            Step::Attempts(3, 1_022),
-        ],
-        TWICE,
+        "lrupd: stream 3: waits for 555\nlrupd: stream 3: waits for 555\n",
     ),
     // The count, ten seconds after the first look, and then after the last line.
+    (&[Adds(64), Later(9_999), Adds(64), Later(1), Adds(63)], ""),
     (
-        &[
-            Step::Publishes(64),
-            Step::Later(9_999),
-            Step::Publishes(64),
-            Step::Later(1),
-            Step::Publishes(63),
-        ],
-        "",
-    ),
-    (
-        &[
-            Step::Publishes(64),
-            Step::Later(10_000),
-            Step::Publishes(64),
-            Step::Publishes(640),
-            Step::Later(9_999),
-            Step::Publishes(64),
-        ],
+        &[Adds(64), Later(10_000), Adds(704), Later(9_999), Adds(64)],
         COUNTED,
     ),
     (
-        &[
-            Step::Publishes(64),
-            Step::Later(99_000),
-            Step::Publishes(64),
-            Step::Later(10_000),
-            Step::Publishes(64),
-        ],
+        &[Adds(64), Later(99_000), Adds(64), Later(10_000), Adds(64)],
         "lrupd: stream 3: 128 added\nlrupd: stream 3: 192 added\n",
     ),
-    // Nothing was added since, and so nothing is told.
-    (&[Step::Publishes(64), Step::Later(99_000)], ""),
+    // Nothing was added since, so nothing is written.
+    (&[Adds(64), Later(99_000)], ""),
     // A clock that fails.
     (
-        &[
-            Step::Breaks,
-            Step::Attempts(1, 2),
-            Step::Mended,
-            Step::Later(1_000),
-            Step::Attempts(3, 1_022),
-        ],
+        &[Breaks, Asks(1, 2), Mended, Later(1_000), Asks(3, 1_022)],
         "",
     ),
     (
         &[
-            Step::Attempts(1, 2),
-            Step::Later(1_000),
-            Step::Breaks,
-            Step::Attempts(3, 1_022),
-            Step::Mended,
-            Step::Attempts(1_025, 1_024),
+            Asks(1, 2),
+            Later(1_000),
+            Breaks,
+            Asks(3, 1_022),
+            Mended,
+            Asks(1_025, 1_024),
         ],
         WAITS,
     ),
     (
         &[
-            Step::Breaks,
-            Step::Publishes(64),
-            Step::Later(10_000),
-            Step::Mended,
-            Step::Publishes(64),
-            Step::Breaks,
-            Step::Publishes(64),
-            Step::Over,
+            Breaks,
+            Adds(64),
+            Later(10_000),
+            Mended,
+            Adds(64),
+            Breaks,
+            Adds(64),
+            Over,
         ],
         OVER,
     ),
 ];
 
 #[test]
-fn a_watch_tells_what_goes_on(rt: HostRuntime) -> Result<(), Fail> {
-    for &(steps, wanted) in &ROWS {
-        let (text, writes) = told(rt.alloc(), true, 0, steps)?;
-        same(&rt, (steps, text.as_str()), (steps, wanted));
-        let lines = wanted.bytes().filter(|byte| *byte == b'\n').count();
-        same(&rt, (steps, writes), (steps, lines as u64));
+fn a_watch_reports_progress(rt: HostRuntime) -> Result<(), Fail> {
+    for &(steps, text) in &ROWS {
+        let (found, writes) = reported(rt.alloc(), false, 0, steps)?;
+        let lines = text.bytes().filter(|byte| *byte == b'\n').count() as u64;
+        same(&rt, (steps, found.as_str(), writes), (steps, text, lines));
     }
     Ok(())
 }
 
 /// A wait, a count and the end.
 const THREE: &[Step] = &[
-    Step::Attempts(1, 2),
-    Step::Later(1_000),
-    Step::Attempts(3, 1_022),
-    Step::Publishes(64),
-    Step::Later(10_000),
-    Step::Publishes(64),
-    Step::Over,
+    Asks(1, 2),
+    Later(1_000),
+    Asks(3, 1_022),
+    Adds(64),
+    Later(10_000),
+    Adds(64),
+    Over,
 ];
 
-const SAID: [&str; 3] = [WAITS, COUNTED, OVER];
-
-/// On one thread it isn't told that a stream waits.
+/// On one thread no wait is reported.
 #[test]
-fn a_watch_of_turns_tells_no_waits(rt: HostRuntime) -> Result<(), Fail> {
-    let (text, writes) = told(rt.alloc(), false, 0, THREE)?;
+fn a_watch_of_one_thread_reports_no_waits(rt: HostRuntime) -> Result<(), Fail> {
+    let (text, writes) = reported(rt.alloc(), true, 0, THREE)?;
     let wanted = format!(in rt.alloc(); "{COUNTED}{OVER}")?;
     same(&rt, (text.as_str(), writes), (wanted.as_str(), 2));
     Ok(())
 }
 
 #[test]
-fn after_a_failed_write_nothing_is_told(rt: HostRuntime) -> Result<(), Fail> {
+fn nothing_is_written_after_a_failed_write(rt: HostRuntime) -> Result<(), Fail> {
     for fails_at in 1..=4u64 {
-        let (text, writes) = told(rt.alloc(), true, fails_at, THREE)?;
+        let (text, writes) = reported(rt.alloc(), false, fails_at, THREE)?;
         let mut wanted = String::new(rt.alloc());
-        for (_, line) in (1..fails_at).zip(SAID) {
+        for (_, line) in (1..fails_at).zip([WAITS, COUNTED, OVER]) {
             wanted.push_str(line)?;
         }
-        same(&rt, (fails_at, text.as_str()), (fails_at, wanted.as_str()));
-        same(&rt, (fails_at, writes), (fails_at, fails_at - 1));
+        let found = (fails_at, text.as_str(), writes);
+        same(&rt, found, (fails_at, wanted.as_str(), fails_at - 1));
     }
     Ok(())
 }
 
-/// The gate that it holds is told of each call, with a sink and without, where nothing is told.
+/// The gate that it holds gets each call, with a sink and without, where nothing is written.
 #[test]
 fn a_watch_passes_calls_on(rt: HostRuntime) -> Result<(), Fail> {
-    for (fails_at, writes) in [(None, 0), (Some(0), 1)] {
+    for writes in [0, 1] {
         let clock = Hand::new(0);
-        let tape = Tape::new(rt.alloc(), 1_000)?;
-        let calls = Calls::new(rt.alloc(), 20)?;
+        let (tape, calls) = (Tape::new(rt.alloc(), 1_000)?, Tape::new(rt.alloc(), 200)?);
+        let pen = (writes > 0).then_some(Pen::new(&tape, 0));
         let notes = Notes {
-            gate: 9,
-            calls: &calls,
+            alloc: rt.alloc(),
+            tape: &calls,
         };
-        let pen = fails_at.map(|fails_at| Pen::new(&tape, fails_at));
-        let steps = [Step::Attempts(1, 2), Step::Publishes(1), Step::Over];
-        take_steps(&mut Watch::new(notes, &clock, pen), &clock, &steps);
-        let wanted = [[9, 3, 555, 1], [9, 3, 555, 2], [9, 3, 1, 0], [9, 3, 0, 0]];
-        same(&rt, calls.all(rt.alloc())?.as_slice(), wanted.as_slice());
-        same(&rt, tape.writes(), writes);
+        let mut watch = Watch::new(notes, &clock, pen);
+        let steps = [Asks(1, 2), Adds(1), Over];
+        take_steps(&mut watch, &clock, &steps);
+        let wanted = "3 fetches 555 (1)\n3 fetches 555 (2)\n3 publishes 1\n3 is over\n";
+        let found = calls.text(rt.alloc())?;
+        same(&rt, (found.as_str(), tape.writes()), (wanted, writes));
     }
     Ok(())
 }
