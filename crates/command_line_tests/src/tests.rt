@@ -27,11 +27,15 @@ struct Given<'a> {
     streams: &'a [&'a str],
 }
 
+const LINES: u64 = 65_536;
+
+const ROOM: u64 = 1_048_576;
+
 /// What the words `f` and `s` give.
 const DEFAULTS: Given<'static> = Given {
     tries: 1_000,
-    lines: 65_536,
-    room: 1_048_576,
+    lines: LINES,
+    room: ROOM,
     serial: false,
     watch: false,
     assume: None,
@@ -40,9 +44,16 @@ const DEFAULTS: Given<'static> = Given {
     streams: &["s"],
 };
 
-/// The words give this.
-fn gives(rt: &impl Abort, alloc: Global, words: &[&str], want: Given<'_>) -> Result<(), Fail> {
-    let line = read_words(alloc, words)?;
+/// The words of a text, which are parted by spaces.
+fn words_in(alloc: Global, text: &str) -> Result<Vec<&str>, Fail> {
+    let words = text.split(' ').collect(alloc)?;
+    Ok(words)
+}
+
+/// The words of this text give this.
+fn gives(rt: &(impl Abort + AllocGlobal), text: &str, wanted: Given) -> Result<(), Fail> {
+    let words = words_in(rt.alloc(), text)?;
+    let line = read_words(rt.alloc(), &words)?;
     let given = Given {
         tries: line.tries,
         lines: line.lines,
@@ -54,19 +65,11 @@ fn gives(rt: &impl Abort, alloc: Global, words: &[&str], want: Given<'_>) -> Res
         formula: line.formula,
         streams: line.streams.as_slice(),
     };
-    same(rt, (words, given), (words, want));
+    same(rt, (text, given), (text, wanted));
     Ok(())
 }
 
-/// Each of these words gives this.
-fn give(rt: &impl Abort, alloc: Global, rows: &[(&[&str], Given<'_>)]) -> Result<(), Fail> {
-    for &(words, want) in rows {
-        gives(rt, alloc, words, want)?;
-    }
-    Ok(())
-}
-
-/// The text of the usage fault that the words have.
+/// What is said of the usage fault that the words have.
 fn usage_of(alloc: Global, words: &[&str]) -> Result<UsageText, Fail> {
     match read_words(alloc, words) {
         Err(WordsFault::Usage(text)) => Ok(text),
@@ -75,8 +78,8 @@ fn usage_of(alloc: Global, words: &[&str]) -> Result<UsageText, Fail> {
 }
 
 /// The words have a usage fault, whose text has this part.
-fn has_fault(rt: &impl Abort, alloc: Global, words: &[&str], part: &str) -> Result<(), Fail> {
-    let usage = usage_of(alloc, words)?;
+fn has_fault(rt: &(impl Abort + AllocGlobal), words: &[&str], part: &str) -> Result<(), Fail> {
+    let usage = usage_of(rt.alloc(), words)?;
     let text = usage.as_str();
     let found = (text.contains(part), text.ends_with('\n'));
     same(
@@ -87,375 +90,190 @@ fn has_fault(rt: &impl Abort, alloc: Global, words: &[&str], part: &str) -> Resu
     Ok(())
 }
 
-/// Each of these words has a usage fault, whose text has this part.
-fn have_faults(rt: &impl Abort, alloc: Global, rows: &[(&[&str], &str)]) -> Result<(), Fail> {
-    for &(words, part) in rows {
-        has_fault(rt, alloc, words, part)?;
-    }
-    Ok(())
-}
-
-static NO_OPTION: [(&[&str], Given<'static>); 1] = [(
-    &["f.cnf", "s.lrup"],
-    Given {
-        formula: "f.cnf",
-        streams: &["s.lrup"],
-        ..DEFAULTS
-    },
-)];
-
-#[test]
-fn defaults_stand_where_no_option_does(rt: HostRuntime) -> Result<(), Fail> {
-    give(&rt, rt.alloc(), &NO_OPTION)
-}
-
-static OWN_NUMBERS: [(&[&str], Given<'static>); 5] = [
-    (
-        &["--tries", "7", "f", "s"],
-        Given {
-            tries: 7,
-            ..DEFAULTS
-        },
-    ),
-    (
-        &["--tries=7", "f", "s"],
-        Given {
-            tries: 7,
-            ..DEFAULTS
-        },
-    ),
-    (
-        &["--lines", "7", "f", "s"],
-        Given {
-            lines: 7,
-            ..DEFAULTS
-        },
-    ),
-    (
-        &["--room", "7", "f", "s"],
-        Given {
-            room: 7,
-            ..DEFAULTS
-        },
-    ),
-    (
-        &[
-            "--room", "3", "--watch", "--lines", "2", "--tries", "1", "--serial", "f", "s",
-        ],
-        Given {
-            tries: 1,
-            lines: 2,
-            room: 3,
-            serial: true,
-            watch: true,
-            ..DEFAULTS
-        },
-    ),
+/// The words, the tries, the lines and the room.
+static NUMBERS: [(&str, u64, u64, u64); 13] = [
+    ("f s", 1_000, LINES, ROOM),
+    ("--tries 7 f s", 7, LINES, ROOM),
+    ("--tries=7 f s", 7, LINES, ROOM),
+    ("--lines 7 f s", 1_000, 7, ROOM),
+    ("--room 7 f s", 1_000, LINES, 7),
+    ("--room 3 --lines 2 --tries 1 f s", 1, 2, 3),
+    ("--tries 0 f s", 0, LINES, ROOM),
+    ("--tries 1000000 f s", 1_000_000, LINES, ROOM),
+    ("--lines 0 f s", 1_000, 0, ROOM),
+    ("--lines 268435456 f s", 1_000, 268_435_456, ROOM),
+    ("--room 0 f s", 1_000, LINES, 0),
+    ("--room 268435456 f s", 1_000, LINES, 268_435_456),
+    ("f s --room=7 --tries 0", 0, LINES, 7),
 ];
 
 #[test]
 fn each_option_has_its_own_number(rt: HostRuntime) -> Result<(), Fail> {
-    give(&rt, rt.alloc(), &OWN_NUMBERS)
+    for &(words, tries, lines, room) in &NUMBERS {
+        let wanted = Given {
+            tries,
+            lines,
+            room,
+            ..DEFAULTS
+        };
+        gives(&rt, words, wanted)?;
+    }
+    Ok(())
 }
 
-static IN_RANGE: [(&[&str], Given<'static>); 6] = [
-    (
-        &["--tries", "0", "f", "s"],
-        Given {
-            tries: 0,
-            ..DEFAULTS
-        },
-    ),
-    (
-        &["--tries", "1000000", "f", "s"],
-        Given {
-            tries: 1_000_000,
-            ..DEFAULTS
-        },
-    ),
-    (
-        &["--lines", "0", "f", "s"],
-        Given {
-            lines: 0,
-            ..DEFAULTS
-        },
-    ),
-    (
-        &["--lines", "268435456", "f", "s"],
-        Given {
-            lines: 268_435_456,
-            ..DEFAULTS
-        },
-    ),
-    (
-        &["--room", "0", "f", "s"],
-        Given {
-            room: 0,
-            ..DEFAULTS
-        },
-    ),
-    (
-        &["--room", "268435456", "f", "s"],
-        Given {
-            room: 268_435_456,
-            ..DEFAULTS
-        },
-    ),
+/// The words, and whether there is one thread and whether progress is reported.
+static FLAGS: [(&str, bool, bool); 9] = [
+    ("--serial f s", true, false),
+    ("f --serial s", true, false),
+    ("f s --serial", true, false),
+    ("--watch f s", false, true),
+    ("f s --watch", false, true),
+    ("--watch f --serial s", true, true),
+    ("--serial --tries 1000 f s --watch", true, true),
+    ("--tries 1000 f s", false, false),
+    ("f -- s", false, false),
 ];
 
-static OUT_OF_RANGE: [(&[&str], &str); 3] = [
-    (&["--tries", "1000001", "f", "s"], "--tries"),
-    (&["--lines", "268435457", "f", "s"], "--lines"),
-    (&["--room", "268435457", "f", "s"], "--room"),
+/// Each flag is its own, and may stand anywhere.
+#[test]
+fn flags_stand_beside_each_other(rt: HostRuntime) -> Result<(), Fail> {
+    for &(words, serial, watch) in &FLAGS {
+        let wanted = Given {
+            serial,
+            watch,
+            ..DEFAULTS
+        };
+        gives(&rt, words, wanted)?;
+    }
+    Ok(())
+}
+
+/// The words, the file of the assumed literals, and what the clauses are saved for.
+static FILES: [(&str, Option<&str>, Next<'static>); 14] = [
+    ("--assume a f s", Some("a"), Next::Nothing),
+    ("--assume=a f s", Some("a"), Next::Nothing),
+    ("f --assume f s", Some("f"), Next::Nothing),
+    ("f s --assume s", Some("s"), Next::Nothing),
+    ("--checkpoint c f s", None, Next::Checkpoint("c")),
+    ("--checkpoint=c f s", None, Next::Checkpoint("c")),
+    ("f --checkpoint f s", None, Next::Checkpoint("f")),
+    ("f s --checkpoint s", None, Next::Checkpoint("s")),
+    (
+        "--checkpoint c --assume a f s",
+        Some("a"),
+        Next::Checkpoint("c"),
+    ),
+    (
+        "--assume=a f s --checkpoint=a",
+        Some("a"),
+        Next::Checkpoint("a"),
+    ),
+    ("--rounds d f s", None, Next::Rounds("d")),
+    ("--rounds=d f s", None, Next::Rounds("d")),
+    ("f s --rounds s", None, Next::Rounds("s")),
+    ("--assume=a --rounds=d f s", Some("a"), Next::Rounds("d")),
 ];
 
 #[test]
-fn each_number_has_its_range(rt: HostRuntime) -> Result<(), Fail> {
-    give(&rt, rt.alloc(), &IN_RANGE)?;
-    have_faults(&rt, rt.alloc(), &OUT_OF_RANGE)
+fn files_and_folders_may_be_named(rt: HostRuntime) -> Result<(), Fail> {
+    for &(words, assume, next) in &FILES {
+        let wanted = Given {
+            assume,
+            next,
+            ..DEFAULTS
+        };
+        gives(&rt, words, wanted)?;
+    }
+    Ok(())
 }
 
-static NO_NUMBERS: [(&[&str], &str); 7] = [
-    (&["--tries", "", "f", "s"], "error"),
-    (&["--tries", "x", "f", "s"], "error"),
-    (&["--tries", "1,000", "f", "s"], "error"),
-    (&["--tries", "1e3", "f", "s"], "error"),
-    (&["--tries", "-1", "f", "s"], "error"),
-    (&["--tries", "18446744073709551616", "f", "s"], "error"),
-    (
-        &["f", "s", "--tries"],
-        "a value is required for '--tries <N>'",
-    ),
+/// The words, the formula and the streams.
+static PATHS: [(&str, &str, &[&str]); 9] = [
+    ("f.cnf s.lrup", "f.cnf", &["s.lrup"]),
+    ("c b a b", "c", &["b", "a", "b"]),
+    ("f s --tries 1000 t u", "f", &["s", "t", "u"]),
+    ("-- -f -s", "-f", &["-s"]),
+    ("f -- -s --", "f", &["-s", "--"]),
+    ("f -- s --serial", "f", &["s", "--serial"]),
+    ("f -- --watch", "f", &["--watch"]),
+    ("f s -- --rounds d", "f", &["s", "--rounds", "d"]),
+    ("- -- -", "-", &["-"]),
 ];
 
+/// In their order; one may begin with a hyphen after two hyphens.
 #[test]
-fn what_is_no_number_is_refused(rt: HostRuntime) -> Result<(), Fail> {
-    have_faults(&rt, rt.alloc(), &NO_NUMBERS)
+fn formula_and_streams_have_paths(rt: HostRuntime) -> Result<(), Fail> {
+    for &(words, formula, streams) in &PATHS {
+        let wanted = Given {
+            formula,
+            streams,
+            ..DEFAULTS
+        };
+        gives(&rt, words, wanted)?;
+    }
+    Ok(())
 }
 
-static REQUIRED: [(&[&str], &str); 4] = [
-    (&[], "<FORMULA>"),
-    (&["f"], "<STREAM>"),
-    (&["--serial", "f"], "required arguments were not provided"),
-    (&["f", "--"], "<STREAM>"),
-];
+const TWICE: &str = "cannot be used multiple times";
 
-#[test]
-fn formula_and_a_stream_are_required(rt: HostRuntime) -> Result<(), Fail> {
-    have_faults(&rt, rt.alloc(), &REQUIRED)
-}
-
-static UNKNOWN_OPTIONS: [(&[&str], &str); 4] = [
-    (&["--fast", "f", "s"], "unexpected argument '--fast' found"),
-    (&["f", "s", "-t"], "unexpected argument '-t' found"),
-    (&["--serial=1", "f", "s"], "--serial"),
-    (&["--watch=1", "f", "s"], "--watch"),
-];
-
-#[test]
-fn unknown_options_are_refused(rt: HostRuntime) -> Result<(), Fail> {
-    have_faults(&rt, rt.alloc(), &UNKNOWN_OPTIONS)
-}
-
-static TWICE: [(&[&str], &str); 3] = [
+/// Words with a usage fault, and a part of its text.
+static FAULTS: [(&str, &str); 32] = [
+    ("--tries 1000001 f s", "--tries"),
+    ("--lines 268435457 f s", "--lines"),
+    ("--room 268435457 f s", "--room"),
+    ("--tries  f s", "error"),
+    ("--tries x f s", "error"),
+    ("--tries 1,000 f s", "error"),
+    ("--tries 1e3 f s", "error"),
+    ("--tries -1 f s", "error"),
+    ("--tries 18446744073709551616 f s", "error"),
+    ("f s --tries", "a value is required for '--tries <N>'"),
+    ("f", "<STREAM>"),
+    ("--serial f", "required arguments were not provided"),
+    ("f --", "<STREAM>"),
+    ("--fast f s", "unexpected argument '--fast' found"),
+    ("f s -t", "unexpected argument '-t' found"),
+    ("f -s", "'-s'"),
+    ("--serial=1 f s", "--serial"),
+    ("--watch=1 f s", "--watch"),
+    ("--tries 1 --tries 1 f s", TWICE),
+    ("--serial f s --serial", TWICE),
+    ("--watch --watch f s", TWICE),
+    ("--assume a f s --assume a", TWICE),
+    ("f s --assume", "a value is required for '--assume <FILE>'"),
+    ("--assume a f", "<STREAM>"),
     (
-        &["--tries", "1", "--tries", "1", "f", "s"],
-        "cannot be used multiple times",
-    ),
-    (
-        &["--serial", "f", "s", "--serial"],
-        "cannot be used multiple times",
-    ),
-    (
-        &["--watch", "--watch", "f", "s"],
-        "cannot be used multiple times",
-    ),
-];
-
-#[test]
-fn an_option_stands_once(rt: HostRuntime) -> Result<(), Fail> {
-    have_faults(&rt, rt.alloc(), &TWICE)
-}
-
-static ASSUMED: [(&[&str], Given<'static>); 5] = [
-    (&["f", "s"], DEFAULTS),
-    (
-        &["--assume", "a", "f", "s"],
-        Given {
-            assume: Some("a"),
-            ..DEFAULTS
-        },
-    ),
-    (
-        &["--assume=a", "f", "s"],
-        Given {
-            assume: Some("a"),
-            ..DEFAULTS
-        },
-    ),
-    (
-        &["f", "--assume", "f", "s"],
-        Given {
-            assume: Some("f"),
-            ..DEFAULTS
-        },
-    ),
-    (
-        &["f", "s", "--assume", "s"],
-        Given {
-            assume: Some("s"),
-            ..DEFAULTS
-        },
-    ),
-];
-
-static ASSUME_FAULTS: [(&[&str], &str); 3] = [
-    (
-        &["--assume", "a", "f", "s", "--assume", "a"],
-        "cannot be used multiple times",
-    ),
-    (
-        &["f", "s", "--assume"],
-        "a value is required for '--assume <FILE>'",
-    ),
-    (&["--assume", "a", "f"], "<STREAM>"),
-];
-
-#[test]
-fn a_file_of_assumed_literals_may_be_named(rt: HostRuntime) -> Result<(), Fail> {
-    give(&rt, rt.alloc(), &ASSUMED)?;
-    have_faults(&rt, rt.alloc(), &ASSUME_FAULTS)
-}
-
-static CHECKPOINTS: [(&[&str], Given<'static>); 7] = [
-    (&["f", "s"], DEFAULTS),
-    (
-        &["--checkpoint", "c", "f", "s"],
-        Given {
-            next: Next::Checkpoint("c"),
-            ..DEFAULTS
-        },
-    ),
-    (
-        &["--checkpoint=c", "f", "s"],
-        Given {
-            next: Next::Checkpoint("c"),
-            ..DEFAULTS
-        },
-    ),
-    (
-        &["f", "--checkpoint", "f", "s"],
-        Given {
-            next: Next::Checkpoint("f"),
-            ..DEFAULTS
-        },
-    ),
-    (
-        &["f", "s", "--checkpoint", "s"],
-        Given {
-            next: Next::Checkpoint("s"),
-            ..DEFAULTS
-        },
-    ),
-    (
-        &["--checkpoint", "c", "--assume", "a", "f", "s"],
-        Given {
-            assume: Some("a"),
-            next: Next::Checkpoint("c"),
-            ..DEFAULTS
-        },
-    ),
-    (
-        &["--assume=a", "f", "s", "--checkpoint=a"],
-        Given {
-            assume: Some("a"),
-            next: Next::Checkpoint("a"),
-            ..DEFAULTS
-        },
-    ),
-];
-
-#[test]
-fn a_file_for_a_checkpoint_may_be_named(rt: HostRuntime) -> Result<(), Fail> {
-    give(&rt, rt.alloc(), &CHECKPOINTS)
-}
-
-static CHECKPOINT_FAULTS: [(&[&str], &str); 4] = [
-    (
-        &["--checkpoint", "c", "f", "s", "--checkpoint=d"],
+        "--checkpoint c f s --checkpoint=d",
         "'--checkpoint <FILE>' cannot be used multiple times",
     ),
     (
-        &["f", "s", "--checkpoint"],
+        "f s --checkpoint",
         "a value is required for '--checkpoint <FILE>'",
     ),
     (
-        &["--checkpoint", "--serial", "f", "s"],
+        "--checkpoint --serial f s",
         "a value is required for '--checkpoint <FILE>'",
     ),
-    (&["--checkpoint", "c", "f"], "<STREAM>"),
-];
-
-#[test]
-fn a_checkpoint_has_one_file(rt: HostRuntime) -> Result<(), Fail> {
-    have_faults(&rt, rt.alloc(), &CHECKPOINT_FAULTS)
-}
-
-static ROUNDS: [(&[&str], Given<'static>); 4] = [
+    ("--checkpoint c f", "<STREAM>"),
     (
-        &["--rounds", "d", "f", "s"],
-        Given {
-            next: Next::Rounds("d"),
-            ..DEFAULTS
-        },
-    ),
-    (
-        &["--rounds=d", "f", "s"],
-        Given {
-            next: Next::Rounds("d"),
-            ..DEFAULTS
-        },
-    ),
-    (
-        &["f", "s", "--rounds", "s"],
-        Given {
-            next: Next::Rounds("s"),
-            ..DEFAULTS
-        },
-    ),
-    (
-        &["f", "s", "--", "--rounds", "d"],
-        Given {
-            streams: &["s", "--rounds", "d"],
-            ..DEFAULTS
-        },
-    ),
-];
-
-#[test]
-fn a_folder_of_rounds_may_be_named(rt: HostRuntime) -> Result<(), Fail> {
-    give(&rt, rt.alloc(), &ROUNDS)
-}
-
-static ROUNDS_FAULTS: [(&[&str], &str); 4] = [
-    (
-        &["--rounds", "d", "f", "s", "--rounds=e"],
+        "--rounds d f s --rounds=e",
         "'--rounds <DIR>' cannot be used multiple times",
     ),
+    ("f s --rounds", "a value is required for '--rounds <DIR>'"),
     (
-        &["f", "s", "--rounds"],
+        "--rounds --serial f s",
         "a value is required for '--rounds <DIR>'",
     ),
-    (
-        &["--rounds", "--serial", "f", "s"],
-        "a value is required for '--rounds <DIR>'",
-    ),
-    (&["--rounds", "d", "f"], "<STREAM>"),
+    ("--rounds d f", "<STREAM>"),
 ];
 
 #[test]
-fn rounds_have_one_folder(rt: HostRuntime) -> Result<(), Fail> {
-    have_faults(&rt, rt.alloc(), &ROUNDS_FAULTS)
+fn words_that_are_refused(rt: HostRuntime) -> Result<(), Fail> {
+    has_fault(&rt, &[], "<FORMULA>")?;
+    for &(words, part) in &FAULTS {
+        has_fault(&rt, &words_in(rt.alloc(), words)?, part)?;
+    }
+    Ok(())
 }
 
 /// Words that ask for a checkpoint and for rounds.
@@ -474,132 +292,9 @@ fn a_checkpoint_excludes_rounds(rt: HostRuntime) -> Result<(), Fail> {
         }
     }
     let text = format!(in rt.alloc(); "{}", WordsFault::TwoCheckpoints)?;
-    same(
-        &rt,
-        text.as_str(),
-        "--checkpoint and --rounds exclude each other",
-    );
+    let wanted = "--checkpoint and --rounds exclude each other";
+    same(&rt, text.as_str(), wanted);
     Ok(())
-}
-
-static SERIAL: [(&[&str], Given<'static>); 5] = [
-    (
-        &["--serial", "f", "s"],
-        Given {
-            serial: true,
-            ..DEFAULTS
-        },
-    ),
-    (
-        &["f", "--serial", "s"],
-        Given {
-            serial: true,
-            ..DEFAULTS
-        },
-    ),
-    (
-        &["f", "s", "--serial"],
-        Given {
-            serial: true,
-            ..DEFAULTS
-        },
-    ),
-    (
-        &["f", "s", "--serial", "t", "--tries", "1000", "u"],
-        Given {
-            serial: true,
-            streams: &["s", "t", "u"],
-            ..DEFAULTS
-        },
-    ),
-    (
-        &["f", "--", "s", "--serial"],
-        Given {
-            streams: &["s", "--serial"],
-            ..DEFAULTS
-        },
-    ),
-];
-
-#[test]
-fn options_stand_anywhere_before_two_hyphens(rt: HostRuntime) -> Result<(), Fail> {
-    give(&rt, rt.alloc(), &SERIAL)
-}
-
-static WATCHED: [(&[&str], Given<'static>); 4] = [
-    (
-        &["--watch", "f", "s"],
-        Given {
-            watch: true,
-            ..DEFAULTS
-        },
-    ),
-    (
-        &["f", "s", "--watch"],
-        Given {
-            watch: true,
-            ..DEFAULTS
-        },
-    ),
-    (
-        &["--watch", "f", "--serial", "s"],
-        Given {
-            serial: true,
-            watch: true,
-            ..DEFAULTS
-        },
-    ),
-    (
-        &["f", "--", "--watch"],
-        Given {
-            streams: &["--watch"],
-            ..DEFAULTS
-        },
-    ),
-];
-
-/// Each flag is its own.
-#[test]
-fn flags_stand_beside_each_other(rt: HostRuntime) -> Result<(), Fail> {
-    give(&rt, rt.alloc(), &WATCHED)
-}
-
-static MANY_STREAMS: [(&[&str], Given<'static>); 1] = [(
-    &["c", "b", "a", "b"],
-    Given {
-        formula: "c",
-        streams: &["b", "a", "b"],
-        ..DEFAULTS
-    },
-)];
-
-#[test]
-fn streams_keep_their_order(rt: HostRuntime) -> Result<(), Fail> {
-    give(&rt, rt.alloc(), &MANY_STREAMS)
-}
-
-static HYPHENS: [(&[&str], Given<'static>); 2] = [
-    (
-        &["--", "-f", "-s"],
-        Given {
-            formula: "-f",
-            streams: &["-s"],
-            ..DEFAULTS
-        },
-    ),
-    (
-        &["f", "--", "-s", "--"],
-        Given {
-            streams: &["-s", "--"],
-            ..DEFAULTS
-        },
-    ),
-];
-
-#[test]
-fn after_two_hyphens_a_path_may_begin_with_one(rt: HostRuntime) -> Result<(), Fail> {
-    has_fault(&rt, rt.alloc(), &["f", "-s"], "'-s'")?;
-    give(&rt, rt.alloc(), &HYPHENS)
 }
 
 /// Words that ask for help.
@@ -627,28 +322,23 @@ static HELP: [&str; 15] = [
 fn help_says_what_each_option_is(rt: HostRuntime) -> Result<(), Fail> {
     for words in &HELP_WORDS {
         for part in &HELP {
-            has_fault(&rt, rt.alloc(), words, part)?;
+            has_fault(&rt, words, part)?;
         }
     }
     Ok(())
 }
 
-/// The words have the version as their fault: one line.
-fn tells_version(rt: &impl Abort, alloc: Global, words: &[&str]) -> Result<(), Fail> {
-    let usage = usage_of(alloc, words)?;
-    let text = usage.as_str();
-    let found = (text.starts_with("lrupd "), text.lines().count());
-    same(rt, (words, text, found), (words, text, (true, 1)));
-    Ok(())
-}
-
+/// Words that ask for the version.
 static VERSION: [&[&str]; 3] = [&["--version"], &["-V"], &["f", "s", "--version"]];
 
-/// The number is compared with the file VERSION elsewhere: by `make pages`, and by `make examples`.
+/// It is one line. Its number is compared with the file VERSION elsewhere: by `make pages`, and by `make examples`.
 #[test]
-fn the_version_is_told(rt: HostRuntime) -> Result<(), Fail> {
-    for words in &VERSION {
-        tells_version(&rt, rt.alloc(), words)?;
+fn the_version_is_one_line(rt: HostRuntime) -> Result<(), Fail> {
+    for &words in &VERSION {
+        let usage = usage_of(rt.alloc(), words)?;
+        let text = usage.as_str();
+        let found = (text.starts_with("lrupd "), text.lines().count());
+        same(&rt, (words, text, found), (words, text, (true, 1)));
     }
     Ok(())
 }
