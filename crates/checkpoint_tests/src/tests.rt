@@ -14,7 +14,6 @@ use std::test::Fail;
 use test_support::Paper;
 
 mod limits;
-mod next;
 mod worked;
 
 /// Stops the test where two values differ: an assertion that is proved once for all tests.

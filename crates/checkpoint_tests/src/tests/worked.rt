@@ -1,31 +1,43 @@
 //! What is saved of the worked formula where stream 1 published a clause, or retired it, and where not all is wanted.
-ghost use Rattle.std.specs.Prelude.{◌≡◌, false, IfOk};
+ghost use Rattle.std.specs.Prelude.{◌≡◌, ◌||◌, false, nat_lt, IfOk};
 ghost use Rattle.lrup_model.specs.Layout.{Fits, IsStream};
 ghost use Rattle.lrup_model.specs.Plain.{formula_of};
 ghost use Rattle.test_support.specs.Worked.{four};
 
-use super::{ALL, Except, same};
-use checkpoint::{SaveFault, live_clauses, save};
+use super::{ALL, Except, same, save_formula};
+use checkpoint::{SaveFault, Wanted, live_clauses, save};
 use dimacs::parse;
-use lrup_model::{ClauseMap, Id, Layout, PlainMap};
+use lrup_model::{ClauseMap, Formula, Id, Layout, PlainMap};
 use lrup_text::Sink;
 use std::alloc::{AllocError, Global};
 use std::process::Abort;
 use std::test::Fail;
 use test_support::{Paper, four_clauses, lit};
 
+/// What one stream wants and what another one wants, of which each has dropped a range.
+#[derive(Clone, Copy)]
+struct Either(Except, Except);
+
+impl Wanted for Either {
+    ghost wants = { λ e id. (nat_lt id e.0.0 || nat_lt e.0.1 id) || (nat_lt id e.1.0 || nat_lt e.1.1 id) };
+
+    fn wants(&self, id: Id) -> bool {
+        self.0.wants(id) || self.1.wants(id)
+    }
+}
+
 /// What stream 1 does, and what is wanted then.
 #[derive(Clone, Copy)]
-pub(super) struct Case {
+struct Case {
     /// The identity under which it publishes `2`, which the first two clauses show.
-    pub(super) publishes: Option<Id>,
+    publishes: Option<Id>,
     /// Does it retire that clause?
-    pub(super) retires: bool,
-    pub(super) wanted: Except,
+    retires: bool,
+    wanted: Either,
 }
 
 /// Publishes `2` under an identity of the caller's own, and may retire it.
-pub(super) fn act<M: ClauseMap>(desk: &mut M, case: &Case)
+fn act<M: ClauseMap>(desk: &mut M, case: &Case)
     requires { (M.caller_view desk.old).caller.formula ≡ four }
     ensures { (M.caller_view desk.new).caller ≡ (M.caller_view desk.old).caller }
 {
@@ -40,14 +52,15 @@ pub(super) fn act<M: ClauseMap>(desk: &mut M, case: &Case)
     }
 }
 
-/// Saves what is live and wanted then.
+/// Saves what is live and wanted then, and gives its formula if the run goes on.
 fn save_after(
     alloc: Global,
     map: &mut PlainMap,
     layout: &Layout,
     case: &Case,
+    goes_on: bool,
     paper: &mut Paper,
-) -> Result<(), SaveFault>
+) -> Result<Option<Formula>, SaveFault>
     requires formula { formula_of map.old ≡ four }
     requires layout { layout.now ≡ map.old.layout }
     requires fits { Fits layout.now four }
@@ -56,11 +69,11 @@ fn save_after(
 {
     let mut desk = map.desk(1);
     act(&mut desk, case);
-    save(alloc, &mut desk, layout, &case.wanted, false, paper).map(|_| ())
+    save(alloc, &mut desk, layout, &case.wanted, goes_on, paper)
 }
 
 /// The worked formula's map of one stream with two identities, 5 and 6, and its layout.
-pub(super) fn open_worked(alloc: Global) -> Result<(PlainMap, Layout), Fail>
+fn open_worked(alloc: Global) -> Result<(PlainMap, Layout), Fail>
     ensures formula { IfOk result (λ opened. formula_of opened.0 ≡ four) }
     ensures layout { IfOk result (λ opened. opened.1 ≡ opened.0.layout) }
     ensures fits { IfOk result (λ opened. Fits opened.1 four) }
@@ -75,201 +88,191 @@ pub(super) fn open_worked(alloc: Global) -> Result<(PlainMap, Layout), Fail>
 }
 
 /// Saves the worked formula's map onto a paper.
-fn save_worked(alloc: Global, case: &Case, paper: &mut Paper) -> Result<Result<(), SaveFault>, Fail>
+fn save_worked(
+    alloc: Global,
+    case: &Case,
+    goes_on: bool,
+    paper: &mut Paper,
+) -> Result<Result<Option<Formula>, SaveFault>, Fail>
     requires { paper.old.failed ≡ false }
 {
     let (mut map, layout) = open_worked(alloc)?;
     // The call shows that there is a stream.
     let _ = layout.streams();
-    Ok(save_after(alloc, &mut map, &layout, case, paper))
+    Ok(save_after(alloc, &mut map, &layout, case, goes_on, paper))
 }
 
-/// Cases, and what is saved in them.
-static CASES: [(Case, &str); 9] = [
+/// What is saved of a formula that was given.
+fn text_of(alloc: Global, next: &Formula) -> Result<Vec<u8>, Fail> {
+    let mut paper = Paper::new(alloc, 1_000, 0);
+    save_formula(alloc, next, &mut paper)??;
+    Ok(paper.bytes)
+}
+
+/// The clauses of a text without their identities.
+fn clauses_of(alloc: Global, text: &str) -> Result<String, Fail> {
+    let mut clauses = String::new(alloc);
+    for line in text.lines() {
+        if !line.starts_with('c') {
+            clauses.push_str(line)?;
+            clauses.push('\n')?;
+        }
+    }
+    Ok(clauses)
+}
+
+/// What stream 1 publishes, and whether it retires that; the ranges that it and another stream dropped; and what is saved.
+type Row = (Option<Id>, bool, Except, Except, &'static str);
+
+const FOUR: &str = "p cnf 2 4\n1 2 0\n-1 2 0\n1 -2 0\n-1 -2 0\n";
+
+const WITH_5: &str = "p cnf 2 5\n1 2 0\n-1 2 0\n1 -2 0\n-1 -2 0\n2 0\n";
+
+/// Nothing was published under 5.
+const WITH_6: &str = "p cnf 2 5\n1 2 0\n-1 2 0\n1 -2 0\n-1 -2 0\nc id 6\n2 0\n";
+
+const WITHOUT_1: &str = "p cnf 2 4\nc id 2\n-1 2 0\nc id 3\n1 -2 0\nc id 4\n-1 -2 0\nc id 5\n2 0\n";
+
+const WITH_1_4_6: &str = "p cnf 2 3\n1 2 0\nc id 4\n-1 -2 0\nc id 6\n2 0\n";
+
+const UP_TO_3: &str = "p cnf 2 3\n1 2 0\n-1 2 0\n1 -2 0\n";
+
+static ROWS: [Row; 12] = [
+    (None, false, ALL, ALL, FOUR),
+    (Some(5), false, ALL, ALL, WITH_5),
+    (Some(6), false, ALL, ALL, WITH_6),
+    (Some(5), true, ALL, ALL, FOUR),
+    // One of the streams has dropped the first clause, or both have.
+    (Some(5), false, Except(1, 1), ALL, WITH_5),
+    (Some(5), false, Except(1, 1), Except(1, 1), WITHOUT_1),
+    (Some(6), false, Except(2, 3), Except(2, 3), WITH_1_4_6),
+    // Each has dropped another one besides.
+    (Some(6), false, Except(1, 3), Except(2, 6), WITH_1_4_6),
+    (Some(5), false, Except(5, 6), Except(5, 6), FOUR),
     (
-        Case {
-            publishes: None,
-            retires: false,
-            wanted: ALL,
-        },
-        "p cnf 2 4\n1 2 0\n-1 2 0\n1 -2 0\n-1 -2 0\n",
-    ),
-    (
-        Case {
-            publishes: Some(5),
-            retires: false,
-            wanted: ALL,
-        },
-        "p cnf 2 5\n1 2 0\n-1 2 0\n1 -2 0\n-1 -2 0\n2 0\n",
-    ),
-    (
-        Case {
-            publishes: Some(5),
-            retires: true,
-            wanted: ALL,
-        },
-        "p cnf 2 4\n1 2 0\n-1 2 0\n1 -2 0\n-1 -2 0\n",
-    ),
-    // Nothing was published under 5.
-    (
-        Case {
-            publishes: Some(6),
-            retires: false,
-            wanted: ALL,
-        },
-        "p cnf 2 5\n1 2 0\n-1 2 0\n1 -2 0\n-1 -2 0\nc id 6\n2 0\n",
-    ),
-    (
-        Case {
-            publishes: Some(5),
-            retires: false,
-            wanted: Except(1, 1),
-        },
-        "p cnf 2 4\nc id 2\n-1 2 0\nc id 3\n1 -2 0\nc id 4\n-1 -2 0\nc id 5\n2 0\n",
-    ),
-    (
-        Case {
-            publishes: Some(6),
-            retires: false,
-            wanted: Except(2, 3),
-        },
-        "p cnf 2 3\n1 2 0\nc id 4\n-1 -2 0\nc id 6\n2 0\n",
-    ),
-    (
-        Case {
-            publishes: Some(5),
-            retires: false,
-            wanted: Except(5, 6),
-        },
-        "p cnf 2 4\n1 2 0\n-1 2 0\n1 -2 0\n-1 -2 0\n",
-    ),
-    (
-        Case {
-            publishes: Some(6),
-            retires: false,
-            wanted: Except(1, 4),
-        },
+        Some(6),
+        false,
+        Except(1, 4),
+        Except(1, 4),
         "p cnf 2 1\nc id 6\n2 0\n",
     ),
-    (
-        Case {
-            publishes: Some(6),
-            retires: false,
-            wanted: Except(1, 6),
-        },
-        "p cnf 2 0\n",
-    ),
+    // Both have dropped a clause that was retired, too.
+    (Some(6), true, Except(3, 6), Except(4, 6), UP_TO_3),
+    (Some(6), false, Except(1, 6), Except(1, 6), "p cnf 2 0\n"),
 ];
 
-/// Saves the worked formula's map by writes of so many bytes, of which this one fails, and none
-/// where that is 0.
-fn saves_worked(
+fn case_of(row: &Row) -> Case {
+    let &(publishes, retires, one, another, _) = row;
+    Case {
+        publishes,
+        retires,
+        wanted: Either(one, another),
+    }
+}
+
+/// Saves a case by writes of 7 bytes, of which this one fails, and none where that is 0. A run that goes on is given the clauses that
+/// were written, in the same order, but not under the same identities.
+fn assert_saves(
     rt: &(impl Abort + AllocGlobal),
-    case: &Case,
-    most: usize,
+    row: &Row,
+    goes_on: bool,
     fails_at: usize,
-    wanted: (Result<(), SaveFault>, bool, &[u8]),
 ) -> Result<(), Fail> {
-    let mut paper = Paper::new(rt.alloc(), most, fails_at);
-    let saved = save_worked(rt.alloc(), case, &mut paper)?;
-    let found = (saved, paper.failed(), paper.bytes.as_slice());
-    same(rt, found, wanted);
+    let text = row.4;
+    let mut paper = Paper::new(rt.alloc(), 7, fails_at);
+    let saved = save_worked(rt.alloc(), &case_of(row), goes_on, &mut paper)?;
+    if let Ok(Some(next)) = &saved {
+        let clauses = clauses_of(rt.alloc(), text)?;
+        let bytes = text_of(rt.alloc(), next)?;
+        same(rt, bytes.as_slice(), clauses.as_str().as_bytes());
+    }
+    let (wanted, end) = match fails_at {
+        0 => (Ok(goes_on), text.len()),
+        _ => (Err(SaveFault::Unwritten), (fails_at - 1).saturating_mul(7)),
+    };
+    let written = &text.as_bytes()[..end.min(text.len())];
+    let found = (saved.map(|next| next.is_some()), paper.bytes.as_slice());
+    same(rt, found, (wanted, written));
     Ok(())
 }
 
+/// By writes of which each fails in turn, and at last none.
 #[test]
 fn what_is_live_and_wanted_is_written(rt: HostRuntime) -> Result<(), Fail> {
-    for &(case, text) in &CASES {
-        saves_worked(&rt, &case, 7, 0, (Ok(()), false, text.as_bytes()))?;
+    for row in &ROWS {
+        for goes_on in [false, true] {
+            for fails_at in 0..=row.4.len().div_ceil(7) {
+                assert_saves(&rt, row, goes_on, fails_at)?;
+            }
+        }
     }
     Ok(())
-}
-
-/// Saves a case by writes of 7 bytes, of which each fails in turn, and at last none.
-fn breaks_anywhere(rt: &(impl Abort + AllocGlobal), case: &Case, text: &[u8]) -> Result<(), Fail> {
-    let writes = text.len().div_ceil(7);
-    for before in 0..writes {
-        let went = before.saturating_mul(7).min(text.len());
-        let wanted = (Err(SaveFault::Unwritten), true, &text[..went]);
-        saves_worked(rt, case, 7, before + 1, wanted)?;
-    }
-    saves_worked(rt, case, 7, writes + 1, (Ok(()), false, text))
-}
-
-#[test]
-fn a_write_that_fails_leaves_a_beginning(rt: HostRuntime) -> Result<(), Fail> {
-    for &(case, text) in &CASES {
-        breaks_anywhere(&rt, &case, text.as_bytes())?;
-    }
-    Ok(())
-}
-
-/// Each beginning of these bytes is refused, but those of so many bytes and more are read.
-fn beginnings_are_refused(rt: &(impl Abort + AllocGlobal), bytes: &[u8], least: usize) {
-    for end in 0..=bytes.len() {
-        let reads = parse(rt.alloc(), &bytes[..end]).is_ok();
-        same(rt, (end, reads), (end, least <= end));
-    }
 }
 
 /// What was saved is read again, without its last end of a line too, and no shorter beginning is.
 #[test]
-fn a_beginning_is_refused(rt: HostRuntime) -> Result<(), Fail> {
-    for &(case, text) in &CASES {
-        let mut paper = Paper::new(rt.alloc(), 1_000, 0);
-        let saved = save_worked(rt.alloc(), &case, &mut paper)?;
-        same(&rt, (text, saved), (text, Ok(())));
-        beginnings_are_refused(&rt, paper.bytes.as_slice(), text.len().saturating_sub(1));
+fn a_beginning_is_refused(rt: HostRuntime) {
+    for row in &ROWS {
+        let bytes = row.4.as_bytes();
+        for end in 0..=bytes.len() {
+            let reads = parse(rt.alloc(), &bytes[..end]).is_ok();
+            same(&rt, (end, reads), (end, bytes.len() <= end + 1));
+        }
     }
+}
+
+/// Where memory is refused, for the clips or for the formula, nothing is written, and the next call saves all.
+fn assert_made_again(rt: &(impl Abort + AllocGlobal), goes_on: bool) -> Result<(), Fail> {
+    let row = (Some(6), false, ALL, ALL, WITH_6);
+    let mut paper = Paper::new(rt.alloc(), 1_000, 0);
+    let mut saved = save_worked(rt.alloc(), &case_of(&row), goes_on, &mut paper)?;
+    if let Err(SaveFault::Memory) = saved {
+        same(rt, (paper.writes, paper.failed()), (0, false));
+        paper = Paper::new(rt.alloc(), 1_000, 0);
+        saved = save_worked(rt.alloc(), &case_of(&row), goes_on, &mut paper)?;
+    }
+    // The paper took no memory.
+    if let Err(SaveFault::Unwritten) = saved {
+        return Ok(());
+    }
+    let length = saved.map(|next| next.map(|formula| formula.len()));
+    let wanted = if goes_on { Some(5) } else { None };
+    same(
+        rt,
+        (length, paper.bytes.as_slice()),
+        (Ok(wanted), WITH_6.as_bytes()),
+    );
     Ok(())
 }
 
-/// Where memory is refused, nothing is written, and the next call saves all.
 #[test]
 fn a_refused_save_can_be_made_again(rt: HostRuntime) -> Result<(), Fail> {
-    let text = "p cnf 2 4\n1 2 0\n-1 2 0\n1 -2 0\n-1 -2 0\n";
-    let case = Case {
-        publishes: None,
-        retires: false,
-        wanted: ALL,
-    };
-    let mut paper = Paper::new(rt.alloc(), 1_000, 0);
-    let mut saved = save_worked(rt.alloc(), &case, &mut paper)?;
-    if saved == Err(SaveFault::Memory) {
-        same(&rt, (paper.writes, paper.failed()), (0, false));
-        let mut again = Paper::new(rt.alloc(), 1_000, 0);
-        saved = save_worked(rt.alloc(), &case, &mut again)?;
-        paper = again;
-    }
-    if saved != Err(SaveFault::Unwritten) {
-        same(
-            &rt,
-            (saved, paper.bytes.as_slice()),
-            (Ok(()), text.as_bytes()),
-        );
-    }
-    Ok(())
+    assert_made_again(&rt, false)?;
+    assert_made_again(&rt, true)
 }
 
-/// The identities of the live clauses that are wanted.
+/// The identities of the live clauses that are wanted, when stream 1 has acted.
 fn live_ids<M: ClauseMap>(
     alloc: Global,
     desk: &mut M,
+    case: &Case,
     last: Id,
-    wanted: &Except,
-) -> Result<Option<Vec<Id>>, AllocError> {
+) -> Result<Option<Vec<Id>>, AllocError>
+    requires { (M.caller_view desk.old).caller.formula ≡ four }
+{
+    act(desk, case);
     if !desk.covers(last) {
         return Ok(None);
     }
     let mut ids = Vec::new(alloc);
-    for clip in &live_clauses(alloc, desk, last, wanted)? {
+    for clip in &live_clauses(alloc, desk, last, &case.wanted)? {
         ids.push(clip.id())?;
     }
     Ok(Some(ids))
 }
 
-/// The identities of what is live and wanted when stream 1 has acted.
-fn ids_after(
+/// Those of the worked formula's map.
+fn ids_at_first(
     alloc: Global,
     map: &mut PlainMap,
     case: &Case,
@@ -278,12 +281,10 @@ fn ids_after(
     requires formula { formula_of map.old ≡ four }
     requires stream { IsStream map.old.layout 1 }
 {
-    let mut desk = map.desk(1);
-    act(&mut desk, case);
-    live_ids(alloc, &mut desk, last, &case.wanted)
+    live_ids(alloc, &mut map.desk(1), case, last)
 }
 
-/// Under which identity stream 1 publishes, what is wanted then and up to which identity, and what that is.
+/// Under which identity stream 1 publishes, what both streams dropped, up to which identity is looked, and what is live and wanted.
 static LIVE: [(Id, Except, Id, Option<&[u64]>); 5] = [
     (5, ALL, 6, Some(&[1, 2, 3, 4, 5])),
     (6, ALL, 6, Some(&[1, 2, 3, 4, 6])),
@@ -292,22 +293,13 @@ static LIVE: [(Id, Except, Id, Option<&[u64]>); 5] = [
     (5, ALL, 7, None),
 ];
 
-/// The identities of what is live and wanted in the worked formula's map.
-fn worked_ids(alloc: Global, case: &Case, last: Id) -> Result<Option<Vec<Id>>, Fail> {
-    let (mut map, layout) = open_worked(alloc)?;
-    let _ = layout.streams();
-    Ok(ids_after(alloc, &mut map, case, last)?)
-}
-
 #[test]
 fn live_clauses_come_in_order(rt: HostRuntime) -> Result<(), Fail> {
-    for &(publishes, wanted, last, ids) in &LIVE {
-        let case = Case {
-            publishes: Some(publishes),
-            retires: false,
-            wanted,
-        };
-        let found = worked_ids(rt.alloc(), &case, last)?;
+    for &(publishes, dropped, last, ids) in &LIVE {
+        let case = case_of(&(Some(publishes), false, dropped, dropped, ""));
+        let (mut map, layout) = open_worked(rt.alloc())?;
+        let _ = layout.streams();
+        let found = ids_at_first(rt.alloc(), &mut map, &case, last)?;
         same(&rt, found.as_ref().map(|ids| ids.as_slice()), ids);
     }
     Ok(())
