@@ -1,246 +1,129 @@
-//! Interleavings that counters force: a thread goes on once the others have come as far, so each run meets them.
-ghost use Rattle.std.specs.Prelude.{◌≡◌, ◌<◌, ◌≤◌};
+//! Interleavings that counters force: a thread goes on once the others have come as far, so each
+//! run meets them.
+ghost use Rattle.std.specs.Prelude.{◌≡◌, ◌<◌};
 ghost use Rattle.lrup_model.specs.History.{IsPublishable};
-ghost use Rattle.lrup_model.specs.Pass.{pass_caller_view};
-ghost use Rattle.lrup_model.specs.CallerView.{IsKnown};
-ghost use Rattle.test_support.specs.Worked.{four};
 ghost use Rattle.clause_store.specs.Passes.{store_of};
 ghost use Rattle.clause_store_tests.specs.Worked.{IsPassAt, ArePassesAt, raced};
 
-use super::{
-    Found, TURNS, arrives, finds_raced, holds, is_kept, is_raced, live, look, open_race, open_two,
-    publish, publish_raced, reads_back, retire, same, waits_for,
-};
+use super::{Found, finds_raced, look, open_race, publish_raced, reads_back, retire, same};
 use clause_store::{Pass, Store};
-use lrup_model::{Clip, Fetched, Id, Lit, Published, Retired};
+use lrup_model::{Fetched, Id, Lit, Published, Retired};
 use std::alloc::Global;
 use std::process::Abort;
 use std::sync::atomic::{AtomicU64, Ordering};
 use std::test::Fail;
-use std::thread::{Threads, for_each_mut, join, yield_now};
+use std::thread::{Threads, for_each_mut, yield_now};
 use std::time::{Clock, Duration};
 use test_support::lit;
 
-/// Retires 6 and publishes 8.
-fn replace(store: &Store, pass: &mut Pass) -> (Option<Retired>, Option<Published>)
-    requires { IsPassAt four store.now pass.old }
-    ensures { IsPassAt four store.now pass.new }
-{
-    let retired = retire(store, pass, 6);
-    (retired, publish(store, pass, 8, &[lit(1)]))
+/// How far the threads have come.
+#[derive(Drop)]
+struct Counters {
+    arrived: AtomicU64,
+    /// What was published, or the last line that is hammered.
+    other: AtomicU64,
 }
 
-/// Replaces 6 by 8, and then stays until the other thread has read its clip. Was that in time?
-fn replace_six(
-    store: &Store,
-    mut pass: Pass,
-    replaced: &AtomicU64,
-    read: &AtomicU64,
-) -> (Pass, (Option<Retired>, Option<Published>, bool))
-    requires { IsPassAt four store.now pass }
-    ensures { IsPassAt four store.now result.0 }
-{
-    let (retired, published) = replace(store, &mut pass);
-    replaced.fetch_add(1, Ordering::SeqCst);
-    let in_time = waits_for(read, 1);
-    (pass, (retired, published, in_time))
-}
-
-/// Reads the clip of 6 once it was replaced. Was that in time, and is it what it was?
-fn read_replaced(
-    store: &Store,
-    mut pass: Pass,
-    clip: &Clip,
-    replaced: &AtomicU64,
-    read: &AtomicU64,
-) -> (Pass, (bool, bool))
-    requires at { IsPassAt four store.now pass }
-    requires known { IsKnown (pass_caller_view pass.view) clip.now }
-    ensures { IsPassAt four store.now result.0 }
-{
-    let in_time = waits_for(replaced, 1);
-    let stays = reads_back(store, &mut pass, clip, &[lit(-2)]);
-    read.fetch_add(1, Ordering::SeqCst);
-    (pass, (in_time, stays))
-}
-
-/// The first pass reads its clip while the second, in a thread of its own, has replaced the clause and is still there.
-fn replace_and_read<R: Threads + Abort>(
-    rt: &R,
-    store: &Store,
-    a: Pass,
-    b: Pass,
-    clip: &Clip,
-) -> (Pass, Pass)
-    requires first { IsPassAt four store.now a }
-    requires second { IsPassAt four store.now b }
-    requires known { IsKnown (pass_caller_view a.view) clip.now }
-    ensures first { IsPassAt four store.now result.0 }
-    ensures second { IsPassAt four store.now result.1 }
-{
-    let (replaced, read) = (AtomicU64::new(0), AtomicU64::new(0));
-    let (replaced, read) = (&replaced, &read);
-    let ((b, answers), (a, found)) = join(
-        rt,
-        || -> (Pass, (Option<Retired>, Option<Published>, bool))
-            requires { IsPassAt four store.now b }
-            ensures { IsPassAt four store.entry.now result.0 }
-        { replace_six(store, b, replaced, read) },
-        || -> (Pass, (bool, bool))
-            requires { IsPassAt four store.now a × IsKnown (pass_caller_view a.view) clip.now }
-            ensures { IsPassAt four store.entry.now result.0 }
-        { read_replaced(store, a, clip, replaced, read) },
-    );
-    same(
-        rt,
-        answers,
-        (Some(Retired::Done), Some(Published::Done), true),
-    );
-    same(rt, found, (true, true));
-    (a, b)
-}
-
-/// The second pass publishes 6. Once they have met, the first has its clip.
-fn clip_of_six<R: Abort>(rt: &R, store: &Store, a: &mut Pass, b: &mut Pass) -> Clip
-    requires first { IsPassAt four store.now a.old }
-    requires second { IsPassAt four store.now b.old }
-    ensures first { IsPassAt four store.now a.new }
-    ensures second { IsPassAt four store.now b.new }
-    ensures known { IsKnown (pass_caller_view a.new.view) result }
-{
-    let answer = publish(store, b, 6, &[lit(-2)]);
-    same(rt, answer, Some(Published::Done));
-    store.meet(a, b);
-    match live(store, a, 6) {
-        Some(clip) => clip,
-        None => panic!(rt; "6 isn't live"),
+impl Counters {
+    fn new(other: u64) -> Counters {
+        Counters {
+            arrived: AtomicU64::new(0),
+            other: AtomicU64::new(other),
+        }
     }
 }
 
-/// Once they have met, the first pass finds 6 retired and 8 live.
-fn finds_replaced<R: Abort>(rt: &R, store: &Store, a: &mut Pass, b: &mut Pass)
-    requires first { IsPassAt four store.now a.old }
-    requires second { IsPassAt four store.now b.old }
-{
-    store.meet(a, b);
-    same(rt, look(store, a, 6), Some(Found::Retired));
-    holds(rt, is_kept(store, a, 8, &[lit(1)]));
-}
+/// How often a thread looks for what another does, before it gives up.
+const TURNS: u32 = 10_000_000;
 
-/// A clip that the first pass holds reads as before once the second has retired its clause and published the next.
-fn clip_outlives<R: Threads + Abort>(rt: &R, store: &Store, mut a: Pass, mut b: Pass)
-    requires first { IsPassAt four store.now a }
-    requires second { IsPassAt four store.now b }
-{
-    let clip = clip_of_six(rt, store, &mut a, &mut b);
-    let (mut a, mut b) = replace_and_read(rt, store, a, b, &clip);
-    finds_replaced(rt, store, &mut a, &mut b);
-}
-
-/// Each stream has two identities and room for two literals.
-fn outlive<R: Threads + Abort>(rt: &R, alloc: Global) -> Result<(), Fail> {
-    let (store, a, b) = open_two(alloc, 2, 2)?;
-    clip_outlives(rt, &store, a, b);
-    Ok(())
-}
-
-#[test]
-fn a_clip_outlives_its_clause(rt: HostRuntime) -> Result<(), Fail> {
-    for _ in 0..100 {
-        outlive(&rt, rt.alloc())?;
+/// Waits until the threads have counted this far, and says whether they did in time.
+fn waits_for(counter: &AtomicU64, wanted: u64) -> bool {
+    for _turn in 0..TURNS {
+        if wanted <= counter.load(Ordering::SeqCst) {
+            return true;
+        }
+        yield_now();
     }
-    Ok(())
+    false
+}
+
+/// Counts this thread, and waits until all of them were.
+fn arrives(counter: &AtomicU64, wanted: u64) -> bool {
+    counter.fetch_add(1, Ordering::SeqCst);
+    waits_for(counter, wanted)
 }
 
 /// How many lines each stream has here.
 const LINES: u64 = 1_000;
 
-/// Publishes the clause of each line once the other stream is there too.
-fn publish_together<R: Abort>(
-    rt: &R,
-    store: &Store,
-    pass: &mut Pass,
-    there: &AtomicU64,
-    published: &AtomicU64,
-)
-    requires { IsPassAt raced store.now pass.old }
-    ensures { store_of pass.new ≡ store.now }
+/// Looks at the clause of each stream at a line: it is there, or isn't yet where it may be missing.
+fn look_at_line(rt: &impl Abort, store: &Store, pass: &mut Pass, line: u64, may_miss: bool)
+    requires at { IsPassAt raced store.now pass.old }
+    requires line { line < 1000 }
+    ensures { IsPassAt raced store.now pass.new }
 {
     let own = pass.stream();
-    for line in 0..LINES {
-        let in_time = arrives(there, 2 * line + 2);
-        let answer = publish_raced(store, pass, 4 * line + own + 1);
-        published.fetch_add(1, Ordering::SeqCst);
-        let wanted = (line, own, true, Some(Published::Done));
-        same(rt, (line, own, in_time, answer), wanted);
+    for stream in 1..5u64 {
+        let found = finds_raced(store, pass, 4 * line + stream + 1);
+        let is_early = may_miss && stream != own && found == Some(Found::Vacant);
+        let is_right = is_early || found == Some(Found::Live);
+        same(rt, (line, stream, own, is_right), (line, stream, own, true));
     }
 }
 
-/// Reads the clauses of each line back, once both are published.
-fn read_both<R: Abort>(rt: &R, store: &Store, pass: &mut Pass, published: &AtomicU64)
-    requires { store_of pass.old ≡ store.now }
-    ensures { store_of pass.new ≡ store.now }
-{
-    for line in 0..LINES {
-        let in_time = waits_for(published, 2 * line + 2);
-        let first = finds_raced(store, pass, 4 * line + 2);
-        let second = finds_raced(store, pass, 4 * line + 3);
-        let found = (in_time, first, second);
-        same(rt, (line, found), (line, (true, Some(true), Some(true))));
-    }
-}
-
-/// The first two streams publish, and the others read back.
-fn publish_or_read<R: Abort>(
-    rt: &R,
-    store: &Store,
-    pass: &mut Pass,
-    there: &AtomicU64,
-    published: &AtomicU64,
-)
+/// Publishes the clause of each line when all others do, and looks at theirs: at once, and when
+/// all have published.
+fn publish_together(rt: &impl Abort, store: &Store, pass: &mut Pass, counters: &Counters)
     requires { IsPassAt raced store.now pass.old }
     ensures { store_of pass.new ≡ store.now }
 {
-    if pass.stream() < 3 {
-        publish_together(rt, store, pass, there, published);
-    } else {
-        read_both(rt, store, pass, published);
+    for line in 0..LINES {
+        let in_time = arrives(&counters.arrived, 4 * line + 4);
+        let answer = publish_raced(store, pass, 4 * line + pass.stream() + 1);
+        same(
+            rt,
+            (line, in_time, answer),
+            (line, true, Some(Published::Done)),
+        );
+        look_at_line(rt, store, pass, line, true);
+        same(rt, arrives(&counters.other, 4 * line + 4), true);
+        look_at_line(rt, store, pass, line, false);
     }
 }
 
 /// Publishes the clause of each line, and retires it once all others are there to fetch it.
-fn retire_together<R: Abort>(rt: &R, store: &Store, pass: &mut Pass, there: &AtomicU64)
+fn retire_together(rt: &impl Abort, store: &Store, pass: &mut Pass, counters: &Counters)
     requires { IsPassAt raced store.now pass.old }
     ensures { store_of pass.new ≡ store.now }
 {
     for line in 0..LINES {
         let id = 4 * line + 2;
         let answer = publish_raced(store, pass, id);
-        let in_time = arrives(there, 4 * line + 4);
+        let in_time = arrives(&counters.arrived, 4 * line + 4);
         let found = (line, answer, in_time, retire(store, pass, id));
         let wanted = (line, Some(Published::Done), true, Some(Retired::Done));
         same(rt, found, wanted);
     }
-    there.fetch_add(1, Ordering::SeqCst);
+    counters.arrived.fetch_add(1, Ordering::SeqCst);
 }
 
-/// Is the clause live and whole, or retired?
-fn finds_whole_or_retired(store: &Store, pass: &mut Pass, id: Id) -> bool
+/// Fetches the clause of each line when it is about to be retired, and finds it whole or retired.
+fn fetch_together(rt: &impl Abort, store: &Store, pass: &mut Pass, counters: &Counters)
     requires { store_of pass.old ≡ store.now }
     ensures { store_of pass.new ≡ store.now }
 {
-    if !store.covers(id) {
-        return false;
+    for line in 0..LINES {
+        let in_time = arrives(&counters.arrived, 4 * line + 4);
+        let found = finds_raced(store, pass, 4 * line + 2);
+        let is_right = found == Some(Found::Live) || found == Some(Found::Retired);
+        same(rt, (line, in_time, is_right), (line, true, true));
     }
-    match store.fetch(pass, id) {
-        Fetched::Vacant => false,
-        Fetched::Live(clip) => clip.id() == id && is_raced(store, pass, &clip),
-        Fetched::Retired => true,
-    }
+    same(rt, waits_for(&counters.arrived, 4 * LINES + 1), true);
+    finds_all_retired(rt, store, pass);
 }
 
 /// Finds the clause of each line retired.
-fn finds_all_retired<R: Abort>(rt: &R, store: &Store, pass: &mut Pass)
+fn finds_all_retired(rt: &impl Abort, store: &Store, pass: &mut Pass)
     requires { store_of pass.old ≡ store.now }
     ensures { store_of pass.new ≡ store.now }
 {
@@ -250,33 +133,8 @@ fn finds_all_retired<R: Abort>(rt: &R, store: &Store, pass: &mut Pass)
     }
 }
 
-/// Fetches the clause of each line when it is about to be retired, and once more when all are.
-fn fetch_together<R: Abort>(rt: &R, store: &Store, pass: &mut Pass, there: &AtomicU64)
-    requires { store_of pass.old ≡ store.now }
-    ensures { store_of pass.new ≡ store.now }
-{
-    for line in 0..LINES {
-        let in_time = arrives(there, 4 * line + 4);
-        let found = finds_whole_or_retired(store, pass, 4 * line + 2);
-        same(rt, (line, in_time, found), (line, true, true));
-    }
-    holds(rt, waits_for(there, 4 * LINES + 1));
-    finds_all_retired(rt, store, pass);
-}
-
-/// The first stream retires, and the others fetch.
-fn retire_or_fetch<R: Abort>(rt: &R, store: &Store, pass: &mut Pass, there: &AtomicU64)
-    requires { IsPassAt raced store.now pass.old }
-    ensures { store_of pass.new ≡ store.now }
-{
-    if pass.stream() == 1 {
-        retire_together(rt, store, pass, there);
-    } else {
-        fetch_together(rt, store, pass, there);
-    }
-}
-
-/// The clause of an identity that the others hammer, one of two by turns: its literals lie in three words.
+/// The clause of an identity that the others hammer, one of two in turn: its literals lie in three
+/// words.
 fn six_literals(id: Id) -> [Lit; 6]
     ensures { IsPublishable raced result }
 {
@@ -298,7 +156,8 @@ fn publish_six(store: &Store, pass: &mut Pass, id: Id) -> Option<Published>
     Some(store.publish(pass, id, &six_literals(id)))
 }
 
-/// Fetches until the clause is live, and pauses once in many turns. Is it whole then? None where it never was live.
+/// Fetches until the clause is live, and pauses once in many turns. Is it whole then? None where it
+/// never was live.
 fn hammers(store: &Store, pass: &mut Pass, id: Id) -> Option<bool>
     requires { store_of pass.old ≡ store.now }
     ensures { store_of pass.new ≡ store.now }
@@ -330,24 +189,18 @@ fn is_late(clock: &impl Clock, began: Option<Duration>) -> bool {
     }
 }
 
-/// Publishes the clause of each line once eight others hammer at it. Where it is late, this line is told to be the last one
-/// before its clause is there, so that whoever finds it knows.
-fn publish_hammered<R: Abort + Clock>(
-    rt: &R,
-    store: &Store,
-    pass: &mut Pass,
-    there: &AtomicU64,
-    lines: &AtomicU64,
-)
+/// Publishes the clause of each line once eight others hammer at it. When it is late, it says that
+/// this line is the last one before its clause is there, so that each thread that finds it knows.
+fn publish_hammered<R: Abort + Clock>(rt: &R, store: &Store, pass: &mut Pass, counters: &Counters)
     requires { IsPassAt raced store.now pass.old }
     ensures { store_of pass.new ≡ store.now }
 {
     let began = rt.monotonic().ok();
     for line in 0..HAMMERED {
-        let in_time = waits_for(there, 8 * line + 8);
+        let in_time = waits_for(&counters.arrived, 8 * line + 8);
         let late = is_late(rt, began);
         if late {
-            lines.store(line + 1, Ordering::SeqCst);
+            counters.other.store(line + 1, Ordering::SeqCst);
         }
         let answer = publish_six(store, pass, 9 * line + 2);
         let wanted = (line, true, Some(Published::Done));
@@ -359,47 +212,24 @@ fn publish_hammered<R: Abort + Clock>(
 }
 
 /// Hammers at the clause of each line.
-fn hammer_all<R: Abort>(
-    rt: &R,
-    store: &Store,
-    pass: &mut Pass,
-    there: &AtomicU64,
-    lines: &AtomicU64,
-)
+fn hammer_all(rt: &impl Abort, store: &Store, pass: &mut Pass, counters: &Counters)
     requires { store_of pass.old ≡ store.now }
     ensures { store_of pass.new ≡ store.now }
 {
     for line in 0..HAMMERED {
-        if lines.load(Ordering::SeqCst) <= line {
+        if counters.other.load(Ordering::SeqCst) <= line {
             return;
         }
-        there.fetch_add(1, Ordering::SeqCst);
+        counters.arrived.fetch_add(1, Ordering::SeqCst);
         let found = hammers(store, pass, 9 * line + 2);
         same(rt, (line, found), (line, Some(true)));
     }
 }
 
-/// The first stream publishes, and the others hammer.
-fn publish_or_hammer<R: Abort + Clock>(
-    rt: &R,
-    store: &Store,
-    pass: &mut Pass,
-    there: &AtomicU64,
-    lines: &AtomicU64,
-)
-    requires { IsPassAt raced store.now pass.old }
-    ensures { store_of pass.new ≡ store.now }
-{
-    if pass.stream() == 1 {
-        publish_hammered(rt, store, pass, there, lines);
-    } else {
-        hammer_all(rt, store, pass, there, lines);
-    }
-}
-
 /// What the streams do at the same time.
+#[derive(Clone, Copy)]
 enum Play {
-    PublishOrRead,
+    Publish,
     RetireOrFetch,
     PublishOrHammer,
 }
@@ -407,82 +237,90 @@ enum Play {
 /// A stream does its part of it.
 fn take_part<R: Abort + Clock>(
     rt: &R,
-    play: &Play,
+    play: Play,
     store: &Store,
     pass: &mut Pass,
-    there: &AtomicU64,
-    other: &AtomicU64,
+    counters: &Counters,
 )
     requires { IsPassAt raced store.now pass.old }
     ensures { store_of pass.new ≡ store.now }
 {
-    match play {
-        Play::PublishOrRead => publish_or_read(rt, store, pass, there, other),
-        Play::RetireOrFetch => retire_or_fetch(rt, store, pass, there),
-        Play::PublishOrHammer => publish_or_hammer(rt, store, pass, there, other),
+    match (play, pass.stream()) {
+        (Play::Publish, _) => publish_together(rt, store, pass, counters),
+        (Play::RetireOrFetch, 1) => retire_together(rt, store, pass, counters),
+        (Play::RetireOrFetch, _) => fetch_together(rt, store, pass, counters),
+        (Play::PublishOrHammer, 1) => publish_hammered(rt, store, pass, counters),
+        (Play::PublishOrHammer, _) => hammer_all(rt, store, pass, counters),
     }
 }
 
-/// Each stream does so in a thread of its own. What the two counters are at the end: the first begins at 0.
+/// Each stream does so in a thread of its own, and then all meet.
 fn play_together<R: Threads + Abort + Sync + Clock>(
     rt: &R,
-    play: &Play,
+    play: Play,
     store: &Store,
     passes: &mut [Pass],
-    other: u64,
-) -> (u64, u64)
+    counters: &Counters,
+)
     requires { ArePassesAt raced store.now passes.old }
 {
-    let (there, other) = (AtomicU64::new(0), AtomicU64::new(other));
     for_each_mut(
         rt,
         passes,
         9,
-        &|_, pass: &mut Pass| take_part(rt, play, store, pass, &there, &other),
+        &|_, pass: &mut Pass| { take_part(rt, play, store, pass, counters) },
     );
-    (there.load(Ordering::SeqCst), other.load(Ordering::SeqCst))
+    store.meet_all(passes);
 }
 
-/// The same at a new store, for so many streams with so many identities and so much room each.
+/// The same at a new store, for so many streams with this many identities and so much room each.
 fn play_at<R: Threads + Abort + Sync + Clock>(
     rt: &R,
     alloc: Global,
-    play: &Play,
-    size: (u64, u64, u64),
-    other: u64,
-) -> Result<(u64, u64), Fail> {
-    let (streams, identities, room) = size;
+    play: Play,
+    (streams, identities, room): (u64, u64, u64),
+    counters: &Counters,
+) -> Result<(), Fail> {
     let (store, mut passes) = open_race(alloc, streams, identities, room)?;
     same(rt, passes.len() as u64, streams);
-    Ok(play_together(rt, play, &store, passes.as_mut_slice(), other))
+    play_together(rt, play, &store, passes.as_mut_slice(), counters);
+    Ok(())
 }
 
-/// Two streams publish at the same moment at neighbouring identities, a thousand times; two others read both clauses.
+/// Four streams publish at the same moment at neighbouring identities, a thousand times, and read
+/// each other's clauses.
 #[test]
 fn neighbours_are_published_at_once(rt: HostRuntime) -> Result<(), Fail> {
+    let counters = Counters::new(0);
     let size = (4, LINES, 2 * LINES);
-    let (_, published) = play_at(&rt, rt.alloc(), &Play::PublishOrRead, size, 0)?;
-    same(&rt, published, 2 * LINES);
+    play_at(&rt, rt.alloc(), Play::Publish, size, &counters)?;
+    same(&rt, counters.other.load(Ordering::SeqCst), 4 * LINES);
     Ok(())
 }
 
-/// A stream retires an identity and three others fetch it, at the same moment, a thousand times. What they find is live and
-/// whole, or retired. Later all is retired.
+/// A stream retires an identity and three others fetch it, at the same moment, a thousand times.
 #[test]
 fn a_retire_and_a_fetch_at_once(rt: HostRuntime) -> Result<(), Fail> {
+    let counters = Counters::new(0);
     let size = (4, LINES, 2 * LINES);
-    let (there, _) = play_at(&rt, rt.alloc(), &Play::RetireOrFetch, size, 0)?;
-    same(&rt, there, 4 * LINES + 1);
+    play_at(&rt, rt.alloc(), Play::RetireOrFetch, size, &counters)?;
+    same(&rt, counters.arrived.load(Ordering::SeqCst), 4 * LINES + 1);
     Ok(())
 }
 
-/// Eight threads fetch as fast as they can while one publishes, for two to three seconds or until all is published. No gate can
-/// stand between the stores of a clause's literals and the exchange that makes it live; whoever finds it live reads the whole
-/// clause.
+/// Eight threads fetch as fast as they can while one publishes, for two to three seconds or until
+/// all is published. No gate can come between the stores of a clause's literals and the exchange
+/// that makes it live; each thread that finds it live reads the whole clause.
 #[test]
 fn eight_threads_hammer(rt: HostRuntime) -> Result<(), Fail> {
+    let counters = Counters::new(HAMMERED);
     let size = (9, HAMMERED, 6 * HAMMERED);
-    let (there, lines) = play_at(&rt, rt.alloc(), &Play::PublishOrHammer, size, HAMMERED)?;
-    same(&rt, there, lines.saturating_mul(8));
+    play_at(&rt, rt.alloc(), Play::PublishOrHammer, size, &counters)?;
+    let lines = counters.other.load(Ordering::SeqCst);
+    same(
+        &rt,
+        counters.arrived.load(Ordering::SeqCst),
+        lines.saturating_mul(8),
+    );
     Ok(())
 }

@@ -5,7 +5,7 @@ ghost use Rattle.lrup_model.specs.Pass.{IsFair, SyncInTurn};
 ghost use Rattle.clause_store.specs.Passes.{store_of, AreOf, ShareHistory, views};
 ghost use Rattle.clause_store_tests.specs.Worked.{IsPassAt, ArePassesAt, raced};
 
-use super::{finds_raced, open_race, publish_raced, same};
+use super::{Found, finds_raced, open_race, publish_raced, same};
 use clause_store::laws::{meeting_keeps, sync_twice};
 use clause_store::{Pass, Store};
 use lrup_model::Published;
@@ -23,8 +23,8 @@ fn meet_both(store: &Store, first: &mut Pass, second: &mut Pass, third: &mut Pas
     store.meet(first, third);
 }
 
-/// It does so twice. What `meet` promises of each call is what the laws ask for: all three have then seen one history, and the
-/// others are fair.
+/// It does so twice. By what `meet` promises and the laws, all three have then seen one history, and
+/// the others are fair.
 fn meet_both_twice(store: &Store, first: &mut Pass, second: &mut Pass, third: &mut Pass)
     requires { AreOf store.now (first.old ∷ second.old ∷ third.old ∷ []) }
     ensures of { AreOf store.now (first.new ∷ second.new ∷ third.new ∷ []) }
@@ -41,9 +41,9 @@ fn meet_both_twice(store: &Store, first: &mut Pass, second: &mut Pass, third: &m
 fn finds_three<R: Abort>(rt: &R, store: &Store, pass: &mut Pass)
     requires { store_of pass.old ≡ store.now }
 {
-    same(rt, finds_raced(store, pass, 2), Some(true));
-    same(rt, finds_raced(store, pass, 3), Some(true));
-    same(rt, finds_raced(store, pass, 4), Some(true));
+    same(rt, finds_raced(store, pass, 2), Some(Found::Live));
+    same(rt, finds_raced(store, pass, 3), Some(Found::Live));
+    same(rt, finds_raced(store, pass, 4), Some(Found::Live));
 }
 
 /// Each of three streams publishes a clause.
@@ -77,7 +77,6 @@ fn meet_as_three<R: Abort>(rt: &R, store: &Store, passes: &mut [Pass]) -> Result
     Ok(())
 }
 
-/// Each of three streams publishes a clause. Once the first has met both others twice, each finds all three.
 #[test]
 fn three_passes_meet_twice(rt: HostRuntime) -> Result<(), Fail> {
     let (store, mut passes) = open_race(rt.alloc(), 3, 1, 2)?;

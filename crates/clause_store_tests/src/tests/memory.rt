@@ -37,7 +37,7 @@ fn call_each<R: Abort>(rt: &R, store: &Store, first: &mut Pass, second: &mut Pas
     same(rt, look(store, second, id), Some(Found::Vacant));
     same(rt, publish_raced(store, first, id), Some(Published::Done));
     store.meet(first, second);
-    same(rt, finds_raced(store, second, id), Some(true));
+    same(rt, finds_raced(store, second, id), Some(Found::Live));
     holds(rt, has_pair(store, second, id));
     same(rt, retire(store, first, id), Some(Retired::Done));
     same(rt, publish_raced(store, first, id), Some(Published::Taken));
@@ -65,8 +65,8 @@ fn open_and_call<R: Abort>(rt: &R, alloc: Global) -> Result<(), Fail> {
     call_often(rt, &store, passes.as_mut_slice())
 }
 
-/// No call of a pass takes memory: some allocations make the formula, the store and the passes, and the next one is the test's
-/// own, after the last call. The gate refuses that one, and this test has to fail then.
+/// No call of a pass takes memory: the last allocation is the test's own, after all calls. The gate
+/// refuses that one, and this test has to fail then.
 #[test]
 fn the_last_allocation_comes_after_all_calls(rt: HostRuntime) -> Result<(), Fail> {
     open_and_call(&rt, rt.alloc())?;
@@ -117,7 +117,7 @@ fn is_new<R: Abort>(rt: &R, store: &Store, passes: &mut [Pass]) -> Result<(), Fa
     Ok(())
 }
 
-/// The gate runs this test with each of its allocations refused, one after the other; the second opening then has memory.
+/// The gate refuses each allocation of this test in turn; the second opening then has memory.
 #[test]
 fn a_refused_store_can_be_opened_again(rt: HostRuntime) -> Result<(), Fail> {
     let (store, mut passes) = open_empty(rt.alloc())?;
@@ -131,8 +131,8 @@ fn open_large<R: Abort>(rt: &R, alloc: Global) -> Result<(), Fail> {
     Ok(())
 }
 
-/// Four such stores come one after the other. The gate gives this test memory for one and a half, so that what an opening took
-/// and nobody gives back would be missing at the next.
+/// Four such stores in turn. The gate gives this test memory for one and a half, so that what isn't
+/// given back would be missing at the next.
 #[test]
 fn a_large_store_is_given_back(rt: HostRuntime) -> Result<(), Fail> {
     for _ in 0..4 {
