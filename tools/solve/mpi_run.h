@@ -17,7 +17,7 @@
 // Messages. A carrier forwards those for another process, and handles the first four itself.
 enum Word : uint32_t {
     HELLO,          // of the carrier: the processes, and how many engines each has
-    INPUT,          // of process 0, for all: a piece of the formula; an empty one is the end
+    INPUT,          // of process 0, for all: a piece of what is read at first; an empty one is the end
     GIFTS,          // for all, and of each: what an exchange is about
     LEAVE,          // the last one: the process exchanges nothing more
     EXCHANGED,      // of the carrier: it is over, in so many nanoseconds

@@ -43,7 +43,7 @@ public:
     bool have_all(uint64_t EngineStatus::*field, uint64_t wanted) const;    // all filters that are at work have come so far
     std::vector<Child *> children();
 
-    void open();                        // before the formula is read
+    void open(uint64_t round);          // before the formula is read; the first one of this run
     void open_models();                 // after it
     void set_here(int first, int count);    // the others are on other hosts
     void start(bool is_first_alone);    // the others a moment later
