@@ -26,7 +26,8 @@ from harness import (FOUR, LIMIT, ROOT, TESTS, Failure, Ran, Row, compiled, dima
                      until, want, words_given, written)
 from lrat import lrat_fault
 from proof_forms import read_formula
-from solving import Answer, check_again, children_of, command, in_environment, is_alive, of_process, run_built, want_answer
+from records import recorded, saved_rounds, whole
+from solving import Answer, check_again, children_of, command, in_environment, is_alive, marked, of_process, run_built, want_answer
 
 words_given(__doc__, most=3 if sys.argv[3:] == ["small"] else 2)
 ONLY_SMALL = sys.argv[3:] == ["small"]
@@ -40,12 +41,16 @@ ENGINE_KILLED = "the engine ended by a signal: Killed|its filter stopped: .*the 
 GROWING = 16_000_000    # bytes: two streams with 4 MB on the way, 2 MB waiting, and the pipes
 
 
-def launched(processes: int, words: Sequence[object], tested: Optional[Mapping[str, object]] = None,
-             before: Sequence[str] = (), more: Sequence[str] = ()) -> List[str]:
-    """Starts that many processes on this host, also as root. mpirun's own lines are left out."""
+def by_mpi(processes: int, before: Sequence[str] = (), more: Sequence[str] = ()) -> List[str]:
+    """Words that start that many processes on this host, also as root; none for 0 processes. mpirun's own lines are left out."""
     as_root = ["--allow-run-as-root"] * (os.getuid() == 0)
     launcher = ["mpirun", "-q", *as_root, "--oversubscribe", "--bind-to", "none", *more, "-n", str(processes), *before]
-    return command(["--mpi", shlex.join(launcher), *words], tested)
+    return ["--mpi", shlex.join(launcher)] if processes else []
+
+
+def launched(processes: int, words: Sequence[object], tested: Optional[Mapping[str, object]] = None,
+             before: Sequence[str] = (), more: Sequence[str] = ()) -> List[str]:
+    return command([*by_mpi(processes, before, more), *words], tested)
 
 
 def solve(processes: int, words: Sequence[object], tested: Optional[Mapping[str, object]] = None) -> Answer:
@@ -130,6 +135,21 @@ def in_rounds(processes: int, words: str, size: int, options: List[str], status:
     if status == 20:
         want(rounds_of(answer) >= 4, True, f"rounds of\n{answer.out}")
         check_again(kept)
+
+
+def resumed(first: int, second: int, tested: Optional[Dict[str, object]], work: Path) -> None:
+    """A run of the first number of processes is killed, and one of the second goes on with its record. 0 is without MPI."""
+    marked(work)
+    formula, kept, often = generated("pigeons 8", work), work / "kept", ["--save-every", "0.1"] * (tested is None)
+    recorded([*by_mpi(first), "-j", "1", *often, formula], kept, 1, tested)
+    saved = saved_rounds(kept)
+    answer = solve(second, ["-v", "-j", "1", *often, "--resume", kept, formula], tested)
+    want_answer(answer, 20)
+    want(answer.lost(), [], "engines that are lost")
+    wanted = {f"{kept}: round {saved} begins, with ", "lrupd has read what was saved"}
+    found = {begin for begin in wanted for line in answer.comments if line.startswith(begin)}
+    want(found, wanted, f"what is said in\n{answer.out}")
+    whole(kept, formula, work)
 
 
 def assuming(work: Path) -> None:
@@ -374,6 +394,8 @@ def rounds() -> List[Row]:
                  (f"rounds of pigeonholes, {processes}", in_rounds, processes, "pigeons 8", 20000 * processes, [], 20),
                  (f"rounds of a random formula, {processes}", in_rounds, processes, "random 170 4", 12000 * processes, [], 20),
                  (f"rounds, satisfiable, {processes}", in_rounds, processes, "random 260 5 4.15", 30000 * processes, [], 10)]
+    rows += [(f"a run of {first} processes goes on with {second}", resumed, first, second, {**SMALL, "FIRST_WORDS": 20000})
+             for first, second in ((2, 2), (2, 4), (0, 3), (3, 0), (1, 2))]
     return rows + [("rounds, a core and LRAT", cores, 3, "random 170 4", {**SMALL, "FIRST_WORDS": 36000}),
                    ("rounds, nothing shared", in_rounds, 2, "pigeons 8", 40000, ["--no-share"], 20), ("assumptions", assuming),
                    ("gifts of an earlier round", rests_on, "lateness", "gifts"),
@@ -422,7 +444,7 @@ def small_rows() -> List[Row]:
     """Rows without long waits or races."""
     return [("an exchange without MPI", alone), *refusals(),
             *(row for processes in (1, 2, 4) for row in answering(processes, 1, SMALL_FORMULAS)),
-            ("a core and LRAT", cores, 2, "pigeons 6", None),
+            ("a core and LRAT", cores, 2, "pigeons 6", None), ("a run goes on", resumed, 2, 2, None),
             ending(0, "lrupd", "killed", signal.SIGKILL, "lrupd ended by a signal: Killed"),
             ending(1, "run", "killed", signal.SIGKILL, "Terminated"),
             ending(0, "run", "killed", signal.SIGKILL, "MPI's command ended with status "),

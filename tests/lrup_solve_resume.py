@@ -363,7 +363,6 @@ def of_another(work: Path) -> None:
     refused(["--resume", "d", formula], "d is the record of a run with --assume", work)
     refused(["--proofs", "d", *under, formula], "--resume and --proofs: a run that goes on keeps its streams where the one before did", work)
     refused(["--replace", *under, formula], "--resume and --replace: nothing is replaced", work)
-    refused(["--mpi", "mpirun", *under, formula], "--resume and --mpi: a run goes on with engines on one host", work)
     refused(["--save-every", "0", *under, formula], "--save-every takes seconds above 0, not 0", work)
     refused(["--save-every", "1", formula], "--save-every without --proofs or --resume", work)
     refused(["--resume", "none", formula], "none: No such file or directory", work)

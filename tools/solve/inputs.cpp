@@ -143,16 +143,17 @@ void Inputs::read_formula() {
     formula_read(&formula, (OPEN_FILES + std::to_string(file)).c_str());
     close(file);
     first_formula = formula;
-    if (saved.count() > 0) read_first_formula();
+    if (saved.count() > 0) {
+        saved.check(saved.checkpoint());
+        read_first_formula(saved.checkpoint());
+    }
     if (!options.proofs) return;
     digests = digest_line(formula_path);
     if (options.assume) digests += digest_line(assume_path);
 }
 
 // It begins with the formula's own clauses, which no round leaves out.
-void Inputs::read_first_formula() {
-    const std::string path = saved.checkpoint();
-    saved.check(path);
+void Inputs::read_first_formula(const std::string &path) {
     first_formula = Formula();
     formula_read(&first_formula, path.c_str());
     if (first_formula.variables != formula.variables || first_formula.clauses < formula.clauses)

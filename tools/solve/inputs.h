@@ -23,6 +23,7 @@ public:
     using Meanwhile = std::function<void(int file)>;    // until that file can be read
     void read(const Meanwhile &meanwhile);
     void read_formula();
+    void read_first_formula(const std::string &path);
     double deadline() const;                    // by --time; INFINITY without
     std::string contradiction() const;          // of the assumptions; none
     bool is_model(const signed char *values) const;
@@ -35,7 +36,6 @@ private:
     void find_again();
     std::string path_of_digests() const;
     void check_digests();
-    void read_first_formula();
     void read_in_thread(const Meanwhile &meanwhile);
     std::string again(const std::string &path, const std::string &fronts, const char *kept_as) const;
     void read_assumptions();

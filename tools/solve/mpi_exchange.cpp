@@ -22,6 +22,7 @@ struct Sent { uint32_t engine, identity, length; };
 void Exchange::open(Shared *all, const std::vector<uint32_t *> &boxes) {
     shared = all;
     outboxes = boxes;
+    round = LOAD(all->round);
     first = all->first_here;
     end = first + all->engines_here;
     for (std::vector<uint64_t> *list : { &read, &cleared, &staged }) list->assign(boxes.size(), 0);

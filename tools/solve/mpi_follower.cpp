@@ -82,9 +82,8 @@ private:
     // Before solving.
 
     void prepare() {
-        receive_inputs();
-        inputs.read_formula();
-        teams.open();
+        uint64_t round = receive_inputs();
+        teams.open(round);
         told.resize(teams.size());
         teams.open_models();
         peer.open();
@@ -104,8 +103,10 @@ private:
         }
     }
 
-    void receive_inputs() {
-        int file = file_in_memory();
+    // Of a run that goes on also what a round before has saved. The round that this run begins with.
+    uint64_t receive_inputs() {
+        int file = file_in_memory(), saved_before = file_in_memory();
+        uint64_t round = 1;
         for (Message message;;) {
             if (!link.wait(message, STARTING)) refuse("no formula comes from process 0");
             if (message.head.word != INPUT || message.bytes.empty()) break;
@@ -114,8 +115,14 @@ private:
             for (Literal literal; kind == 'a' && message.take(literal);) inputs.assumed.push_back(literal);
             if (kind == 'c') receive_cubes(message);
             if (kind == 'f') keep(file, message.rest(), message.left());
+            if (kind == 'r') message.take(round);
+            if (kind == 's') keep(saved_before, message.rest(), message.left());
         }
         inputs.formula_path = OPEN_FILES + std::to_string(file);
+        inputs.read_formula();
+        if (round > 1) inputs.read_first_formula(OPEN_FILES + std::to_string(saved_before));
+        close_file(saved_before);
+        return round;
     }
 
     void receive_cubes(Message &message) {

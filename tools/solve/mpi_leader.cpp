@@ -61,16 +61,23 @@ private:
         peer.open();
         traffic.resize(link.engines.size());
         sent.resize(link.engines.size());
-        std::vector<char> piece(PIECE_OF_INPUT);
+        const uint64_t round = inputs.saved.count() + 1;
+        broadcast('r', &round, sizeof round);
         broadcast('a', inputs.assumed.data(), inputs.assumed.size() * sizeof(Literal));
         broadcast_cubes();
-        int file = open_input(inputs.formula_path);
+        broadcast_file('f', inputs.formula_path);
+        if (round > 1) broadcast_file('s', inputs.saved.checkpoint());
+        link.send(INPUT, 0, "");
+    }
+
+    void broadcast_file(char kind, const std::string &path) {
+        std::vector<char> piece(PIECE_OF_INPUT);
+        int file = open_input(path);
         for (ssize_t count; (count = read(file, piece.data(), piece.size())) != 0;) {
-            if (count < 0 && errno != EINTR) refuse("cannot read the formula again: " + error_text());
-            if (count > 0) broadcast('f', piece.data(), size_t(count));
+            if (count < 0 && errno != EINTR) refuse("cannot read " + path + " again: " + error_text());
+            if (count > 0) broadcast(kind, piece.data(), size_t(count));
         }
         close(file);
-        link.send(INPUT, 0, "");
     }
 
     void broadcast_cubes() {

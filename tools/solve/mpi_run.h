@@ -21,7 +21,7 @@
 // processes.
 enum Word : uint32_t {
     HELLO,          // from the carrier: the processes, and how many engines each has
-    INPUT,          // from process 0 to all: a piece of the input; an empty one is the end
+    INPUT,          // from process 0 to all: a piece of what is read at first; an empty one is the end
     GIFTS,          // from each process to all: the clauses of an exchange
     LEAVE,          // the last one: the process exchanges nothing more
     EXCHANGED,      // from the carrier: the nanoseconds that an exchange took

@@ -225,7 +225,6 @@ void check_proofs(const Options &options) {
 void check_resumed(Options &options) {
     if (options.proofs) refuse("--resume and --proofs: a run that goes on keeps its streams where the one before did");
     if (options.replace) refuse("--resume and --replace: nothing is replaced");
-    if (options.mpi) refuse("--resume and --mpi: a run goes on with engines on one host");
     options.proofs = options.resumed;
 }
 

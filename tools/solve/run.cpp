@@ -29,7 +29,7 @@ void Run::prepare() {
     checker.keeps_digests = options.record != nullptr;
     inputs.find();
     keeping.check_outputs(true);
-    teams.open();
+    teams.open(inputs.saved.count() + 1);
     display.begin();
     inputs.read([this](int file) { await_formula(file); });
     teams.open_models();

@@ -80,17 +80,18 @@ std::vector<Child *> Teams::children() {
 
 // Starting.
 
-void Teams::open() {
+void Teams::open(uint64_t round) {
     const Options &options = inputs.options;
     shared = shared_memory<Shared>(1);
     shared->engines = shared->engines_here = options.engines;
     shared->outbox_words = options.shares() ? hooked(test_hooks.outbox, OUTBOX_WORDS) : 1;
-    shared->round = inputs.saved.count() + 1;
+    shared->round = round;
     shared->events.file = event_file();
     if (options.proofs) record = absolute(options.proofs) + "/";
     list.resize(size_t(options.engines));
     for (size_t k = 0; k < list.size(); k++) {
         STORE(engine_status(k).stream, k + 1);
+        STORE(engine_status(k).mapped_round, round - 1);
         engine_status(k).events.file = event_file();
         if (is_solver(k)) std::fill_n(engine_status(k).floors, MOST_ENGINES, UINT64_MAX);
         list[k].stream = options.proofs ? create_file(stream_path(k, shared->round)) : file_in_memory();

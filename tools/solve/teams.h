@@ -47,7 +47,7 @@ public:
     bool have_all(uint64_t EngineStatus::*field, uint64_t wanted) const;  // for all running filters
     std::vector<Child *> children();
 
-    void open();                        // before the formula is read
+    void open(uint64_t round);          // before the formula is read; the first one of this run
     void open_models();                 // after it
     void set_here(int first, int count);    // other engines are on other hosts
     void start(bool is_first_alone);    // then the others start a moment later
