@@ -22,10 +22,10 @@ use Rattle.stream_check.specs.Laws.{cited_by}
 use Rattle.lrup_model.specs.Cube.{CubeValue}
 use Rattle.lrup_model.specs.Formula.{Cnf}
 use Rattle.lrup_model.specs.Event.{History, published}
-use Rattle.portfolio.specs.declared.outcome.Verdict.{Verdict}
-use Rattle.portfolio.specs.declared.outcome.Verdict.TheVariants.{Unsatisfiable, UnsatisfiableUnder, Unknown}
-use Rattle.portfolio.specs.Dropping.{HasDropped, HasDroppedBy, HaveDropped}
-use Rattle.portfolio.specs.Outcomes.{OptionsValue, run_params_of, verdict_of}
+use Rattle.run_outcome.specs.declared.outcome.Verdict.{Verdict}
+use Rattle.run_outcome.specs.declared.outcome.Verdict.TheVariants.{Unsatisfiable, UnsatisfiableUnder, Unknown}
+use Rattle.run_outcome.specs.Dropping.{HasDropped, HasDroppedBy, HaveDropped}
+use Rattle.run_outcome.specs.Outcomes.{OptionsValue, run_params_of, verdict_of}
 use Rattle.run_laws.specs.Serializable.{ComeToVerdict, IsSerializable}
 use Rattle.run_laws.specs.Premises.{FoundStays}
 use Rattle.stream_check.specs.lemmas.StreamLemmas.{same_at}

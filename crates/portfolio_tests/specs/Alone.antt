@@ -8,9 +8,9 @@ use Rattle.stream_check.specs.DroppedIdsValue.{DroppedIdsValue}
 use Rattle.stream_check.specs.Excuses.{OutOfMemory, IsExcused}
 use Rattle.stream_check.specs.declared.report.Report.{Report}
 use Rattle.lrup_text.specs.declared.device.StreamEnd.TheVariants as stream_ends
-use Rattle.portfolio.specs.Outcomes.{OptionsValue, layout_of, run_params_of}
-use Rattle.portfolio.specs.declared.outcome.Verdict.{Verdict}
-use Rattle.portfolio.specs.declared.outcome.Verdict.TheVariants.{Unsatisfiable}
+use Rattle.run_outcome.specs.Outcomes.{OptionsValue, layout_of, run_params_of}
+use Rattle.run_outcome.specs.declared.outcome.Verdict.{Verdict}
+use Rattle.run_outcome.specs.declared.outcome.Verdict.TheVariants.{Unsatisfiable}
 use Rattle.stream_check.specs.Closed.{CiteWithin, IsOfStream}
 use Rattle.stream_check.specs.Streams.{Block, RunParamsValue, events_in}
 use Rattle.run_laws.specs.Groups.{IsReportAlone, one}

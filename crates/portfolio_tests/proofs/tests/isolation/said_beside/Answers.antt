@@ -2,7 +2,7 @@ use Rattle.std.proofs.Common.{List, false, map, subst}
 use Rattle.stream_check.specs.declared.report.Report.{Report}
 use Rattle.stream_check.specs.Closed.{IsOfStream}
 use Rattle.test_support.specs.declared.devices.Pieces.{Pieces}
-use Rattle.portfolio.specs.lemmas.ResultLemmas.{if_both}
+use Rattle.run_outcome.specs.lemmas.ResultLemmas.{if_both}
 use Rattle.portfolio_tests.proofs.AloneLemmas.{first_within}
 use Rattle.portfolio_tests.proofs.tests.isolation.said_beside.Goals as goal
 
