@@ -238,8 +238,7 @@ def tests() -> Iterator[Test]:
                always=True)
     yield Test("clause_store", "memory::the_last_allocation_comes_after_all_calls", ["AllocError"], always=True)
     # What was created is kept or discarded.
-    yield Test("command", "checkpoints::memory_that_runs_out", [], 2, looks=True)
-    yield Test("command", "rounds::refusals::rounds_that_are_refused_memory", [], 4, looks=True)
+    yield Test("command", "refusals::memory_that_runs_out", [], 6, looks=True)
 
 
 def program_of_tests(crate: str, rt: str) -> str:

@@ -4,7 +4,7 @@ use Rattle.std.proofs.lemmas.Bool.{eqb-true}
 use Rattle.std.proofs.lemmas.List.{append-nil, append_assoc}
 use Rattle.lrup_text.specs.Reads.{GaveAll, ReadsOf}
 use Rattle.dimacs.specs.FormulaText.{IsFormulaText}
-use Rattle.command_tests.proofs.tests.changing.refutes_the_first.Goals as goal
+use Rattle.command_tests.proofs.tests.status_0.refutes_the_first.Goals as goal
 
 -- Reads that account for what they give, by what is left, gave all that was left at first.
 module _ {S : Type 0} (left : S → List ℕ) (reads : ReadsOf S)
@@ -28,5 +28,5 @@ module _ {S : Type 0} (left : S → List ℕ) (reads : ReadsOf S)
 pub returns : goal.returns
 returns g c zero =
     let named = c.command.ensures.sound (eqb-true c.command.result 0 zero) in
-    let same = gave_left _ _ (λ before room piece after read. read piece refl) named.6.reader named.2 named.6.gave in
+    let same = gave_left _ _ (λ before room piece after read. (read.0, read.1.1)) named.6.reader named.2 named.6.gave in
     (named.3, subst (λ (bytes : List ℕ). IsFormulaText bytes named.3) (sym same ∙ named.6.opened.0) named.7, named.8)
