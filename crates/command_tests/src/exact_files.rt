@@ -20,11 +20,9 @@ use test_support::{Paper, Pieces};
 pub enum Closing {
     /// It wasn't.
     Open,
-    /// It was kept.
     Kept,
     /// It was to be kept, which failed.
     Lost,
-    /// It was discarded.
     Discarded,
 }
 
@@ -60,7 +58,10 @@ impl<'a> ExactFiles<'a> {
         stream: &'a str,
         is_lossy: bool,
         fails_at: usize,
-    ) -> ExactFiles<'a> {
+    ) -> ExactFiles<'a>
+        ensures formula { result.formula ≡ formula.now }
+        ensures stream { result.stream ≡ stream.now }
+    {
         ExactFiles {
             alloc,
             formula,

@@ -2,29 +2,17 @@
 ghost use Rattle.std.specs.Prelude.{◌≤◌, IfOk};
 
 use super::*;
-use lrup_text::{Reading, Sink, WriteFault, Writing};
+use lrup_text::{ReadFault, Reading, Sink, Source, WriteFault, Writing};
 use std::io;
 
-/// What a device does at its first call.
-#[derive(Clone, Copy, Debug)]
-enum First {
-    MovesAll,
-    MovesNothing,
-    Fails(io::ErrorKind),
-}
-
-/// A device that at all calls but its first moves as many bytes as it can.
+/// A device that moves as many bytes as it can, but at its first call this many at most, or it fails.
 #[derive(Drop)]
 struct Device {
-    first: First,
+    first: Result<usize, io::ErrorKind>,
     calls: usize,
 }
 
 impl Device {
-    fn new(first: First) -> Device {
-        Device { first, calls: 0 }
-    }
-
     fn call(&mut self, bytes: usize) -> io::Result<usize>
         ensures { IfOk result (λ count. count ≤ bytes) }
     {
@@ -33,9 +21,8 @@ impl Device {
             return Ok(bytes);
         }
         match self.first {
-            First::MovesAll => Ok(bytes),
-            First::MovesNothing => Ok(0),
-            First::Fails(kind) => Err(io::Error::from(kind)),
+            Ok(most) => Ok(bytes.min(most)),
+            Err(kind) => Err(io::Error::from(kind)),
         }
     }
 }
@@ -56,6 +43,29 @@ impl io::Write for Device {
     }
 }
 
+/// A read of so many bytes answers so, and a write of them.
+fn assert_once(
+    rt: &impl Host,
+    first: Result<usize, io::ErrorKind>,
+    size: usize,
+    read: Result<usize, ReadFault>,
+    written: Result<usize, WriteFault>,
+) -> Result<(), Fail> {
+    let mut bytes = vec![in rt.alloc(); b'1'; size]?;
+    let mut source = Reading::new(Device { first, calls: 0 });
+    let mut sink = Writing::new(Device { first, calls: 0 });
+    let found = (source.read(&mut bytes), sink.write(&bytes));
+    let failed = (source.failed(), sink.failed());
+    let calls = (source.into_inner().calls, sink.into_inner().calls);
+    same(rt, (size, found), (size, (read, written)));
+    same(
+        rt,
+        (failed, calls),
+        ((read.is_err(), written.is_err()), (1, 1)),
+    );
+    Ok(())
+}
+
 static SIZES: [usize; 3] = [1, 2, 65_536];
 
 static KINDS: [io::ErrorKind; 8] = [
@@ -69,91 +79,14 @@ static KINDS: [io::ErrorKind; 8] = [
     io::ErrorKind::Other,
 ];
 
-/// A read into so many bytes answers so, after one call of the device.
-fn assert_read(
-    rt: &impl Abort,
-    alloc: Global,
-    first: First,
-    size: usize,
-    wanted: Result<usize, ReadFault>,
-) -> Result<(), Fail> {
-    let mut buffer = vec![in alloc; 0u8; size]?;
-    let mut source = Reading::new(Device::new(first));
-    let count = source.read(&mut buffer);
-    same(rt, source.failed(), wanted.is_err());
-    let found = (size, count, source.into_inner().calls);
-    same(rt, found, (size, wanted, 1));
-    Ok(())
-}
-
-/// A write of so many bytes answers so, after one call of the device.
-fn assert_written(
-    rt: &impl Abort,
-    alloc: Global,
-    first: First,
-    size: usize,
-    wanted: Result<usize, WriteFault>,
-) -> Result<(), Fail> {
-    let bytes = vec![in alloc; b'1'; size]?;
-    let mut sink = Writing::new(Device::new(first));
-    let count = sink.write(&bytes);
-    same(rt, sink.failed(), wanted.is_err());
-    let found = (size, count, sink.into_inner().calls);
-    same(rt, found, (size, wanted, 1));
-    Ok(())
-}
-
 #[test]
-fn a_failed_read_made_again(rt: HostRuntime) -> Result<(), Fail> {
-    for &kind in &KINDS {
-        for &size in &SIZES {
-            let wanted = Err(ReadFault);
-            assert_read(&rt, rt.alloc(), First::Fails(kind), size, wanted)?;
+fn devices_that_move_nothing_or_fail(rt: HostRuntime) -> Result<(), Fail> {
+    for &size in &SIZES {
+        assert_once(&rt, Ok(size), size, Ok(size), Ok(size))?;
+        assert_once(&rt, Ok(0), size, Ok(0), Err(WriteFault))?;
+        for &kind in &KINDS {
+            assert_once(&rt, Err(kind), size, Err(ReadFault), Err(WriteFault))?;
         }
-    }
-    Ok(())
-}
-
-#[test]
-fn a_read_made_again_at_the_end(rt: HostRuntime) -> Result<(), Fail> {
-    for &size in &SIZES {
-        assert_read(&rt, rt.alloc(), First::MovesNothing, size, Ok(0))?;
-    }
-    Ok(())
-}
-
-#[test]
-fn a_read_of_one_byte_that_is_refused(rt: HostRuntime) -> Result<(), Fail> {
-    for &size in &SIZES {
-        assert_read(&rt, rt.alloc(), First::MovesAll, size, Ok(size))?;
-    }
-    Ok(())
-}
-
-#[test]
-fn a_failed_write_made_again(rt: HostRuntime) -> Result<(), Fail> {
-    for &kind in &KINDS {
-        for &size in &SIZES {
-            let wanted = Err(WriteFault);
-            assert_written(&rt, rt.alloc(), First::Fails(kind), size, wanted)?;
-        }
-    }
-    Ok(())
-}
-
-#[test]
-fn a_write_made_again_after_one_of_nothing(rt: HostRuntime) -> Result<(), Fail> {
-    for &size in &SIZES {
-        let wanted = Err(WriteFault);
-        assert_written(&rt, rt.alloc(), First::MovesNothing, size, wanted)?;
-    }
-    Ok(())
-}
-
-#[test]
-fn a_write_of_one_byte_that_is_refused(rt: HostRuntime) -> Result<(), Fail> {
-    for &size in &SIZES {
-        assert_written(&rt, rt.alloc(), First::MovesAll, size, Ok(size))?;
     }
     Ok(())
 }

@@ -1,75 +1,44 @@
 //! Runs over files that say exactly what each call does to them: what lies at the path of a checkpoint in the end.
-use super::checkpoints::ALL;
 use super::*;
-use crate::exact_files::{Closing, ExactFiles, run_exactly};
-
-/// A stream that goes on, and one that refutes the formula.
-const GOES_ON: &str = "5 2 0 1 2 0\n";
-
-const REFUTES: &str = "5 2 0 1 2 0\n6 0 5 3 4 0\n";
-
-/// What a run is given: the words, the stream, whether files get lost, and the write that fails. Then what comes of it: the status,
-/// and the path, the bytes and the closing of the last new file.
-type Row = (
-    &'static [&'static str],
-    &'static str,
-    bool,
-    usize,
-    (u8, &'static str, &'static str, Closing),
-);
+use crate::exact_files::Closing::{self, Discarded, Kept, Lost, Open};
+use crate::exact_files::{ExactFiles, run_exactly};
 
 const SAVE: &[&str] = &["--checkpoint", "new", "f", "s1"];
 
+const OVERWRITE: &[&str] = &["--checkpoint", "s2", "f", "s1"];
+
+const NO_OPTION: &[&str] = &["f", "s1"];
+
 const ROUNDS: &[&str] = &["--rounds", "dir", "f", "s1"];
 
+const NEXT: &str = "dir/round-2.cnf";
+
+/// What a run is given: the words, the stream, whether files get lost, and the write that fails. Then what it comes to: the status,
+/// and the path, the bytes and the closing of the last new file.
+type Row = (
+    (&'static [&'static str], &'static str, bool, usize),
+    (u8, &'static str, &'static str, Closing),
+);
+
 static ROWS: [Row; 9] = [
-    (SAVE, GOES_ON, false, 0, (3, "new", ALL, Closing::Kept)),
-    (SAVE, GOES_ON, true, 0, (9, "new", ALL, Closing::Lost)),
-    (SAVE, GOES_ON, false, 1, (9, "new", "", Closing::Discarded)),
-    (SAVE, REFUTES, false, 0, (0, "new", "", Closing::Discarded)),
-    (
-        &["--checkpoint", "s2", "f", "s1"],
-        GOES_ON,
-        false,
-        0,
-        (5, "", "", Closing::Open),
-    ),
-    (&["f", "s1"], GOES_ON, false, 0, (3, "", "", Closing::Open)),
-    (
-        ROUNDS,
-        GOES_ON,
-        false,
-        0,
-        (3, "dir/round-2.cnf", ALL, Closing::Kept),
-    ),
-    (
-        ROUNDS,
-        GOES_ON,
-        true,
-        0,
-        (9, "dir/round-2.cnf", ALL, Closing::Lost),
-    ),
-    (
-        ROUNDS,
-        REFUTES,
-        false,
-        0,
-        (0, "dir/round-2.cnf", "", Closing::Discarded),
-    ),
+    ((SAVE, ADDS, false, 0), (3, "new", ALL, Kept)),
+    ((SAVE, ADDS, true, 0), (9, "new", ALL, Lost)),
+    ((SAVE, ADDS, false, 1), (9, "new", "", Discarded)),
+    ((SAVE, REFUTES, false, 0), (0, "new", "", Discarded)),
+    ((OVERWRITE, ADDS, false, 0), (5, "", "", Open)),
+    ((NO_OPTION, ADDS, false, 0), (3, "", "", Open)),
+    ((ROUNDS, ADDS, false, 0), (3, NEXT, ALL, Kept)),
+    ((ROUNDS, ADDS, true, 0), (9, NEXT, ALL, Lost)),
+    ((ROUNDS, REFUTES, false, 0), (0, NEXT, "", Discarded)),
 ];
 
 #[test]
 fn what_lies_at_the_path(rt: HostRuntime) {
-    for &(words, stream, is_lossy, fails_at, wanted) in &ROWS {
+    for &((words, stream, is_lossy, fails_at), wanted) in &ROWS {
         let mut files = ExactFiles::new(rt.alloc(), FOUR, stream, is_lossy, fails_at);
         let status = run_exactly(&rt, rt.alloc(), words, &mut files);
         let (path, bytes, closing) = files.last();
-        let (wanted_status, wanted_path, text, wanted_closing) = wanted;
-        same(
-            &rt,
-            (words, status, path),
-            (words, wanted_status, wanted_path),
-        );
-        same(&rt, (bytes, closing), (text.as_bytes(), wanted_closing));
+        let found = (status, path, text_of(bytes), closing);
+        same(&rt, (words, found), (words, wanted));
     }
 }

@@ -1,0 +1,67 @@
+//! Runs that are refused memory, or a thread: each file that they create is closed.
+use super::shelf::Thing::{self, Text};
+use super::*;
+
+/// The option, the stream, those of round 2, and the status: in the one round and in the second the formula is refuted, or isn't.
+static ENDING: [(&str, &str, &[(&str, Thing)], u8); 4] = [
+    ("--checkpoint=ck", DROPS, &[], 3),
+    ("--checkpoint=ck", REFUTES, &[], 0),
+    ("--rounds=d", ADDS, &[("d/round-2.stream-1", Text(""))], 3),
+    (
+        "--rounds=d",
+        ADDS,
+        &[("d/round-2.stream-1", Text("6 0 5 3 4 0\n"))],
+        0,
+    ),
+];
+
+/// Whether these are whole texts of clauses, one after the other. Where a stream has no memory for what it drops, it stops, and the first
+/// clause stays.
+fn are_whole(kept: &str) -> bool {
+    let rest = kept.strip_prefix(LESS).unwrap_or(kept);
+    let rest = rest.strip_prefix(ALL).unwrap_or(rest);
+    rest.strip_prefix(ALL).unwrap_or(rest).is_empty()
+}
+
+/// Whether this was the last that was done.
+fn is_last(done: &str, sign: &str) -> bool {
+    match done.rsplit_once(sign) {
+        None => false,
+        Some((_, rest)) => rest.matches(" ").count() == 1,
+    }
+}
+
+/// Whether a run whose status would be this may end so where one allocation or thread was refused. A file was discarded if the formula
+/// was refuted or no checkpoint could be saved, and none if a report says 'unknown' and all was saved.
+fn may_end(ran: &Ran, in_rounds: bool, status: u8) -> bool {
+    let (found, out, err) = ran.ends();
+    let (done, kept, _) = ran.left();
+    let is_discarded = is_last(done, " -");
+    let is_unsaved = is_discarded || is_last(done, " =");
+    let is_right = match found {
+        0 => status == 0 && is_discarded && err.is_empty(),
+        3 => !done.contains(" -") && err.is_empty(),
+        6 => out.is_empty() && (kept.is_empty() || in_rounds),
+        7 => is_discarded == (status == 0),
+        9 => is_unsaved && err.contains("checkpoint not written"),
+        _ => false,
+    };
+    // What was discarded comes last.
+    is_right && are_whole(kept) && is_discarded == done.contains(" -")
+}
+
+/// To be run with each allocation failing in turn, and each thread.
+#[test]
+fn memory_that_runs_out(rt: HostRuntime) {
+    for way in &WAYS {
+        for &(option, stream, things, status) in &ENDING {
+            let streams = [stream];
+            let setup = Setup::of(&streams).with(things);
+            let ran = run(&rt, &rt, &[way, option, "f", "1"], setup);
+            let may_end = may_end(&ran, option == "--rounds=d", status);
+            let found = (may_end, ran.files.unclosed);
+            let ends = (option, ran.ends(), ran.files.done.as_str());
+            same(&rt, (ends, found), (ends, (true, 0)));
+        }
+    }
+}

@@ -1,0 +1,133 @@
+//! What status 0 says: of files that tell their bytes, and of a file that changes after its first opening.
+ghost use Rattle.std.specs.Prelude.{◌≡◌, [], ◌∷◌, IsTrue, None, codes};
+ghost use Rattle.command.specs.declared.files.OpenFault.TheVariants.{NotOpened};
+ghost use Rattle.command_line.specs.CommandLine.{IsCommandLineOf};
+ghost use Rattle.command_line.specs.declared.words.CommandLine.{CommandLine};
+ghost use Rattle.dimacs.specs.FormulaText.{IsFormulaText};
+ghost use Rattle.lrup_model.specs.Entailment.{IsUnsatisfiable};
+ghost use Rattle.lrup_model.specs.Formula.{Cnf};
+
+use super::shelf::OpenFile;
+use super::watching::Watcher;
+use super::*;
+use crate::exact_files::ExactFiles;
+use command::{Files, Machine, OpenFault};
+use command_line::laws::plain_words;
+use lrup_text::WriteFault;
+use outcome_laws::laws::status_0_has_a_command_line;
+
+/// Whether the program ends with status 0. The formula's text is then one of a formula that no assignment satisfies.
+fn refutes<T: Threads + Wait + Sync + Clock>(
+    rt: &T,
+    alloc: Global,
+    formula: &str,
+    stream: &str,
+) -> bool
+    // From `sound`.
+    ensures sound { IsTrue result → (f : Cnf) × IsFormulaText formula.now f × IsUnsatisfiable f }
+    // From `ends`, by a law: and the words have a whole command line, whose FORMULA names the text.
+    ensures ends { IsTrue result → (given : CommandLine) × (f : Cnf)
+        × IsCommandLineOf (codes "f" ∷ codes "s1" ∷ []) given
+        × IsFormulaText formula.now f × IsUnsatisfiable f }
+{
+    plain_words();
+    let mut files = ExactFiles::new(alloc, formula, stream, false, 0);
+    status_0_has_a_command_line(&files);
+    let mut out = Paper::new(alloc, 7, 0);
+    let mut err = Paper::new(alloc, 7, 0);
+    command(rt, rt, alloc, &["f", "s1"], &mut files, &mut out, &mut err) == 0
+}
+
+#[test]
+fn a_formula_whose_bytes_are_known(rt: HostRuntime) {
+    same(&rt, refutes(&rt, rt.alloc(), FOUR, REFUTES), true);
+    same(&rt, refutes(&rt, rt.alloc(), FOUR, ""), false);
+}
+
+/// A file at every path: its first opening finds one text, each later one another. None is created.
+#[derive(Drop)]
+struct Changing<'a> {
+    text: &'a str,
+    later: &'a str,
+}
+
+impl<'a> Files for Changing<'a> {
+    type Input = OpenFile<'a>;
+
+    ghost tells = { λ _ _. None };
+
+    ghost refuses = { λ _ _ _ _. ⊥ };
+
+    ghost opens = { λ before _ input after. (input.text.left.now ≡ before.text.now)
+        × (after.text.now ≡ before.later.now) × (after.later.now ≡ before.later.now) };
+
+    fn open(&mut self, _path: &str) -> Result<OpenFile<'a>, OpenFault> {
+        let text = self.text;
+        self.text = self.later;
+        Ok(OpenFile::new(&SETUP, text, 0))
+    }
+}
+
+impl<'a> Machine for Changing<'a> {
+    type Output = Paper;
+
+    type Watcher = Watcher<'a>;
+
+    ghost lacks = { λ _ _ _. ⊥ };
+
+    ghost fails = { λ _ _ _ _. ⊥ };
+
+    ghost creates = { λ _ _ _ _. ⊥ };
+
+    ghost refuses_new = { λ before _ fault after. (fault ≡ NotOpened) × (after ≡ before) };
+
+    ghost keeps = { λ _ _ _. ⊥ };
+
+    ghost loses = { λ before _ after. after ≡ before };
+
+    ghost discards = { λ before _ after. after ≡ before };
+
+    fn open_if_there(&mut self, path: &str) -> Result<Option<OpenFile<'a>>, OpenFault> {
+        Ok(Some(self.open(path)?))
+    }
+
+    fn create(&mut self, _path: &str) -> Result<Paper, OpenFault> {
+        Err(OpenFault::NotOpened)
+    }
+
+    fn keep(&mut self, _output: Paper) -> Result<(), WriteFault> {
+        Err(WriteFault)
+    }
+
+    fn discard(&mut self, _output: Paper) {}
+
+    fn watcher(&self) -> Watcher<'a> {
+        Watcher::new(None)
+    }
+}
+
+/// Whether the program ends with status 0, where one path names formula and stream. By its contract the text that the first opening
+/// found is then one of a formula that no assignment satisfies.
+fn refutes_the_first<T: Threads + Wait + Sync + Clock>(
+    rt: &T,
+    alloc: Global,
+    text: &str,
+    later: &str,
+) -> bool
+    ensures { IsTrue result → (f : Cnf) × IsFormulaText text.now f × IsUnsatisfiable f }
+{
+    let mut files = Changing { text, later };
+    let mut out = Paper::new(alloc, 7, 0);
+    let mut err = Paper::new(alloc, 7, 0);
+    command(rt, rt, alloc, &["f", "f"], &mut files, &mut out, &mut err) == 0
+}
+
+#[test]
+fn a_formula_that_changes(rt: HostRuntime) {
+    same(&rt, refutes_the_first(&rt, rt.alloc(), FOUR, REFUTES), true);
+    same(
+        &rt,
+        refutes_the_first(&rt, rt.alloc(), REFUTES, FOUR),
+        false,
+    );
+}
