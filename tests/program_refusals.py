@@ -239,14 +239,8 @@ def tests() -> Iterator[Test]:
     yield Test("propagate", "the_ninth_allocation_comes_after_all_calls", ["AllocError", "AllocFailed { .. }"],
                always=True)
     yield Test("clause_store", "memory::the_last_allocation_comes_after_all_calls", ["AllocError"], always=True)
-<<<<<<< HEAD
     # A created file is kept or discarded.
-    yield Test("command", "checkpoints::memory_that_runs_out", [], 2, looks=True)
-    yield Test("command", "rounds::refusals::rounds_that_are_refused_memory", [], 4, looks=True)
-=======
-    # What was created is kept or discarded.
     yield Test("command", "refusals::memory_that_runs_out", [], 6, looks=True)
->>>>>>> 273ee5bb3bb86d0cf1aa1be78a2bc11958d41c7d
 
 
 def program_of_tests(crate: str, rt: str) -> str:
