@@ -11,10 +11,10 @@ ghost use Rattle.command.specs.Commands.{assumed_at, change, from_first, report_
 ghost use Rattle.command.specs.Faults.{error_text, round_error_text, status_of};
 ghost use Rattle.stream_check.specs.StreamParams.{max_tries};
 
-use crate::opening::{Asked, read_asked};
 use crate::course::CheckedRound;
 use crate::fault::CommandFault;
 use crate::files::{Machine, Viewed};
+use crate::opening::{Asked, read_asked};
 use crate::rounds::begin_and_check;
 use checkpoint::SaveFault;
 use checkpoint::laws::{entails_itself, entails_onward};

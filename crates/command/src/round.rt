@@ -111,7 +111,10 @@ fn run_round<T: Threads + Wait + Sync, C: Clock + Sync, F: Machine>(
         clauses,
         dropped,
     } = run;
-    let ended_at = now_if(clock, course.line.next.asks_for_rounds() && course.line.watch);
+    let ended_at = now_if(
+        clock,
+        course.line.next.asks_for_rounds() && course.line.watch,
+    );
     let goes_on = may_continue(course.line.next, verdict, &reports);
     let closed = close_checkpoint(alloc, files, verdict, clauses, &dropped, goes_on, output);
     let last = CheckedRound {

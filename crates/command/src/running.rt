@@ -53,9 +53,13 @@ pub(crate) fn run_streams<T: Threads + Wait + Sync, C: Clock + Sync, F: Machine>
         formula.now run_params readers.items) }
 {
     if course.line.serial {
-        run_by_turns(threads, clock, alloc, course, options, formula, report_on, readers)
+        run_by_turns(
+            threads, clock, alloc, course, options, formula, report_on, readers,
+        )
     } else {
-        run_in_threads(threads, clock, alloc, course, options, formula, report_on, readers)
+        run_in_threads(
+            threads, clock, alloc, course, options, formula, report_on, readers,
+        )
     }
 }
 
@@ -82,15 +86,7 @@ fn run_by_turns<W: Wait, C: Clock + Sync, F: Machine>(
         readers.items) }
 {
     let gates = turn_gates(alloc, clock, report_on, readers.len())?;
-    let outcome = run_serial(
-        wait,
-        alloc,
-        formula,
-        course.cube,
-        options,
-        readers,
-        gates,
-    )?;
+    let outcome = run_serial(wait, alloc, formula, course.cube, options, readers, gates)?;
     let SerialOutcome {
         reports,
         verdict,
