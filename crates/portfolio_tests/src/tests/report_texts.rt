@@ -142,7 +142,7 @@ fn long_reports(rt: HostRuntime) -> Result<(), Fail> {
         write!(text, "c stream {stream}: {line}\n")?;
     }
     text.push_str("s UNKNOWN\n")?;
-    for most in [7, 512] {
+    for most in [64, 512] {
         writes(&rt, &reports, Unknown, text.as_str(), most)?;
     }
     Ok(())

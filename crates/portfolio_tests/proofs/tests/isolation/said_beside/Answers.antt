@@ -6,16 +6,16 @@ use Rattle.run_outcome.specs.lemmas.ResultLemmas.{if_both}
 use Rattle.portfolio_tests.proofs.AloneLemmas.{first_within}
 use Rattle.portfolio_tests.proofs.tests.isolation.said_beside.Goals as goal
 
-pub returns-in-Threads : goal.returns-in-Threads
-returns-in-Threads g c =
+pub returns-in_ok-outcome-in-Threads : goal.returns-in_ok-outcome-in-Threads
+returns-in_ok-outcome-in-Threads g c =
     if_both c.first_report.result c.first_report.ensures.report c.first_report.ensures.failed
     (λ report says fine. c.in_ok-outcome.ensures.only first_within report
     (subst (λ (reports : List Report). IsOfStream reports 1 report) c.deref.ensures.value says)
     (subst (λ (readers : List Pieces). IsOfStream (map (λ r. r.failed) readers) 1 false) c.deref-2.ensures.value fine))
 
-pub returns-in-Serial : goal.returns-in-Serial
-returns-in-Serial g c =
-    if_both c.first_report-2.result c.first_report-2.ensures.report c.first_report-2.ensures.failed
-    (λ report says fine. c.in_ok-outcome-2.ensures first_within report
-    (subst (λ (reports : List Report). IsOfStream reports 1 report) c.deref-3.ensures.value says)
-    (subst (λ (readers : List Pieces). IsOfStream (map (λ r. r.failed) readers) 1 false) c.deref-4.ensures.value fine))
+pub returns-in_ok-outcome-in-Serial : goal.returns-in_ok-outcome-in-Serial
+returns-in_ok-outcome-in-Serial g c =
+    if_both c.first_report.result c.first_report.ensures.report c.first_report.ensures.failed
+    (λ report says fine. c.in_ok-outcome.ensures first_within report
+    (subst (λ (reports : List Report). IsOfStream reports 1 report) c.deref.ensures.value says)
+    (subst (λ (readers : List Pieces). IsOfStream (map (λ r. r.failed) readers) 1 false) c.deref-2.ensures.value fine))
