@@ -9,8 +9,8 @@ a run goes on with another formula: that leads to no wrong answer, and a message
 then. The verdict is checked by the assignment, or by the record's command and by the LRAT text that lrup-trim makes.
 
 SEED, 1 if it isn't said, decides on formulas and options, and the clock on much of the rest. With MINUTES larger formulas are solved, of
-this seed and of those after it, for so long; else one row of each kind, in less than a minute. It builds as lrup_solve.py does. It shows
-what is off; the last line is 'N passed, M failed'. The status is 1 where a run failed.
+this seed and of those after it, until that time is over; else one row of each kind, in less than a minute. It builds as lrup_solve.py
+does. It shows what is off; the last line is 'N passed, M failed'. The status is 1 where a run failed.
 """
 import contextlib
 import os
@@ -22,14 +22,14 @@ import subprocess
 import sys
 import time
 from pathlib import Path
-from typing import Callable, Iterator, List, Optional, Sequence, Tuple
+from typing import Callable, Iterator, List, Optional, Tuple
 
 sys.dont_write_bytecode = True
 from hard_formulas import miter, parity
-from harness import (Failure, Ran, Row, Skipped, dimacs, generated, left_out, random_clauses, run, run_all, started, until, want, within,
-                     words_given, written)
+from harness import (LIMIT, Failure, Ran, Row, Skipped, dimacs, generated, left_out, random_clauses, run, run_all, started, until, want,
+                     within, words_given, written)
 from records import CHANGES, UNKNOWN, saved_rounds, want_no_other, whole
-from solving import (ANSWERS, EARLY, FLAGS, FRONT, PROGRAM, Answer, build, command, in_environment, is_alive, marked, none_left, of_process,
+from solving import (ANSWERS, EARLY, FLAGS, PROGRAM, Answer, build, command, in_environment, is_alive, marked, none_left, of_process,
                      processes_of_run, solve, want_answer)
 
 GIVEN = words_given(__doc__, most=4)[2:]
@@ -105,15 +105,16 @@ class Chain:
                      stderr=subprocess.PIPE, preexec_fn=before) as running:
             yield running
 
-    def killed(self, pause: float, before: Callable[[], None] = lambda: None) -> Answer:
-        """A run in which after each pause one process is killed. Whatever was saved before is saved then."""
+    def killed(self, pause: Optional[float], before: Callable[[], None] = lambda: None) -> Answer:
+        """A run in which after each pause, if there is one, a process is killed. Whatever was saved before is saved then."""
         saved, names = saved_rounds(self.kept), []
         with self.begun(before) as running:
             while running.poll() is None:
                 try:
-                    out, said = running.communicate(timeout=self.numbers.uniform(0, pause))
+                    out, said = running.communicate(timeout=self.numbers.uniform(0, pause) if pause else LIMIT)
                     break
                 except subprocess.TimeoutExpired:
+                    want(pause is not None, True, f"whether it ends within {LIMIT} seconds")
                     names += self.kill_one(running.pid)
             else:
                 out, said = running.communicate()
@@ -229,7 +230,7 @@ def of_another(chain: Chain) -> None:
 
 @contextlib.contextmanager
 def disk(place: Path) -> Iterator[Callable[[int], None]]:
-    """A file system of its own there, of so many kilobytes."""
+    """A file system of its own there, of that many kilobytes."""
     def sized(kilobytes: int, how: str = "remount,") -> bool:
         return run(["mount", "-t", "tmpfs", "-o", f"{how}size={kilobytes}k", "none", place]).status == 0
     place.mkdir()
@@ -241,21 +242,16 @@ def disk(place: Path) -> Iterator[Callable[[int], None]]:
         run(["umount", "-l", place])
 
 
-def is_lost(answer: Answer, why: str) -> bool:
-    """The answer is right or there is none, and a message says what couldn't be written."""
-    text = answer.out + answer.said
-    want("cannot write " in text and why in text, True, f"whether it says what can't be written in\n{text}")
-    return answer.answers == [ANSWERS[20]]
-
-
 def with_little(chain: Chain, why: str, limited: Callable[[int], Callable[[], None]]) -> None:
-    """More and more, so that one run gets to a verdict. Those before have a disk that is full soon."""
+    """The first run is left alone: it has a right answer, or none, and says what it couldn't write. Those after it have more and more, and
+    are killed, but not the last ones."""
     for count in range(RUNS):
         kilobytes = 100 * 3 ** min(count, 10)
-        before = limited(kilobytes)
-        answer = chain.killed(1.5 if count < 4 else 1000, before)
-        if answer.status == 1 and not answer.said.endswith(" checks it\n"):
-            is_lost(answer, why)
+        answer = chain.killed(1.5 if 0 < count < 5 else None, limited(kilobytes))
+        text = answer.out + answer.said
+        if count == 0 or (answer.status == 1 and not answer.said.endswith(" checks it\n")):
+            want(("cannot write " in text, why in text), (True, True), f"whether it says what can't be written in\n{text}")
+            want(answer.answers in ([], [UNKNOWN], [ANSWERS[20]]), True, f"whether this is right:\n{text}")
         elif chain.is_answered(answer):
             return
     raise Failure(f"no answer by {RUNS} runs")
@@ -276,7 +272,7 @@ def on_disks(seed: int, work: Path, log: List[str]) -> None:
 def in_small_files(seed: int, work: Path, log: List[str]) -> None:
     chain = Chain("fewer pigeons", seed, work)
     chain.log, chain.tested = log, chain.tested or {"SAME_WORDS": 1, "FIRST_WORDS": 20000}
-    with_little(chain, "File too large", lambda kilobytes: lambda: within(kilobytes * KILOBYTE))
+    with_little(chain, "File too large", lambda kilobytes: lambda: within(kilobytes * KILOBYTE // 20))
 
 
 # Rows.

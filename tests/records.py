@@ -3,7 +3,6 @@ import hashlib
 import os
 import random
 import re
-import shutil
 import signal
 import subprocess
 from pathlib import Path
