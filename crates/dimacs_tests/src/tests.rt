@@ -1,3 +1,4 @@
+//! Worked texts, and what they are refused for.
 use dimacs::{DimacsFault, parse};
 use lrup_model::{Formula, Lit};
 use std::alloc::{AllocError, Global};
@@ -34,77 +35,50 @@ fn shown(alloc: Global, bytes: &[u8]) -> Result<String, AllocError> {
     }
 }
 
-fn check(rt: &(impl Abort + AllocGlobal), bytes: &[u8], wanted: &str) -> Result<(), Fail> {
-    let text = shown(rt.alloc(), bytes)?;
-    assert_eq!(rt; text.as_str(), wanted);
+fn check(rt: &(impl Abort + AllocGlobal), text: &str, wanted: &str) -> Result<(), Fail> {
+    let found = shown(rt.alloc(), text.as_bytes())?;
+    let front = text.get(..40).unwrap_or(text);
+    assert_eq!(rt; (front, found.as_str()), (front, wanted));
     Ok(())
+}
+
+fn check_refused(rt: &(impl Abort + AllocGlobal), text: &str, why: &str) -> Result<(), Fail> {
+    let wanted = format!(in rt.alloc(); "formula refused: {why}")?;
+    check(rt, text, &wanted)
 }
 
 /// Texts that are refused, and why.
 static REFUSED: [(&str, &str); 30] = [
-    ("", "formula refused: no header"),
-    ("p cnf 1\n", "formula refused: bad header"),
-    ("p cnf 01 0\n", "formula refused: bad header"),
-    ("p cnf 00 0\n", "formula refused: bad header"),
-    ("p cnf 1 1 1\n", "formula refused: bad header"),
-    ("p cnf\n1 1\n", "formula refused: bad header"),
-    ("p cnf +1 0\n", "formula refused: bad header"),
-    ("p cnf 16777216 0\n", "formula refused: limit"),
-    (
-        "p cnf 0 99999999999999999999999\n",
-        "formula refused: limit",
-    ),
-    ("p cnf 16777216 x\n", "formula refused: bad header"),
-    ("p cnf 1 1\n+1 0\n", "formula refused: bad number in line 2"),
-    ("p cnf 1 1\n-0\n", "formula refused: bad number in line 2"),
-    ("p cnf 1 1\n-\n", "formula refused: bad number in line 2"),
-    ("p cnf 1 1\n1-\n", "formula refused: bad number in line 2"),
-    ("p cnf 1 1\n01 0\n", "formula refused: bad number in line 2"),
-    (
-        "p cnf 1 1\n1 0\n%\n",
-        "formula refused: bad number in line 3",
-    ),
-    (
-        "p cnf 1 1\n1 0\nx\n",
-        "formula refused: bad number in line 3",
-    ),
-    (
-        "p cnf 1 1\n1\u{0}0\n",
-        "formula refused: bad number in line 2",
-    ),
-    (
-        "p cnf 1 1\n1\u{e9} 0\n",
-        "formula refused: bad number in line 2",
-    ),
-    (
-        "p cnf 1 1\n2 0\n",
-        "formula refused: variable out of range in line 2",
-    ),
-    (
-        "p cnf 0 1\n1 0\n",
-        "formula refused: variable out of range in line 2",
-    ),
-    (
-        "p cnf 1 0\n2\n",
-        "formula refused: variable out of range in line 2",
-    ),
-    ("p cnf 1 1\n1\n", "formula refused: open clause"),
-    ("p cnf 1 2\n1 0\n", "formula refused: too few clauses"),
-    (
-        "p cnf 1 0\n0\n",
-        "formula refused: too many clauses in line 2",
-    ),
-    (
-        "p cnf 1 1\n1 0\n1",
-        "formula refused: too many clauses in line 3",
-    ),
-    (" c x\np cnf 0 0\n", "formula refused: no header"),
-    ("pcnf 1 1\n", "formula refused: no header"),
-    ("P cnf 1 1\n", "formula refused: no header"),
-    (
-        "p cnf 1 1\n\rc x\n1 0\n",
-        "formula refused: bad number in line 2",
-    ),
+    ("", "no header"),
+    ("p cnf 1\n", "bad header"),
+    ("p cnf 01 0\n", "bad header"),
+    ("p cnf 00 0\n", "bad header"),
+    ("p cnf 1 1 1\n", "bad header"),
+    ("p cnf\n1 1\n", "bad header"),
+    ("p cnf +1 0\n", "bad header"),
+    ("p cnf 16777216 0\n", "limit"),
+    ("p cnf 0 99999999999999999999999\n", "limit"),
+    ("p cnf 16777216 x\n", "bad header"),
+    ("p cnf 1 1\n+1 0\n", "bad number in line 2"),
+    ("p cnf 1 1\n-0\n", "bad number in line 2"),
+    ("p cnf 1 1\n-\n", "bad number in line 2"),
+    ("p cnf 1 1\n1-\n", "bad number in line 2"),
+    ("p cnf 1 1\n01 0\n", "bad number in line 2"),
+    ("p cnf 1 1\n1 0\n%\n", "bad number in line 3"),
+    ("p cnf 1 1\n1 0\nx\n", "bad number in line 3"),
+    ("p cnf 1 1\n1\u{0}0\n", "bad number in line 2"),
+    ("p cnf 1 1\n1\u{e9} 0\n", "bad number in line 2"),
+    ("p cnf 1 1\n2 0\n", "variable out of range in line 2"),
+    ("p cnf 0 1\n1 0\n", "variable out of range in line 2"),
+    ("p cnf 1 0\n2\n", "variable out of range in line 2"),
+    ("p cnf 1 1\n1\n", "open clause"),
+    ("p cnf 1 2\n1 0\n", "too few clauses"),
+    ("p cnf 1 0\n0\n", "too many clauses in line 2"),
+    ("p cnf 1 1\n1 0\n1", "too many clauses in line 3"),
+    (" c x\np cnf 0 0\n", "no header"),
+    ("pcnf 1 1\n", "no header"),
+    ("P cnf 1 1\n", "no header"),
+    ("p cnf 1 1\n\rc x\n1 0\n", "bad number in line 2"),
 ];
 
 /// Texts that are read, and what of them.
@@ -125,51 +99,45 @@ static READ: [(&str, &str); 6] = [
 
 #[test]
 fn rows(rt: HostRuntime) -> Result<(), Fail> {
-    for &(text, wanted) in &REFUSED {
-        check(&rt, text.as_bytes(), wanted)?;
+    for &(text, why) in &REFUSED {
+        check_refused(&rt, text, why)?;
     }
     for &(text, wanted) in &READ {
-        check(&rt, text.as_bytes(), wanted)?;
+        check(&rt, text, wanted)?;
     }
     Ok(())
 }
 
-/// A header, and then `count` times the text.
+/// A header, and then a text as often as this.
 fn repeated(alloc: Global, header: &str, text: &str, count: usize) -> Result<String, AllocError> {
-    let mut all = String::from_str(alloc, header)?;
-    all.push_str(text.repeat(alloc, count)?.as_str())?;
-    Ok(all)
+    let texts = text.repeat(alloc, count)?;
+    format!(in alloc; "{header}{texts}")
 }
 
-/// Texts with a part that comes so many times, and why they are refused.
+/// A header, a text and how often it comes, and why that is refused.
 static LONG: [(&str, &str, usize, &str); 3] = [
-    (
-        "p cnf 1 1\n",
-        "1\n",
-        1_048_575,
-        "formula refused: open clause",
-    ),
-    ("p cnf 1 1\n", "1\n", 1_048_576, "formula refused: limit"),
+    ("p cnf 1 1\n", "1\n", 1_048_575, "open clause"),
+    ("p cnf 1 1\n", "1\n", 1_048_576, "limit"),
     (
         "p cnf 9 1\n",
         "9",
         10_000,
-        "formula refused: variable out of range in line 2",
+        "variable out of range in line 2",
     ),
 ];
 
 #[test]
 fn long_texts(rt: HostRuntime) -> Result<(), Fail> {
-    for &(header, text, count, wanted) in &LONG {
+    for &(header, text, count, why) in &LONG {
         let all = repeated(rt.alloc(), header, text, count)?;
-        check(&rt, all.as_bytes(), wanted)?;
+        check_refused(&rt, &all, why)?;
     }
     Ok(())
 }
 
 #[test]
 fn largest_counts(rt: HostRuntime) -> Result<(), Fail> {
-    check(&rt, b"p cnf 16777215 0\n", "16777215 0:")?;
+    check(&rt, "p cnf 16777215 0\n", "16777215 0:")?;
     let most = repeated(rt.alloc(), "p cnf 0 16777215\n", "0\n", 16_777_215)?;
     let formula = parse(rt.alloc(), most.as_bytes())?;
     assert_eq!(rt; formula.len(), 16_777_215);
@@ -194,7 +162,8 @@ fn check_literals(rt: &(impl Abort + AllocGlobal), text: &str, wanted: usize) ->
     Ok(())
 }
 
-// Were repeats looked for in the whole clause, or all marks taken away after each clause, these would take minutes.
+/// Were repeats sought in the whole clause, or all marks taken away after each, these would take
+/// minutes.
 #[test]
 fn long_clauses_take_linear_time(rt: HostRuntime) -> Result<(), Fail> {
     let largest = largest_clause(rt.alloc())?;
@@ -211,7 +180,7 @@ fn memory_text(rt: HostRuntime) -> Result<(), Fail> {
     Ok(())
 }
 
-/// The gate runs this test with each of its allocations refused, one after the other; the second attempt then has memory.
+/// The gate refuses each allocation of this test in turn; the second attempt then has memory.
 #[test]
 fn a_refused_text_can_be_parsed_again(rt: HostRuntime) -> Result<(), Fail> {
     let text = b"p cnf 9 3\n1 -2 0\n1 2 3 4 5 6 7 8 9 -1 -2 -3 0\n9 0\n";

@@ -1,4 +1,4 @@
-//! The row word by word, two streams in turn, and two threads at once.
+//! The row word by word, and two streams in turn.
 ghost use Rattle.std.specs.Prelude.{◌≡◌, ◌≤◌, [], length, IfOk, IsTrue};
 ghost use Rattle.lrup_model.specs.History.{IsPublishable};
 ghost use Rattle.lrup_model.specs.Layout.{Fits};
@@ -12,7 +12,6 @@ use std::alloc::{AllocError, Global};
 use std::fmt;
 use std::process::Abort;
 use std::test::Fail;
-use std::thread::{Threads, join};
 use test_support::{four_clauses, lit};
 
 /// Stops the test where two values differ: an assertion that is proved once for all tests.
@@ -159,24 +158,19 @@ fn retire(row: &Row, layout: &Layout, seat: &mut Seat, stream: u64, id: u64) -> 
     Some(row.withdraw(seat, id))
 }
 
-/// The words of the worked formula's row for one stream with one identity and room for two literals, as it is opened.
+/// The words of two literals: the first is in the lower half.
+const PAIR_1_2: u64 = 17179869186;
+
+const PAIR_N1_2: u64 = 17179869187;
+
+const PAIR_1_N2: u64 = 21474836482;
+
+const PAIR_N1_N2: u64 = 21474836483;
+
+/// The worked formula's row for one stream with one identity and room for two literals, as opened.
 static OPENED: [u64; 16] = [
-    0,
-    25165833,
-    29360137,
-    33554441,
-    37748745,
-    0,
-    17179869186,
-    17179869187,
-    21474836482,
-    21474836483,
-    0,
-    0,
-    0,
-    0,
-    0,
-    0,
+    0, 25165833, 29360137, 33554441, 37748745, 0, PAIR_1_2, PAIR_N1_2, PAIR_1_N2, PAIR_N1_N2, 0, 0,
+    0, 0, 0, 0,
 ];
 
 /// That row as it is opened, after a publish, and after that clause was retired.
@@ -209,24 +203,8 @@ fn the_row_has_its_words(rt: HostRuntime) -> Result<(), Fail> {
 
 /// The words of the row after a clause of one literal, and then one of two.
 static ONE_AND_TWO: [u64; 18] = [
-    0,
-    29360137,
-    33554441,
-    37748745,
-    41943049,
-    62914565,
-    67108873,
-    17179869186,
-    17179869187,
-    21474836482,
-    21474836483,
-    0,
-    0,
-    0,
-    0,
-    4,
-    17179869186,
-    0,
+    0, 29360137, 33554441, 37748745, 41943049, 62914565, 67108873, PAIR_1_2, PAIR_N1_2, PAIR_1_N2,
+    PAIR_N1_N2, 0, 0, 0, 0, 4, PAIR_1_2, 0,
 ];
 
 /// Publishes a clause of one literal, and then one of two.
@@ -261,17 +239,7 @@ fn uneven_clauses(alloc: Global) -> Result<Formula, AllocError> {
 
 /// The words of their row.
 static UNEVEN: [u64; 11] = [
-    0,
-    20971533,
-    29360129,
-    29360137,
-    0,
-    17179869186,
-    6,
-    21474836483,
-    0,
-    0,
-    0,
+    0, 20971533, 29360129, 29360137, 0, PAIR_1_2, 6, PAIR_N1_N2, 0, 0, 0,
 ];
 
 /// Their row, and its seat.
@@ -368,51 +336,17 @@ fn first_literal(row: &Row, layout: &Layout, seat: &mut Seat, stream: u64, id: u
     Some(idwords::lit(word, 0).value())
 }
 
-/// Publishes a clause, and hands the seat back.
-fn publish_apart(
-    row: &Row,
-    layout: &Layout,
-    mut seat: Seat,
-    stream: u64,
-    id: u64,
-    clause: &[Lit],
-) -> (Seat, Option<Published>)
-    requires at { IsSeatAt four row.now layout.now stream seat }
-    requires clause { IsPublishable four clause.now }
-    ensures { IsSeatAt four row.now layout.now stream result.0 }
+/// Both streams publish a clause.
+fn publish_both(rt: &impl Abort, row: &Row, layout: &Layout, first: &mut Seat, second: &mut Seat)
+    requires first { IsSeatAt four row.now layout.now 1 first.old }
+    requires second { IsSeatAt four row.now layout.now 2 second.old }
+    ensures first { IsSeatAt four row.now layout.now 1 first.new }
+    ensures second { IsSeatAt four row.now layout.now 2 second.new }
 {
-    let answer = publish(row, layout, &mut seat, stream, id, clause);
-    (seat, answer)
-}
-
-/// Both streams publish a clause, each in a thread of its own.
-fn publish_at_once<R: Threads + Abort>(
-    rt: &R,
-    row: &Row,
-    layout: &Layout,
-    first: Seat,
-    second: Seat,
-) -> (Seat, Seat)
-    requires first { IsSeatAt four row.now layout.now 1 first }
-    requires second { IsSeatAt four row.now layout.now 2 second }
-    ensures first { IsSeatAt four row.now layout.now 1 result.0 }
-    ensures second { IsSeatAt four row.now layout.now 2 result.1 }
-{
-    let (two, not_two) = ([lit(2)], [lit(-2)]);
-    let ((first, one), (second, other)) = join(
-        rt,
-        || -> (Seat, Option<Published>)
-            requires { IsSeatAt four row.now layout.now 1 first × IsPublishable four two }
-            ensures { IsSeatAt four row.entry.now layout.entry.now 1 result.0 }
-        { publish_apart(row, layout, first, 1, 5, &two) },
-        || -> (Seat, Option<Published>)
-            requires { IsSeatAt four row.now layout.now 2 second × IsPublishable four not_two }
-            ensures { IsSeatAt four row.entry.now layout.entry.now 2 result.0 }
-        { publish_apart(row, layout, second, 2, 6, &not_two) },
-    );
+    let one = publish(row, layout, first, 1, 5, &[lit(2)]);
+    let other = publish(row, layout, second, 2, 6, &[lit(-2)]);
     let done = Some(Published::Done);
     same(rt, (one, other), (done, done));
-    (first, second)
 }
 
 /// Once they met, each sees what the other did, and then that the second one's is retired.
@@ -442,21 +376,13 @@ fn look_later(rt: &impl Abort, row: &Row, layout: &Layout, first: &mut Seat)
     same(rt, found, Some(25165833 + 4194304));
 }
 
-/// Both streams publish at the same time, meet, and look.
-fn use_at_once<R: Threads + Abort>(rt: &R, row: &Row, layout: &Layout, first: Seat, second: Seat)
-    requires first { IsSeatAt four row.now layout.now 1 first }
-    requires second { IsSeatAt four row.now layout.now 2 second }
-{
-    let (mut first, mut second) = publish_at_once(rt, row, layout, first, second);
-    meet_and_look(rt, row, layout, &mut first, &mut second);
-    look_later(rt, row, layout, &mut first);
-}
-
-/// Two threads use two seats at the same time. Once they met, each sees what the other did.
+/// Once they met, each sees what the other did.
 #[test]
-fn two_threads_use_one_row(rt: HostRuntime) -> Result<(), Fail> {
+fn two_streams_use_one_row(rt: HostRuntime) -> Result<(), Fail> {
     let layout = Layout::new(2, 4, 8, 2, 1, 1)?;
-    let (row, first, second) = open_worked_two(&rt, &layout)?;
-    use_at_once(&rt, &row, &layout, first, second);
+    let (row, mut first, mut second) = open_worked_two(&rt, &layout)?;
+    publish_both(&rt, &row, &layout, &mut first, &mut second);
+    meet_and_look(&rt, &row, &layout, &mut first, &mut second);
+    look_later(&rt, &row, &layout, &mut first);
     Ok(())
 }

@@ -9,7 +9,8 @@ ghost use Rattle.lrup_model.specs.Layout.{IsStream, row_words};
 ghost use Rattle.lrup_model.specs.Plain.{formula_of};
 ghost use Rattle.lrup_model.specs.Propagation.{Accepts};
 ghost use Rattle.lrup_model.specs.State.{absent, state, retired};
-ghost use Rattle.test_support.specs.Worked.{four, first, second, third, fourth, unit, one_line, calls};
+ghost use Rattle.test_support.specs.Worked.{four, first, second, third, fourth, unit};
+ghost use Rattle.test_support.specs.Worked.{one_line, calls};
 
 use lrup_model::laws::{clauses_follow, own_calls_decide, propagation_sound, within_refutes};
 use lrup_model::{
@@ -34,23 +35,28 @@ fn holds(rt: &impl Abort, fact: bool)
     assert!(rt; fact);
 }
 
-/// Numbers of literals, their variables and their complements.
-static LITERALS: [(i64, u32, i64); 4] = [
-    (1, 1, -1),
-    (-1, 1, 1),
-    (16_777_215, 16_777_215, -16_777_215),
-    (-16_777_215, 16_777_215, 16_777_215),
+/// Numbers of literals, their variables and their codes.
+static LITERALS: [(i64, u32, u32); 6] = [
+    (1, 1, 2),
+    (-1, 1, 3),
+    (2, 2, 4),
+    (-2, 2, 5),
+    (16_777_215, 16_777_215, 33_554_430),
+    (-16_777_215, 16_777_215, 33_554_431),
 ];
 
 /// Numbers of no literal.
 static NO_LITERALS: [i64; 5] = [0, 16_777_216, -16_777_216, i64::MAX, i64::MIN];
 
 #[test]
-fn literals_have_a_limit(rt: HostRuntime) -> Result<(), Fail> {
-    for &(value, var, complement) in &LITERALS {
+fn literals_have_variables_and_codes(rt: HostRuntime) -> Result<(), Fail> {
+    for &(value, var, code) in &LITERALS {
         let literal = Lit::new(value).ok_or("no literal")?;
-        let found = (literal.value(), literal.var(), literal.complement().value());
-        same(&rt, found, (value, var, complement));
+        let found = (literal.value(), literal.var(), literal.code());
+        same(&rt, found, (value, var, code));
+        holds(&rt, 2 <= code && code <= 33_554_431);
+        same(&rt, (code, Lit::from_code(code)), (code, literal));
+        same(&rt, literal.complement().value(), value.saturating_neg());
     }
     for &value in &NO_LITERALS {
         same(&rt, (value, Lit::new(value)), (value, None));
@@ -58,71 +64,40 @@ fn literals_have_a_limit(rt: HostRuntime) -> Result<(), Fail> {
     Ok(())
 }
 
-/// Numbers of literals, and their codes.
-static CODES: [(i64, u32); 6] = [
-    (1, 2),
-    (-1, 3),
-    (2, 4),
-    (-2, 5),
-    (16_777_215, 33_554_430),
-    (-16_777_215, 33_554_431),
-];
-
-#[test]
-fn literals_have_codes(rt: HostRuntime) -> Result<(), Fail> {
-    for &(value, code) in &CODES {
-        let literal = Lit::new(value).ok_or("no literal")?;
-        same(&rt, (value, literal.code()), (value, code));
-        holds(&rt, 2 <= code && code <= 33_554_431);
-        same(&rt, (code, Lit::from_code(code)), (code, literal));
-    }
-    Ok(())
-}
-
 /// The greatest number.
 const ALL: u64 = u64::MAX;
+
+const VARIABLES: Option<LayoutFault> = Some(LayoutFault::TooManyVariables);
+
+const CLAUSES: Option<LayoutFault> = Some(LayoutFault::TooManyClauses);
+
+const STREAMS: Option<LayoutFault> = Some(LayoutFault::BadStreamCount);
+
+const TOO_LONG: Option<LayoutFault> = Some(LayoutFault::RowTooLong);
 
 /// Six numbers of a layout, and why there is none of them.
 static LAYOUTS: [([u64; 6], Option<LayoutFault>); 21] = [
     ([16_777_215, 4, 8, 1, 0, 0], None),
-    (
-        [16_777_216, 4, 8, 1, 0, 0],
-        Some(LayoutFault::TooManyVariables),
-    ),
+    ([16_777_216, 4, 8, 1, 0, 0], VARIABLES),
     ([2, 16_777_215, 8, 1, 0, 0], None),
-    (
-        [2, 16_777_216, 8, 1, 0, 0],
-        Some(LayoutFault::TooManyClauses),
-    ),
-    ([2, 4, 8, 0, 0, 0], Some(LayoutFault::BadStreamCount)),
+    ([2, 16_777_216, 8, 1, 0, 0], CLAUSES),
+    ([2, 4, 8, 0, 0, 0], STREAMS),
     ([2, 4, 8, 64, 0, 0], None),
-    ([2, 4, 8, 65, 0, 0], Some(LayoutFault::BadStreamCount)),
+    ([2, 4, 8, 65, 0, 0], STREAMS),
     ([2, 4, 8, 1, 268_435_443, 0], None),
-    ([2, 4, 8, 1, 268_435_444, 0], Some(LayoutFault::RowTooLong)),
+    ([2, 4, 8, 1, 268_435_444, 0], TOO_LONG),
     ([2, 4, 8, 1, 0, 268_435_443], None),
-    ([2, 4, 8, 1, 0, 268_435_444], Some(LayoutFault::RowTooLong)),
+    ([2, 4, 8, 1, 0, 268_435_444], TOO_LONG),
     ([2, 4, 268_435_451, 1, 0, 0], None),
-    ([2, 4, 268_435_452, 1, 0, 0], Some(LayoutFault::RowTooLong)),
+    ([2, 4, 268_435_452, 1, 0, 0], TOO_LONG),
     ([2, 4, 8, 64, 2_097_151, 2_097_152], None),
-    (
-        [2, 4, 8, 64, 2_097_152, 2_097_152],
-        Some(LayoutFault::RowTooLong),
-    ),
-    (
-        [ALL, ALL, ALL, ALL, ALL, ALL],
-        Some(LayoutFault::TooManyVariables),
-    ),
-    (
-        [2, ALL, ALL, ALL, ALL, ALL],
-        Some(LayoutFault::TooManyClauses),
-    ),
-    (
-        [2, 4, ALL, ALL, ALL, ALL],
-        Some(LayoutFault::BadStreamCount),
-    ),
-    ([2, 4, ALL, 64, ALL, ALL], Some(LayoutFault::RowTooLong)),
-    ([2, 4, 8, 64, ALL, 0], Some(LayoutFault::RowTooLong)),
-    ([2, 4, 8, 64, 0, ALL], Some(LayoutFault::RowTooLong)),
+    ([2, 4, 8, 64, 2_097_152, 2_097_152], TOO_LONG),
+    ([ALL, ALL, ALL, ALL, ALL, ALL], VARIABLES),
+    ([2, ALL, ALL, ALL, ALL, ALL], CLAUSES),
+    ([2, 4, ALL, ALL, ALL, ALL], STREAMS),
+    ([2, 4, ALL, 64, ALL, ALL], TOO_LONG),
+    ([2, 4, 8, 64, ALL, 0], TOO_LONG),
+    ([2, 4, 8, 64, 0, ALL], TOO_LONG),
 ];
 
 #[test]
@@ -137,18 +112,11 @@ fn layouts_have_limits(rt: HostRuntime) {
 #[test]
 fn the_longest_row_has_its_words(rt: HostRuntime) -> Result<(), Fail> {
     let layout = Layout::new(2, 4, 8, 1, 268_435_443, 0)?;
-    same(&rt, layout.row_words(), 268_435_456);
-    same(&rt, layout.last_identity(), 268_435_447);
-    same(
-        &rt,
-        (
-            layout.vars(),
-            layout.streams(),
-            layout.room(),
-            layout.all_room(),
-        ),
-        (2, 1, 0, 0),
-    );
+    let found = (layout.row_words(), layout.last_identity());
+    same(&rt, found, (268_435_456, 268_435_447));
+    let layout = Layout::new(2, 4, 8, 3, 7, 9)?;
+    let found = (layout.vars(), layout.streams(), layout.room());
+    same(&rt, (found, layout.all_room()), ((2, 3, 9), 27));
     Ok(())
 }
 
@@ -167,7 +135,7 @@ static OWNERS: [Owner; 10] = [
 ];
 
 #[test]
-fn streams_own_by_turns(rt: HostRuntime) -> Result<(), Fail> {
+fn streams_own_in_turn(rt: HostRuntime) -> Result<(), Fail> {
     let layout = Layout::new(2, 4, 8, 2, 2, 3)?;
     for (id, owner) in OWNERS.iter().enumerate() {
         let found = (id, layout.owner(id as u64), layout.covers(id as u64));
@@ -200,12 +168,8 @@ fn faults_and_literals_have_texts(rt: HostRuntime) -> Result<(), Fail> {
 fn a_formula_keeps_its_clauses(rt: HostRuntime) -> Result<(), Fail> {
     holds(&rt, Formula::new(rt.alloc(), 2).is_empty());
     let formula = four_clauses(rt.alloc())?;
-    same(
-        &rt,
-        (formula.vars(), formula.len(), formula.literals()),
-        (2, 4, 8),
-    );
-    holds(&rt, !formula.is_empty());
+    let found = (formula.vars(), formula.len(), formula.literals());
+    same(&rt, (found, formula.is_empty()), ((2, 4, 8), false));
     same(&rt, formula.clause(1), [lit(1), lit(2)].as_slice());
     same(&rt, formula.clause(2), [lit(-1), lit(2)].as_slice());
     same(&rt, formula.clause(4), [lit(-1), lit(-2)].as_slice());
@@ -216,7 +180,7 @@ fn a_formula_keeps_its_clauses(rt: HostRuntime) -> Result<(), Fail> {
     Ok(())
 }
 
-/// The gate runs this test with each of its allocations refused, one after the other; the second attempt then has memory.
+/// The gate refuses each allocation of this test in turn; the second attempt then has memory.
 #[test]
 fn a_refused_push_changes_nothing(rt: HostRuntime) -> Result<(), Fail> {
     let mut formula = Formula::new(rt.alloc(), 2);
@@ -253,7 +217,7 @@ fn literals(alloc: Global, values: &[i64]) -> Result<Vec<Lit>, Fail> {
     Ok(found)
 }
 
-/// The greatest variable of the cube of these literals, whether it refutes a clause, and whether it has a literal.
+/// The cube's greatest variable, whether it refutes the clause, and whether it has the literal.
 fn ask_cube(
     alloc: Global,
     cube: &[i64],
@@ -270,7 +234,7 @@ fn ask_cube(
     ))
 }
 
-/// A cube, a clause and a literal; the cube's greatest variable, whether it refutes the clause, and whether it has the literal.
+/// A cube, a clause and a literal, and what is found of them.
 static ASKED: [(&[i64], &[i64], i64, (u32, bool, bool)); 11] = [
     (&[-2], &[2], -2, (2, true, true)),
     (&[-2, 1, -2], &[2], 2, (2, true, false)),
@@ -297,11 +261,8 @@ fn cubes_refute_clauses(rt: HostRuntime) -> Result<(), Fail> {
         same(&rt, (cube, clause, found), (cube, clause, wanted));
     }
     let empty = Cube::empty(rt.alloc());
-    same(
-        &rt,
-        (empty.vars(), empty.refutes(&[]), empty.refutes(&[lit(1)])),
-        (0, true, false),
-    );
+    let found = (empty.vars(), empty.refutes(&[]), empty.refutes(&[lit(1)]));
+    same(&rt, found, (0, true, false));
     Ok(())
 }
 
@@ -317,7 +278,7 @@ fn a_refused_cube_can_be_made_again(rt: HostRuntime) -> Result<(), Fail> {
 }
 
 #[test]
-fn clips_tell_their_parts(rt: HostRuntime) {
+fn clips_have_their_parts(rt: HostRuntime) {
     let clip = Clip::new(5, 1, 14);
     same(&rt, (clip.id(), clip.len(), clip.start()), (5, 1, 14));
     holds(&rt, !clip.is_empty());
@@ -384,11 +345,8 @@ fn first_desk(rt: &impl Abort, map: &mut PlainMap)
     same(rt, publish_two(&mut desk, 5), Some(Published::Done));
     same(rt, desk.room(), 1);
     same(rt, publish_two(&mut desk, 5), Some(Published::Taken));
-    same(
-        rt,
-        withdraw_and_read(&mut desk, 5),
-        Some((Retired::Done, lit(2))),
-    );
+    let found = withdraw_and_read(&mut desk, 5);
+    same(rt, found, Some((Retired::Done, lit(2))));
     same(rt, withdraw(&mut desk, 5), Some(Retired::NotLive));
     same(rt, publish_two(&mut desk, 5), Some(Published::Taken));
     same(rt, look(&mut desk, 5), Some(Fetched::Retired));
@@ -535,8 +493,9 @@ fn four_is_a_formula()
     ensures { IsCnf four }
 {}
 
-/// By laws alone: clauses of a legal history follow, so do clauses that these show by hints, and a clause that follows leaves no assignment
-/// under its complement. What a stream never published isn't there.
+/// By laws alone: clauses of a legal history follow, so do clauses that these show by hints, and a
+/// clause that follows leaves no assignment under its complement. What a stream never published isn't
+/// there.
 fn what_laws_say()
     ensures unit { Follows four unit }
     ensures empty { Follows four [] }

@@ -34,63 +34,42 @@ fn literal(rt: &impl Abort, value: i64) -> Lit
     literal
 }
 
-/// Takes up a clause with repeats, and then the empty one.
+/// Takes up a clause with repeats and the empty one.
 fn take_up(rt: &impl Abort, marks: &mut Marks) -> Result<(), Fail>
-    requires { marks.old.vars ≡ 9 }
+    requires { marks.old.vars ≡ 16777215 }
+    ensures { marks.new.vars ≡ 16777215 }
 {
-    let (one, three, not_nine) = (lit(1), lit(3), lit(-9));
-    marks.begin(&[three, not_nine, three, one, not_nine])?;
-    same(rt, marks.clause(), [three, not_nine, one].as_slice());
-    holds(rt, marks.ready());
+    let (one, three, not_last) = (lit(1), lit(3), lit(-16_777_215));
+    marks.begin(&[three, not_last, three, one, not_last])?;
+    same(rt, marks.clause(), [three, not_last, one].as_slice());
+    same(rt, marks.ready(), true);
     marks.begin(&[])?;
     same(rt, (marks.clause().is_empty(), marks.ready()), (true, true));
     Ok(())
 }
 
-#[test]
-fn a_clause_has_each_literal_once(rt: HostRuntime) -> Result<(), Fail> {
-    let mut marks = Marks::new(rt.alloc(), 9)?;
-    holds(&rt, !marks.ready());
-    take_up(&rt, &mut marks)
-}
-
-/// Takes up a clause of the last variable, and then a tautology of it.
-fn take_up_last(rt: &impl Abort, marks: &mut Marks) -> Result<(), Fail>
+/// Takes up two tautologies, and then a clause.
+fn take_up_tautologies(rt: &impl Abort, marks: &mut Marks) -> Result<(), Fail>
     requires { marks.old.vars ≡ 16777215 }
 {
     let (last, not_last) = (lit(16_777_215), lit(-16_777_215));
+    same(rt, marks.begin(&[last, not_last]), Err(Tautology));
+    let fault = marks.begin(&[lit(2), lit(1), lit(-2)]);
+    let left = (marks.clause().is_empty(), marks.ready());
+    same(rt, (fault, left), (Err(Tautology), (true, false)));
     marks.begin(&[not_last])?;
     same(rt, marks.clause(), [not_last].as_slice());
-    same(rt, marks.begin(&[last, not_last]), Err(Tautology));
     Ok(())
 }
 
+/// Over as many variables as there may be.
 #[test]
-fn the_most_variables_fit(rt: HostRuntime) -> Result<(), Fail> {
+fn clauses_are_taken_up(rt: HostRuntime) -> Result<(), Fail> {
+    same(&rt, Tautology.to_string(rt.alloc())?.as_str(), "tautology");
     let mut marks = Marks::new(rt.alloc(), Lit::MAX_VARIABLE)?;
-    take_up_last(&rt, &mut marks)
-}
-
-/// Takes up a tautology, and then a clause.
-fn take_up_tautology(rt: &impl Abort, marks: &mut Marks) -> Result<(), Fail>
-    requires { marks.old.vars ≡ 2 }
-{
-    let (one, two, not_two) = (lit(1), lit(2), lit(-2));
-    let fault = marks.begin(&[two, one, not_two]);
-    same(rt, fault, Err(Tautology));
-    let left = (marks.clause().is_empty(), marks.ready());
-    same(rt, left, (true, false));
-    marks.begin(&[not_two])?;
-    same(rt, marks.clause(), [not_two].as_slice());
-    Ok(())
-}
-
-#[test]
-fn a_tautology_leaves_no_clause(rt: HostRuntime) -> Result<(), Fail> {
-    let text = Tautology.to_string(rt.alloc())?;
-    same(&rt, text.as_str(), "tautology");
-    let mut marks = Marks::new(rt.alloc(), 2)?;
-    take_up_tautology(&rt, &mut marks)
+    same(&rt, marks.ready(), false);
+    take_up(&rt, &mut marks)?;
+    take_up_tautologies(&rt, &mut marks)
 }
 
 /// Adds a clause of these two literals, over three variables.
@@ -162,8 +141,8 @@ fn try_hint<M: ClauseMap>(marks: &mut Marks, map: &mut M, id: u64) -> Option<Ste
     Some(marks.hint(map, &clip))
 }
 
-/// Takes up the clause of the literal 1 and tries these hints: the last one's step, whether another may follow, and whether it
-/// is that clause still.
+/// Takes up the clause of the literal 1 and tries these hints: the last one's step, whether another
+/// may follow, and whether it is that clause still.
 fn try_hints<M: ClauseMap>(
     marks: &mut Marks,
     map: &mut M,
@@ -197,39 +176,6 @@ fn try_rows<M: ClauseMap>(rt: &impl Abort, marks: &mut Marks, map: &mut M, rows:
     }
 }
 
-/// What is done with the marks at a map.
-#[derive(Drop)]
-enum Work {
-    Hints(&'static [HintRow]),
-    Compare,
-    CallOften,
-}
-
-/// Does so at the map of these pairs.
-fn work_at(rt: &(impl Abort + AllocGlobal), pairs: &[(i64, i64)], work: &Work) -> Result<(), Fail> {
-    let mut map = map_of_pairs(rt, pairs)?;
-    let mut marks = Marks::new(rt.alloc(), 3)?;
-    do_work(rt, &mut marks, &mut map.desk(1), work)
-}
-
-/// Does so with these marks.
-fn do_work<M: ClauseMap>(
-    rt: &(impl Abort + AllocGlobal),
-    marks: &mut Marks,
-    map: &mut M,
-    work: &Work,
-) -> Result<(), Fail>
-    requires marks { marks.old.vars ≡ 3 }
-    requires map { (M.caller_view map.old).caller.formula.vars ≡ 3 }
-{
-    match work {
-        Work::Hints(rows) => try_rows(rt, marks, map, rows),
-        Work::Compare => return compare_all(rt, marks, map),
-        Work::CallOften => return call_with_list(rt, marks, map),
-    }
-    Ok(())
-}
-
 /// Hints at the clauses 1 2, -2 3, -3 1 and 2 3.
 static UNTIL_CONFLICT: [HintRow; 3] = [
     (&[1], Step::Unit, true),
@@ -239,8 +185,10 @@ static UNTIL_CONFLICT: [HintRow; 3] = [
 
 #[test]
 fn hints_are_unit_until_the_conflict(rt: HostRuntime) -> Result<(), Fail> {
-    let pairs = [(1, 2), (-2, 3), (-3, 1), (2, 3)];
-    work_at(&rt, &pairs, &Work::Hints(&UNTIL_CONFLICT))
+    let mut map = map_of_pairs(&rt, &[(1, 2), (-2, 3), (-3, 1), (2, 3)])?;
+    let mut marks = Marks::new(rt.alloc(), 3)?;
+    try_rows(&rt, &mut marks, &mut map.desk(1), &UNTIL_CONFLICT);
+    Ok(())
 }
 
 /// Hints at the clauses 1 2 and 2 3, of which one is unit.
@@ -252,7 +200,10 @@ static TWO_CLAUSES: [HintRow; 3] = [
 
 #[test]
 fn a_true_literal_or_two_left_are_not_unit(rt: HostRuntime) -> Result<(), Fail> {
-    work_at(&rt, &[(1, 2), (2, 3)], &Work::Hints(&TWO_CLAUSES))
+    let mut map = map_of_pairs(&rt, &[(1, 2), (2, 3)])?;
+    let mut marks = Marks::new(rt.alloc(), 3)?;
+    try_rows(&rt, &mut marks, &mut map.desk(1), &TWO_CLAUSES);
+    Ok(())
 }
 
 /// Literals over three variables.
@@ -331,7 +282,9 @@ fn compare_all<M: ClauseMap>(
 
 #[test]
 fn a_clause_is_compared_as_a_set(rt: HostRuntime) -> Result<(), Fail> {
-    work_at(&rt, &[(1, 2), (2, -2)], &Work::Compare)
+    let mut map = map_of_pairs(&rt, &[(1, 2), (2, -2)])?;
+    let mut marks = Marks::new(rt.alloc(), 3)?;
+    compare_all(&rt, &mut marks, &mut map.desk(1))
 }
 
 /// A clause is taken up, its hints are tried, and one is compared, a thousand times.
@@ -347,25 +300,15 @@ fn call_often<M: ClauseMap>(marks: &mut Marks, map: &mut M, lits: &[Lit]) -> Opt
     Some(())
 }
 
-/// The same with a list of literals.
-fn call_with_list<M: ClauseMap>(
-    rt: &(impl Abort + AllocGlobal),
-    marks: &mut Marks,
-    map: &mut M,
-) -> Result<(), Fail>
-    requires marks { marks.old.vars ≡ 3 }
-    requires map { (M.caller_view map.old).caller.formula.vars ≡ 3 }
-{
-    let lits = lits_of(rt, &[3, -2, 3])?;
-    holds(rt, call_often(marks, map, lits.as_slice()).is_some());
-    Ok(())
-}
-
-/// No call of the marks takes memory: the formula, the map, the marks and the list take eight allocations, and the ninth is the
-/// one after the last call. The gate refuses that one, and this test has to fail then.
+/// No call of the marks takes memory: the ninth allocation comes after the last call. The gate
+/// refuses that one, and this test has to fail then.
 #[test]
 fn the_ninth_allocation_comes_after_all_calls(rt: HostRuntime) -> Result<(), Fail> {
-    work_at(&rt, &[(1, 2), (-2, 3)], &Work::CallOften)?;
+    let mut map = map_of_pairs(&rt, &[(1, 2), (-2, 3)])?;
+    let mut marks = Marks::new(rt.alloc(), 3)?;
+    let lits = lits_of(&rt, &[3, -2, 3])?;
+    let done = call_often(&mut marks, &mut map.desk(1), lits.as_slice());
+    same(&rt, done, Some(()));
     let _last: Vec<u8> = Vec::with_capacity(rt.alloc(), 1)?;
     Ok(())
 }

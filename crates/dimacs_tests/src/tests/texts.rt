@@ -1,4 +1,4 @@
-//! What the definition of a text says of a few texts. Each follows from the definition and the laws alone, so a wrong one isn't proved.
+//! A few texts by the definition of a text and the laws alone, so that a wrong one isn't proved.
 ghost use Rattle.std.specs.Prelude.{◌≡◌, ◌↔◌, [], ◌∷◌, codes, pos, IfOk};
 ghost use Rattle.lrup_model.specs.Formula.{Cnf};
 ghost use Rattle.dimacs.specs.FormulaText.{IsFormulaText};
@@ -13,7 +13,7 @@ fn zeros_in_front_are_refused()
     ensures header { (f : Cnf) → ¬ IsFormulaText (codes "p cnf 01 0\n") f }
 {}
 
-/// A clause ends at its 0, and not at the end of a line. The tokens of a comment are none, inside a clause too.
+/// A clause ends at its 0, and not at the end of a line. A comment has no tokens.
 fn a_clause_ends_at_its_zero()
     ensures lines { let only : Cnf = record { vars = 2; clauses = (pos 1 ∷ pos 2 ∷ []) ∷ [] } in
         (f : Cnf) → IsFormulaText (codes "p cnf 2 1\n1\n2 0\n") f ↔ (f ≡ only) }

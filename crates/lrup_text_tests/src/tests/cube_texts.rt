@@ -1,4 +1,4 @@
-//! What the definition of a cube's text says of a few texts. Each follows from the definition alone, so a wrong one isn't proved.
+//! A few texts by the definition of a cube's text alone, so that a wrong one isn't proved.
 ghost use Rattle.std.specs.Prelude.{◌≡◌, ◌≤◌, [], ◌∷◌, ℕ, codes, pos, negsuc};
 ghost use Rattle.lrup_model.specs.Cube.{CubeValue, IsCubeOf};
 ghost use Rattle.lrup_model.specs.Literal.{max_variable};
@@ -11,7 +11,7 @@ pub fn cubes_are_refused()
     ensures line_feed { (vars : ℕ) (cube : CubeValue) → ¬ IsCubeText vars (codes "1 0") cube }
 {}
 
-/// A literal has its sign, a text may repeat it, and the cube is the set of the literals in any order.
+/// A literal has its sign, a text may repeat it, and the cube is the set in any order.
 pub fn a_text_is_of_a_set()
     ensures { (cube : CubeValue) → IsCubeOf (pos 1 ∷ negsuc 1 ∷ []) cube
         → IsCubeText 2 (codes "-2 1 -2 0\n") cube }

@@ -1,7 +1,8 @@
-// Devices that fail at one of their calls.
+//! Devices that fail at one of their calls, and bytes that end.
 ghost use Rattle.std.specs.Prelude.{◌≡◌, ◌++◌, ℕ, List, false, take, IfOk};
 
-use crate::tests::{same, write_fails};
+use super::same;
+use super::writing::write_fails;
 use lrup_text::{Line, ReadFault, Reading, Sink, Source, WriteBuffer, WriteFault, Writing};
 use std::io;
 use std::process::Abort;
@@ -90,6 +91,27 @@ fn a_read_gives_the_next_bytes(rt: HostRuntime) {
     let mut buffer = [0u8; 4];
     for room in 0..=4usize {
         same(&rt, read_once(b"5 2", &mut buffer[..room]), Ok(room.min(3)));
+    }
+}
+
+/// How many bytes a reader of these gives, four at a time, and whether it failed.
+fn read_to_end(bytes: &[u8]) -> (usize, bool) {
+    let mut source = Reading::new(bytes);
+    let mut count = 0usize;
+    let mut buffer = [0; 4];
+    for _ in 0..64 {
+        if source.failed() {
+            break;
+        }
+        count = count.saturating_add(source.read(&mut buffer).unwrap_or(0));
+    }
+    (count, source.failed())
+}
+
+#[test]
+fn bytes_end_without_a_failure(rt: HostRuntime) {
+    for end in 0..=25usize {
+        same(&rt, read_to_end(&BYTES[..end]), (end, false));
     }
 }
 
