@@ -16,7 +16,7 @@ from harness import (FOUR, ROOT, Failure, Pieces, Row, Wanted, Words, answered, 
                      with_memory, words_given, written)
 
 sys.path.append(str(ROOT / "gate"))
-import tables
+import interface
 
 Named = Tuple[str, Wanted]
 WAYS = ["", "--serial"]
@@ -333,11 +333,13 @@ def usage(program: str, words: List[str], work: Path) -> None:
 def help_text(program: str, work: Path) -> None:
     """Options and sizes, in the words of the manual page, except for line breaks."""
     err = answered(program, Wanted(["--help"], 2), work).err
-    shown = re.findall(r"^ {6}(--.*)\n((?: {10}.*\n)+)", err, re.M)
-    want([(re.sub("[<>]", "", head), " ".join(text.split())) for head, text in shown],
-         [(option.head, option.text) for option in tables.options()], "the options in --help")
-    if tables.sizes() not in " ".join(err.split()):
-        raise Failure(f"wanted '{tables.sizes()}' in\n{err}")
+    shown = re.findall(r"^ {6}--(\w+)(?: <(\w+)>)?\n((?: {10}.*\n)+)", err, re.M)
+    items = re.findall(r"^\.It Fl -(\w+)(?: Ar (\w+))?\n((?:(?!\.It).*\n)*)", interface.part(interface.MANUAL, "options"), re.M)
+    want(*([(name, value.lower(), interface.words_in(text)) for name, value, text in options] for options in (shown, items)),
+         "the options in --help")
+    sizes, words = (" ".join(interface.words_in(text)) for text in (interface.part(interface.MANUAL, "sizes"), err))
+    if sizes not in words:
+        raise Failure(f"wanted '{sizes}' in\n{err}")
 
 
 def many_watched(program: str, work: Path) -> None:
