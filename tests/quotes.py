@@ -15,7 +15,7 @@ sys.dont_write_bytecode = True
 from harness import ROOT, Row, run, run_all, want
 
 PAGE = "AUDIT.md"
-COMMENT, TYPE = "-- no assignment makes every clause true\n", "IsUnsatisfiable : Cnf → Type 0\n"
+COMMENT, TYPE = "-- no assignment satisfies all clauses of the formula\n", "IsUnsatisfiable : Cnf → Type 0\n"
 MEANS = "IsUnsatisfiable formula = (assignment : Assignment) → SatisfiesAll assignment formula → ⊥\n"
 WHOLE = COMMENT + TYPE + MEANS
 ANOTHER = "-- the negation of a test\nnegation : Bool → Bool\nnegation x = not x\n\n"
@@ -47,7 +47,7 @@ def rows() -> List[Row]:
     differs = ["IsUnsatisfiable differs from crates/lrup_model/specs/Entailment.antt", "run make quotes"]
     return [("as it is", refused, WHOLE, WHOLE, []),
             ("one word changed", refused, MEANS, MEANS.replace("formula → ⊥", "formula"), differs),
-            ("a comment changed", refused, COMMENT, COMMENT.replace("every", "some"), differs),
+            ("a comment changed", refused, COMMENT, COMMENT.replace("all", "some"), differs),
             ("a definition left out", refused, "\n```agda\n" + WHOLE + "```\n", "", ["IsUnsatisfiable, which no page quotes"]),
             ("a definition that nothing reaches", refused, WHOLE, ANOTHER + WHOLE, ["no statement reaches negation"]),
             ("a definition twice", refused, WHOLE, WHOLE + "\n" + WHOLE, ["IsUnsatisfiable is quoted at docs/AUDIT.md"]),
