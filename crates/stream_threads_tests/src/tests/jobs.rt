@@ -1,5 +1,5 @@
-//! The two jobs of a stream, in two threads. No contract says that they come to a report, that no
-//! line waits for the next one, and that no thread is left asleep.
+//! The two jobs of a stream, in two threads: that they do come to a report, that no line waits for the next one, and that nobody
+//! is left asleep, which no contract says.
 ghost use Rattle.std.specs.Prelude.{◌≡◌, ◌<◌, ◌≤◌, [], None, Some, false, IfOk, IfSome};
 ghost use Rattle.lrup_model.specs.Layout.{IsStream};
 ghost use Rattle.lrup_model.specs.Plain.{plain_caller_view};
@@ -27,6 +27,206 @@ use stream_threads::{
 };
 use test_support::Pieces;
 
+/// A gate that does nothing.
+#[derive(Clone, Copy)]
+struct Open;
+
+impl Gate for Open {
+    fn before_fetch(&mut self, _stream: u64, _id: Id, _attempt: u64) {}
+
+    fn after_publish(&mut self, _stream: u64, _id: Id) {}
+}
+
+/// What a checking thread is given: its job, and the map of the four clauses, with which stream 1 is alone.
+#[derive(Drop)]
+struct Checking<G: Gate + Drop> {
+    map: PlainMap,
+    job: CheckingJob<G>,
+    ghost stream: { IsStream map.layout 1 },
+    ghost ready: { IsReadyAt job.checker (plain_caller_view map 1) },
+}
+
+/// The two jobs of a stream, with room for so many lines.
+fn open_pair<R: Source + Drop, G: Gate + Drop>(
+    alloc: Global,
+    reader: R,
+    gate: G,
+    lines: u64,
+) -> Result<(ReadingJob<R>, Checking<G>), Fail>
+    requires { R.has_failed reader ≡ false }
+    ensures { IfOk result (λ both. IsPair both.0.sender.producer both.1.job.receiver.consumer) }
+{
+    ready_new();
+    let map = open_map(alloc, 1, lines, 65_536)?;
+    let cube = Cube::empty(alloc);
+    let run_params = RunParams::new(map.layout(), &cube, 3);
+    let (reading, job) = jobs(alloc, reader, gate, 1, &run_params)?;
+    Ok((reading, Checking { map, job }))
+}
+
+/// Sets the signal, and checks what comes, at the map's desk. None where it says to leave.
+fn check<W: Wait, G: Gate + Drop>(
+    wait: &W,
+    signal: &OnceLock<bool>,
+    go: bool,
+    checking: Checking<G>,
+) -> Option<Checked>
+    ensures { IfSome result (λ checked.
+        SameConsumer checking.job.receiver.consumer checked.consumer) }
+{
+    let Checking { mut map, job } = checking;
+    let _ = signal.set(wait, go);
+    let mut desk = map.desk(1);
+    check_on_signal(wait, signal, job, &mut desk).ok()
+}
+
+/// Reads and sends all. None where it says to leave.
+fn read<W: Wait, R: Source + Drop>(
+    wait: &W,
+    signal: &OnceLock<bool>,
+    reading: ReadingJob<R>,
+) -> Option<Sent<R>>
+    ensures { IfSome result (λ sent. SameProducer reading.sender.producer sent.producer) }
+{
+    read_on_signal(wait, signal, reading).ok()
+}
+
+/// Both jobs, each in a thread of its own. What is said of the stream, and its reader. None where it says to leave.
+fn run_pair<T: Threads + Wait + Sync, R: Source + Send + Drop, G: Gate + Send + Drop>(
+    rt: &T,
+    go: bool,
+    reading: ReadingJob<R>,
+    checking: Checking<G>,
+) -> Option<(Option<Report>, R)>
+    requires { IsPair reading.sender.producer checking.job.receiver.consumer }
+{
+    let signal = OnceLock::new();
+    let signal = &signal;
+    let (sent, checked) = join(
+        rt,
+        || -> Option<Sent<R>>
+            ensures { IfSome result (λ sent.
+                SameProducer reading.sender.producer sent.producer) }
+        { read(rt, signal, reading) },
+        || -> Option<Checked>
+            ensures { IfSome result (λ checked.
+                SameConsumer checking.job.receiver.consumer checked.consumer) }
+        { check(rt, signal, go, checking) },
+    );
+    let (mut sent, mut checked) = (sent?, checked?);
+    jobs_agree(&mut sent, &mut checked);
+    Some((checked.report, sent.reader))
+}
+
+fn report(added: u64, deleted: u64, ending: Ending) -> Report {
+    Report {
+        added,
+        deleted,
+        empty: false,
+        within: false,
+        ending,
+    }
+}
+
+/// What is said of a text that comes so many bytes a read, and whose read of some number fails.
+fn said_of<T: Threads + Wait + Sync>(
+    rt: &T,
+    alloc: Global,
+    text: &str,
+    most: usize,
+    fails_at: usize,
+) -> Result<Option<Report>, Fail> {
+    let (reading, checking) = open_pair(alloc, Pieces::new(text, most, fails_at), Open, 65_536)?;
+    let (said, _) = run_pair(rt, true, reading, checking).ok_or("told to leave")?;
+    Ok(said)
+}
+
+/// The pair says this of the text.
+fn says<T: Threads + Wait + Sync + Abort>(
+    rt: &T,
+    alloc: Global,
+    text: &str,
+    most: usize,
+    fails_at: usize,
+    wanted: Report,
+) -> Result<(), Fail> {
+    let said = said_of(rt, alloc, text, most, fails_at)?;
+    same(
+        rt,
+        (text.len(), most, fails_at, said),
+        (text.len(), most, fails_at, Some(wanted)),
+    );
+    Ok(())
+}
+
+/// The refutation of the four clauses.
+const REFUTATION: &str = "5 2 0 1 2 0\n6 0 5 3 4 0\n";
+
+/// The most bytes a read, the read that fails, and what is said: additions, whether one is empty, and the ending.
+static READS: [(usize, usize, u64, bool, Ending); 7] = [
+    (1, 0, 2, true, Ending::Ended),
+    (2, 0, 2, true, Ending::Ended),
+    (65_536, 0, 2, true, Ending::Ended),
+    (12, 2, 1, false, Ending::ReadFailed(2)),
+    (1, 13, 1, false, Ending::ReadFailed(2)),
+    (24, 2, 2, true, Ending::ReadFailed(3)),
+    (1, 1, 0, false, Ending::ReadFailed(1)),
+];
+
+/// Whole, at its end, and where a read fails after the first line or after the last.
+#[test]
+fn a_refutation(rt: HostRuntime) -> Result<(), Fail> {
+    for &(most, fails_at, added, empty, ending) in &READS {
+        // The empty clause, and no other, lies within a cube of no literals.
+        let wanted = Report {
+            empty,
+            within: empty,
+            ..report(added, 0, ending)
+        };
+        says(&rt, rt.alloc(), REFUTATION, most, fails_at, wanted)?;
+    }
+    Ok(())
+}
+
+/// Of line 1.
+fn bad_line(fault: LineFault) -> Report {
+    report(0, 0, Ending::Bad(1, Fault::Text(fault)))
+}
+
+/// The most bytes a read, around the size of a ring.
+static SIZES: [usize; 5] = [1, 2, 65_535, 65_536, 65_537];
+
+/// The pair says this of the text, however its bytes come.
+fn says_at_each_size<T: Threads + Wait + Sync + Abort>(
+    rt: &T,
+    alloc: Global,
+    text: &str,
+    wanted: Report,
+) -> Result<(), Fail> {
+    for most in &SIZES {
+        says(rt, alloc, text, *most, 0, wanted)?;
+    }
+    Ok(())
+}
+
+#[test]
+fn long_bytes(rt: HostRuntime) -> Result<(), Fail> {
+    let mut text = String::new(rt.alloc());
+    for _ in 0..200_000 {
+        text.push_str("\n")?;
+    }
+    says_at_each_size(&rt, rt.alloc(), &text, bad_line(LineFault::Spelling))
+}
+
+#[test]
+fn many_lines(rt: HostRuntime) -> Result<(), Fail> {
+    let mut text = String::new(rt.alloc());
+    for id in 5..20_005u64 {
+        write!(text, "{id} 2 0 1 2 0\n")?;
+    }
+    says_at_each_size(&rt, rt.alloc(), &text, report(20_000, 0, Ending::Ended))
+}
+
 /// Counts reads and publishes, and waits that were in vain.
 #[derive(Drop)]
 struct Counters {
@@ -44,269 +244,76 @@ impl Counters {
         }
     }
 
+    fn add(&self, counter: &AtomicU64) {
+        counter.fetch_add(1, Ordering::SeqCst);
+    }
+
     fn wait(&self, counter: &AtomicU64, wanted: u64) {
         if !waits_for(counter, wanted) {
-            self.late.fetch_add(1, Ordering::SeqCst);
+            self.add(&self.late);
         }
     }
 }
 
-/// Holds each fetch until the reader was asked this often, and counts the publishes.
-#[derive(Clone, Copy)]
-struct Hook<'a> {
-    counters: &'a Counters,
-    reads: u64,
-}
-
-impl Gate for Hook<'_> {
-    fn before_fetch(&mut self, _stream: u64, _id: Id, _attempt: u64) {
-        self.counters.wait(&self.counters.reads, self.reads);
-    }
-
-    fn after_publish(&mut self, _stream: u64, _id: Id) {
-        self.counters.publishes.fetch_add(1, Ordering::SeqCst);
-    }
-}
-
-/// A checking thread's job, and the map of the four clauses, where stream 1 is alone.
+/// Gives a text piece by piece, and counts its reads.
 #[derive(Drop)]
-struct Checking<'a> {
-    map: PlainMap,
-    job: CheckingJob<Hook<'a>>,
-    ghost stream: { IsStream map.layout 1 },
-    ghost ready: { IsReadyAt job.checker (plain_caller_view map 1) },
-}
-
-/// The two jobs of a stream, whose fetches wait for this many reads.
-fn open_pair<R: Source + Drop>(
-    alloc: Global,
-    reader: R,
-    counters: &Counters,
-    reads: u64,
-) -> Result<(ReadingJob<R>, Checking<'_>), Fail>
-    requires { R.has_failed reader ≡ false }
-    ensures { IfOk result (λ both. IsPair both.0.sender.producer both.1.job.receiver.consumer) }
-{
-    ready_new();
-    let map = open_map(alloc, 1, 65_536, 65_536)?;
-    let cube = Cube::empty(alloc);
-    let run_params = RunParams::new(map.layout(), &cube, 3);
-    let gate = Hook { counters, reads };
-    let (reading, job) = jobs(alloc, reader, gate, 1, &run_params)?;
-    Ok((reading, Checking { map, job }))
-}
-
-/// Sets the signal, and checks what comes, at the map's desk. None where it says to leave.
-fn check<W: Wait>(
-    wait: &W,
-    signal: &OnceLock<bool>,
-    go: bool,
-    checking: Checking<'_>,
-) -> Option<Checked>
-    ensures { IfSome result (λ checked.
-        SameConsumer checking.job.receiver.consumer checked.consumer) }
-{
-    let Checking { mut map, job } = checking;
-    let _ = signal.set(wait, go);
-    let mut desk = map.desk(1);
-    check_on_signal(wait, signal, job, &mut desk).ok()
-}
-
-/// Both jobs, each in a thread of its own: what is said of the stream, and its reader, or None where
-/// the signal says to leave.
-fn run_pair<T: Threads + Wait + Sync, R: Source + Send + Drop>(
-    rt: &T,
-    go: bool,
-    reading: ReadingJob<R>,
-    checking: Checking<'_>,
-) -> Option<(Option<Report>, R)>
-    requires { IsPair reading.sender.producer checking.job.receiver.consumer }
-{
-    let signal = OnceLock::new();
-    let signal = &signal;
-    let (sent, checked) = join(
-        rt,
-        || -> Option<Sent<R>>
-            ensures { IfSome result (λ sent.
-                SameProducer reading.sender.producer sent.producer) }
-        { read_on_signal(rt, signal, reading).ok() },
-        || -> Option<Checked>
-            ensures { IfSome result (λ checked.
-                SameConsumer checking.job.receiver.consumer checked.consumer) }
-        { check(rt, signal, go, checking) },
-    );
-    let (mut sent, mut checked) = (sent?, checked?);
-    jobs_agree(&mut sent, &mut checked);
-    Some((checked.report, sent.reader))
-}
-
-/// Nothing was deleted. The empty clause, and no other, lies within a cube of no literals.
-fn report(added: u64, empty: bool, ending: Ending) -> Report {
-    Report {
-        added,
-        deleted: 0,
-        empty,
-        within: empty,
-        ending,
-    }
-}
-
-/// The pair has this report of a text that comes this many bytes a read, and whose read of some
-/// number fails.
-fn has_report<T: Threads + Wait + Sync + Abort>(
-    rt: &T,
-    alloc: Global,
-    text: &str,
-    (most, fails_at): (usize, usize),
-    wanted: Report,
-) -> Result<(), Fail> {
-    let counters = Counters::new();
-    let (reading, checking) = open_pair(alloc, Pieces::new(text, most, fails_at), &counters, 0)?;
-    let (found, reader) = run_pair(rt, true, reading, checking).ok_or("told to leave")?;
-    same(rt, (most, fails_at, found), (most, fails_at, Some(wanted)));
-    same(rt, fails_at > 0 || reader.left.is_empty(), true);
-    Ok(())
-}
-
-/// The refutation of the four clauses.
-const REFUTATION: &str = "5 2 0 1 2 0\n6 0 5 3 4 0\n";
-
-/// The most bytes a read and the read that fails; additions, whether one is empty, and the ending.
-static READS: [(usize, usize, u64, bool, Ending); 7] = [
-    (1, 0, 2, true, Ending::Ended),
-    (2, 0, 2, true, Ending::Ended),
-    (65_536, 0, 2, true, Ending::Ended),
-    (12, 2, 1, false, Ending::ReadFailed(2)),
-    (1, 13, 1, false, Ending::ReadFailed(2)),
-    (24, 2, 2, true, Ending::ReadFailed(3)),
-    (1, 1, 0, false, Ending::ReadFailed(1)),
-];
-
-/// Whole, and where a read fails at once, after the first line or after the last.
-#[test]
-fn a_refutation(rt: HostRuntime) -> Result<(), Fail> {
-    for &(most, fails_at, added, empty, ending) in &READS {
-        let wanted = report(added, empty, ending);
-        has_report(&rt, rt.alloc(), REFUTATION, (most, fails_at), wanted)?;
-    }
-    Ok(())
-}
-
-/// The most bytes a read, around the size of a ring.
-static SIZES: [usize; 5] = [1, 2, 65_535, 65_536, 65_537];
-
-/// A bad line, after which all bytes are read, and many good ones.
-#[test]
-fn long_texts(rt: HostRuntime) -> Result<(), Fail> {
-    let bad = "\n".repeat(rt.alloc(), 200_000)?;
-    let mut good = String::new(rt.alloc());
-    for id in 5..20_005u64 {
-        write!(good, "{id} 2 0 1 2 0\n")?;
-    }
-    let fault = Fault::Text(LineFault::Spelling);
-    for &most in &SIZES {
-        let wanted = report(0, false, Ending::Bad(1, fault));
-        has_report(&rt, rt.alloc(), &bad, (most, 0), wanted)?;
-        let wanted = report(20_000, false, Ending::Ended);
-        has_report(&rt, rt.alloc(), &good, (most, 0), wanted)?;
-    }
-    Ok(())
-}
-
-/// Gives a line a read, and counts the reads. One in step waits each time until the line before was
-/// published, and pauses before the first ones, so that the checking thread sleeps.
-#[derive(Drop)]
-struct Lines<'a, C: Clock> {
-    clock: &'a C,
+struct Counted<'a> {
+    pieces: Pieces<'a>,
     counters: &'a Counters,
-    rest: &'a [u8],
-    given: u64,
-    in_step: bool,
 }
 
-impl<C: Clock> Source for Lines<'_, C> {
-    ghost left = { λ _. None };
+impl Source for Counted<'_> {
+    ghost left = { λ s. None };
 
-    ghost has_failed = { λ _. false };
+    ghost has_failed = { λ s. s.pieces.failed };
 
-    ghost reads = { λ _ _ _ _. Unit {0} };
+    ghost reads = { λ before room given after.
+        GivesLeft (Some before.pieces.left.now) room given (Some after.pieces.left.now) };
 
     fn read(&mut self, buffer: &mut [u8]) -> Result<usize, ReadFault> {
-        self.counters.reads.fetch_add(1, Ordering::SeqCst);
-        if self.in_step {
-            self.counters.wait(&self.counters.publishes, self.given);
-            if self.given < 300 {
-                pause(self.clock);
-            }
-        }
-        self.given = self.given.saturating_add(1);
-        let line = match self.rest.iter().position(|byte| *byte == b'\n') {
-            Some(at) => at.saturating_add(1),
-            None => 0,
-        };
-        let count = line.min(buffer.len()).min(self.rest.len());
-        let (front, rest) = self.rest.split_at(count);
-        buffer[..count].copy_from_slice(front);
-        self.rest = rest;
-        Ok(count)
+        self.counters.add(&self.counters.reads);
+        self.pieces.read(buffer)
     }
 
     fn failed(&self) -> bool {
-        false
+        self.pieces.failed()
     }
 }
 
-/// What is said of the lines, whose fetches wait for this many reads, or None where the jobs leave;
-/// how many reads there were, and how many waits in vain.
-fn run_lines<T: Threads + Wait + Clock + Sync>(
-    rt: &T,
-    alloc: Global,
-    lines: &str,
-    (reads, in_step, go): (u64, bool, bool),
-) -> Result<(Option<Option<Report>>, u64, u64), Fail> {
+/// Holds the first fetch until the reader was asked a second time.
+#[derive(Clone, Copy)]
+struct HoldsForRead<'a> {
+    counters: &'a Counters,
+}
+
+impl Gate for HoldsForRead<'_> {
+    fn before_fetch(&mut self, _stream: u64, _id: Id, _attempt: u64) {
+        self.counters.wait(&self.counters.reads, 2);
+    }
+
+    fn after_publish(&mut self, _stream: u64, _id: Id) {}
+}
+
+/// A thread that reads and checks by turns would never read the second line.
+#[test]
+fn reads_and_checks_on_one_thread(rt: HostRuntime) -> Result<(), Fail> {
     let counters = Counters::new();
-    let reader = Lines {
-        clock: rt,
+    let reader = Counted {
+        pieces: Pieces::new(REFUTATION, 12, 0),
         counters: &counters,
-        rest: lines.as_bytes(),
-        given: 0,
-        in_step,
     };
-    let (reading, checking) = open_pair(alloc, reader, &counters, reads)?;
-    let said = match run_pair(rt, go, reading, checking) {
-        Some((said, _)) => Some(said),
-        None => None,
+    let gate = HoldsForRead {
+        counters: &counters,
     };
-    let reads = counters.reads.load(Ordering::SeqCst);
-    Ok((said, reads, counters.late.load(Ordering::SeqCst)))
-}
-
-/// A thread that reads and checks in turn would never read the second line.
-#[test]
-fn a_line_is_checked_while_the_next_is_read(rt: HostRuntime) -> Result<(), Fail> {
-    let found = run_lines(&rt, rt.alloc(), REFUTATION, (2, false, true))?;
-    let wanted = Some(Some(report(2, true, Ending::Ended)));
-    same(&rt, found, (wanted, 3, 0));
-    Ok(())
-}
-
-#[test]
-fn a_start_that_is_called_off_reads_nothing(rt: HostRuntime) -> Result<(), Fail> {
-    let found = run_lines(&rt, rt.alloc(), REFUTATION, (0, false, false))?;
-    same(&rt, found, (None, 0, 0));
-    Ok(())
-}
-
-/// Ten thousand additions of one clause: no line waits for the next one to be checked.
-#[test]
-fn each_line_is_checked_before_the_next_comes(rt: HostRuntime) -> Result<(), Fail> {
-    let mut lines = String::new(rt.alloc());
-    for id in 5..10_005u64 {
-        write!(lines, "{id} 2 0 1 2 0\n")?;
-    }
-    let found = run_lines(&rt, rt.alloc(), &lines, (0, true, true))?;
-    let wanted = Some(Some(report(10_000, false, Ending::Ended)));
-    same(&rt, found, (wanted, 10_001, 0));
+    let (reading, checking) = open_pair(rt.alloc(), reader, gate, 2)?;
+    let (said, _) = run_pair(&rt, true, reading, checking).ok_or("told to leave")?;
+    let wanted = Report {
+        empty: true,
+        within: true,
+        ..report(2, 0, Ending::Ended)
+    };
+    same(&rt, said, Some(wanted));
+    same(&rt, counters.late.load(Ordering::SeqCst), 0);
     Ok(())
 }
 
@@ -332,13 +339,31 @@ fn both_see_the_signal(rt: HostRuntime) -> Result<(), Fail> {
     Ok(())
 }
 
-/// This many bytes of LF, of which the first is a bad line.
-#[derive(Drop)]
-struct LineFeeds {
-    left: usize,
+/// Told to leave, neither reads a byte nor checks one.
+#[test]
+fn told_to_leave(rt: HostRuntime) -> Result<(), Fail> {
+    let counters = Counters::new();
+    let reader = Counted {
+        pieces: Pieces::new(REFUTATION, 12, 0),
+        counters: &counters,
+    };
+    let (reading, checking) = open_pair(rt.alloc(), reader, Open, 2)?;
+    same(&rt, run_pair(&rt, false, reading, checking).is_none(), true);
+    same(&rt, counters.reads.load(Ordering::SeqCst), 0);
+    Ok(())
 }
 
-impl Source for LineFeeds {
+/// Gives a line once the one before was published. At the first ones it pauses before, so that the checking thread sleeps.
+#[derive(Drop)]
+struct Steps<'a, C: Clock> {
+    clock: &'a C,
+    counters: &'a Counters,
+    lines: &'a [String],
+    given: u64,
+    pauses: u64,
+}
+
+impl<C: Clock> Source for Steps<'_, C> {
     ghost left = { λ _. None };
 
     ghost has_failed = { λ _. false };
@@ -346,9 +371,17 @@ impl Source for LineFeeds {
     ghost reads = { λ _ _ _ _. Unit {0} };
 
     fn read(&mut self, buffer: &mut [u8]) -> Result<usize, ReadFault> {
-        let count = buffer.len().min(self.left);
-        buffer[..count].fill(b'\n');
-        self.left = self.left.saturating_sub(count);
+        self.counters.wait(&self.counters.publishes, self.given);
+        let Some((line, rest)) = self.lines.split_first() else {
+            return Ok(0);
+        };
+        if self.given < self.pauses {
+            pause(self.clock);
+        }
+        let count = buffer.len().min(line.len());
+        buffer[..count].copy_from_slice(&line.as_bytes()[..count]);
+        self.lines = rest;
+        self.given = self.given.saturating_add(1);
         Ok(count)
     }
 
@@ -357,19 +390,107 @@ impl Source for LineFeeds {
     }
 }
 
-/// After a bad line the stream is read to its end, so that its solver is never blocked.
+/// Counts the publishes.
+#[derive(Clone, Copy)]
+struct CountsPublishes<'a> {
+    counters: &'a Counters,
+}
+
+impl Gate for CountsPublishes<'_> {
+    fn before_fetch(&mut self, _stream: u64, _id: Id, _attempt: u64) {}
+
+    fn after_publish(&mut self, _stream: u64, _id: Id) {
+        self.counters.add(&self.counters.publishes);
+    }
+}
+
+/// What is said of so many lines, each of which comes once the one before was published, and how many waits were in vain.
+fn step_through<T: Threads + Wait + Clock + Sync>(
+    rt: &T,
+    alloc: Global,
+    lines: &[String],
+    pauses: u64,
+) -> Result<(Option<Report>, u64), Fail> {
+    let counters = Counters::new();
+    let reader = Steps {
+        clock: rt,
+        counters: &counters,
+        lines,
+        given: 0,
+        pauses,
+    };
+    let gate = CountsPublishes {
+        counters: &counters,
+    };
+    let (reading, checking) = open_pair(alloc, reader, gate, 65_536)?;
+    let (said, _) = run_pair(rt, true, reading, checking).ok_or("told to leave")?;
+    Ok((said, counters.late.load(Ordering::SeqCst)))
+}
+
+/// Ten thousand additions of one clause.
+fn ten_thousand_lines(alloc: Global) -> Result<Vec<String>, Fail> {
+    let mut lines = Vec::new(alloc);
+    for id in 5..10_005u64 {
+        lines.push(format!(in alloc; "{id} 2 0 1 2 0\n")?)?;
+    }
+    Ok(lines)
+}
+
+/// No line waits for the next one to be checked.
+#[test]
+fn each_line_is_checked_before_the_next_comes(rt: HostRuntime) -> Result<(), Fail> {
+    let lines = ten_thousand_lines(rt.alloc())?;
+    let found = step_through(&rt, rt.alloc(), lines.as_slice(), 300)?;
+    same(&rt, found, (Some(report(10_000, 0, Ending::Ended)), 0));
+    Ok(())
+}
+
+/// A first line, and then so many bytes of LF.
+#[derive(Drop)]
+struct Endless {
+    head: &'static [u8],
+    left: u64,
+}
+
+impl Source for Endless {
+    ghost left = { λ _. None };
+
+    ghost has_failed = { λ _. false };
+
+    ghost reads = { λ _ _ _ _. Unit {0} };
+
+    fn read(&mut self, buffer: &mut [u8]) -> Result<usize, ReadFault> {
+        if !self.head.is_empty() {
+            let count = buffer.len().min(self.head.len());
+            let (front, rest) = self.head.split_at(count);
+            buffer[..count].copy_from_slice(front);
+            self.head = rest;
+            return Ok(count);
+        }
+        let count = buffer
+            .len()
+            .min(usize::try_from(self.left).unwrap_or(usize::MAX));
+        buffer[..count].fill(b'\n');
+        self.left = self.left.saturating_sub(count as u64);
+        Ok(count)
+    }
+
+    fn failed(&self) -> bool {
+        false
+    }
+}
+
+/// After a bad line the stream is read to its end all the same, so that whoever writes it never stands still.
 #[test]
 fn a_hundred_megabytes_after_a_bad_line(rt: HostRuntime) -> Result<(), Fail> {
-    let counters = Counters::new();
-    let reader = LineFeeds { left: 100_000_001 };
-    let (reading, checking) = open_pair(rt.alloc(), reader, &counters, 0)?;
+    let reader = Endless {
+        head: b"5 2 0 1 0\n",
+        left: 100_000_000,
+    };
+    let (reading, checking) = open_pair(rt.alloc(), reader, Open, 2)?;
     let (said, reader) = run_pair(&rt, true, reading, checking).ok_or("told to leave")?;
-    let ending = Ending::Bad(1, Fault::Text(LineFault::Spelling));
-    same(
-        &rt,
-        (said, reader.left),
-        (Some(report(0, false, ending)), 0),
-    );
+    let wanted = report(0, 0, Ending::Bad(1, Fault::NoConflict));
+    same(&rt, (said, reader.left), (Some(wanted), 0));
     Ok(())
 }
 
@@ -384,9 +505,7 @@ fn said_of_one_that_goes<T: Threads + Wait + Clock + Sync>(
     rt: &T,
     alloc: Global,
 ) -> Result<Option<Report>, Fail> {
-    let counters = Counters::new();
-    let reader = Pieces::new(REFUTATION, 12, 0);
-    let (reading, checking) = open_pair(alloc, reader, &counters, 0)?;
+    let (reading, checking) = open_pair(alloc, Pieces::new(REFUTATION, 12, 0), Open, 2)?;
     let signal = OnceLock::new();
     let (_, checked) = join(
         rt,
@@ -397,8 +516,7 @@ fn said_of_one_that_goes<T: Threads + Wait + Clock + Sync>(
     Ok(checked.report)
 }
 
-/// The checking thread sleeps at an empty ring, and is woken as the other end goes. Nothing is said
-/// of the stream.
+/// The checking thread sleeps at an empty ring, and is woken by the other end as it goes. Nothing is said of the stream.
 #[test]
 fn a_reading_job_that_goes(rt: HostRuntime) -> Result<(), Fail> {
     for _ in 0..100 {
@@ -409,11 +527,10 @@ fn a_reading_job_that_goes(rt: HostRuntime) -> Result<(), Fail> {
 }
 
 /// The jobs of a refutation; where the first attempt has no memory, those of a second.
-fn jobs_again<'a>(
+fn jobs_again(
     alloc: Global,
     layout: &Layout,
-    gate: Hook<'a>,
-) -> Result<(ReadingJob<Pieces<'static>>, CheckingJob<Hook<'a>>), AllocError>
+) -> Result<(ReadingJob<Pieces<'static>>, CheckingJob<Open>), AllocError>
     requires { IsStream layout.now 1 }
     ensures pair { IfOk result (λ both.
         IsPair both.0.sender.producer both.1.receiver.consumer) }
@@ -421,33 +538,32 @@ fn jobs_again<'a>(
 {
     let cube = Cube::empty(alloc);
     let run_params = RunParams::new(layout, &cube, 3);
-    match jobs(alloc, Pieces::new(REFUTATION, 12, 0), gate, 1, &run_params) {
+    match jobs(alloc, Pieces::new(REFUTATION, 12, 0), Open, 1, &run_params) {
         Ok(both) => Ok(both),
-        Err(_) => jobs(alloc, Pieces::new(REFUTATION, 12, 0), gate, 1, &run_params),
+        Err(_) => jobs(alloc, Pieces::new(REFUTATION, 12, 0), Open, 1, &run_params),
     }
 }
 
 /// They and their map.
-fn open_again<'a>(
-    alloc: Global,
-    counters: &'a Counters,
-) -> Result<(ReadingJob<Pieces<'static>>, Checking<'a>), Fail>
+fn open_again(alloc: Global) -> Result<(ReadingJob<Pieces<'static>>, Checking<Open>), Fail>
     ensures { IfOk result (λ both. IsPair both.0.sender.producer both.1.job.receiver.consumer) }
 {
     ready_new();
     let map = open_map(alloc, 1, 2, 2)?;
-    let gate = Hook { counters, reads: 0 };
-    let (reading, job) = jobs_again(alloc, map.layout(), gate)?;
+    let (reading, job) = jobs_again(alloc, map.layout())?;
     Ok((reading, Checking { map, job }))
 }
 
-/// The gate refuses each allocation of the jobs in turn; the second attempt then has memory.
+/// The gate runs this test with each allocation of the jobs refused, one after the other; the second attempt then has memory.
 #[test]
 fn refused_jobs_can_be_made_again(rt: HostRuntime) -> Result<(), Fail> {
-    let counters = Counters::new();
-    let (reading, checking) = open_again(rt.alloc(), &counters)?;
+    let (reading, checking) = open_again(rt.alloc())?;
     let (said, reader) = run_pair(&rt, true, reading, checking).ok_or("told to leave")?;
-    let wanted = (Some(report(2, true, Ending::Ended)), 0);
-    same(&rt, (said, reader.left.len()), wanted);
+    let wanted = Report {
+        empty: true,
+        within: true,
+        ..report(2, 0, Ending::Ended)
+    };
+    same(&rt, (said, reader.left.len()), (Some(wanted), 0));
     Ok(())
 }

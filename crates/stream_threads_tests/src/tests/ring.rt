@@ -1,5 +1,4 @@
-//! Two threads at the two ends of a ring: what no contract says is that bytes come at all, and that
-//! an end which sleeps is woken.
+//! Two threads at the two ends of a ring: what no contract says is that bytes come at all, and that an end which sleeps is woken.
 ghost use Rattle.std.specs.Prelude.{◌≡◌, ◌<◌, [], None, false, length};
 ghost use Rattle.rtrb.specs.Ring.{sent};
 
@@ -37,32 +36,31 @@ fn wrong_bytes(piece: &[u8], place: u64) -> u64 {
     wrong
 }
 
-/// How the two threads keep pace.
-#[derive(Clone, Copy, Debug, PartialEq, Eq)]
-enum Pace {
-    Free,
-    /// Each read waits until all bytes before it were received. Before this many bytes the reader
-    /// pauses, so that the receiver sleeps.
-    InStep(usize),
-    /// The receiver pauses each time, so that the sender sleeps.
-    Late,
-}
-
-/// This many bytes, of which some come a read, and then an end or a read that fails. One in step
-/// ends early if a byte isn't received in time.
+/// A stream of so many bytes, so many a read, and then its end or a read that fails.
 #[derive(Drop)]
-struct Stream<'a, C: Clock> {
-    given: usize,
-    count: usize,
+struct Stream {
+    place: u64,
+    left: usize,
     most: usize,
     fails: bool,
     failed: bool,
-    pace: Pace,
-    heard: &'a AtomicU64,
-    clock: &'a C,
 }
 
-impl<C: Clock> Source for Stream<'_, C> {
+impl Stream {
+    fn new(count: usize, most: usize, fails: bool) -> Stream
+        ensures { result.failed ≡ false }
+    {
+        Stream {
+            place: 0,
+            left: count,
+            most,
+            fails,
+            failed: false,
+        }
+    }
+}
+
+impl Source for Stream {
     ghost left = { λ _. None };
 
     ghost has_failed = { λ s. s.failed };
@@ -70,28 +68,28 @@ impl<C: Clock> Source for Stream<'_, C> {
     ghost reads = { λ _ _ _ _. Unit {0} };
 
     fn read(&mut self, buffer: &mut [u8]) -> Result<usize, ReadFault> {
-        if let Pace::InStep(pauses) = self.pace {
-            if !waits_for(self.heard, self.given as u64) {
-                return Ok(0);
-            }
-            if self.given < pauses {
-                pause(self.clock);
-            }
-        }
-        let left = self.count.saturating_sub(self.given);
-        if left == 0 && self.fails {
+        if self.left == 0 && self.fails {
             self.failed = true;
             return Err(ReadFault);
         }
-        let count = buffer.len().min(self.most.max(1)).min(left);
-        fill(&mut buffer[..count], self.given as u64);
-        self.given = self.given.saturating_add(count);
+        let count = buffer.len().min(self.most.max(1)).min(self.left);
+        fill(&mut buffer[..count], self.place);
+        self.place = self.place.wrapping_add(count as u64);
+        self.left -= count;
         Ok(count)
     }
 
     fn failed(&self) -> bool {
         self.failed
     }
+}
+
+/// How many items the ring, a push and a pop have room for.
+#[derive(Clone, Copy, Debug, PartialEq, Eq)]
+struct Sizes {
+    ring: usize,
+    pushed: usize,
+    popped: usize,
 }
 
 /// The most bytes of a read.
@@ -116,12 +114,17 @@ fn send<W: Wait, R: Source>(
     sender.send_all(wait, reader, &mut piece, &mut items[..pushed])
 }
 
-/// Counts the bytes that come, for the other thread too, and those that are wrong. One that is late
-/// pauses each time before it receives.
-#[derive(Drop)]
-struct Ear<'a> {
+/// What came: so many bytes, of which so many were wrong.
+#[derive(Clone, Copy, Debug, PartialEq, Eq)]
+struct Heard {
     count: u64,
     wrong: u64,
+}
+
+/// Counts what comes, for the other thread too. One that is late pauses each time before it receives.
+#[derive(Drop)]
+struct Ear<'a> {
+    heard: Heard,
     counter: &'a AtomicU64,
     is_late: bool,
 }
@@ -129,21 +132,23 @@ struct Ear<'a> {
 impl Ear<'_> {
     fn new(counter: &AtomicU64, is_late: bool) -> Ear<'_> {
         Ear {
-            count: 0,
-            wrong: 0,
+            heard: Heard { count: 0, wrong: 0 },
             counter,
             is_late,
         }
     }
 
     fn hear(&mut self, bytes: &[u8]) {
-        self.wrong = self.wrong.saturating_add(wrong_bytes(bytes, self.count));
-        self.count = self.count.saturating_add(bytes.len() as u64);
-        self.counter.store(self.count, Ordering::SeqCst);
+        let Heard { count, wrong } = self.heard;
+        self.heard = Heard {
+            count: count.saturating_add(bytes.len() as u64),
+            wrong: wrong.saturating_add(wrong_bytes(bytes, count)),
+        };
+        self.counter.store(self.heard.count, Ordering::SeqCst);
     }
 }
 
-/// Receives up to the mark, and says which end that is. None where no mark came.
+/// Receives up to the mark, and says which end that tells. None where no mark came.
 fn hear_all<T: Wait + Clock>(
     rt: &T,
     receiver: &mut Receiver,
@@ -170,7 +175,7 @@ fn hear_all<T: Wait + Clock>(
     unreachable!()
 }
 
-/// The same, by pops of this many items.
+/// The same, by pops of so many items.
 fn hear<T: Wait + Clock>(
     rt: &T,
     alloc: Global,
@@ -183,106 +188,203 @@ fn hear<T: Wait + Clock>(
     Ok(hear_all(rt, &mut receiver, &mut items, &mut bytes, ear))
 }
 
-/// How many items a ring, a push and a pop have room for.
-type Sizes = (usize, usize, usize);
-
-/// A stream's end for its sender; what came, and what of it was wrong; its end for the receiver.
-type Came = (StreamEnd, u64, u64, Option<StreamEnd>);
-
-/// Sends a stream in one thread, and receives it in another.
-fn came<T: Threads + Wait + Clock + Sync>(
+/// Sends what is read in one thread, and receives it in another: how it ended for both.
+fn exchange<T: Threads + Wait + Clock + Sync, R: Source + Send>(
     rt: &T,
     alloc: Global,
-    (items, pushed, popped): Sizes,
-    (count, most): (usize, usize),
-    (pace, fails): (Pace, bool),
-) -> Result<Came, AllocError> {
-    let counter = AtomicU64::new(0);
-    let mut stream = Stream {
-        given: 0,
-        count,
-        most,
-        fails,
-        failed: false,
-        pace,
-        heard: &counter,
-        clock: rt,
-    };
-    let mut ear = Ear::new(&counter, pace == Pace::Late);
-    let (sender, receiver) = ring(alloc, items)?;
+    sizes: Sizes,
+    reader: &mut R,
+    ear: &mut Ear<'_>,
+) -> Result<(StreamEnd, Option<StreamEnd>), AllocError>
+    requires { R.has_failed reader.old ≡ false }
+{
+    let (sender, receiver) = ring(alloc, sizes.ring)?;
     let (end, mark) = join(
         rt,
-        || send(rt, sender, &mut stream, pushed),
-        || hear(rt, alloc, receiver, popped, &mut ear),
+        || send(rt, sender, reader, sizes.pushed),
+        || hear(rt, alloc, receiver, sizes.popped, ear),
     );
-    Ok((end, ear.count, ear.wrong, mark?))
+    Ok((end, mark?))
 }
 
-/// The stream comes whole with its mark, also where the read after its last byte fails.
+/// How a stream ended for its sender, what came, and how it ended for the receiver.
+type Came = (StreamEnd, (Heard, Option<StreamEnd>));
+
+/// Sends a stream, and receives it, maybe late.
+fn through<T: Threads + Wait + Clock + Sync>(
+    rt: &T,
+    alloc: Global,
+    sizes: Sizes,
+    mut stream: Stream,
+    is_late: bool,
+) -> Result<Came, AllocError>
+    requires { stream.failed ≡ false }
+{
+    let counter = AtomicU64::new(0);
+    let mut ear = Ear::new(&counter, is_late);
+    let (end, mark) = exchange(rt, alloc, sizes, &mut stream, &mut ear)?;
+    Ok((end, (ear.heard, mark)))
+}
+
+/// Whether the read after the last byte fails, and how the stream then ends.
+static ENDS: [(bool, StreamEnd); 2] = [(false, StreamEnd::Ended), (true, StreamEnd::Failed)];
+
+/// The stream comes whole, with its mark.
 fn comes_through<T: Threads + Wait + Clock + Sync + Abort>(
     rt: &T,
     alloc: Global,
     sizes: Sizes,
-    (count, most): (usize, usize),
-    pace: Pace,
+    count: usize,
+    most: usize,
 ) -> Result<(), Fail> {
-    for (fails, end) in [(false, StreamEnd::Ended), (true, StreamEnd::Failed)] {
-        let found = came(rt, alloc, sizes, (count, most), (pace, fails))?;
-        let wanted = (end, count as u64, 0, Some(end));
-        same(rt, (sizes, most, pace, found), (sizes, most, pace, wanted));
+    let heard = Heard {
+        count: count as u64,
+        wrong: 0,
+    };
+    for &(fails, end) in &ENDS {
+        let came = through(rt, alloc, sizes, Stream::new(count, most, fails), false)?;
+        let wanted = (end, (heard, Some(end)));
+        same(rt, (sizes, count, most, came), (sizes, count, most, wanted));
     }
     Ok(())
 }
 
 /// The sizes that the program has.
-const STANDARD: Sizes = (65_536, 4_096, 65_536);
+const STANDARD: Sizes = Sizes {
+    ring: 65_536,
+    pushed: 4_096,
+    popped: 65_536,
+};
 
 static COUNTS: [usize; 6] = [0, 1, 2, 65_535, 65_536, 65_537];
 
 /// How many bytes come a read, at most.
 static MOST_A_READ: [usize; 4] = [1, 2, 65_535, 65_536];
 
+/// Of these lengths, with an end or a read that fails after the last byte.
 #[test]
 fn streams_come_through(rt: HostRuntime) -> Result<(), Fail> {
-    for &count in &COUNTS {
-        for &most in &MOST_A_READ {
-            comes_through(&rt, rt.alloc(), STANDARD, (count, most), Pace::Free)?;
+    for count in &COUNTS {
+        for most in &MOST_A_READ {
+            comes_through(&rt, rt.alloc(), STANDARD, *count, *most)?;
         }
     }
-    let long = (3_000_000, 60_000);
-    comes_through(&rt, rt.alloc(), STANDARD, long, Pace::Free)
+    comes_through(&rt, rt.alloc(), STANDARD, 3_000_000, 60_000)
 }
 
-/// Room for few items, and a ring with room for many where each push and pop is of one.
-static FEW_ITEMS: [Sizes; 4] = [(1, 1, 1), (1, 4_096, 65_536), (3, 2, 5), (65_536, 1, 1)];
+/// Rings with room for few items, and one with room for many where each push and pop is of one.
+static FEW_ITEMS: [Sizes; 4] = [
+    Sizes {
+        ring: 1,
+        pushed: 1,
+        popped: 1,
+    },
+    Sizes {
+        ring: 1,
+        pushed: 4_096,
+        popped: 65_536,
+    },
+    Sizes {
+        ring: 3,
+        pushed: 2,
+        popped: 5,
+    },
+    Sizes {
+        ring: 65_536,
+        pushed: 1,
+        popped: 1,
+    },
+];
 
 /// How many bytes are sent through each of them.
 static FEW_BYTES_AND_MANY: [usize; 7] = [0, 1, 2, 3, 4, 5, 10_000];
 
 #[test]
 fn streams_come_through_small_rings(rt: HostRuntime) -> Result<(), Fail> {
-    for &sizes in &FEW_ITEMS {
-        for &count in &FEW_BYTES_AND_MANY {
-            comes_through(&rt, rt.alloc(), sizes, (count, 65_536), Pace::Free)?;
+    for sizes in &FEW_ITEMS {
+        for count in &FEW_BYTES_AND_MANY {
+            comes_through(&rt, rt.alloc(), *sizes, *count, 65_536)?;
         }
     }
     Ok(())
 }
 
-/// The size of a ring, how many bytes are sent, and at how many of them the sender pauses.
-static WOKEN: [(usize, usize, usize); 3] = [
-    (65_536, 300, 300),
-    (1, 300, 300),
-    (65_536, 100_000, 0),
-];
+/// Gives a byte once the one before was received. At the first ones it pauses before, so that the receiver sleeps.
+#[derive(Drop)]
+struct Steps<'a, C: Clock> {
+    clock: &'a C,
+    heard: &'a AtomicU64,
+    given: u64,
+    count: u64,
+    pauses: u64,
+    late: bool,
+}
 
-/// A wake-up that is lost at an empty ring is mended by the next byte, so the next one comes only
-/// when this one was received.
+impl<C: Clock> Source for Steps<'_, C> {
+    ghost left = { λ _. None };
+
+    ghost has_failed = { λ _. false };
+
+    ghost reads = { λ _ _ _ _. Unit {0} };
+
+    fn read(&mut self, buffer: &mut [u8]) -> Result<usize, ReadFault> {
+        if !waits_for(self.heard, self.given) {
+            self.late = true;
+        }
+        if self.late || self.given == self.count {
+            return Ok(0);
+        }
+        if self.given < self.pauses {
+            pause(self.clock);
+        }
+        let count = buffer.len().min(1);
+        fill(&mut buffer[..count], self.given);
+        self.given = self.given.saturating_add(1);
+        Ok(count)
+    }
+
+    fn failed(&self) -> bool {
+        false
+    }
+}
+
+/// Sends so many bytes, each once the one before was received. Whether one came late, and what came.
+fn step_through<T: Threads + Wait + Clock + Sync>(
+    rt: &T,
+    alloc: Global,
+    ring: usize,
+    count: u64,
+    pauses: u64,
+) -> Result<(bool, (Heard, Option<StreamEnd>)), AllocError> {
+    let counter = AtomicU64::new(0);
+    let mut steps = Steps {
+        clock: rt,
+        heard: &counter,
+        given: 0,
+        count,
+        pauses,
+        late: false,
+    };
+    let mut ear = Ear::new(&counter, false);
+    let sizes = Sizes { ring, ..STANDARD };
+    let (_, mark) = exchange(rt, alloc, sizes, &mut steps, &mut ear)?;
+    Ok((steps.late, (ear.heard, mark)))
+}
+
+/// The size of a ring, how many bytes are sent, and at how many of them the sender pauses.
+static WOKEN: [(usize, u64, u64); 3] = [(65_536, 300, 300), (1, 300, 300), (65_536, 100_000, 0)];
+
+/// A wake-up that is lost at an empty ring is mended by the next byte, so the next one comes only when this one was received.
 #[test]
 fn a_receiver_that_sleeps_is_woken(rt: HostRuntime) -> Result<(), Fail> {
     for &(ring, count, pauses) in &WOKEN {
-        let sizes = (ring, 4_096, 65_536);
-        comes_through(&rt, rt.alloc(), sizes, (count, 1), Pace::InStep(pauses))?;
+        let came = step_through(&rt, rt.alloc(), ring, count, pauses)?;
+        let heard = Heard { count, wrong: 0 };
+        same(
+            &rt,
+            (ring, count, came),
+            (ring, count, (false, (heard, Some(StreamEnd::Ended)))),
+        );
     }
     Ok(())
 }
@@ -299,13 +401,29 @@ static RINGS_THAT_FILL: [(usize, usize, usize); 4] = [
 #[test]
 fn a_sender_that_sleeps_is_woken(rt: HostRuntime) -> Result<(), Fail> {
     for &(ring, popped, count) in &RINGS_THAT_FILL {
-        let sizes = (ring, 4_096, popped);
-        comes_through(&rt, rt.alloc(), sizes, (count, 65_536), Pace::Late)?;
+        let sizes = Sizes {
+            ring,
+            pushed: 4_096,
+            popped,
+        };
+        let came = through(
+            &rt,
+            rt.alloc(),
+            sizes,
+            Stream::new(count, 65_536, true),
+            true,
+        )?;
+        let heard = Heard {
+            count: count as u64,
+            wrong: 0,
+        };
+        let wanted = (StreamEnd::Failed, (heard, Some(StreamEnd::Failed)));
+        same(&rt, (sizes, came), (sizes, wanted));
     }
     Ok(())
 }
 
-/// Puts this many bytes into the ring, and goes after a pause, without a mark.
+/// Puts so many bytes into the ring, and goes after a pause, without a mark.
 fn go<C: Clock>(clock: &C, mut sender: Sender, count: u64) {
     for place in 0..count {
         if sender.producer.push(u16::from(byte_at(place))).is_err() {
@@ -315,12 +433,12 @@ fn go<C: Clock>(clock: &C, mut sender: Sender, count: u64) {
     pause(clock);
 }
 
-/// The receiver sleeps, and is woken by a sender that goes.
+/// What comes of a sender that puts so many bytes into the ring and goes.
 fn heard_of_one_that_goes<T: Threads + Wait + Clock + Sync>(
     rt: &T,
     alloc: Global,
     count: u64,
-) -> Result<(u64, u64, Option<StreamEnd>), AllocError> {
+) -> Result<(Heard, Option<StreamEnd>), AllocError> {
     let (sender, receiver) = ring(alloc, 8)?;
     let counter = AtomicU64::new(0);
     let mut ear = Ear::new(&counter, false);
@@ -329,20 +447,21 @@ fn heard_of_one_that_goes<T: Threads + Wait + Clock + Sync>(
         || go(rt, sender, count),
         || hear(rt, alloc, receiver, 8, &mut ear),
     );
-    Ok((ear.count, ear.wrong, mark?))
+    Ok((ear.heard, mark?))
 }
 
+/// The receiver sleeps, and is woken by a sender that goes.
 #[test]
 fn a_sender_that_goes_wakes_the_receiver(rt: HostRuntime) -> Result<(), Fail> {
     for round in 0..200u64 {
         let count = round % 4;
-        let heard = heard_of_one_that_goes(&rt, rt.alloc(), count)?;
-        same(&rt, heard, (count, 0, None));
+        let came = heard_of_one_that_goes(&rt, rt.alloc(), count)?;
+        same(&rt, came, (Heard { count, wrong: 0 }, None));
     }
     Ok(())
 }
 
-/// The gate refuses each allocation of this test in turn; the second attempt then has memory.
+/// The gate runs this test with each of its allocations refused, one after the other; the second attempt then has memory.
 #[test]
 fn a_refused_ring_can_be_made_again(rt: HostRuntime) -> Result<(), Fail> {
     let (mut sender, mut receiver) = match ring(rt.alloc(), 4) {
