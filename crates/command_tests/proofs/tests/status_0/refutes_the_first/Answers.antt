@@ -28,5 +28,5 @@ module _ {S : Type 0} (left : S → List ℕ) (reads : ReadsOf S)
 pub returns : goal.returns
 returns g c zero =
     let named = c.command.ensures.sound (eqb-true c.command.result 0 zero) in
-    let same = gave_left _ _ (λ before room piece after read. (read.0, read.1.1)) named.6.reader named.2 named.6.gave in
+    let same = gave_left _ _ (λ before room piece after read. (read.0, read.2)) named.6.reader named.2 named.6.gave in
     (named.3, subst (λ (bytes : List ℕ). IsFormulaText bytes named.3) (sym same ∙ named.6.opened.0) named.7, named.8)
