@@ -662,7 +662,7 @@ def refusals() -> List[Row]:
                          (["--lrupd", "{work}", "{formula}"], "no lrupd"), (["--lrupd", "none", "{formula}"], "no lrupd"),
                          (["--proofs", "{work}/none/none", "{formula}"], "none/none"), (["--proofs", "", "{formula}"], "not ''"),
                          (["--proofs", "{formula}", "{formula}"], "Not a directory"),
-                         (["--replace", "{formula}"], "--replace without --proofs"), (["--", "{formula}", "-v"], "too many: -v"),
+                         (["--replace", "{formula}"], "--replace without --proofs"), (["--", "{formula}", "-v"], "unexpected argument: -v"),
                          (["{work}/none"], "{work}/none: No such file or directory"),
                          (["{work}/a\nb"], "a\\nb': No such file or directory"),
                          (["--assume", "{work}/none", "{formula}"], "{work}/none: No such file or directory"),
@@ -681,7 +681,7 @@ def refusals() -> List[Row]:
                    ("refused late, satisfiable", refused_late, "p cnf 1 0\n"),
                    ("its reading killed", reading_killed, "p cnf 1 0\n"), ("read late", read_late, dimacs(1, [[1]]), ""),
                    ("read late, what engines refuse", read_late, "p cnf 1 1\n2 0\n",
-                    "line 2: variable 2, above the header's 1 the header, which has to be 'p cnf 2 1'")]
+                    "line 2: variable 2, above the header's 1: the header should be 'p cnf 2 1'")]
 
 
 def main() -> int:

@@ -271,14 +271,16 @@ def cut_short(number: int, work: Path) -> None:
     recorded(["-j", "2", formula], kept, 3, SMALL)
     path, rounds = kept / f"round-{number}.stream-2", saved_rounds(kept)
     path.write_bytes(b"x" + path.read_bytes())
-    before = {name: (kept / name).read_bytes() for name in checkpoints(kept)}
+    # A run that was killed may leave the checkpoint before the last one, too.
+    names = [f"checkpoint-{rounds}.cnf", "rounds.sha256"]
+    before = {name: (kept / name).read_bytes() for name in names}
     answer = solve(["-j", "2", "--resume", kept, formula], tested=SMALL)
     want_answer(answer, 0)
     end = ": the run can't go on" if number == 1 else ""
     said = f"{path} was changed since it was saved{end}"
     want(said in answer.comments, True, f"whether it is said in\n{answer.out}")
     if number == 1:
-        after = {name: (kept / name).read_bytes() for name in checkpoints(kept)}
+        after = {name: (kept / name).read_bytes() for name in names}
         return want((saved_rounds(kept), after == before), (rounds, True), "whether the record is as it was")
     want((way_on(answer, kept, formula), saved_rounds(kept)), ((number - 1, True), number), f"what is left, in\n{answer.out}")
     want_answer(solve(["-j", "2", "--resume", kept, formula], tested=SMALL), 20)
