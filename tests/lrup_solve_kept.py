@@ -467,7 +467,7 @@ def pipe_in_a_record(name: str, work: Path) -> None:
     want(run(["sh", "d/command"], cwd=work, limit=20), Ran("", f"{path} is no regular file\n", 1), "the output of the record's check")
     for tool in ([TRIM, "--core", "core"], [EXPLAIN]) if name == "d/formula.sha256" else ():
         done = run([*tool, formula, "d"], cwd=work, limit=20)
-        want((done.status, done.err.endswith("d/formula.sha256: it is read more than once, so it has to be a file\n")), (1, True),
+        want((done.status, done.err.endswith("d/formula.sha256: not a regular file, but it is read more than once\n")), (1, True),
              f"the output of {tool[0].name}: {done.err}")
 
 
