@@ -316,7 +316,7 @@ def folder_removed(work: Path) -> None:
         return want((answer.answers, re.search(r"cannot (open|make) \S*/round-\d+\.", answer.said) is not None), ([], True),
                     f"the message: {answer.said}")
     want_answer(answer, 0)
-    want_cause(answer, r"^lrupd ended with status [459](: TMPDIR .*)?$|^lrupd hasn't taken|^engine \d is lost: its filter stopped: cannot open ")
+    want_cause(answer, r"^lrupd ended with status [459](: TMPDIR .*)?$|^lrupd hasn't taken|^engine \d is lost: its filter stopped: ")
 
 
 def is_whole(path: Path) -> bool:
@@ -513,7 +513,7 @@ def what_happens() -> List[Row]:
     for body, status, cause in (("exit 3", 0, untaken), ("exit 9", 0, "ended with status 9"),
                                 ("kill -9 $$", 0, "ended by a signal"),
                                 ("cp $formula $saved; exit 3", 0, untaken),
-                                (waits, 1, "cannot open .*/round-2.cnf"),
+                                (waits, 1, "/round-2.cnf: No such file or directory"),
                                 (f"echo p cnf 2 1 > $saved; {waits}", 1, ".*/round-2.cnf: not a checkpoint of lrupd"),
                                 (f"cp $formula $saved; {waits}", 0, "lrupd hasn't saved the clause|no engine is left")):
         rows.append((f"another lrupd: {body}", impostor, body, status, cause))
