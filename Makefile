@@ -31,23 +31,27 @@ FORMULA ?= examples/bmc.cnf
 STREAMS ?= $(addprefix examples/bmc-four.,1 2 3 4)
 OPTIONS ?= --tries 1000000
 
-.PHONY: run build install built install-solve no-solve uninstall examples live checkpoints rounds demo solver exact trim explain solve solver-test filter-test trim-test
-.PHONY: building peers hol explain-test solve-test days neighbours sweep leaks instructions quotes promises pages test toolchain c-and-python
-.PHONY: libcadical beside-it mpicxx help try deb dist quick edits packages warnings builds shown quotes-test
+.PHONY: run build install built install-solve no-solve uninstall examples live checkpoints \
+	rounds demo solver exact trim explain solve solver-test filter-test trim-test building \
+	peers hol explain-test solve-test days neighbours sweep leaks instructions quotes \
+	promises pages test toolchain c-and-python libcadical beside-it mpicxx help try deb dist \
+	quick edits packages warnings builds shown quotes-test
 
 help:
 	@awk -f gate/help.awk $(firstword $(MAKEFILE_LIST))
 
-# Leaves rt's own lines out.
+# Leaves out rt's own lines.
 try: toolchain ## try: run the program on an example in about a minute, before anything is proved
-	@echo "compiling, about a minute .." >&2; log=$$(mktemp); trap 'rm -f "$$log"' EXIT; status=0; cd crates/lrupd && $(RT) try -- \
-	$(foreach word,$(OPTIONS) $(FORMULA) $(STREAMS),$(or $(realpath $(word)),$(word))) < /dev/null 2> "$$log" || status=$$?; \
+	@echo "compiling, about a minute .." >&2; \
+	log=$$(mktemp); trap 'rm -f "$$log"' EXIT; status=0; cd crates/lrupd && $(RT) try -- \
+	$(foreach word,$(OPTIONS) $(FORMULA) $(STREAMS),$(or $(realpath $(word)),$(word))) \
+	< /dev/null 2> "$$log" || status=$$?; \
 	grep -q '^run=ended ' "$$log" || { cat "$$log"; exit 1; }; \
 	grep -v '^checked: \|^races: \|^run=' "$$log" >&2; \
 	echo "status $$status, not proved: make run proves it"; \
 	case $$status in 0|3|8) ;; *) exit $$status ;; esac
 
-# On your own files, like make try:
+# With your own files, as with make try:
 #     make run FORMULA=path/to/formula.cnf STREAMS="path/to/stream1 path/to/stream2"
 run: build ## try: the same, proved first; both take FORMULA=path STREAMS="path path" OPTIONS=--serial
 	@status=0; $(PROGRAM) $(OPTIONS) $(FORMULA) $(STREAMS) || status=$$?; \
@@ -55,7 +59,7 @@ run: build ## try: the same, proved first; both take FORMULA=path STREAMS="path 
 	case $$status in 0|3|8) ;; *) exit $$status ;; esac
 
 # Prints a line for each crate once it is proved, and how much is left.
-build: toolchain ## build: prove the program, 7 to 30 minutes the first time, and leave it at crates/lrupd/out/lrupd
+build: toolchain ## build: prove the program, 15 to 26 minutes the first time, and leave it at crates/lrupd/out/lrupd
 	@python3 gate/build.py $(RT)
 
 # The filter is installed as lrup-exact, and lrup-solve only if CaDiCaL's library is there. The
@@ -71,17 +75,20 @@ install: $(if $(shell command -v $(RT)),build,built) exact trim explain install-
 	sed -i "s/^version=.*/version=$(VERSION)/" "$(PLACE)/bin/lrup-chain"
 	install -m 755 $(EXACT) "$(PLACE)/bin/lrup-exact"
 	install -m 755 $(TRIM) $(EXPLAIN) "$(PLACE)/bin"
-	install -m 644 $(addprefix docs/,lrupd.1 lrup-chain.1 lrup-exact.1 lrup-trim.1 lrup-explain.1) "$(PLACE)/share/man/man1"
+	install -m 644 $(patsubst %,docs/%.1,lrupd lrup-chain lrup-exact lrup-trim lrup-explain) \
+		"$(PLACE)/share/man/man1"
 	sed -i 's/^\.Os$$/.Os lrupd $(VERSION)/' "$(PLACE)"/share/man/man1/lrup*.1
 	sh tools/completions.sh "$(PLACE)/bin" "$(COMPLETIONS)"
 
 built:
-	@test -x $(PROGRAM) || { echo "$(PROGRAM) isn't built: 'make build' builds it with the command '$(RT)'"; exit 1; }
+	@test -x $(PROGRAM) || \
+	{ echo "$(PROGRAM) isn't built: 'make build' builds it with the command '$(RT)'"; exit 1; }
 
 install-solve: $(if $(shell $(CXX) -E -x c++ -include cadical.hpp /dev/null > /dev/null 2>&1 && echo yes),solve,no-solve)
 	@test ! -x $(SOLVE) || { \
 	install -d "$(PLACE)/bin" "$(PLACE)/libexec/lrupd" "$(PLACE)/share/man/man1" && \
-	install -m 755 $(SOLVE) "$(PLACE)/bin/lrup-solve" && install -m 755 $(ENGINES) "$(PLACE)/libexec/lrupd/lrup-engines" && \
+	install -m 755 $(SOLVE) "$(PLACE)/bin/lrup-solve" && \
+	install -m 755 $(ENGINES) "$(PLACE)/libexec/lrupd/lrup-engines" && \
 	install -m 755 tools/solve/lrup-check "$(PLACE)/bin" && \
 	install -m 644 docs/lrup-solve.1 docs/lrup-check.1 "$(PLACE)/share/man/man1"; }
 
@@ -90,7 +97,8 @@ no-solve:
 
 uninstall: ## use: remove what make install installs below PREFIX
 	rm -f $(foreach name,lrupd lrup-chain lrup-exact lrup-trim lrup-explain lrup-solve lrup-check,\
-	"$(PLACE)/bin/$(name)" "$(PLACE)/share/man/man1/$(name).1" "$(COMPLETIONS)/$(name)") "$(PLACE)/libexec/lrupd/lrup-engines"
+	"$(PLACE)/bin/$(name)" "$(PLACE)/share/man/man1/$(name).1" "$(COMPLETIONS)/$(name)") \
+	"$(PLACE)/libexec/lrupd/lrup-engines"
 	@rmdir "$(PLACE)/libexec/lrupd" 2> /dev/null || :
 
 # Compares standard output, standard error and the status; also checks two groups of streams
@@ -138,16 +146,19 @@ solve-mpi: $(ENGINES)-mpi $(ENGINES) $(SOLVE) beside-it ## build: lrup-engines-m
 
 # Programs that the front looks for beside itself, and lrup-check, which looks for the front.
 beside-it: $(EXACT) $(TRIM) $(EXPLAIN)
-	@mkdir -p $(dir $(SOLVE)) && ln -sfr $(PROGRAM) $(dir $(SOLVE))lrupd && ln -sfr $(EXACT) $(dir $(SOLVE))lrup-exact && \
-	ln -sfr $(TRIM) $(EXPLAIN) $(dir $(SOLVE)) && install -m 755 tools/solve/lrup-check $(dir $(SOLVE))
+	@mkdir -p $(dir $(SOLVE)) && ln -sfr $(PROGRAM) $(dir $(SOLVE))lrupd && \
+	ln -sfr $(EXACT) $(dir $(SOLVE))lrup-exact && ln -sfr $(TRIM) $(EXPLAIN) $(dir $(SOLVE)) && \
+	install -m 755 tools/solve/lrup-check $(dir $(SOLVE))
 
 # A source is compiled if it, a header that it includes, or the way to compile it has changed. A
 # running program is replaced, not overwritten.
 in_order = $(patsubst %,$(1)/%.o,$(basename $(2)))
 VERSIONED = -DVERSION='"$(VERSION)"'
-COMPILE_C = $(CC) -std=c11 $(WARNINGS) $(VERSIONED) $(CPPFLAGS) $(CFLAGS)
-COMPILE_CXX = -std=c++17 $(WARNINGS) $(VERSIONED) -DKIT='"$(KIT)"' $(CPPFLAGS) $(CXXFLAGS)
-LINK = mkdir -p $(dir $@) && $(1) $(2) $(LDFLAGS) -o $@.new $(filter %.o,$^) $(3) $(LDLIBS) && mv $@.new $@
+COMPILE_C = $(CC) -std=c11 $(WARNINGS) $(VERSIONED) -I $(OBJECTS) $(CPPFLAGS) $(CFLAGS)
+COMPILE_CXX = -std=c++17 $(WARNINGS) $(VERSIONED) -DKIT='"$(KIT)"' -I $(SOLVE_OBJECTS) \
+	$(CPPFLAGS) $(CXXFLAGS)
+LINK = mkdir -p $(dir $@) && \
+	$(1) $(2) $(LDFLAGS) -o $@.new $(filter %.o,$^) $(3) $(LDLIBS) && mv $@.new $@
 
 $(SOLVER): $(call in_order,$(OBJECTS),$(wildcard examples/solver/*.c) $(SHARED_WITH_SOLVER))
 	@$(call LINK,$(CC),$(CFLAGS) -pthread)
@@ -161,7 +172,8 @@ $(SOLVE): $(call in_order,$(SOLVE_OBJECTS),$(wildcard tools/solve/front/*.c))
 	@$(call LINK,$(CC),$(CFLAGS))
 $(ENGINES): $(call in_order,$(SOLVE_OBJECTS),$(ALONE) $(wildcard tools/solve/*.c) $(FILTER))
 	@$(call LINK,$(CXX),$(CXXFLAGS) -pthread,-lcadical)
-$(ENGINES)-mpi: $(call in_order,$(SOLVE_OBJECTS),$(filter-out tools/solve/alone.cpp,$(wildcard tools/solve/*.cpp tools/solve/*.c)) $(FILTER))
+WITH_MPI := $(filter-out tools/solve/alone.cpp,$(wildcard tools/solve/*.cpp tools/solve/*.c))
+$(ENGINES)-mpi: $(call in_order,$(SOLVE_OBJECTS),$(WITH_MPI) $(FILTER))
 	@$(call LINK,OMPI_CXX="$(CXX)" mpicxx,$(CXXFLAGS) -pthread,-lcadical)
 
 $(OBJECTS)/%.o: %.c $(OBJECTS)/flags
@@ -173,28 +185,40 @@ $(SOLVE_OBJECTS)/tools/solve/mpi_%.o: tools/solve/mpi_%.cpp $(SOLVE_OBJECTS)/fla
 $(SOLVE_OBJECTS)/%.o: %.cpp $(SOLVE_OBJECTS)/flags | libcadical
 	@mkdir -p $(dir $@) && $(CXX) $(COMPILE_CXX) -MMD -MP -c -o $@ $<
 
+# What --help prints, from the manual pages.
+HELPS = $(patsubst %,$(OBJECTS)/lrup-%.help.h,exact trim explain)
+HELPS_OF_SOLVE = $(patsubst %,$(SOLVE_OBJECTS)/lrup-%.help.h,solve check)
+$(HELPS) $(HELPS_OF_SOLVE): $(wildcard docs/lrup-*.1) tools/help.awk
+	@mkdir -p $(dir $@) && \
+	awk -v program=$(patsubst %.help.h,%,$(notdir $@)) -f tools/help.awk $(filter %.1,$^) > $@
+$(patsubst %,$(OBJECTS)/tools/%/main.o,exact trim explain): $(HELPS)
+$(SOLVE_OBJECTS)/tools/solve/options.o: $(HELPS_OF_SOLVE)
+
 # Functions that are in both scripts that check a record.
 $(SOLVE_OBJECTS)/packed.sh.h: tools/lrup-chain
-	@mkdir -p $(dir $@) && { echo 'R"sh('; sed -n '/^stream() {/,/^}/p; /^unpack() {/,/^}/p' $<; echo ')sh"'; } > $@
+	@mkdir -p $(dir $@) && { echo 'R"sh('; \
+	sed -n '/^stream() {/,/^}/p; /^unpack() {/,/^}/p' $<; echo ')sh"'; } > $@
 $(SOLVE_OBJECTS)/tools/solve/rounds.o: $(SOLVE_OBJECTS)/packed.sh.h
-$(SOLVE_OBJECTS)/tools/solve/rounds.o: COMPILE_CXX += -I $(SOLVE_OBJECTS)
 
 # The compilers' commands, rewritten only when they change.
 $(OBJECTS)/flags $(SOLVE_OBJECTS)/flags: FORCE | c-and-python
-	@mkdir -p $(dir $@) && echo '$(subst ','\'',$(COMPILE_C) $(CXX) $(COMPILE_CXX) $(LDFLAGS) $(LDLIBS))' > $@.new && \
+	@mkdir -p $(dir $@) && \
+	echo '$(subst ','\'',$(COMPILE_C) $(CXX) $(COMPILE_CXX) $(LDFLAGS) $(LDLIBS))' > $@.new && \
 	{ cmp -s $@.new $@ && rm $@.new || mv $@.new $@; }
 FORCE:
 -include $(wildcard $(OBJECTS)/*/*/*.d $(SOLVE_OBJECTS)/*/*/*.d $(SOLVE_OBJECTS)/*/*/*/*.d)
 
 # With clang, too, if it is installed.
-C_SOURCES := $(wildcard $(addsuffix /*.c,tools/exact tools/trim tools/explain tools/solve tools/solve/front examples/solver tests))
-C_HEADERS := $(wildcard $(addsuffix /*.h,tools/exact tools/trim tools/explain examples/solver)) tools/solve/shared.h \
-	tools/solve/test_hooks.h tools/solve/front/supervisor.h
-STRICT = -std=c11 $(WARNINGS) -Werror -O2 -fsyntax-only -I tools/exact -x c
-warnings: c-and-python ## check: C compiles without a warning, and each header by itself
+IN_C := $(addprefix tools/,exact trim explain) examples/solver
+C_SOURCES := $(wildcard $(addsuffix /*.c,$(IN_C) tools/solve tools/solve/front tests))
+C_HEADERS := $(wildcard $(addsuffix /*.h,$(IN_C))) \
+	$(addprefix tools/solve/,shared.h test_hooks.h front/supervisor.h)
+STRICT = -std=c11 $(WARNINGS) -Werror -O2 -fsyntax-only -I tools/exact -I $(OBJECTS) -x c
+warnings: c-and-python $(HELPS) ## check: C compiles without a warning, and each header by itself
 	@for compiler in $(firstword $(CC)) clang; do command -v $$compiler > /dev/null || continue; \
 	$$compiler $(STRICT) $(C_SOURCES) || exit 1; \
-	for file in $(C_HEADERS); do $$compiler $(STRICT) -D_POSIX_C_SOURCE=200809L -include $$file /dev/null || exit 1; done; done
+	for file in $(C_HEADERS); do \
+	$$compiler $(STRICT) -D_POSIX_C_SOURCE=200809L -include $$file /dev/null || exit 1; done; done
 
 quotes-test: c-and-python ## check: that wrong quotes on the pages are refused
 	@python3 tests/quotes.py
@@ -224,8 +248,9 @@ explain-test: $(BUILT) solver explain ## check: lrup-explain against lrupd, on 2
 # Skipped without CaDiCaL's library, and those of --mpi without MPI. With MPI= only their quick rows
 # run, as in the gate.
 MPI ?= yes
-SOLVE_TESTS := lrup_solve_rounds lrup_solve lrup_solve_inputs lrup_solve_solvers lrup_check lrup_solve_kept lrup_solve_front \
-	lrup_solve_trusted lrup_solve_hostile lrup_solve_kills lrup_solve_cubes lrup_solve_resume lrup_solve_days lrup_solve_mpi
+SOLVE_TESTS := lrup_solve_rounds lrup_solve lrup_solve_inputs lrup_solve_solvers lrup_check \
+	lrup_solve_kept lrup_solve_front lrup_solve_trusted lrup_solve_hostile lrup_solve_kills \
+	lrup_solve_cubes lrup_solve_resume lrup_solve_days lrup_solve_mpi
 .PHONY: $(SOLVE_TESTS)
 solve-test: $(SOLVE_TESTS) ## check: lrup-solve, on 300 random formulas, and with everything that may fail
 
@@ -285,7 +310,8 @@ deb: ## use: a Debian package of what make install installs, with the pages for 
 
 # Committed files only.
 dist: ## use: an archive of the sources, in out/
-	@mkdir -p out && git archive --prefix=lrupd-$(VERSION)/ -o out/lrupd-$(VERSION).tar.gz HEAD && echo out/lrupd-$(VERSION).tar.gz
+	@mkdir -p out && echo out/lrupd-$(VERSION).tar.gz
+	@git archive --prefix=lrupd-$(VERSION)/ -o out/lrupd-$(VERSION).tar.gz HEAD
 
 # Runs as many tests as fit into LIMIT seconds. tools/pre-push runs it before a push.
 LIMIT ?= 90
@@ -305,20 +331,25 @@ packages: ## check: install, as root, the Debian packages that tests need
 # line is rt's own, 'N passed, M failed'. Tests of programs run in parallel, the longest first, and
 # two more than there are cores, since most of them wait now and then. The output of each comes when
 # it has ended. `make -n` first checks that every test target exists.
-TESTS := lrup_solve_rounds sweep filter_mutants lrup_solve lrup_solve_solvers lrup_solve_cubes filter_rounds lrup_solve_resume explain-test \
-	trim-test lrup_solve_front lrup_solve_days \
-	lrup_solve_hostile lrup_solve_mpi lrup_solve_inputs lrup_solve_kept lrup_solve_kills lrup_solve_trusted lrup_check leaks filter_chains \
-	filter_streams filter_solvers checkpoints rounds examples solver-test instructions neighbours live warnings builds shown quotes-test
+TESTS := lrup_solve_rounds sweep filter_mutants lrup_solve lrup_solve_solvers lrup_solve_cubes \
+	filter_rounds lrup_solve_resume explain-test trim-test lrup_solve_front lrup_solve_days \
+	lrup_solve_hostile lrup_solve_mpi lrup_solve_inputs lrup_solve_kept lrup_solve_kills \
+	lrup_solve_trusted lrup_check leaks filter_chains filter_streams filter_solvers \
+	checkpoints rounds examples solver-test instructions neighbours live warnings builds \
+	shown quotes-test
 SIDE_BY_SIDE := --output-sync=target -j $(shell expr $$(nproc) + 2)
 test: SHELL := /bin/bash
 test: toolchain pages solver exact trim explain ## check: the gate, 25 to 100 minutes: every proof, edit and test; has to pass before a push
 	@$(MAKE) -n BUILT= MPI= $(TESTS) > /dev/null
 	@rm -f $(dir $(SOLVE))lrupd; set -o pipefail; log=$$(mktemp); trap 'rm -f "$$log"' EXIT; SECONDS=0; \
-	$(RT) ci | tee "$$log" && proved=$$SECONDS && $(MAKE) --no-print-directory $(SIDE_BY_SIDE) BUILT= MPI= $(TESTS) && \
-	echo "rt ci took $$proved seconds, and the tests of programs $$((SECONDS - proved))" && tail -n 1 "$$log"
+	$(RT) ci | tee "$$log" && proved=$$SECONDS && \
+	$(MAKE) --no-print-directory $(SIDE_BY_SIDE) BUILT= MPI= $(TESTS) && \
+	echo "rt ci took $$proved seconds, and the tests of programs $$((SECONDS - proved))" && \
+	tail -n 1 "$$log"
 
 toolchain:
-	@command -v $(RT) > /dev/null || { echo "lrupd needs Rattle's toolchain: no command '$(RT)' is on the PATH"; exit 1; }
+	@command -v $(RT) > /dev/null || \
+	{ echo "lrupd needs Rattle's toolchain: no command '$(RT)' is on the PATH"; exit 1; }
 
 c-and-python:
 	@for command in $(firstword $(CC)) python3; do command -v $$command > /dev/null || \

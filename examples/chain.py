@@ -65,7 +65,7 @@ def clauses_of(formula: Path) -> int:
 
 
 def in_order(streams: List[List[Line]]) -> List[Line]:
-    """If no line is ready, one is taken all the same: lrupd will report what is wrong with it."""
+    """If no line is ready, one is taken anyway: lrupd will report what is wrong with it."""
     owners = {line.identity: line.stream for lines in streams for line in lines if line.kind == "a"}
     cites = Counter(identity for lines in streams for line in lines if line.kind != "d" for identity in line.cited)
     due, left, order = set(owners), [lines[::-1] for lines in streams], []

@@ -43,7 +43,7 @@ class Declaration(NamedTuple):
         return not TYPES.isdisjoint(self.marks)
 
     def is_lemma(self) -> bool:
-        """Whether it is a statement with its proof, which only its type says something of."""
+        """Whether it is a lemma: a statement, which is its type, and a proof."""
         return set(self.marks) <= {"pub"}
 
     def head(self) -> List[str]:
@@ -56,11 +56,11 @@ class Declaration(NamedTuple):
         return in_one_line(self.head()).partition(" : ")[2]
 
     def text(self) -> str:
-        """All of it in one line, without comments."""
+        """The whole declaration in one line, without comments."""
         return in_one_line(self.lines)
 
     def shown(self) -> List[str]:
-        """As pages quote it: with its comment, without the prover's marks."""
+        """The text as pages quote it: with its comment, without the prover's marks."""
         marks = r"^( *)(?:(?:abbrev|unfoldable|pub) )+"
         return [line.rstrip() for line in self.comment] + [re.sub(marks, r"\1", line).rstrip() for line in self.lines]
 
@@ -128,7 +128,8 @@ def read(path: Path) -> Source:
     return Source(path.read_text().split("\n"), path)
 
 
-# What names mean. Each name that a text uses is declared in its file, or a line `use` brings it in, or the text binds it itself.
+# What names mean. Each name that a text uses is declared in its file, or a line `use` brings it in,
+# or the text binds it itself.
 
 
 class Thing(NamedTuple):
@@ -168,14 +169,15 @@ def scope_of(uses: Iterable[str]) -> Scope:
 
 @functools.lru_cache(maxsize=None)
 def scope_at(path: Path) -> Scope:
-    """Of a file of definitions, or of the contracts of a file of code."""
+    """The scope of a file of definitions, or of the contracts of a file of code."""
     if path.suffix == ".antt":
         return scope_of(read(path).uses)
     return scope_of(" ".join(line.split()) for line in re.findall(r"^ *ghost (use [^;]*;)", path.read_text(), re.M))
 
 
 def meaning(word: str, member: str, path: Path) -> Set[Thing]:
-    """What a word stands for in a file, alone or with the word after its dot; nothing if the text itself binds it."""
+    """What a word means in a file, alone or with the word after its dot; nothing if the text itself
+    binds it."""
     owners = read(path).owners if path.suffix == ".antt" else {}
     if word in owners:
         return {Thing(shown(path), owners[word].name)}
@@ -191,7 +193,8 @@ def meaning(word: str, member: str, path: Path) -> Set[Thing]:
 
 
 def things_in(text: str, path: Path) -> Set[Thing]:
-    """What the names in a text of a file stand for; the fields that get a value are no names, and operators only a library has."""
+    """What the names in a text of a file mean; fields that get a value don't count as names, and
+    only libraries have operators."""
     text = re.sub(r'--.*|//.*|"(?:[^"\\]|\\.)*"', "", text)
     operators = {word for word in scope_at(path) if "◌" in word and all(part in text for part in word.split("◌"))}
     words = {*WORD.findall(re.sub(r"([{;]\s*)\w+ =", r"\1", text)), *((word, "") for word in operators)}
@@ -200,14 +203,14 @@ def things_in(text: str, path: Path) -> Set[Thing]:
 
 @functools.lru_cache(maxsize=None)
 def uses(thing: Thing) -> Set[Thing]:
-    """What a definition names, but for itself."""
+    """What a definition names, except itself."""
     if not thing.is_definition():
         return set()
     return things_in("\n".join(thing.declaration().lines), ROOT / thing.place) - {thing}
 
 
 def closure(roots: Iterable[Thing]) -> Dict[Thing, Thing]:
-    """These things and all that they reach, each with one that names it; a root has itself."""
+    """These things and all that they reach, each with one that names it; a root names itself."""
     found = {thing: thing for thing in roots}
     todo = sorted(found)
     while todo:

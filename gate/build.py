@@ -25,7 +25,7 @@ ROOT = Path(__file__).resolve().parent.parent
 CRATES = ROOT / "crates"
 PROGRAM = "lrupd"
 LOG = CRATES / PROGRAM / "out" / "build.log"
-# Not beside the sources, where rt ci would refuse the copies that a killed build left.
+# Not next to the sources, since rt ci would refuse the copies that a killed build leaves there.
 LANES = (ROOT / ".git" if (ROOT / ".git").is_dir() else ROOT / "out") / "lanes"
 PARTS = ("src", "specs", "proofs")
 CORES = len(os.sched_getaffinity(0))
@@ -35,11 +35,10 @@ GB_EACH = 3.5  # with four jobs; at most 3.3 was seen
 
 LINES = {line.split(":")[0]: line for line in (ROOT / "crates.txt").read_text().splitlines() if ":" in line}
 USES = {name: [word for word in line.split() if word in LINES] for name, line in LINES.items()}  # of the repository
-# Processor seconds of a crate's proofs from nothing, about; `make building` measures them.
+# Processor seconds of a crate's proofs from nothing, as `make building` measured them.
 SECONDS = {
-    "lrup_model": 90, "dimacs": 80, "lrup_text": 180, "propagate": 65, "stream_check": 180, "idwords": 60, "clause_store": 60,
-    "checkpoint": 70, "run_outcome": 120, "serial_run": 120, "portfolio": 110, "stream_threads": 385, "run_laws": 35,
-    "command_line": 95, "command": 180, "lrupd": 80}
+    name: int(seconds)
+    for name, seconds in re.findall(r"^\| `(\w+)` \| [\d:]+ \| (\d+) \|$", (ROOT / "bench/building.md").read_text(), re.M)}
 
 
 def below(name):
@@ -59,7 +58,7 @@ def way(name):
 
 
 def is_young(name):
-    """Whether the library is newer than its sources. If it doesn't fit them all the same, `rt run`
+    """Whether the library is newer than its sources. If it still doesn't match them, `rt run`
     notices."""
     stamp = CRATES / name / "out/rlib/stamp"
     parts = [CRATES / crate / part for crate in {name, *below(name)} for part in PARTS]
@@ -133,7 +132,7 @@ class Lane:
         return self.run.returncode is not None
 
     def end(self):
-        """Ends the run, if it was started, and returns its status and what it printed."""
+        """Ends the run, if it was started, and returns its status and its output."""
         if self.run and not self.has_ended():
             self.run.terminate()
             self.run.wait()
@@ -189,7 +188,7 @@ def prove_libraries(rt, done):
 
 
 def processor_seconds():
-    """Of all runs that have ended."""
+    """The processor seconds of all runs that have ended."""
     usage = resource.getrusage(resource.RUSAGE_CHILDREN)
     return round(usage.ru_utime + usage.ru_stime)
 

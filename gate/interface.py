@@ -15,12 +15,17 @@ import antt
 from antt import ROOT
 
 FAULTS = "crates/stream_check/specs/Faults.antt"
-CAUSES = ["crates/command/specs/Faults.antt", "crates/lrup_model/specs/Layout.antt"]
+CAUSES = ["crates/run_files/specs/Faults.antt", "crates/lrup_model/specs/Layout.antt"]
 HELP, WORDS, ARGUMENTS = (f"crates/command_line/src/{name}.rt" for name in ("help", "words", "arguments"))
 USING, EMITTING, FORMAT, MANUAL = "docs/USING.md", "docs/EMITTING.md", "docs/FORMAT.md", "docs/lrupd.1"
 SOLVE, EXACT, EXPLAIN = "docs/lrup-solve.1", "docs/lrup-exact.1", "docs/lrup-explain.1"
+# The manual pages of tools, and the sources that read their options.
+READERS = {SOLVE: ["tools/solve/options.cpp", "tools/solve/front/front.c"],
+           EXACT: ["tools/exact/main.c"], EXPLAIN: ["tools/explain/main.c"],
+           "docs/lrup-trim.1": ["tools/trim/main.c"]}
 NUMBER = r"(UINT64_C\(1\) << \d+|[\d_]+)"
-# What the figure is, as the table of limits calls it; the files that have it in the place of the question mark; and the pages that give it.
+# What the figure is, as the table of limits calls it; the files that have it in the place of the
+# question mark; and the pages that give it.
 FIGURES = [
     ("Variables of the formula", ["crates/lrup_model/src/lit.rt MAX_VARIABLE: u32 = ?"], f"README.md {USING}"),
     ("Clauses of the formula", ["crates/lrup_model/src/formula.rt MAX_CLAUSES: u32 = ?"], f"README.md {USING}"),
@@ -29,22 +34,23 @@ FIGURES = [
     ("Streams", ["crates/lrup_model/src/layout.rt MAX_STREAMS: u64 = ?", "crates/command_line/src/sizes.rt MAX_STREAMS: u64 = ?",
                  "tools/solve/shared.h MOST_ENGINES = ?", "tools/solve/front/front.c MOST_STREAMS = ?"],
      f"README.md {USING} {FORMAT} {MANUAL} {HELP} {SOLVE} {EXPLAIN} docs/lrup-trim.1"),
-    ("Literals written in one line", ["crates/lrup_text/src/machine.rt MAX_LITERALS: usize = ?",
+    ("Literals written in one line", ["crates/lrup_text/src/partial_line.rt MAX_LITERALS: usize = ?",
                                       "tools/exact/stream.h LITERALS_OF_A_LINE = ?"], f"{USING} {FORMAT} {EXACT}"),
-    ("Hints, or deleted ids, in one line", ["crates/lrup_text/src/machine.rt MAX_IDENTITIES: usize = ?",
+    ("Hints, or deleted ids, in one line", ["crates/lrup_text/src/partial_line.rt MAX_IDENTITIES: usize = ?",
                                             "tools/exact/stream.h IDENTITIES_OF_A_LINE ?"], f"{USING} {FORMAT} {EMITTING} {EXACT}"),
-    ("Digits of a number in a stream", ["crates/lrup_text/src/machine.rt MAX_DIGITS: usize = ?", "tools/exact/stream.h DIGITS = ?"], USING),
+    ("Digits of a number in a stream", ["crates/lrup_text/src/partial_line.rt MAX_DIGITS: usize = ?", "tools/exact/stream.h DIGITS = ?"],
+     USING),
     ("Words of 8 bytes in a row", ["crates/lrup_model/src/layout.rt MAX_ROW_WORDS: u64 = ?", f"{ARGUMENTS} MAX_LINES: u64 = ?",
                                    f"{ARGUMENTS} MAX_ROOM: u64 = ?", "tools/exact/row.h MOST_WORDS (?)"], f"{USING} {MANUAL} {HELP}"),
     ("--lines", [f'{WORDS} "lines", ?)', "tools/explain/main.c USUAL_LINES = ?", "tools/exact/chain.c USUAL_LINES = ?"],
-     f"{USING} {EMITTING} {MANUAL} {EXPLAIN} {HELP} tools/explain/main.c"),
+     f"{USING} {EMITTING} {MANUAL} {EXPLAIN} {HELP}"),
     ("--room", [f'{WORDS} "room", ?)', "tools/explain/main.c USUAL_ROOM = ?"],
-     f"{USING} {EMITTING} {MANUAL} {EXPLAIN} {HELP} tools/explain/main.c"),
+     f"{USING} {EMITTING} {MANUAL} {EXPLAIN} {HELP}"),
     ("--tries", [f'{WORDS} "tries", ?)'], f"{USING} {MANUAL} {HELP}"),
     ("the most --tries", [f"{ARGUMENTS} MAX_TRIES: u64 = ?", "tools/solve/front/front.c MOST_TRIES = ?",
                           "tools/explain/main.c MOST_TRIES = ?"], f"{USING} {EMITTING} {MANUAL} {HELP}"),
     ("the least --memory", ["tools/exact/row.c LEAST_MEMORY (?)"], f"{USING} {SOLVE} {EXACT}"),
-    ("the usual --memory", ["tools/exact/row.c USUAL_MEMORY (?)"], f"{USING} {SOLVE} {EXACT} tools/solve/options.cpp"),
+    ("the usual --memory", ["tools/exact/row.c USUAL_MEMORY (?)"], f"{USING} {SOLVE} {EXACT}"),
     ("the most --memory", ["tools/exact/main.c more than ? bytes:"], f"{SOLVE} {EXACT} tools/solve/options.cpp"),
     ("bytes of a formula from a pipe", ["tools/solve/front/front.c more than ? bytes, which"], SOLVE),
 ]
@@ -55,7 +61,7 @@ def text_of(name: str) -> str:
 
 
 def part(name: str, what: str) -> str:
-    """What stands between the two comments of a part."""
+    """The text between the two comments of a part."""
     found = re.findall(rf"^.*\b{what}: gate/interface.py.*\n([\s\S]*?)^.*\bend of {what}\b", text_of(name), re.M)
     return found[0] if len(found) == 1 else sys.exit(f"{name}: no comments '{what}: gate/interface.py compares' and 'end of {what}'")
 
@@ -68,7 +74,7 @@ def texts_of(name: str, identity: str) -> Set[str]:
 
 
 def words_in(text: str) -> List[str]:
-    """The words, without macros of the manual page."""
+    """The words, without the manual page's macros."""
     return re.findall(r"\w+", re.sub(r"^\.\w+", "", text, flags=re.M).lower())
 
 
@@ -87,7 +93,8 @@ def wrong_faults() -> Iterator[str]:
 
 
 def is_cause(span: str, text: str) -> bool:
-    """Whether what stands in backticks is the text, its end after a colon, or with two dots what it begins with."""
+    """Whether the part in backticks is the text, its end after a colon, or, with two dots, its
+    beginning."""
     return text == span or text.endswith(f": {span}") or span.endswith(" ..") and text.startswith(span[:-2])
 
 
@@ -109,6 +116,19 @@ def wrong_options() -> Iterator[str]:
     for name in sorted((texts.keys() | items.keys() | synopsis) - {"VERSION", "PROGRAM", "FORMULA", "STREAM"}):
         if words_in(texts.get(name, "")) != words_in(items.get(name, "")) or name != "EXAMPLE" and name not in synopsis:
             yield f"{MANUAL}: {HELP} has other words for {name}: use the same in both, and name the option in the synopsis"
+
+
+def wrong_rows() -> Iterator[str]:
+    """Options that a tool's code reads, and its manual page, of which --help is made, doesn't list;
+    or the other way round."""
+    row = r'"([a-z][a-z-]*)", (?:\.value|\.flag|[01], |given\.|options\.)'
+    for page, sources in READERS.items():
+        items = " ".join(re.findall(r"^\.It Fl .*", text_of(page), re.M))
+        listed = set(re.findall(r"Fl -([\w-]+)", items)) | {"check", "help", "version"}
+        for source in sources:
+            read = set(re.findall(row, text_of(source))) | {"check", "help", "version"}
+            yield from (f"{source}: it lacks --{name} of {page}" for name in sorted(listed - read))
+            yield from (f"{page}: it lacks --{name} of {source}" for name in sorted(read - listed))
 
 
 def number_at(place: str) -> int:
@@ -136,7 +156,7 @@ def wrong_figures() -> Iterator[str]:
 
 
 def main() -> None:
-    wrong = [*wrong_faults(), *wrong_causes(), *wrong_options(), *wrong_figures()]
+    wrong = [*wrong_faults(), *wrong_causes(), *wrong_options(), *wrong_rows(), *wrong_figures()]
     print("\n".join([*wrong, f"interface: {len(wrong)} faults"]))
     sys.exit(bool(wrong))
 

@@ -44,7 +44,7 @@ class Quote(NamedTuple):
         return antt.Source([""] * self.first + self.lines if self.file.suffix == ".antt" else [], self.page)
 
     def things(self) -> Set[Thing]:
-        """What it names, if it is code."""
+        """The things that it names, if it is code."""
         return antt.things_in("\n".join(self.lines), self.file) if self.file.suffix == ".rt" else set()
 
 
@@ -92,8 +92,9 @@ def of_code(lines: List[str]) -> List[str]:
 
 
 def wrong_code(quote: Quote) -> Iterator[str]:
-    """Lines that the file doesn't have in this order, and premises of functions that are left out. What `..` leaves out is indented as
-    far as it, or further: so the next line is of the same item."""
+    """Lines that the file doesn't have in this order, and premises of functions that are left out.
+    The lines that `..` replaces are indented at least as far as it is, so the next line belongs to
+    the same item."""
     source, at, indent = of_code(quote.file.read_text().split("\n")), 0, 0
     for line in of_code(quote.lines):
         place = quote.at(quote.first + quote.lines.index(line))
@@ -111,7 +112,8 @@ def wrong_code(quote: Quote) -> Iterator[str]:
 
 
 def wrong_choice(quotes: List[Quote]) -> Iterator[str]:
-    """Definitions that are quoted twice, that no statement reaches, or that one reaches and no page quotes."""
+    """Definitions that are quoted twice, that no statement reaches, or that a statement reaches but
+    no page quotes."""
     places: Dict[Thing, str] = {}
     for quote in quotes:
         for declared in quote.source().declarations:
@@ -141,7 +143,7 @@ def wrong_counts(page: Page) -> Iterator[str]:
 
 
 def wrong_text(page: Page) -> Iterator[str]:
-    """Links that lead elsewhere than to what they name, and words `..` in .. that aren't there."""
+    """Links that don't lead to what they name, and words in `.. in ..` that aren't there."""
     for number, text in page.paragraphs():
         for words, said, target in re.findall(rf"(?:`([^`]+)` in )?{LINK}", text):
             file, name = file_of(target) if target else page.path, re.sub(r"^\w+::|\..*", "", said)

@@ -1,8 +1,8 @@
 #!/usr/bin/env python3
-"""Checks what neither the prover nor the compiler looks at.
+"""Checks what neither the prover nor the compiler checks.
 
-    python3 gate/style.py            lists what is wrong, and counts it; the status is 1 if there is something
-    python3 gate/style.py --words    shows how many words each page has
+    python3 gate/style.py lists what is wrong, and counts it; the status is 1 if anything is python3
+    gate/style.py --words shows how many words each page has
 
 In the pages: names in backticks that are nowhere, links that lead nowhere, quotations that TRUST and README don't have, pages that
 are too long, and misspelt words. In the sources: lines that are too wide, lemmas that are stated twice, names with two meanings,
@@ -24,7 +24,8 @@ sys.dont_write_bytecode = True
 import antt
 from antt import ROOT, shown
 
-# The most words of each page; code and links' targets don't count, nor parts that gate/interface.py compares.
+# The most words of each page; code and links' targets don't count, nor parts that gate/interface.py
+# compares.
 MOST_WORDS: Dict[str, int] = {
     "README.md": 700, "CONTRIBUTING.md": 1200, "CHANGELOG.md": 1800, "bench/RESULTS.md": 900, "bench/solve/README.md": 220,
     **{f"bench/{name}/README.md": 160 for name in ("checkpoint", "filter", "peers", "program", "readers", "ring", "row")},
@@ -38,7 +39,7 @@ MOST_WORDS: Dict[str, int] = {
         ("resume/", 300), ("fifo/", 300))},
     **{shown(path): 700 for path in sorted(ROOT.glob("crates/*/specs/*.md"))},
 }
-# In backticks, and of the toolchain, the system, or other programs; or what a page makes up.
+# Names in backticks from the toolchain, the system or other programs, or made up by a page.
 FOREIGN = set("""ANTT.md CONTRACTS.md SHORTER_PROOFS.md BUILD.bazel start_lib start_io --only -j -v -q --plain --no-binary --host
     plm_rsh_agent libcadical-dev %formula %proof :init :goal formula.cnf ten.cnf proof.lrat core.cnf kept/command group1 group2 my_lemma XValue
     GLIBC_TUNABLES=glibc.malloc.hugetlb=1 sha256sum socat veth""".split())
@@ -47,7 +48,7 @@ SPELLINGS = ("anothers", "bu", "crate", "grat", "lits", "nd", "somes")      # wo
 
 @functools.lru_cache(maxsize=None)
 def files(pattern: str = r".*") -> List[Path]:
-    """The files of the repository whose names match, in order; none of those that are built."""
+    """The files of the repository whose names match, in order, except built ones."""
     found: List[Path] = []
     for folder, folders, names in os.walk(ROOT):
         folders[:] = [name for name in folders if name not in ("out", ".git", "__pycache__")]
@@ -59,7 +60,7 @@ def files(pattern: str = r".*") -> List[Path]:
 
 
 def without(pattern: str, text: str) -> str:
-    """With empty lines in the place of what is found."""
+    """The text with empty lines in place of each match."""
     return re.sub(pattern, lambda found: "\n" * found[0].count("\n"), text, flags=re.M)
 
 
@@ -94,7 +95,7 @@ def slug_of(title: str) -> str:
 
 @functools.lru_cache(maxsize=None)
 def anchors(path: Path) -> Set[str]:
-    """Those of the headings; of several that are alike the later ones have a number."""
+    """The anchors of the headings; if several are the same, the later ones get a number."""
     slugs = [slug_of(title) for title in re.findall(r"^#+ (.*)$", prose(path), re.M)]
     counts = [slugs[:at].count(slug) for at, slug in enumerate(slugs)]
     return {f"{slug}-{count}" if count else slug for slug, count in zip(slugs, counts)}
@@ -110,7 +111,7 @@ def dead_links() -> Iterator[str]:
 
 
 def false_quotations() -> Iterator[str]:
-    """Sentences that these pages quote, and TRUST and README don't have."""
+    """Sentences that these pages quote, but TRUST and README don't have."""
     sources = " ".join(" ".join((ROOT / name).read_text().split()) for name in ("README.md", "docs/TRUST.md")).lower()
     for path in files(r"docs/(AUDIT|THEOREMS|PROOFS_AND_ROUNDS)\.md"):
         for quotation in re.findall(r"^> [\s\S]*?(?=\n\n)", path.read_text(), re.M):
@@ -130,7 +131,8 @@ def known_names() -> Set[str]:
 
 
 def unknown_names() -> Iterator[str]:
-    """Of a span of several words those count that have an underscore, a capital within, `::` or a slash, and options."""
+    """In a span of several words, only options and words with an underscore, an inner capital, `::`
+    or a slash count."""
     targets = re.findall(r"^([a-z-]+):", (ROOT / "Makefile").read_text(), re.M)
     for path in files(r".*\.md"):
         text = prose(path)
@@ -149,7 +151,8 @@ def unknown_names() -> Iterator[str]:
 
 
 def misspelt() -> Iterator[str]:
-    """What codespell finds in pages, code and comments. Without it nothing is looked at, which fails in CI."""
+    """What codespell finds in pages, code and comments. Without codespell nothing is checked, which
+    fails in CI."""
     if shutil.which("codespell"):
         names = map(str, files(r".*\.(md|1|rt|antt|py|sh|awk|c|cpp|h)|Makefile|tools/[^.]*"))
         words = ["codespell", "-q", "3", "-L", ",".join(SPELLINGS), *names]
@@ -163,7 +166,8 @@ def misspelt() -> Iterator[str]:
 
 
 def wide_lines() -> Iterator[str]:
-    """Of clauses, of definitions and of statements of lemmas beyond 100 columns, and of proofs beyond 140."""
+    """Lines of clauses, definitions and statements of lemmas beyond 100 columns, and lines of
+    proofs beyond 140."""
     for path in files(r"crates/\w+/(src/.*\.rt|(specs|proofs)/.*\.antt)"):
         lines = path.read_text().splitlines()
         if "/proofs/" in shown(path):
@@ -189,7 +193,8 @@ def all_below(crate: str) -> Set[str]:
 
 
 def normal(statement: str) -> Optional[str]:
-    """A lemma's statement with numbers for the names that it binds; None of a function, whose type says nothing of its arguments."""
+    """A lemma's statement with numbers for the names that it binds; None for a function, whose type
+    says nothing about its arguments."""
     bound = [name for names in re.findall(r"[({]([^(){}:]+) :|λ ([^\s.]+)\.", statement) for name in "".join(names).split()]
     words = r"[^\s(){}\[\],;.]+"
     if not set(bound) & set(re.findall(words, statement.split(" → ")[-1])):
@@ -199,7 +204,8 @@ def normal(statement: str) -> Optional[str]:
 
 
 def repeated() -> Iterator[str]:
-    """Lemmas that are stated twice, in one crate or in two that have one below both; and names with two meanings."""
+    """Lemmas that are stated twice, in one crate or in two crates with a common one below; and
+    names with two meanings."""
     lemmas, meanings = defaultdict(list), defaultdict(dict)
     for path in files(r"crates/\w+/(specs|proofs)/.*\.antt"):
         for declared in (declared for declared in antt.read(path).declarations if not declared.indent):
@@ -217,7 +223,8 @@ def repeated() -> Iterator[str]:
 
 
 def misplaced() -> Iterator[str]:
-    """In specs/ itself are definitions for contracts of public functions, in internal/ those for private ones, in lemmas/ lemmas."""
+    """specs/ itself has definitions for contracts of public functions, internal/ those for private
+    ones, and lemmas/ has lemmas."""
     for path in files(r"crates/\w+/(specs|src)/.*\.(antt|rt)"):
         crate, folder = shown(path).split("/")[1].removesuffix("_tests"), shown(path).split("/")[3]
         for module, name in antt.scope_at(path).values():
@@ -247,7 +254,8 @@ def misfits() -> Iterator[str]:
 
 
 def wrong_arrows() -> Iterator[str]:
-    """The picture in ARCHITECTURE has an arrow from each crate but those of tests to each that it uses directly, and by no other."""
+    """The picture in ARCHITECTURE has an arrow from each crate, except those for tests, to each
+    crate that it uses directly and through no other."""
     below = {crate: all_below(crate) - {crate} for crate in antt.crates() if not crate.endswith(("_tests", "_support"))}
     wanted = {(crate, name) for crate, names in below.items() for name in names
               if not any(name in all_below(other) for other in names - {name})}
@@ -257,7 +265,8 @@ def wrong_arrows() -> Iterator[str]:
 
 
 def wrong_versions() -> Iterator[str]:
-    """README has the logic of the rt on the PATH, and the program the version of the file VERSION."""
+    """README names the logic of the rt on the PATH, and the program has the version in the file
+    VERSION."""
     if shutil.which("rt"):
         says = subprocess.run(["rt", "version"], capture_output=True, text=True, check=True).stdout.strip()
         logic = re.search(r"`rattle-kit-\w+ (logic \w+)`", (ROOT / "README.md").read_text())

@@ -83,8 +83,9 @@ def including(header: str, folder: Path) -> Set[str]:
 def again(work: Path) -> None:
     folder = work / "tools" / "exact"
     shutil.copytree(ROOT / "tools" / "exact", folder, ignore=shutil.ignore_patterns("out"))
-    for name in ("Makefile", "VERSION"):
-        shutil.copy(ROOT / name, work)
+    (work / "docs").mkdir()
+    for name in ("Makefile", "VERSION", "docs/lrup-exact.1", "tools/help.awk"):
+        shutil.copy(ROOT / name, work / name)
     every = {path.stem for path in folder.glob("*.c")} | {"exact"}
     want((compiled(work), compiled(work)), (every, set()), "the files compiled at first, and then")
     for name in ("hints.h", "errors.h", "lemmas.h"):

@@ -72,8 +72,8 @@ def solved(program: str, solver: str, words: str, streams: int, share: int, coun
 
 
 def too_much_for_one_run(program: str, place: int, fault: str, count: int, work: Path) -> None:
-    """With the rounds' sizes the streams go through, and one run with the largest sizes stops. With
-    --serial, so that no stream gives up before another one is full."""
+    """With the rounds' sizes the streams refute the formula; one run with the largest of these
+    sizes stops. It is --serial, so that no stream gives up before another one is full."""
     formula, streams = example("bmc.cnf"), list(map(example, FOUR_SOLVERS))
     want_refuted(chain(program, count, formula, streams, TRIES, work), count)
     sizes = [path.read_text().split()[1 + place] for path in (work / "rounds").glob("*.sizes")]

@@ -6,7 +6,7 @@ streams.
 
 Each report has to say that each stream ended, with the additions and deletions that the solver
 printed; if the formula is unsatisfiable, the status has to be 0. If nothing is shared, the streams
-also go to files, whose report has to be the same with --serial. Imports change nothing of that; all
+also go to files, whose report has to be the same with --serial. Imports change none of this; all
 imports of a run also make a stream of their own, and a garbled import is added to another one. Then
 solvers are killed midway: each stream ends, or is truncated. Failures are shown; the last line is
 'N passed, M failed', and the status is 1 if a run failed."""

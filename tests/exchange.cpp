@@ -43,7 +43,8 @@ struct Process {
         std::vector<Literal> items(length);
         Literals literals = { items.data(), length, length };
         uint64_t &end = staged[engine - 1];
-        for (; count > 0; count--) outbox_put(shared.get(), words[engine - 1].data(), engine, &end, 7, &literals, 0);
+        for (; count > 0; count--)
+            outbox_put(shared.get(), words[engine - 1].data(), engine, &end, 7, &literals, 0);
         STORE(shared->engine_statuses[engine - 1].outbox_used, end);
     }
 
@@ -59,12 +60,14 @@ std::string text_of(Message message) {
     std::vector<std::pair<int, int>> found;
     message.take(round);
     while (message.take(sent)) {
-        if (found.empty() || found.back().second != int(sent.length)) found.push_back({ 0, int(sent.length) });
+        if (found.empty() || found.back().second != int(sent.length))
+            found.push_back({ 0, int(sent.length) });
         found.back().first++;
         message.skip(sent.length * sizeof(Literal));
     }
     std::string text = std::to_string(round) + ":";
-    for (auto [count, length] : found) text += " " + std::to_string(count) + " of " + std::to_string(length);
+    for (auto [count, length] : found)
+        text += " " + std::to_string(count) + " of " + std::to_string(length);
     return text;
 }
 
@@ -82,23 +85,28 @@ void place(Process &process, Message message, const std::string &wanted) {
     int there = 0;
     for (int k = 0; k < THIRD; k++) {
         uint64_t end = process.shared->engine_statuses[k].outbox_used;
-        for (uint64_t at = 0; next_gift(process.shared.get(), process.words[k].data(), &at, end);) there++;
+        for (uint64_t at = 0; next_gift(process.shared.get(), process.words[k].data(), &at, end);)
+            there++;
     }
-    want(std::to_string(all.in) + " " + std::to_string(all.dropped) + " " + std::to_string(there), wanted);
+    want(std::to_string(all.in) + " " + std::to_string(all.dropped) + " " + std::to_string(there),
+         wanted);
 }
 
 }
 
 int main() {
     Process one(0, 2), other(THIRD, 1);
-    for (int engine : { 1, 2 }) one.give(engine, 4, 500), one.give(engine, 1, 5), one.give(engine, 3, 10);
+    for (int engine : { 1, 2 })
+        one.give(engine, 4, 500), one.give(engine, 1, 5), one.give(engine, 3, 10);
     collected(one, "1:");                           // their lines aren't sent yet
     one.clear();
     // 2998 literals; the budget is 1500 for each engine
     Message first = collected(one, "1: 10 of 1 20 of 3 732 of 4");
     want(std::to_string(one.exchange.traffic.left_out), "268");
     collected(one, "1:");                           // the rest isn't sent later
-    for (int k = 0; k < THIRD; k++) want(std::to_string(one.shared->engine_statuses[THIRD].floors[k]), std::to_string(one.staged[k]));
+    for (int k = 0; k < THIRD; k++)
+        want(std::to_string(one.shared->engine_statuses[THIRD].floors[k]),
+             std::to_string(one.staged[k]));
     place(other, first, "762 0 762");
     STORE(other.shared->saved_round, 1);
     place(other, first, "762 762 762");

@@ -386,7 +386,7 @@ FAULTS = [
     ("a circle", ["5 2 0 6 0\n", "6 2 0 7 0\n", "7 2 0 6 0\n"], "",
      "stream 2 (f2), line 1: missing 7\n  derives  2    so at first -2 is true\n" + HINTS
      + row(7, "BAD", "-", "stream 3, no such line so far")
-     + "  why: 7 is of stream 3, whose line 1 waits for 6, in a circle that comes back to this line\n" + RIGHT
+     + "  why: 7 is of stream 3, whose line 1 waits for 6, in a cycle that leads back to this line\n" + RIGHT
      + "stream 1 (f1), line 1: missing 6, of stream 2, whose line 1 is bad\n"
      "stream 3 (f3), line 1: missing 6, of stream 2, whose line 1 is bad\n"),
     ("a consequence of another fault", ["5 0 6 8 0\n", "6 2 0 1 0\n8 -2 0 3 4 0\n", "7 x\n"], "",
@@ -455,7 +455,7 @@ FAULTS = [
 
 
 def form(text: str, words: str, why: str, shown: str, place: int, work: Path) -> None:
-    """Explains a misspelled line, by its bytes."""
+    """Explains a misspelled line, showing its bytes."""
     stream = written(text.encode("latin-1"), work, "f1")
     shown, caret = shown, " " * shown.index("^") + f"^ byte {place}"
     wanted = f"stream 1 (f1), line 1: {words}\n  why: {why}\n      {shown.replace('^', '')}\n      {caret}\n"
@@ -549,7 +549,7 @@ SAID_OF_CARRIED = ("round 2, stream 2 (d/round-2.stream-2), line 1: no conflict\
 
 
 def carried(work: Path) -> None:
-    """A clause of the round before is described by its origin."""
+    """A clause of the last round is described by its origin."""
     for name, text in CARRIED.items():
         written(text, work, f"d/{name}")
     want(explain([written(FOUR, work), "d"], work), Ran(SAID_OF_CARRIED, "", BAD), "the messages")
@@ -563,7 +563,7 @@ WRONG_LINE = "for (size_t k = 1; k < level_zero.length; k++) PUSH(hints, level_z
 
 
 def emitter(work: Path) -> None:
-    """The explanation mends each bad line, and nothing else changes."""
+    """With its explanation applied each bad line becomes good, and nothing else changes."""
     learn = (EXAMPLES / "solver" / "learn.c").read_text()
     want(learn.count(RIGHT_LINE), 1, f"how often learn.c has '{RIGHT_LINE}'")
     sources = shutil.copytree(EXAMPLES / "solver", work / "solver", ignore=shutil.ignore_patterns("out"))

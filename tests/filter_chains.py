@@ -121,8 +121,8 @@ AFTER = "{0} 1 2 0\n{0} 1 -2 0\n{0} -1 2 0\n{0} -1 -2 0\n"
 
 
 def units_needed(steps: int, order: str, work: Path) -> None:
-    """Units from 3 on, each implying the next, that hold and contradict nothing. The proof needs
-    the last first, or one in between."""
+    """Units from variable 3 on, each implying the next, without a contradiction. The proof needs
+    the last one first, or one in between."""
     last = steps + 2
     chain = "".join(f"-{variable} {variable + 1} 0\n" for variable in range(3, last))
     formula = written(f"p cnf {last} {steps + 4}\n3 0\n{chain}{AFTER.format(-last)}", work)

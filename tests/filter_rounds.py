@@ -102,7 +102,7 @@ def left(work: Path) -> List[str]:
 
 
 def want_refuted(checked: Checked, least: int, most: int, work: Path) -> None:
-    """Refuted, in that many rounds. What is left is what lrupd would have saved."""
+    """The formula is refuted, in that many rounds. The last file is what lrupd would have saved."""
     count = len(checked.rounds)
     want((checked.ends(), checked[2:]), ({"ended"}, ("", 0, "", 0)), "the ends, and what is said")
     want((least <= count <= most, left(work)), (True, [f"round-{count + 1}.cnf"]), f"{count} rounds, from {least} to {most}, and files")
@@ -191,9 +191,9 @@ def behind(work: Path) -> None:
 
 
 def rows_grow(work: Path) -> None:
-    """The first row is for clauses of 16 literals, and takes 2^20 words with one for each clause,
-    if clauses have half as many; each later row is for the lengths met, 200 at most, and is twice
-    as large."""
+    """The first row has 2^20 words, for clauses of 16 literals; each later one is twice as large,
+    for clauses as long as those before, 200 at most. Its lines would suffice for clauses of half
+    the length."""
     literals = list(range(3, 1003))
     formula = written(dimacs(1002, [[1, 2], [-1, 2], [1, -2], [-1, -2], literals]), work)
     text = " ".join(map(str, literals))
@@ -422,7 +422,7 @@ class Sides(NamedTuple):
         threading.Thread(target=write, daemon=True).start()
 
     def ends(self) -> Tuple[str, Optional[int], str, Optional[int]]:
-        """lrupd's messages and status, and the filter's."""
+        """Returns lrupd's messages and status, and the filter's."""
         _, said = self.checking.communicate(timeout=LIMIT)
         return said, self.checking.returncode, *end_of(self.running)
 

@@ -302,7 +302,7 @@ NO_CLAUSE = "no conflict by unit propagation, and the step cites the clause"
 
 
 def refusals() -> List[Row]:
-    """Of LRAT, DRUP and DRAT text."""
+    """LRAT, DRUP and DRAT text."""
     return [
         ("a RAT step with hints", FOUR, FIRST + "6 1 0 -3 4 0\n", "line 2: a RAT step", FIRST, []),
         ("a RAT step without hints", "p cnf 2 1\n1 2 0\n", "1 2 0\n1 0\n",
@@ -483,7 +483,7 @@ def what_comes_out(program: str) -> List[Row]:
 
 
 def longest(program: str, count: int, work: Path) -> None:
-    """A clause of this length."""
+    """A proof with a clause of this length."""
     literals = range(1, count + 1)
     numbers = " ".join(map(str, literals))
     formula = written(f"p cnf {count + 1} 2\n{numbers} {count + 1} 0\n-{count + 1} 0\n", work)
@@ -508,7 +508,7 @@ def check_report(program: str, formula: Path, text: str, said: str, work: Path) 
 
 
 def longest_chain(program: str, count: int, work: Path) -> None:
-    """The empty clause from this number of clauses."""
+    """A proof of the empty clause from this number of clauses."""
     last = count - 1
     clauses = ["1 0"] + [f"-{variable} {variable + 1} 0" for variable in range(1, last)] + [f"-{last} 0"]
     formula = written("\n".join([f"p cnf {last} {count}", *clauses, ""]), work)

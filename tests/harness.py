@@ -127,7 +127,7 @@ def by_another(words: Words, work: Path, user: int = 65534, before: Callable[[],
 
 
 def run_by_another(program: str, words: Words, work: Path) -> Ran:
-    """Runs a copy of the program so."""
+    """Runs a copy of the program in the same way."""
     return by_another([shutil.copy(program, work / "lrupd"), *words], work)
 
 
@@ -218,7 +218,7 @@ def feed(path: Path, pieces: Pieces) -> threading.Thread:
 
 
 def generated(words: str, folder: Path, name: str = "formula.cnf") -> Path:
-    """A formula of the generator's."""
+    """A formula from the generator."""
     done = run([sys.executable, GENERATOR, *words.split()])
     want(done.status, 0, f"the generator's status, which says {done.err}")
     return written(done.out, folder, name)
@@ -273,7 +273,9 @@ def sanitizer() -> List[str]:
 def for_tests(program: Path, sources: Iterable[Path], *flags: str) -> Path:
     """A build that checks its invariants, and reports undefined behaviour if the compiler can."""
     program.parent.mkdir(exist_ok=True)
-    return compiled(program, sorted(sources), "-DCHECKED", *(SANITIZE if sanitizer() else ["-std=c11", "-O1"]), *flags, by=sanitizer())
+    checked = ["-DCHECKED", "-I", str(ROOT / "out" / "objects")]
+    checked += SANITIZE if sanitizer() else ["-std=c11", "-O1"]
+    return compiled(program, sorted(sources), *checked, *flags, by=sanitizer())
 
 
 def sanitized_filter() -> None:
@@ -316,7 +318,8 @@ def watched_ends(err: str) -> List[str]:
 
 def unwatched(err: str) -> str:
     """Standard error without the lines of --watch."""
-    return re.sub(r"^lrupd: (stream \d+: .*|round \d+: \d+ clauses?, \d+ literals?, paused for \d+ ms)\n", "", err, flags=re.M)
+    lines = r"stream \d+: .*|round \d+: \d+ clauses?, \d+ literals?, paused for \d+ ms|.*: waits for a writer"
+    return re.sub(rf"^lrupd: ({lines})\n", "", err, flags=re.M)
 
 
 def added(said: Iterable[str]) -> int:
@@ -355,7 +358,7 @@ def answers(program: str, wanted: Wanted, work: Path) -> None:
 
 
 def with_memory(function: Callable[..., None], *arguments: Any) -> None:
-    """For rows that take up to 2 GB."""
+    """Runs a row that takes up to 2 GB, if enough memory is free."""
     available = re.search(r"^MemAvailable: +(\d+)", Path("/proc/meminfo").read_text(), re.M)
     if not available or int(available[1]) < 4_000_000:
         raise Skipped("less than 4 GB are free")
@@ -370,7 +373,7 @@ def has_packages() -> bool:
 
 
 def needs(command: str) -> None:
-    """A program of a package."""
+    """Skips the row if this program of a package is missing."""
     if not shutil.which(command):
         raise Missing(f"there is no {command} on the PATH")
 

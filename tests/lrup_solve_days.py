@@ -1,17 +1,20 @@
 #!/usr/bin/env python3
-"""Kills processes of lrup-solve at random moments, and goes on with the record, until there is a verdict.
+"""Kills processes of lrup-solve at random moments, and resumes the run from its record, until there
+is a verdict.
 
     lrup_solve_days.py PROGRAM [FLAGS [SEED [MINUTES]]]
 
-Any process of a run is killed, with the first one and the front, and one run may lose several. Each time what was saved before is still
-there, and nothing is left beside the record: no file, process or shared memory. Some records are copied, and changed, cut or swapped, or
-a run goes on with another formula: that leads to no wrong answer, and a message names the file. The disk of some records is full now and
-then. The verdict is checked by the assignment, or by the record's command and by the LRAT text that lrup-trim makes.
+Any process of a run may be killed, including the first one and the front, and one run may lose
+several. Each time everything that was saved before has to be there, and nothing else may be left:
+no file, process or shared memory. Some records are copied, and changed, truncated or swapped, or
+resumed with another formula: that must not lead to a wrong answer, and a message has to name the
+file. The disk of some records is full now and then. The verdict is checked by the assignment, or by
+the record's command and by the LRAT text that lrup-trim makes.
 
-SEED, 1 if it isn't said, decides on formulas and options, and the clock on much of the rest. With MINUTES larger formulas are solved, of
-this seed and of those after it, until that time is over; else one row of each kind, in less than a minute. It builds as lrup_solve.py
-does. It shows what is off; the last line is 'N passed, M failed'. The status is 1 where a run failed.
-"""
+SEED, 1 by default, determines the formulas and the options; much of the rest depends on timing.
+With MINUTES larger formulas are solved, from this seed and those after it, until that time has
+passed; otherwise one row of each kind, in less than a minute. It builds like lrup_solve.py.
+Failures are shown; the last line is 'N passed, M failed'. The status is 1 if a run failed. """
 import contextlib
 import os
 import random
@@ -40,7 +43,7 @@ SOON = 10       # seconds, after which files are removed
 KILOBYTE = 1024
 
 
-# Formulas, each with the status that is right, or None where only a run finds it.
+# Formulas, each with its right status, or None if only a run can find it.
 
 
 def of_pigeons(numbers: random.Random, work: Path) -> Tuple[Path, Optional[int]]:
@@ -69,11 +72,11 @@ def of_multipliers(numbers: random.Random, work: Path) -> Tuple[Path, Optional[i
 KINDS = {"pigeons": of_pigeons, "fewer pigeons": of_fewer, "parity": of_parity, "random": at_random, "miter": of_multipliers}
 
 
-# Runs, and what is killed in them.
+# Runs, and the processes that are killed.
 
 
 class Chain:
-    """A record, and the runs that go on with it."""
+    """A record, and the runs that resume from it."""
 
     def __init__(self, kind: str, seed: int, work: Path) -> None:
         self.mark, self.work = marked(work), work
@@ -89,7 +92,7 @@ class Chain:
         self.log: List[str] = []
 
     def words(self) -> List[object]:
-        """Each time with other options."""
+        """The words of the next run, each time with other options."""
         numbers = self.numbers
         how = ["--resume" if (self.kept / "files").exists() else "--proofs", self.kept]
         clock = ["--save-every", numbers.choice((0.1, 0.3))] if self.tested is None else []
@@ -106,7 +109,8 @@ class Chain:
             yield running
 
     def killed(self, pause: Optional[float], before: Callable[[], None] = lambda: None) -> Answer:
-        """A run in which after each pause, if there is one, a process is killed. Whatever was saved before is saved then."""
+        """A run in which a process is killed after each pause, or none if there is no `pause`. No
+        saved round may be lost."""
         saved, names = saved_rounds(self.kept), []
         with self.begun(before) as running:
             while running.poll() is None:
@@ -136,7 +140,7 @@ class Chain:
         return [name]
 
     def none_left(self, is_unclean: bool) -> None:
-        """Without its cleaner a run that is killed leaves its folder."""
+        """A killed run leaves its folder only if its cleaner was killed, too."""
         none_left(self.mark)
         if is_unclean:
             for path in self.temporary.iterdir():
@@ -147,7 +151,7 @@ class Chain:
     # Answers.
 
     def is_answered(self, answer: Answer) -> bool:
-        """It is the right one, or none."""
+        """Whether there is an answer, which has to be right."""
         if answer.said.endswith(" checks it\n"):        # it was killed once it had the proof
             self.found(20)
             return True
@@ -192,7 +196,7 @@ def solved(kind: str, seed: int, work: Path, log: List[str]) -> None:
 
 
 def changed(chain: Chain) -> None:
-    """A copy, with which a run goes on for some seconds."""
+    """Changes a copy of the record, and resumes from that for some seconds."""
     kept, numbers = chain.work / "changed", chain.numbers
     shutil.copytree(chain.kept, kept)
     name, change = numbers.choice(sorted(CHANGES.items()))
@@ -217,7 +221,7 @@ def contents(folder: Path) -> "dict[str, bytes]":
 
 
 def of_another(chain: Chain) -> None:
-    """Nothing is touched."""
+    """With another formula the record is refused, and nothing in it is touched."""
     other, before = written(chain.formula.read_text() + "c more\n", chain.work, "other.cnf"), contents(chain.kept)
     answer = solve(["--resume", chain.kept, other], tested=chain.tested)
     said = f"lrup-solve: {other} isn't the formula of {chain.kept}, or was changed since\n"
@@ -230,7 +234,7 @@ def of_another(chain: Chain) -> None:
 
 @contextlib.contextmanager
 def disk(place: Path) -> Iterator[Callable[[int], None]]:
-    """A file system of its own there, of that many kilobytes."""
+    """Mounts a file system of its own there; the result sets its size in kilobytes."""
     def sized(kilobytes: int, how: str = "remount,") -> bool:
         return run(["mount", "-t", "tmpfs", "-o", f"{how}size={kilobytes}k", "none", place]).status == 0
     place.mkdir()
@@ -243,8 +247,8 @@ def disk(place: Path) -> Iterator[Callable[[int], None]]:
 
 
 def with_little(chain: Chain, why: str, limited: Callable[[int], Callable[[], None]]) -> None:
-    """The first run is left alone: it has a right answer, or none, and says what it couldn't write. Those after it have more and more, and
-    are killed, but not the last ones."""
+    """The first run isn't killed: its answer is right, or it has none, and it reports what it
+    couldn't write. Later runs have more and more space, and are killed, except the last ones."""
     for count in range(RUNS):
         kilobytes = 100 * 3 ** min(count, 10)
         answer = chain.killed(1.5 if 0 < count < 5 else None, limited(kilobytes))

@@ -167,7 +167,7 @@ def signalled(number: int, body: str, whole_group: bool, work: Path) -> None:
 
 
 def refused_proof(work: Path) -> None:
-    """lrupd's words are printed, also if the report can't be kept."""
+    """lrupd's words are printed even if the report can't be kept."""
     answer = run_with(f"stream(1, {PROOF!r})\ncheck()\ntold('lrupd')\nsay('refused')", [], FOUR, work)
     want((answer.answers, answer.status), (["s UNSATISFIABLE"], 1), "the answer")
 
@@ -244,6 +244,42 @@ with open(sys.argv[1], "w") as proof:
                        f"{sys.executable} {attack} %proof; : %formula", written(SATISFIABLE, work)], limit=60))
     want((done.answers, done.status), (["s UNKNOWN"], 0), f"the answer of\n{done.out}{done.said}")
     came_again(work)
+
+
+def asked_again(body: str, wanted: str, text: str, how: str, work: Path) -> None:
+    """lrupd waits for its stream, and is killed; then the program asks for another one, which begins with
+    the formula. That is named, or comes by a pipe."""
+    begin = AGAIN + """
+def killed():
+    os.mkfifo(folder + '/round-1.stream-1')
+    check()
+    feeding = open(folder + '/round-1.stream-1', 'w')
+    pid = lrupd_of(front, '--rounds')
+    os.kill(pid, signal.SIGKILL)
+    told('lrupd')
+    for name in os.listdir(folder):     # the pipe, and the file for what it would have saved
+        os.unlink(folder + '/' + name)
+    return pid
+told('probe')
+"""
+    given = {"given": text} if how == "by a pipe" else {}
+    answer = run_with(begin + body, ["--time", "1" if how == "for a second" else "15"], text, work, **given)
+    status = {"s UNKNOWN": 0, "s UNSATISFIABLE": 20}[wanted]
+    want((answer.answers, answer.status), ([wanted], status), f"the answer of\n{answer.out}{answer.said}")
+    if "again(" in body:
+        came_again(work)
+
+
+def asked_for_more(body: str, starts: int, wanted: str, work: Path) -> None:
+    """A program in lrupd's place counts its starts, as it is asked for three times. Only after a signal
+    there is another one, and nothing that the killed one wrote counts."""
+    lrupd = in_place_of_lrupd(f"case \"$*\" in *' /dev/null') exit 3;; esac\necho x >> {work}/starts; "
+                              f"count=$(wc -l < {work}/starts)\n{body}", work)
+    asks = "told('probe')\nstream(1, '')\ncheck()\ntold('lrupd')\ncheck()\ntime.sleep(0.5)\ncheck()\ntime.sleep(0.5)"
+    answer = run_with(asks, [], SATISFIABLE, work, lrupd)
+    status = {"s UNKNOWN": 0, "s UNSATISFIABLE": 20}[wanted]
+    want((answer.answers, answer.status), ([wanted], status), f"the answer of\n{answer.out}{answer.said}")
+    want(len((work / "starts").read_text().splitlines()), starts, "how often it is started")
 
 
 def reading_stopped(work: Path) -> None:
@@ -369,6 +405,29 @@ def rows() -> List[Row]:
                ("its reading killed, a proof", reading_killed, FOUR, proves + ends, proved, 20), ("by a pipe", by_pipe), ("comments", without_lines),
                ("a formula that lrupd refuses", refused_formula), ("no program", missing), ("length", length),
                ("a formula without end", endless)]
+    again = "killed()\nstream(1, {!r})\ncheck()\n" + ends
+    forged, takes_id = "forge('s UNSATISFIABLE')", "again({}, 0, here + '/again')"
+    for how in ("named", "by a pipe"):
+        listed += [(f"{name}, {how}", asked_again, body, line, text, how) for name, body, text, line in (
+            ("killed, and a proof", again.format(PROOF), FOUR, proved),
+            ("killed twice, and a proof", "killed()\n" + again.format(PROOF), FOUR, proved),
+            ("killed, and no proof", again.format(""), FOUR, unknown),
+            ("killed, and another's proof", again.format(PROOF), SATISFIABLE, unknown),
+            ("killed, and a forged line", f"killed()\n{forged}\nstream(1, '')\ncheck()\n{ends}\n{forged}", SATISFIABLE, unknown),
+            ("killed, and its id again", f"pid = killed()\n{forged}\n{takes_id.format('pid')}\nstream(1, '')\ncheck()\n{ends}",
+             SATISFIABLE, unknown),
+            ("killed, its id again, and nothing", f"{takes_id.format('killed()')}\n{forged}", SATISFIABLE, unknown))]
+    listed += [(name, asked_again, body, unknown, SATISFIABLE, "for a second") for name, body in (
+        ("killed without end", "while True: killed()"), ("killed, and it stays", "killed()\ntime.sleep(1000)"))]
+    dead = "kill -9 $$"
+    listed += [(f"asked for more: {body}", asked_for_more, body, starts, line) for body, starts, line in (
+        (dead, 3, unknown), ("kill -SEGV $$", 3, unknown), ("exit 3", 1, unknown), ("exit 0", 1, unknown), ("exit 137", 1, unknown),
+        (f"[ $count -gt 1 ] || {dead}; exit 3", 2, unknown), (f"echo s UNSATISFIABLE; {dead}", 3, unknown),
+        (f"[ $count -gt 1 ] || {{ echo s UNSATISFIABLE; {dead}; }}; exit 0", 2, unknown),
+        (f"[ $count -gt 1 ] || {{ echo s UNSATISFIABLE; {dead}; }}; echo s UNKNOWN; exit 0", 2, unknown),
+        (f"[ $count -gt 1 ] || {{ printf 's UNSAT'; {dead}; }}; echo ISFIABLE; exit 0", 2, unknown),
+        (f"[ $count -gt 1 ] || {{ echo s UNKNOWN; {dead}; }}; echo s UNSATISFIABLE; exit 0", 2, proved),
+        (f"[ $count -gt 1 ] || {{ echo s UNSATISFIABLE; {dead}; }}; echo s UNSATISFIABLE; exit 3", 2, unknown))]
     listed += [("lrupd's id again", checkers_id_again), ("the reading's id again", readers_id_again),
                ("lrupd's id again, by a solver", solvers_id_again), ("its reading stopped", reading_stopped),
                ("an empty file as lrupd", empty_checker), ("signals of the end", signals_of_the_end),

@@ -181,8 +181,8 @@ A_ROW = 6       # signals
 
 
 def sent(numbers: random.Random, pid: int) -> Tuple[str, str]:
-    """Which signal, and to which process of this front's run. A stopped process may continue
-    soon."""
+    """Sends a random signal to a random process of this front's run, and returns both names. A
+    stopped process may be continued soon."""
     name, chosen = numbers.choice(sorted(processes_of_run(pid).items()))
     number, goes_on = numbers.choice((*DEADLY, *STOPS, *GENTLE)), numbers.random() < 0.5
     with contextlib.suppress(ProcessLookupError):
@@ -255,7 +255,7 @@ def signalled(numbers: random.Random, most: int, given: Given, work: Path) -> in
 
 
 def signals(seed: int, count: int, work: Path) -> None:
-    """To runs on one formula: satisfiable, unsatisfiable, or unsatisfiable only under
+    """Sends signals to runs on one formula: satisfiable, unsatisfiable, or unsatisfiable only under
     assumptions."""
     numbers, words = random.Random(f"{seed} signals"), ["-j", "2", "--memory", "64M"]
     size, is_assumed = numbers.randrange(120, 220), numbers.random() < 0.4

@@ -86,7 +86,7 @@ def writes_over(words: List[str], work: Path) -> None:
     with open(path) as file:
         out, said, status = run([SOLVE, "--lrupd", PROGRAM, "--proofs", kept,
                                  *(word.format(path=path, work=work, cube=cube) for word in words[1:])], stdin=file)
-    over = " would be written over: another --proofs\n"
+    over = " would be overwritten: choose another --proofs\n"
     want((out, said.count("\n"), said.endswith(over), status), ("", 1, True, 1), f"the message: {said}")
     want((path.read_text(), cube.read_text(), sorted(os.listdir(kept))), (text, "0\n", sorted({path.name, "assumptions"})),
          "the files' contents")
@@ -142,7 +142,7 @@ def others_write(mode: int, taken: bool, work: Path) -> None:
     kept.chmod(mode)
     words = ["-j", "1", "--proofs", kept, example("bmc.cnf")]
     if not taken:
-        return refused(words, f"{kept}: others may write there: another --proofs", work)
+        return refused(words, f"{kept}: others may write there: choose another --proofs", work)
     want_answer(solve(words), 20)
     check_again(kept)
 
@@ -161,7 +161,7 @@ def locked(name: str, ends: int, work: Path) -> None:
     with started(command(["-j", "1", "--proofs", kept, generated("pigeons 11", work)]), stdout=subprocess.DEVNULL) as running:
         until("lrupd's sizes are there", lambda: (kept / "round-1.sizes").exists() or running.poll() is not None)
         before = sorted(os.listdir(kept))
-        refused(words, f"{work / name}: another run that goes on has its files there: another --proofs", work)
+        refused(words, f"{work / name}: another run has its files there, and hasn't ended: choose another --proofs", work)
         want((sorted(os.listdir(kept)), running.poll()), (before, None), "the files, and the run's status")
         running.send_signal(ends)
         running.wait(LIMIT)
@@ -176,14 +176,14 @@ def own_files(name: str, work: Path) -> None:
     its formula leaves a record."""
     own = work / "own"
     path, other = written("mine\n", own, name), written("mine\n", own, "round-5.cnf")
-    refused(["--proofs", own, example("bmc.cnf")], f"{path} is there, and isn't of an earlier run: another --proofs", work)
+    refused(["--proofs", own, example("bmc.cnf")], f"{path} is there, and isn't of an earlier run: choose another --proofs", work)
     want((path.read_text(), sorted(os.listdir(own))), ("mine\n", sorted([name, other.name])), "the files' contents")
     path.unlink()
     want_answer(solve(["--proofs", own, example("bmc.cnf")]), 20)
     want(other.read_text(), "mine\n", "the files' contents")
     (own / "files").unlink()
     said = solve(["--proofs", own, example("bmc.cnf")]).said
-    wanted = f"lrup-solve: {own}/about is there, and isn't of an earlier run: another --proofs\n"
+    wanted = f"lrup-solve: {own}/about is there, and isn't of an earlier run: choose another --proofs\n"
     want(said, wanted, "the message on a record without a list")
     check_again(own)
     for text, status in ((FOUR, 20), ("x", 1), ("p cnf 1 0\n", 10), ("p cnf 1 1\n2 0\n", 1), (FOUR, 20)):
@@ -199,7 +199,7 @@ def own_list(text: Optional[str], work: Path) -> None:
      "pipe": lambda: os.mkfifo(own / "files")}.get(str(text), lambda: written(str(text), own, "files"))()
     answer = solve(["--proofs", own, example("bmc.cnf")], limit=60)
     want((answer.out, answer.said, answer.status),
-         ("", f"lrup-solve: {own}/files is there, and isn't of an earlier run: another --proofs\n", 1), "the messages")
+         ("", f"lrup-solve: {own}/files is there, and isn't of an earlier run: choose another --proofs\n", 1), "the messages")
     want([path.read_text() for path in (report, target, mine)], ["mine\n", "files\nreport\n", "mine\n"], "the files' contents")
     want(sorted(os.listdir(own)), ["files", "report"], "the files")
 
@@ -207,7 +207,7 @@ def own_list(text: Optional[str], work: Path) -> None:
 def replaced(work: Path) -> None:
     """A record with a proof stays unless --replace is given; one without is replaced."""
     kept, words = work / "kept", ["-j", "1", "--proofs", work / "kept"]
-    said = f"lrup-solve: {kept} has the proof of an earlier run: --replace, or another --proofs\n"
+    said = f"lrup-solve: {kept} has the proof of an earlier run: add --replace, or choose another --proofs\n"
     cube, under = written("-2 0\n", work, "cube"), written("p cnf 2 2\n1 2 0\n-1 2 0\n", work, "under")
     sat = written("p cnf 1 1\n1 0\n", work, "sat")
     for more, status in (([sat], 10), ([example("bmc.cnf")], 20), (["--assume", cube, under], 20), ([sat], 10), ([sat], 10)):
@@ -221,7 +221,7 @@ def replaced(work: Path) -> None:
             want({path.name: path.read_bytes() for path in kept.iterdir()}, files, "the record")
     other = written(b"", kept, "round-9.stream-1.xz")
     answer = solve([*words, "--replace", sat])
-    own = f"lrup-solve: {other} is there, and isn't of an earlier run: another --proofs\n"
+    own = f"lrup-solve: {other} is there, and isn't of an earlier run: choose another --proofs\n"
     want((answer.out, answer.said, answer.status), ("", own, 1), "the message on another compressed stream")
     other.unlink()
     stream = (kept / "round-1.stream-1").rename(kept / "round-1.stream-1.xz")
@@ -245,7 +245,7 @@ def formula_of_a_round(work: Path) -> None:
 
 
 def unkept(work: Path) -> None:
-    """The report can't be kept: the answer is printed all the same."""
+    """The report can't be kept: the answer is still printed."""
     kept = work / "kept"
     path = before_lrupd(f"mkdir {kept}/report", work)
     answer = solve(["--lrupd", path, "--proofs", kept, example("bmc.cnf")])
@@ -293,7 +293,7 @@ def from_fifo(work: Path) -> None:
 
 
 def beside(work: Path) -> None:
-    """lrupd is found beside the program, then on the PATH."""
+    """lrupd is looked for beside the program, then on the PATH."""
     for folder in ("one", "two"):
         (work / folder).mkdir()
     shutil.copy(SOLVE.with_name("lrup-engines"), work / "one")
@@ -321,7 +321,7 @@ def contradicting(work: Path) -> None:
     formula, cube = written("p cnf 3 2\n1 2 0\n-1 2 0\n", work), written("3 1 -1 0\n", work, "cube")
     answer = solve(["-j", "2", "--assume", cube, formula])
     want_answer(answer, 0)
-    want(answer.comments[:-1], ["assumptions 1 and -1 contradict each other, which no clause shows"], "the messages")
+    want(answer.comments[:-1], ["assumptions 1 and -1 contradict each other, which no proof can show"], "the messages")
 
 
 # The run's temporary folder, and programs.
@@ -336,7 +336,7 @@ def open_to_others(mode: int, taken: bool, work: Path) -> None:
     if taken:
         want_answer(answer, 20)
     else:
-        want(answer.said, f"lrup-solve: {files}: others may write there: another TMPDIR\n", "the messages")
+        want(answer.said, f"lrup-solve: {files}: others may write there: choose another TMPDIR\n", "the messages")
     want(os.listdir(files), [], "the files left")
 
 
@@ -639,7 +639,7 @@ def taken_texts() -> List[Row]:
     return [(f"taken {text!r}", taken_by_all, text, status) for text, status in texts]
 
 
-SPACED = ": more than the single spaces between its words"
+SPACED = ": more than single spaces between its literals"
 
 
 def refusals() -> List[Row]:
@@ -671,7 +671,7 @@ def refusals() -> List[Row]:
         runs.append((" ".join(["lrup-solve", *words]), refused, words, cause))
     runs += [(f"refused {text[:20]!r}", refused_by_all, text, *rest) for text, *rest in refused_texts()]
     beyond = "the literal {}, and the formula has the variables 1 to 2"
-    for name, known in (("bad", ": not a number: x"), ("beyond", ": " + beyond.format(-7)), ("spaces", SPACED), ("crlf", ": a CR, and a line ends with LF alone"),
+    for name, known in (("bad", ": not a number: x"), ("beyond", ": " + beyond.format(-7)), ("spaces", SPACED), ("crlf", ": it has a CR, but lines end with LF alone"),
                         ("noend", ": no LF at its end"), ("two", ": a second line"), ("blank", SPACED), ("tab", SPACED),
                         ("open", ": no line of literals that ends with 0"), ("least", ": " + beyond.format(-(1 << 63))),
                         ("less", ": " + beyond.format(str(-(1 << 64) - 1)[:20])), ("long", ": " + beyond.format("1" * 20)),

@@ -289,7 +289,7 @@ PACKERS = {"xz": "xz", "gz": "gzip", "zst": "zstd"}
 
 
 def packed(forms: Sequence[str], tested: Optional[Dict[str, object]], work: Path) -> None:
-    """Streams are unpacked while they are read, each by its form. Nothing is left, and no
+    """Streams are unpacked while they are read, each by its form. No file is left, and no
     process."""
     for form in forms:
         needs(PACKERS[form])
@@ -447,7 +447,8 @@ OUTPUTS = [("-.core", "-.lrat", "-f"), ("a\ncore", "an\nlrat", "a\nformula"),
 
 
 def checked_in_rounds(core: str, lrat: str, name: str, work: Path) -> None:
-    """If lrup-trim names no row that suffices, or its output isn't understood."""
+    """The outputs are checked in rounds if lrup-trim names no row that suffices, or its output
+    isn't understood."""
     trim = f"{shlex.quote(str(TRIM))} \"$@\" | sed 's/ --lines / -lines /'"
     program = programs_beside({"lrup-trim": trim, "lrup-exact": f"exec {shlex.quote(str(FILTER))} \"$@\""}, work)
     formula = written(generated("pigeons 5", work).read_bytes(), work, name)
@@ -472,7 +473,7 @@ def pipe_in_a_record(name: str, work: Path) -> None:
 
 
 def several_checks(work: Path) -> None:
-    """Two at a time, in a read-only record."""
+    """Two checks at a time, in a read-only record."""
     shutil.copy(PROGRAM, work / "lrupd")
     formula = written(generated("random 180 3", work).read_bytes(), work, "formula.cnf")
     want(solve(["--lrupd", "./lrupd", "-j", 2, "--proofs", "d", formula], tested=SMALL, cwd=work).status, 20, "the status")
@@ -499,7 +500,7 @@ def check_interrupted(number: int, work: Path) -> None:
     slow.unlink()
     check_again(work / "d", {"TMPDIR": str(files)})
     files.chmod(0o777)
-    said = f"{files}: others may write there: another TMPDIR\n"
+    said = f"{files}: others may write there: choose another TMPDIR\n"
     want(run(["sh", "d/command"], cwd=work, env={**os.environ, "TMPDIR": str(files)}), Ran("", said, 1), "where others may write")
     want(os.listdir(files), [], "the files left there")
 

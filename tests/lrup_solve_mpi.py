@@ -138,7 +138,8 @@ def in_rounds(processes: int, words: str, size: int, options: List[str], status:
 
 
 def resumed(first: int, second: int, tested: Optional[Dict[str, object]], work: Path) -> None:
-    """A run of the first number of processes is killed, and one of the second goes on with its record. 0 is without MPI."""
+    """A run with the first number of processes is killed, and one with the second number resumes
+    it. 0 means without MPI."""
     marked(work)
     formula, kept, often = generated("pigeons 8", work), work / "kept", ["--save-every", "0.1"] * (tested is None)
     recorded([*by_mpi(first), "-j", "1", *often, formula], kept, 1, tested)
@@ -163,7 +164,8 @@ def assuming(work: Path) -> None:
 
 
 def cores(processes: int, words: str, tested: Optional[Dict[str, object]], work: Path) -> None:
-    """From the streams of all processes, which process 0 keeps in the run's folder."""
+    """The core comes from the streams of all processes, which process 0 keeps in the run's
+    folder."""
     formula, files = generated(words, work), work / "temporary"
     files.mkdir()
     kept = {"--core": work / "core.cnf", "--lrat": work / "proof.lrat"}
@@ -237,13 +239,13 @@ def refused(processes: int, words: List[str], said: str, before: Sequence[str], 
 
 
 def shows(word: str, beginning: str, work: Path) -> None:
-    """Once, by the program that MPI starts."""
+    """Reported once, by the program that MPI starts."""
     out, said, status = run(launched(3, [word]))
     want((out.count(beginning), out.startswith(beginning), said, status), (1, True, "", 0), f"what is shown: {out}")
 
 
 def bad_formula(work: Path) -> None:
-    """lrupd's words, with details of the file."""
+    """The message has lrupd's words, with details about the file."""
     formula = written("p cnf 2 1\n1 3 0\n", work)
     known = f"({formula}, line 2: variable 3, above the header's 2: the header should be 'p cnf 3 1')"
     said = f"lrupd: formula refused: variable out of range in line 2 {known}\n"
@@ -263,8 +265,9 @@ def not_started(body: str, end: str, work: Path) -> None:
 class Running:
     """A long run, with the ids of its processes: by MPI process, by name."""
 
-    def __init__(self, formula: Path, processes: int, tested: Optional[Mapping[str, object]] = None, more: Sequence[str] = ()) -> None:
-        words = launched(processes, ["-v", "-j", "1", formula], tested, more=more)
+    def __init__(self, formula: Path, processes: int, tested: Optional[Mapping[str, object]] = None, more: Sequence[str] = (),
+                 options: Sequence[object] = ()) -> None:
+        words = launched(processes, ["-v", "-j", "1", *options, formula], tested, more=more)
         self.folder = formula.parent / "temporary"
         self.folder.mkdir()
         self.main = subprocess.Popen(words, stdout=subprocess.PIPE, stderr=subprocess.PIPE, text=True,
@@ -310,8 +313,8 @@ def children_of_all(pid: int) -> List[int]:
 
 
 def ends(process: int, name: str, number: int, cause: str, work: Path) -> None:
-    """Without an answer, and soon. The front has started those of process 0's processes that aren't
-    there."""
+    """The run ends soon, without an answer. The front has started those of process 0's processes
+    that aren't there."""
     running = Running(generated("pigeons 11", work), 2, more=PATIENCE)
     os.kill(running.ids[process][name], number)
     answer = Answer(running.end())
@@ -341,8 +344,21 @@ def goes_on(processes: int, process: int, name: str, lost: str, work: Path) -> N
     want(len([line for line in answer.lost() if re.match(lost, line)]), 1, f"engines that are lost in\n{answer.out}")
 
 
+def checks_again(work: Path) -> None:
+    """Another lrupd gets all streams of the record."""
+    kept = work / "kept"
+    running = Running(generated("pigeons 9", work), 2, options=["--save-every", "0.5", "--proofs", kept])
+    until("a round has ended", lambda: saved_rounds(kept) > 1)
+    os.kill(running.ids[0]["lrupd"], signal.SIGKILL)
+    answer = Answer(running.end())
+    want_answer(answer, 20)
+    want("lrupd ended by a signal: Killed, and is started again" in answer.comments, True, f"whether a comment says so, in\n{answer.out}")
+    want(answer.lost(), [], "engines that are lost")
+    check_again(kept)
+
+
 def bytes_kept(pid: int) -> int:
-    """In streams that are kept in memory."""
+    """With streams that are kept in memory."""
     files = [f"/proc/{pid}/fd/{name}" for name in os.listdir(f"/proc/{pid}/fd")]
     return sum(os.stat(file).st_size for file in files if "memfd:" in os.readlink(file))
 
@@ -445,7 +461,7 @@ def small_rows() -> List[Row]:
     return [("an exchange without MPI", alone), *refusals(),
             *(row for processes in (1, 2, 4) for row in answering(processes, 1, SMALL_FORMULAS)),
             ("a core and LRAT", cores, 2, "pigeons 6", None), ("a run goes on", resumed, 2, 2, None),
-            ending(0, "lrupd", "killed", signal.SIGKILL, "lrupd ended by a signal: Killed"),
+            ending(0, "lrupd", "killed", signal.SIGKILL, "lrupd ended by a signal: Killed$"), ("lrupd killed, with a record", checks_again),
             ending(1, "run", "killed", signal.SIGKILL, "Terminated"),
             ending(0, "run", "killed", signal.SIGKILL, "MPI's command ended with status "),
             ending(0, "mpirun", "killed", signal.SIGKILL, "MPI's command ended by a signal: Killed"),

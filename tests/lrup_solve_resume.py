@@ -1,13 +1,14 @@
 #!/usr/bin/env python3
-"""Kills runs of lrup-solve that keep a record, and goes on with them, until there is a verdict.
+"""Kills runs of lrup-solve that keep a record, and resumes them, until there is a verdict.
 
     lrup_solve_resume.py PROGRAM [FLAGS [COUNT]]
 
-Whatever is killed, and however often, the answer is that of a run that is left alone; the record is checked again as a whole, and lrup-trim
-takes it. COUNT formulas are solved so, 3 if it isn't said. A record that was changed, cut or swapped, also with digests that fit, leads to
-the right answer, to 's UNKNOWN', or to a message that names the file; one of another formula is refused, and nothing of it is touched. It
-builds as lrup_solve.py does. It shows what is off; the last line is 'N passed, M failed'. The status is 1 where a run failed.
-"""
+Whatever is killed, and however often, the answer has to be that of an undisturbed run; the whole
+record is checked again, and lrup-trim has to accept it. COUNT formulas are solved in this way, 3 by
+default. A record that was changed, truncated or swapped, even with matching digests, has to lead to
+the right answer, to 's UNKNOWN', or to a message that names the file; the record of another formula
+is refused, and nothing in it is touched. It builds like lrup_solve.py. Failures are shown; the last
+line is 'N passed, M failed'. The status is 1 if a run failed. """
 import os
 import random
 import re
@@ -50,7 +51,7 @@ def ended(words: Sequence[object], tested: Mapping[str, object], after: float, n
 
 
 def killed(seed: int, work: Path) -> None:
-    """Again and again, each time with as many engines as come."""
+    """Kills a run again and again, each time with a random number of engines."""
     numbers = random.Random(f"{seed} resumed")
     marked(work)
     size = numbers.randrange(130, 190)
@@ -78,7 +79,7 @@ def killed(seed: int, work: Path) -> None:
 
 
 def with_others(first: Sequence[str], second: Sequence[str], text: str, work: Path) -> None:
-    """Other options than before, and more or fewer streams."""
+    """Resumes with other options than before, and with more or fewer streams."""
     marked(work)
     kept, formula, cube = work / "kept", generated("pigeons 7", work), written("1 0\n", work, "cube")
     words = [[word.replace("CUBE", str(cube)) for word in some] for some in (first, second)]
@@ -96,7 +97,7 @@ def with_others(first: Sequence[str], second: Sequence[str], text: str, work: Pa
 
 
 def by_a_pipe(work: Path) -> None:
-    """The formula is named again by a pipe, or as the record has it."""
+    """The formula comes from a pipe again, or from the record."""
     marked(work)
     text, kept = generated("pigeons 7", work).read_text(), work / "kept"
     for given, words in ((text, []), (None, [kept / "formula.cnf"])):
@@ -114,7 +115,7 @@ def by_a_pipe(work: Path) -> None:
 
 
 def moved(work: Path) -> None:
-    """The record and the formula have other names by now."""
+    """The record and the formula were renamed meanwhile."""
     marked(work)
     formula, kept = generated("pigeons 7", work), work / "kept"
     recorded(["-j", "2", formula], kept, 2, SMALL)
@@ -136,7 +137,7 @@ def nothing_saved(work: Path) -> None:
 
 
 def lasting(work: Path) -> None:
-    """lrupd gets what was saved late: meanwhile engines fill a row, and wait for it."""
+    """lrupd gets the saved rounds late: meanwhile engines fill a row, and wait for lrupd."""
     marked(work)
     formula, kept = generated("pigeons 7", work), work / "kept"
     recorded(["-j", "2", formula], kept, 3, SMALL)
@@ -146,14 +147,15 @@ def lasting(work: Path) -> None:
     whole(kept, formula, work)
 
 
-# Runs that are to end.
+# Runs that have to end.
 
 ENDS = {signal.SIGTERM: "Terminated", signal.SIGINT: "Interrupt", signal.SIGHUP: "Hangup", None: "time is up"}
 
 
 def way_on(answer: Answer, kept: Path, formula: Path) -> Tuple[int, bool]:
-    """By the comment: how many rounds there are, and whether something is lost; and the words to go on by."""
-    said = [re.fullmatch(rf"{kept} has (\d+) rounds?(, and nothing of what came then)?: lrup-solve --resume {kept} {formula} goes on", line)
+    """What the comment says: the number of saved rounds, and whether something is lost. It also
+    shows the command that resumes the run."""
+    said = [re.fullmatch(rf"{kept} has (\d+) rounds?(, but not what came after)?: lrup-solve --resume {kept} {formula} continues the run", line)
             for line in answer.comments]
     found = [one for one in said if one]
     want(len(found), 1, f"whether a comment says how to go on, in\n{answer.out}{answer.said}")
@@ -161,7 +163,7 @@ def way_on(answer: Answer, kept: Path, formula: Path) -> Tuple[int, bool]:
 
 
 def saved_at_the_end(number: Optional[signal.Signals], tested: Mapping[str, object], work: Path) -> None:
-    """The round in hand is saved, within some seconds, and the run goes on from there."""
+    """The current round is saved, within some seconds, and the run can be resumed from there."""
     marked(work)
     formula, kept, words = generated("pigeons 10", work), work / "kept", ["--proofs"]
     rounds = 0
@@ -206,7 +208,7 @@ def second_signal(work: Path) -> None:
 
 
 def by_the_clock(work: Path) -> None:
-    """A round ends by the clock, though its row has room."""
+    """--save-every ends a round although its row has room."""
     marked(work)
     formula, kept = generated("pigeons 11", work), work / "kept"
     answer = solve(["-v", "-j", "2", "--time", "3", "--save-every", "0.25", "--proofs", kept, formula])
@@ -220,7 +222,8 @@ def by_the_clock(work: Path) -> None:
 
 
 def in_jobs(work: Path) -> None:
-    """The script for Slurm, with a batch system that ends each job after its time: it warns the script by a signal, or kills all at once."""
+    """The script for Slurm, under a batch system that ends each job after its time: it warns the
+    script by a signal, or kills everything at once."""
     numbers, mark = random.Random(3), marked(work)
     formula, kept = generated("pigeons 9", work), work / "it's kept"
     path = ":".join([str(SOLVE.parent), str(Path(PROGRAM).parent), os.environ["PATH"]])
@@ -243,11 +246,11 @@ def in_jobs(work: Path) -> None:
     whole(kept, formula, work)
 
 
-# Records that aren't what they were.
+# Records that were changed.
 
 
 def changed(status: int, seed: int, work: Path) -> None:
-    """One record, and each change of it."""
+    """Makes each change to a copy of one record."""
     marked(work)
     numbers, first = random.Random(seed), work / "first"
     formula = hard(status, work)
@@ -265,7 +268,8 @@ def changed(status: int, seed: int, work: Path) -> None:
 
 
 def cut_short(number: int, work: Path) -> None:
-    """A stream of that round was changed: the record has the rounds before it then, and a run goes on from there."""
+    """If a stream of that round was changed, the record keeps the rounds before it, and the run can
+    be resumed from there."""
     marked(work)
     formula, kept = generated("pigeons 7", work), work / "kept"
     recorded(["-j", "2", formula], kept, 3, SMALL)
@@ -276,7 +280,7 @@ def cut_short(number: int, work: Path) -> None:
     before = {name: (kept / name).read_bytes() for name in names}
     answer = solve(["-j", "2", "--resume", kept, formula], tested=SMALL)
     want_answer(answer, 0)
-    end = ": the run can't go on" if number == 1 else ""
+    end = ": the run can't be resumed" if number == 1 else ""
     said = f"{path} was changed since it was saved{end}"
     want(said in answer.comments, True, f"whether it is said in\n{answer.out}")
     if number == 1:
@@ -288,12 +292,12 @@ def cut_short(number: int, work: Path) -> None:
 
 
 def hard(status: int, work: Path) -> Path:
-    """For some rounds of small rows."""
+    """A formula that takes some rounds in small rows."""
     return generated("pigeons 7", work) if status == 20 else written(dimacs(230, random_clauses(random.Random(17), 230, 975)), work)
 
 
 def contradictory(kept: Path) -> None:
-    """Each engine refutes what the checkpoint says."""
+    """Makes the checkpoint contradictory, so that every engine refutes it."""
     checkpoint = kept / f"checkpoint-{saved_rounds(kept)}.cnf"
     text = checkpoint.read_text()
     found = re.match(r"p cnf (\d+) (\d+)\n", text)
@@ -302,7 +306,8 @@ def contradictory(kept: Path) -> None:
 
 
 def another_beginning(kept: Path) -> None:
-    """The formula's first clauses are others, so that an assignment is one of another formula."""
+    """Replaces the formula's clauses at the beginning, so that an assignment is one of another
+    formula."""
     checkpoint = kept / f"checkpoint-{saved_rounds(kept)}.cnf"
     lines = checkpoint.read_text().splitlines(True)
     checkpoint.write_text("".join([lines[0], *("1 -1 0\n" if line[0] != "c" else line for line in lines[1:])]))
@@ -327,7 +332,7 @@ FORGED = [contradictory, another_beginning, refuting_stream, empty_streams, larg
 
 
 def forged(status: int, change: Callable[[Path], None], work: Path) -> None:
-    """Whoever forges a record may choose its digests."""
+    """A forger of records may also choose the digests."""
     marked(work)
     kept, formula = work / "kept", hard(status, work)
     recorded(["-j", "2", formula], kept, 3, SMALL)
@@ -341,7 +346,7 @@ def forged(status: int, change: Callable[[Path], None], work: Path) -> None:
         want_answer(answer, status, formula)
 
 
-# What is refused.
+# Refusals.
 
 
 def refused(words: Sequence[object], said: str, work: Path) -> None:
@@ -353,7 +358,7 @@ def refused(words: Sequence[object], said: str, work: Path) -> None:
 
 
 def of_another(work: Path) -> None:
-    """Another formula, and other assumptions, than the record's; and no record that could go on."""
+    """Another formula or other assumptions than the record's, and records that can't be resumed."""
     marked(work)
     formula, cube, other = generated("pigeons 8", work), written("1 0\n", work, "cube"), written("2 0\n", work, "other")
     recorded(["-j", "2", "--assume", cube, formula], work / "d", 2, SMALL)
@@ -363,7 +368,7 @@ def of_another(work: Path) -> None:
     refused([*under, work / "d" / "round-1.stream-1"], f"{work}/d/round-1.stream-1 isn't the formula of d, or was changed since", work)
     refused(["--assume", other, "--resume", "d", formula], f"{other} isn't the assumptions of d, or was changed since", work)
     refused(["--resume", "d", formula], "d is the record of a run with --assume", work)
-    refused(["--proofs", "d", *under, formula], "--resume and --proofs: a run that goes on keeps its streams where the one before did", work)
+    refused(["--proofs", "d", *under, formula], "--resume and --proofs: a resumed run keeps its streams where it kept them before", work)
     refused(["--replace", *under, formula], "--resume and --replace: nothing is replaced", work)
     refused(["--save-every", "0", *under, formula], "--save-every takes seconds above 0, not 0", work)
     refused(["--save-every", "1", formula], "--save-every without --proofs or --resume", work)
@@ -374,20 +379,20 @@ def of_another(work: Path) -> None:
     (work / "d" / "formula.sha256").write_text("x\n")
     refused([*under, formula], f"{formula} isn't the formula of d, or was changed since", work)
     (work / "d" / "formula.sha256").unlink()
-    refused([*under, formula], "d/formula.sha256 doesn't have the SHA-256 of the formula: the run can't go on", work)
+    refused([*under, formula], "d/formula.sha256 doesn't have the SHA-256 of the formula: the run can't be resumed", work)
     (work / "d" / "formula.sha256").write_text(digest)
     want_answer(solve([*under, formula], tested=SMALL, cwd=work), 20, verdict="s UNSATISFIABLE UNDER ASSUMPTIONS")
     refused([*under, formula], "d has its proof: sh d/command checks it", work)
 
 
 def of_two(work: Path) -> None:
-    """Another run has the record; and one that has just been killed ends first."""
+    """Another run holds the record; a run that has just been killed ends first."""
     marked(work)
     formula, kept = generated("pigeons 11", work), work / "d"
     with started(command(["-j", "1", "--proofs", kept, formula]), stdout=subprocess.DEVNULL) as running:
         until("it has begun", lambda: (kept / "formula.sha256").exists())
         answer = solve(["--resume", kept, formula])
-        said = f"lrup-solve: {kept}: another run that goes on has its files there: another --proofs\n"
+        said = f"lrup-solve: {kept}: another run has its files there, and hasn't ended: choose another --proofs\n"
         want((answer.said, answer.status), (said, 1), "what is said")
         running.kill()
         answer = solve(["--resume", kept, "--time", "1", formula])
@@ -395,7 +400,7 @@ def of_two(work: Path) -> None:
 
 
 def unsaved(work: Path) -> None:
-    """A comment says what can't be saved, and the run goes on."""
+    """A comment says what can't be saved, and the run continues."""
     marked(work)
     formula, kept = generated("pigeons 7", work), work / "kept"
     lrupd = before_lrupd(f"mkdir -p {kept}/checkpoint-2.cnf", work)

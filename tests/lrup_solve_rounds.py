@@ -172,7 +172,7 @@ def largest_row(engines: int, work: Path) -> None:
     answer = solve(["-j", engines, "--memory", "16K,16K", generated("pigeons 10", work)], tested={"LARGEST": 10000, "SLICE": 40})
     want_answer(answer, 0)
     want(len(answer.lost()), engines - 1, f"engines that are lost in\n{answer.out}")
-    want_cause(answer, "^the clauses that are left leave no room in a row of 80,000 bytes$")
+    want_cause(answer, "^the remaining clauses leave no room in a row of 80,000 bytes$")
 
 
 def largest_formula(work: Path) -> None:
@@ -278,10 +278,16 @@ def killed(names: List[str], status: int, cause: str, work: Path) -> None:
         check_again(work / "kept")
 
 
-def killed_in_a_pause(names: List[str], status: int, cause: str, work: Path) -> None:
-    """A filter dies while it waits for lrupd to save: others may still take over what it gave
-    away."""
-    kill([], 1, True, 150000, names, status, cause, work)
+def killed_in_a_pause(names: List[str], status: int, cause: str, options: Sequence[str], work: Path) -> None:
+    """A filter dies while it waits for lrupd to save: others may still take over what it gave away.
+    With a record another lrupd saves what the killed one hasn't."""
+    kill([word.format(work=work) for word in options], 1, True, 150000, names, status, cause, work)
+    if options:
+        check_again(work / "kept")
+
+
+def checker_killed(work: Path) -> None:
+    kill([], 4, False, 40000, ["lrupd"], 0, "lrupd ended by a signal: Killed$", work)
 
 
 def ended_by(number: int, round_number: int, pause: bool, work: Path) -> None:
@@ -306,7 +312,7 @@ def nobody_looks(pause: bool, work: Path) -> None:
 
 
 def folder_removed(work: Path) -> None:
-    """Nothing can be created in the folder any more."""
+    """From then on no file can be created in the folder."""
     with Running(["-j", "2", generated("pigeons 11", work)], 2, work, FIRST_WORDS=50000) as running:
         for folder in running.folder.iterdir():
             while folder.exists():
@@ -495,14 +501,18 @@ def known() -> List[Row]:
 
 
 def what_happens() -> List[Row]:
-    rows: List[Row] = [("lrupd killed", killed, ["lrupd"], 0, "lrupd ended by a signal"),
+    again = "lrupd ended by a signal: Killed, and is started again"
+    rows: List[Row] = [("lrupd killed", checker_killed), ("lrupd killed, with a record", killed, ["lrupd"], 20, again),
                        ("an engine killed", killed, ["engine 2"], 20, "engine 2 is lost"),
                        ("a filter killed", killed, ["filter 1"], 20, "engine 1 is lost"),
                        ("two killed", killed, ["engine 3", "filter 2"], 20, "engine 2 is lost"),
                        ("all killed", killed, ["filter 1", "filter 2", "filter 3"], 0, "no engine is left"),
-                       ("a filter killed in a pause", killed_in_a_pause, ["filter 2"], 20, "engine 2 is lost"),
+                       ("a filter killed in a pause", killed_in_a_pause, ["filter 2"], 20, "engine 2 is lost", []),
+                       ("lrupd killed in a pause, with a record", killed_in_a_pause, ["lrupd"], 20, again, ["--proofs", "{work}/kept"]),
+                       ("lrupd and a filter killed in a pause, with a record", killed_in_a_pause, ["lrupd", "filter 2"], 20, again,
+                        ["--proofs", "{work}/kept"]),
                        ("all filters killed in a pause", killed_in_a_pause, [f"filter {k}" for k in (1, 2, 3)], 0,
-                        "no engine is left"),
+                        "no engine is left", []),
                        ("nobody looks in a round", nobody_looks, False), ("nobody looks in a pause", nobody_looks, True),
                        ("the folder removed", folder_removed), ("another folder", another_folder), ("a forged formula", forged), ("no folder", no_folder), ("a full disk", full),
                        ("nothing grows", stays_small)]

@@ -264,8 +264,8 @@ def missing(work: Path) -> None:
 
 
 def after_a_model(work: Path) -> None:
-    """A wrong assignment is noticed, and the others continue; a right one counts, whoever has it.
-    Variables that it leaves out are false."""
+    """A wrong assignment is noticed, and the others continue; a right one counts, no matter who has
+    it. Variables that it leaves out are false."""
     formula = written("p cnf 3 3\n1 2 0\n-1 2 0\n-3 1 0\n", work)
     want_answer(solve(by(["echo s SATISFIABLE; echo v 2; echo v 0; exit 10 # %formula %proof"]) + [formula]), 10, formula)
     want_answer(solve(by(["echo s SATISFIABLE; echo v 2 7 -9 0 # %formula %proof"]) + [formula]), 10, formula)
@@ -310,8 +310,8 @@ def killed(number: int, whom: str, work: Path) -> None:
 
 
 def stopped(work: Path) -> None:
-    """What stops an engine, as while another's filter catches up, stops the solver; so with what
-    continues it."""
+    """A solver is stopped and continued when engines are, for instance while another one's filter
+    catches up."""
     mark = marked(work)
     with started([SOLVE, "--lrupd", PROGRAM, *by([CADICAL]), given("pigeons 11", work)], stdout=subprocess.PIPE) as running:
         found: Dict[str, int] = {}

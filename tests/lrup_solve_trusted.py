@@ -60,8 +60,8 @@ def assumes(body: str, literals: str) -> Callable[[Path, Path], Answer]:
 
 
 def breaks(literals: str, body: str = "") -> Attack:
-    """The assignment 1 2 -3, which contradicts these assumptions; before it is whole this is
-    done."""
+    """Gives the assignment 1 2 -3, which contradicts these assumptions; `body` runs before the line
+    that completes it."""
     return lambda front, work: assumes(f"say('v ++-')\n{body}say('model')\ntime.sleep(0.5)", literals)(front, work).status == 10
 
 
@@ -136,6 +136,10 @@ ATTACKS: Dict[str, Attack] = {
     "last line": lambda front, work: UNSATISFIABLE in answer_of(
         front, work, "told('probe')\nstream(1, '')\ncheck()\ntold('lrupd')",
         lrupd=in_place_of_lrupd("echo another program; case \"$*\" in *' /dev/null') exit 3;; esac", work)).answers,
+    "own line": lambda front, work: UNSATISFIABLE in answer_of(
+        front, work, "told('probe')\nstream(1, '')\ncheck()\ntold('lrupd')\ncheck()\ntold('lrupd')",
+        lrupd=in_place_of_lrupd(f"case \"$*\" in *' /dev/null') exit 3;; esac\n[ ! -e {work}/killed ] || exit 0\n"
+                                f"> {work}/killed\necho {UNSATISFIABLE}\nkill -9 $$", work)).answers,
     "refused": lambda front, work: answer_of(
         front, work, "told('probe')\nmodel('+')\ntime.sleep(0.5)", text="p cnf 1 1\n1 -2 0\n",
         lrupd=in_place_of_lrupd("kill -9 $$", work)).status == 10,

@@ -71,7 +71,7 @@ def one_stream() -> Iterator[Named]:
 
 
 def formulas() -> Iterator[Named]:
-    """Of a formula only its clauses are kept."""
+    """Only the clauses of a formula are kept."""
     yield from saved("no clauses", 3, [NOTHING], [""], "p cnf 0 0\n", formula="p cnf 0 0\n")
     yield from saved("no clauses of many variables", 3, [NOTHING], [""], "p cnf 16777215 0\n", formula="p cnf 16777215 0\n")
     yield from saved("an empty clause", 3, [NOTHING], [""], "p cnf 0 1\n0\n", formula="p cnf 0 1\n0\n")
@@ -88,7 +88,7 @@ def formulas() -> Iterator[Named]:
 
 def several_streams() -> Iterator[Named]:
     """Clauses that all streams dropped are left out, those that only some dropped aren't;
-    identities are in order, whoever owns them."""
+    identities are in order, no matter who owns them."""
     both = ["5 d 1 2 0\n", "6 d 3 1 0\n"]
     kept = "c id 2\n-1 2 0\nc id 3\n1 -2 0\nc id 4\n-1 -2 0\n"
     yield from saved("what both have dropped", 3, ["0 added, 2 deleted, ended"] * 2, both, "p cnf 2 3\n" + kept)
@@ -216,14 +216,14 @@ def torn(program: str, way: List[str], limit: Optional[int], work: Path) -> None
 
 
 def each_beginning(program: str, work: Path) -> None:
-    """No proper beginning of a checkpoint is a formula, except without the last LF."""
+    """No proper prefix of a checkpoint is a formula, except the one without the last LF."""
     for size in range(len(SAVED_DROPPING) - 1):
         found = run([program, written(SAVED_DROPPING[:size], work, "torn"), "/dev/null"])
         want((found.out, found.err[:24], found.status), ("", "lrupd: formula refused: ", 4), f"the message on {size} bytes")
 
 
 def without_leave(program: str, work: Path) -> None:
-    """A folder where nobody may write."""
+    """A folder to which nobody may write."""
     folder = work / "folder"
     for name, text in ("formula", FOUR), ("one", ONE):
         written(text, work, name).chmod(0o644)

@@ -1,27 +1,54 @@
 #!/usr/bin/env python3
 """Four recorded solvers: each writes its lines into its own pipe, one after the other at a steady
-pace, and the program checks them all meanwhile. Its report comes when the last solver ends, after
-some five seconds. Then two pipes with --watch: a bad line in one is reported while both are open.
-Then the first half of the four solvers' lines, with a checkpoint, which stays empty until all of
-them have ended.
+pace, and the program checks them all at the same time. Its report comes when the last solver ends,
+after some five seconds. Then two pipes with --watch: a bad line in one is reported while both are
+open. Then the first half of the four solvers' lines, with a checkpoint, which stays empty until all
+of them have ended. Then pipes without writers, which --watch names after a second.
 
     program_live.py PROGRAM
 
 The status is 1 if the report isn't that in bmc-four.out, if anything is on standard error without
-the flag, or if the line doesn't come."""
+the flag, or if a line doesn't come."""
 import re
 import subprocess
 import sys
 import tempfile
+import time
 from pathlib import Path
-from typing import Iterator, Union
+from typing import Iterator, List, NamedTuple, Union
 
 sys.dont_write_bytecode = True
 from checkpoints import live, printed, variables_of, want_checkpoint
-from harness import LIMIT, Failure, Ran, example, feed, held, piped, run, started, until, want, words_given, written
+from harness import (FOUR, LIMIT, Failure, Ran, example, feed, held, piped, report, run, started, until, unwatched, want,
+                     words_given, written)
+from rounds import last, stream_name
 
 PAUSE = 0.004  # seconds, after each of some 750 lines
 BAD = "lrupd: stream 1: 0 added, 0 deleted, bad line 1 (spelling)\n"
+
+
+class Late(NamedTuple):
+    """Words, the pipes, which of them have their writers late, in the order of opening, and the
+    answer without the lines of --watch."""
+    words: str
+    pipes: List[str]
+    late: List[str]
+    answer: Ran
+
+
+LATE = 1.5  # seconds for which a late pipe has no writer, or after which it still was named once
+TEXTS = {"formula": FOUR, "cube": "-2 0\n", "one": "5 2 0 1 2 0\n7 0 5 3 4 0\n", "other": "6 -2 0 3 4 0\n",
+         stream_name(1): "5 2 0 1 2 0\n", "d/round-2.sizes": "1 9 9\n", stream_name(2): "6 0 5 3 4 0\n"}
+ROUNDS = [stream_name(1), "d/round-2.sizes", stream_name(2)]
+SAID = ["2 added, 0 deleted, ended", "1 added, 0 deleted, ended"]
+ALONE, BOTH, IN_ROUND_2 = (Ran(out, "", 0) for out in (report(SAID[:1], 0), report(SAID, 0), last(2, SAID[1:], 0)))
+LATE_WRITERS = [
+    Late("formula one", ["formula", "one"], ["formula", "one"], ALONE),
+    Late("--watch formula one other", ["formula", "one", "other"], [], BOTH),
+    Late("--watch --assume cube formula one other", ["formula", "cube", "one", "other"], ["formula", "cube", "other"], BOTH),
+    Late("--watch --serial formula one other", ["formula", "one", "other"], ["one", "other"], BOTH),
+    Late(f"--watch --rounds d formula {ROUNDS[0]}", ["formula", *ROUNDS], ROUNDS[1:], IN_ROUND_2),
+]
 
 
 def lines_of(number: int) -> Iterator[Union[bytes, float]]:
@@ -78,9 +105,45 @@ def checkpoint_at_the_end(program: str, work: Path) -> None:
     print("a checkpoint of four solvers' first lines is there")
 
 
+def late_writers(program: str, work: Path) -> None:
+    """With --watch each pipe that has no writer for a second is named; without it none is."""
+    for number, row in enumerate(LATE_WRITERS):
+        late_writer(program, row, work / str(number))
+        print(f"pipes whose writers come late: {' '.join(row.late) or 'none'}", flush=True)
+
+
+def late_writer(program: str, row: Late, work: Path) -> None:
+    """Each late pipe gets its writer after some time, with --watch after the line that names it."""
+    work.mkdir()
+    for name in row.pipes:
+        pipe = piped(work / name)
+        if name not in row.late:
+            feed(pipe, [TEXTS[name].encode()])
+    errors, words = work / "errors", [program, *row.words.split()]
+    named: List[str] = []
+
+    def found() -> List[str]:
+        return re.findall("^lrupd: (.*): waits for a writer$", errors.read_text(), re.M)
+
+    began = time.monotonic()
+    with open(errors, "wb") as err, started(words, cwd=work, stdout=subprocess.PIPE, stderr=err, text=True) as checker:
+        for name in row.late:
+            if "--watch" in words:
+                named.append(name)
+                until(f"{name} is named on standard error", lambda: found() == named)
+                want(time.monotonic() - began >= 1, True, f"whether {name} had no writer for a second")
+            time.sleep(LATE)
+            want(found(), named, "the pipes named before the writer comes")
+            began = time.monotonic()
+            written(TEXTS[name], work, name)
+        out, _ = checker.communicate(timeout=LIMIT)
+    want(Ran(out, unwatched(errors.read_text()), checker.returncode), row.answer, "the answer")
+    want(found(), named, "the pipes named")
+
+
 def main() -> None:
     program, = words_given(__doc__)
-    for part in four_solvers, reported_while_open, checkpoint_at_the_end:
+    for part in four_solvers, reported_while_open, checkpoint_at_the_end, late_writers:
         with tempfile.TemporaryDirectory() as work:
             part(program, Path(work))
 

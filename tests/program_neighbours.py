@@ -40,7 +40,7 @@ def renumbered(line: str) -> str:
 
 
 def endless(process: Process, serial: bool) -> Pieces:
-    """Bytes for a second, or until nobody reads."""
+    """Writes these bytes for a second, or until nobody reads."""
     ends = time.monotonic() + 1
     while time.monotonic() < ends:
         yield b"c" * 65_536
@@ -56,7 +56,7 @@ def is_alone(process: Process) -> bool:
 
 
 def silent(process: Process, serial: bool) -> Pieces:
-    """Nothing until stream 1 has ended. With --serial stream 1 waits for it, so then it is a
+    """Writes nothing until stream 1 has ended. With --serial stream 1 waits for it, so then for a
     second."""
     yield 1.0
     while not serial and process.poll() is None and not is_alone(process):
@@ -77,8 +77,8 @@ def imports(lines: List[str]) -> Iterator[str]:
 
 
 class Neighbour(NamedTuple):
-    """The bytes of its stream or their writer, the options, and its line in the report, if
-    known."""
+    """A neighbour: the bytes of its stream or their writer, the options, and its line in the
+    report, if known."""
     name: str
     what: Union[bytes, Callable[[Process, bool], Pieces]]
     known: Optional[str] = None

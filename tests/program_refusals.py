@@ -66,7 +66,7 @@ def run_twice(machine: Machine, given: Input, refuse: str) -> Tuple[Answer, bool
 
 
 def sweep(machine: Machine, given: Input, kind: str, how: str) -> Tuple[int, List[str]]:
-    """How many calls were refused, and the wrong answers."""
+    """Refuses each call in turn. Returns how many were refused, and the wrong answers."""
     ample, _, _ = run_twice(machine, given, "")
     wrong: List[str] = []
     answers: List[Answer] = []
@@ -223,7 +223,7 @@ def tests() -> Iterator[Test]:
         starts = [f"Spawn({number})" for number in range(1, streams + 1)]
         yield Test("portfolio", f"memory::{name}_by_threads", memory + starts + reports, streams)
         yield Test("portfolio", f"memory::{name}_by_turns", memory + reports)
-    # Calls that can be repeated.
+    # Calls that can be repeated after a refusal.
     yield Test("lrup_model", "a_refused_push_changes_nothing", [])
     yield Test("lrup_model", "a_refused_open_can_be_made_again", [])
     yield Test("lrup_model", "a_refused_cube_can_be_made_again", [])

@@ -40,10 +40,10 @@ Named = Tuple[str, Wanted]
 def rounds(name: str, status: int, texts: Texts, out: str = "", err: str = "", saved: Sequence[str] = (), options: str = "",
            others: Mapping[str, str] = {}, gone: Sequence[str] = (), do: str = "", how: str = "",
            pipes: Mapping[str, Pieces] = {}) -> Iterator[Named]:
-    """Streams of these texts, and what was saved behind each round; no other formula of a round is
+    """Streams of these texts, and what was saved after each round; no other formula of a round is
     there, and no file has changed.
 
-    Before, the shell does that; the streams that are gone, or that are pipes, are no files in the
+    The shell first executes `do`; streams that are gone, or that are pipes, are no files in the
     end. """
     given = {name: text for name, text in {**round_files(texts), **others}.items() if name not in pipes}
     formulas: Dict[str, Optional[str]] = {saved_name(number): None for number in LEFT}
@@ -59,7 +59,7 @@ def sized(number: int, text: str) -> Dict[str, str]:
 
 
 def rm(number: int, stream: int) -> Dict[str, Any]:
-    """For a row without that stream."""
+    """The arguments of a row that first removes that stream."""
     name = stream_name(number, stream)
     return {"do": f"rm {name}; ", "gone": [name]}
 
@@ -329,7 +329,7 @@ WRONG_SIZES = [
     "1 1000000000 1\n", "1 1 1000000000\n", "4294967297 1 1\n", "1 4294967297 1\n", "1 1 4294967297\n",
     "18446744073709551617 1 1\n", "1 18446744073709551617 1\n", "1 1 18446744073709551617\n",
     "1 340282366920938463463374607431768211457 1\n",
-    # The end of at most 64 bytes is read, and of more it isn't.
+    # Of a longer file the first 64 bytes are read, and not its end.
     *("1 1 1\n".ljust(length, fill) for fill in "\n1 \0" for length in (63, 64, 65, 66, 127, 128, 129, 1_000_000)),
     *("1 1 1\n".rjust(length, fill) for fill in "0 \n" for length in (63, 64, 65, 66, 128)),
     "1 1 " + "1" * 60, "1 1 " + "1" * 59 + "\n", "1 1 " + "1" * 60 + "\n", "1 1 " + "9" * 1_000_000 + "\n",
@@ -353,7 +353,7 @@ NO_ROOM = "1 added, 0 deleted, bad line 2 (no room)"
 def sizes() -> Iterator[Named]:
     """Each limit from both sides; without sizes those of the round before hold."""
     def second(text: str, said: str, saved: str, options: str = "") -> Iterator[Named]:
-        """Those two lines in round 2, with sizes of this text."""
+        """The two lines in round 2, with sizes of this text."""
         yield from rounds(f"sizes {text!r} {options}", 3, [[""], [LINES]], last(2, [said], 3), saved=[FOUR, saved], options=options,
                           others=sized(2, text) if text else {})
 
@@ -395,7 +395,7 @@ def sizes() -> Iterator[Named]:
 
 
 def counts() -> Iterator[Named]:
-    """The number of streams, which stays too."""
+    """The number of streams stays the same, too."""
     def derived(count: int, first: int = 5) -> List[str]:
         return [f"{number} 2 0 1 2 0\n" for number in range(first, first + count)]
 

@@ -1,11 +1,10 @@
 #!/usr/bin/env python3
-"""Has gate/quotes.py look at wrong pages.
+"""Runs gate/quotes.py on wrong pages.
 
     quotes.py
 
-In a copy of the pages a text is replaced by another one. It shows what is off; the last line is 'N passed, M failed', and the
-status is 1 if a row failed.
-"""
+In a copy of the pages, each row replaces a text. Failures are shown; the last line is 'N passed, M
+failed', and the status is 1 if a row failed. """
 import shutil
 import sys
 from pathlib import Path
@@ -23,7 +22,7 @@ FILE = "](../crates/lrup_model/specs/Entailment.antt)\n\n```agda\n" + WHOLE
 
 
 def refused(old: str, new: str, said: List[str], work: Path) -> None:
-    """What differs is put right by --write, but nothing else."""
+    """--write corrects quotes that differ, but nothing else."""
     shutil.copytree(ROOT / "docs", work / "docs")
     (work / "gate").mkdir()
     for name in ("antt.py", "quotes.py"):

@@ -1,4 +1,5 @@
-"""What tests of records share: the rounds that one has, what a whole one is, and changes after which it isn't what it was."""
+"""What tests of records share: the rounds in a record, what a complete record is, and changes to
+records."""
 import hashlib
 import os
 import random
@@ -18,13 +19,14 @@ TRIES = 20
 
 
 def saved_rounds(kept: Path) -> int:
-    """The round that a run would begin with, or 1."""
+    """The round with which a resumed run would begin, or 1."""
     found = re.search(r"  checkpoint-(\d+)\.cnf\n$", (kept / "rounds.sha256").read_text()) if (kept / "rounds.sha256").exists() else None
     return int(found[1]) if found else 1
 
 
 def recorded(words: Sequence[object], kept: Path, least: int, tested: Optional[Mapping[str, object]]) -> None:
-    """The record of a run that was killed once it had saved this many rounds. One that has ended by then is tried again."""
+    """Makes the record of a run that is killed once it has saved this many rounds. If the run ends
+    before that, it is tried again."""
     for _ in range(TRIES):
         with started(command(["--proofs", kept, "--replace", *words], tested), env=in_environment(tested), stdout=subprocess.DEVNULL) as running:
             until(f"{least} rounds are saved", lambda: saved_rounds(kept) > least or running.poll() is not None)
@@ -40,7 +42,7 @@ def checkpoints(kept: Path) -> List[str]:
 
 
 def whole(kept: Path, formula: Path, work: Path) -> None:
-    """The record of a run that has proved it."""
+    """Checks the record of a run that has the proof."""
     check_again(kept)
     lrat = work / "lrat"
     want(run([TRIM, "--lrat", lrat, formula, kept]).status, 0, "the status of lrup-trim")
@@ -54,7 +56,7 @@ Change = Callable[[Path, random.Random], str]
 
 
 def any_of(kept: Path, numbers: random.Random, pattern: str) -> Path:
-    """Of the rounds that are saved."""
+    """A file of the saved rounds."""
     named = [line[66:] for line in (kept / "rounds.sha256").read_text().splitlines()]
     return kept / numbers.choice([name for name in named if re.fullmatch(pattern, name)])
 
@@ -70,7 +72,7 @@ def flipped(pattern: str) -> Change:
 
 
 def filled(pattern: str) -> Change:
-    """At its beginning, by lines that nobody takes, more than a pipe takes."""
+    """Puts bad lines at the beginning of a file, more than a pipe holds."""
     def change(kept: Path, numbers: random.Random) -> str:
         path = any_of(kept, numbers, pattern)
         path.write_bytes(b"x\n" * (1 << 20) + path.read_bytes())
@@ -137,7 +139,8 @@ CHANGES: Dict[str, Change] = {
 
 
 def want_no_other(answer: Answer, status: int, formula: Path, kept: Path, names: str) -> None:
-    """The right answer, none, or a message; and one of these files is named where there is none."""
+    """There is the right answer, none, or a message; without an answer, a message names one of
+    these files."""
     if answer.status == status:
         answer.said = ""
         return want_answer(answer, status, formula)
@@ -147,7 +150,7 @@ def want_no_other(answer: Answer, status: int, formula: Path, kept: Path, names:
 
 
 def with_digests(kept: Path) -> None:
-    """The list is that of the files that are there."""
+    """The list has the digests of the files as they are."""
     lines = (kept / "rounds.sha256").read_text().splitlines()
     names = [line[66:] for line in lines if (kept / line[66:]).exists()]
     (kept / "rounds.sha256").write_text("".join(f"{hashlib.sha256((kept / name).read_bytes()).hexdigest()}  {name}\n" for name in names))

@@ -27,7 +27,8 @@
 #include <time.h>
 #include <unistd.h>
 
-extern void *__libc_malloc(size_t), *__libc_calloc(size_t, size_t), *__libc_realloc(void *, size_t), *__libc_memalign(size_t, size_t);
+extern void *__libc_malloc(size_t), *__libc_calloc(size_t, size_t), *__libc_realloc(void *, size_t),
+    *__libc_memalign(size_t, size_t);
 extern ssize_t __read(int, void *, size_t), __write(int, const void *, size_t);
 
 enum kind { NONE, ALLOCATE, THREAD, READ, WRITE, OPEN, CREATE, HOLD, SYNC };
@@ -38,7 +39,8 @@ static atomic_long calls, started, begun, ended;
 static atomic_int to_be_told;
 
 __attribute__((constructor)) static void begin(void) {
-    static const char *const names[] = {"", "allocate", "thread", "read", "write", "open", "create", "hold", "sync"};
+    static const char *const names[] = {"", "allocate", "thread", "read", "write", "open", "create",
+                                        "hold", "sync"};
     const char *refuse = getenv("REFUSE");
     mark = getenv("MARK");
     if (refuse == NULL || mark == NULL) return;
@@ -67,9 +69,15 @@ static void *no_memory(void) {
 }
 
 void *malloc(size_t size) { return is_refused(ALLOCATE) ? no_memory() : __libc_malloc(size); }
-void *calloc(size_t count, size_t size) { return is_refused(ALLOCATE) ? no_memory() : __libc_calloc(count, size); }
-void *realloc(void *block, size_t size) { return is_refused(ALLOCATE) ? no_memory() : __libc_realloc(block, size); }
-void *memalign(size_t align, size_t size) { return is_refused(ALLOCATE) ? no_memory() : __libc_memalign(align, size); }
+void *calloc(size_t count, size_t size) {
+    return is_refused(ALLOCATE) ? no_memory() : __libc_calloc(count, size);
+}
+void *realloc(void *block, size_t size) {
+    return is_refused(ALLOCATE) ? no_memory() : __libc_realloc(block, size);
+}
+void *memalign(size_t align, size_t size) {
+    return is_refused(ALLOCATE) ? no_memory() : __libc_memalign(align, size);
+}
 void *aligned_alloc(size_t align, size_t size) { return memalign(align, size); }
 
 int posix_memalign(void **block, size_t align, size_t size) {
@@ -98,7 +106,8 @@ static void *run_late(void *place) {
     return result;
 }
 
-int pthread_create(pthread_t *thread, const pthread_attr_t *attributes, void *(*run)(void *), void *argument) {
+int pthread_create(pthread_t *thread, const pthread_attr_t *attributes, void *(*run)(void *),
+                   void *argument) {
     static int (*create)(pthread_t *, const pthread_attr_t *, void *(*)(void *), void *);
     if (is_refused(THREAD)) {
         atomic_store(&to_be_told, 1);
@@ -120,7 +129,8 @@ static void tell_threads(void) {
     long had_begun = atomic_load(&begun);
     for (int i = 0; i < 1000 && atomic_load(&ended) < atomic_load(&started); i++) sleep_for(10);
     char text[64];
-    int length = snprintf(text, sizeof text, "%ld %ld %ld\n", atomic_load(&started), had_begun, atomic_load(&ended));
+    int length = snprintf(text, sizeof text, "%ld %ld %ld\n", atomic_load(&started), had_begun,
+                          atomic_load(&ended));
     int file = open(mark, O_WRONLY | O_CLOEXEC);
     if (file < 0 || __write(file, text, (size_t)length) != length) abort();
     close(file);
@@ -129,8 +139,8 @@ static void tell_threads(void) {
 /* How many bytes the call may transfer, or -1 with errno. */
 static ssize_t allowed(size_t size) {
     static const struct { const char *name; int error; } errors[] = {
-        {"EIO", EIO}, {"EINTR", EINTR}, {"ENOSPC", ENOSPC}, {"EPIPE", EPIPE}, {"EACCES", EACCES}, {"EMFILE", EMFILE},
-        {"ENOENT", ENOENT}, {"ELOOP", ELOOP}};
+        {"EIO", EIO}, {"EINTR", EINTR}, {"ENOSPC", ENOSPC}, {"EPIPE", EPIPE}, {"EACCES", EACCES},
+        {"EMFILE", EMFILE}, {"ENOENT", ENOENT}, {"ELOOP", ELOOP}};
     for (size_t i = 0; i < sizeof errors / sizeof errors[0]; i++)
         if (strcmp(how, errors[i].name) == 0) {
             errno = errors[i].error;
@@ -154,7 +164,9 @@ ssize_t write(int file, const void *bytes, size_t size) {
 /* True while only /dev/null was opened. */
 static int is_before_all(const char *path) {
     static atomic_int others;
-    return strcmp(path, "/dev/null") == 0 && atomic_load(&others) == 0 ? 1 : (atomic_store(&others, 1), 0);
+    return strcmp(path, "/dev/null") == 0 && atomic_load(&others) == 0
+        ? 1
+        : (atomic_store(&others, 1), 0);
 }
 
 static int open_at(int folder, const char *path, int flags, va_list more) {
@@ -184,4 +196,6 @@ extern int open64(const char *, int, ...) __attribute__((alias("open")));
 extern int openat64(int, const char *, int, ...) __attribute__((alias("openat")));
 
 int fsync(int file) { return is_refused(SYNC) ? (int)allowed(0) : (int)syscall(SYS_fsync, file); }
-int fdatasync(int file) { return is_refused(SYNC) ? (int)allowed(0) : (int)syscall(SYS_fdatasync, file); }
+int fdatasync(int file) {
+    return is_refused(SYNC) ? (int)allowed(0) : (int)syscall(SYS_fdatasync, file);
+}

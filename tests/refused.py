@@ -205,13 +205,14 @@ def without_lines(answer: Answer) -> Answer:
 
 
 def is_cut(answer: Answer, ample: Answer) -> bool:
-    """The report couldn't be written: its beginning is there. The checkpoint was there before."""
+    """The report couldn't be written: a prefix of it is there. The checkpoint was written
+    before."""
     return (answer.status == 7 and answer.err == "lrupd: cannot write report\n" and ample.out.startswith(answer.out)
             and answer.saved == ample.saved)
 
 
 def is_unsaved(answer: Answer, ample: Answer, cause: str) -> bool:
-    """The checkpoint couldn't be written: its beginning is there, and the report is as usual."""
+    """The checkpoint couldn't be written: a prefix of it is there, and the report is as usual."""
     wanted = ample._replace(err=cause + ample.err, status=7 if ample.status == 7 else 9, saved=answer.saved)
     return (ample.status in [3, 7, 8] and answer == wanted and isinstance(answer.saved, str) and isinstance(ample.saved, str)
             and ample.saved.startswith(answer.saved))
@@ -236,9 +237,9 @@ def is_unstarted(answer: Answer, given: Input) -> bool:
 
 
 def calls(kind: str, ample: Answer, given: Input) -> int:
-    """How many threads a run starts: each stream's checking thread in turn, then the reading
-    threads; how many files it opens; how often it opens /dev/null before; how many checkpoints it
-    creates; and how often it flushes one."""
+    """How many threads a run starts: those that watch openings, each stream's checking thread in
+    turn, then the reading threads; how many files it opens; how often it opens /dev/null before;
+    how many checkpoints it creates; and how often it flushes one."""
     goes_on = ample.status in [0, 3, 7, 8]
     if kind == "hold":
         return HELD
@@ -247,10 +248,15 @@ def calls(kind: str, ample: Answer, given: Input) -> int:
         return 0 if ample.status == 2 else files_opened.index(ample.err) + 1 if ample.err in files_opened else (
             len(files_opened) if goes_on or ample == NOT_CREATED else 1 + (ample.err.startswith("lrupd: assumptions")))
     if kind == "thread":
-        return 2 * given.streams if "--serial" not in given.words and goes_on else 0
+        return watching(ample, given) + (2 * given.streams if "--serial" not in given.words and goes_on else 0)
     if kind == "create":
         return int(given.checkpoint is not None and (goes_on or ample == NOT_CREATED))
     return int(given.checkpoint is not None and bool(ample.saved))
+
+
+def watching(ample: Answer, given: Input) -> int:
+    """How many threads watch openings: with --watch one for each."""
+    return calls("open", ample, given) if "--watch" in given.words else 0
 
 
 def is_refused_allocation(answer: Answer, ample: Answer, given: Input) -> bool:
@@ -269,7 +275,8 @@ def is_failed_read(answer: Answer, given: Input, machine: Machine) -> bool:
 
 
 def is_failed_write(answer: Answer, ample: Answer) -> bool:
-    """The checkpoint, standard output, or standard error fails; the latter changes no status."""
+    """The checkpoint, standard output, or standard error fails; a failing standard error changes no
+    status."""
     return is_cut(answer, ample) or is_unsaved(answer, ample, NOT_WRITTEN) and answer.saved != ample.saved or (
         answer == ample._replace(err=answer.err) and ample.err.startswith(answer.err))
 
@@ -295,8 +302,9 @@ def is_right(kind: str, how: str, number: int, answer: Answer, ample: Answer, gi
     if kind == "open":
         return number <= len(openings(given)) and answer == openings(given)[number - 1]
     if kind == "thread":
-        return (answer == not_started((number - 1) % given.streams + 1, given.created) and seconds < SECONDS
-                and machine.has_waited_for(number - 1))
+        other = number - watching(ample, given)  # threads that only watch aren't missed
+        return seconds < SECONDS and (answer == ample if other < 1 else (
+            answer == not_started((other - 1) % given.streams + 1, given.created) and machine.has_waited_for(number - 1)))
     if kind == "hold":
         return answer == ample
     if kind == "create":
@@ -327,8 +335,7 @@ def in_turn(kind: str, how: str, given: InRounds) -> List[Answer]:
     """The answers to each refused call of such a kind."""
     numbers, streams = range(1, given.count + 1), range(1, given.streams + 1)
     if kind == "thread":
-        started = [] if "--serial" in given.words else [*streams, *streams]
-        return [given.stopped(number, f"worker {stream} not started", 6, "") for number in numbers for stream in started]
+        return [answer for number in range(1, given.reached + 1) for answer in threads_of_round(number, given)]
     if kind == "hold":
         return [given.ended(given.count)] * HELD
     if kind == "create":
@@ -344,8 +351,18 @@ def in_turn(kind: str, how: str, given: InRounds) -> List[Answer]:
     return found
 
 
+def threads_of_round(number: int, given: InRounds) -> Iterator[Answer]:
+    """With --watch a thread for each opening, which isn't missed: of the formula or of sizes, and of
+    streams. Then those of the streams."""
+    streams = range(1, given.streams + 1) if number <= given.count else []
+    if "--watch" in given.words:
+        yield from [given.ended(given.count)] * (1 + max(1, len(streams)))
+    if "--serial" not in given.words:
+        yield from (given.stopped(number, f"worker {stream} not started", 6, "") for stream in [*streams, *streams])
+
+
 def parts(given: InRounds, cause: str) -> Iterator[Answer]:
-    """Saving fails: a beginning is there."""
+    """Saving fails: a prefix is there."""
     for number in given.saving():
         text = given.proof.saved[number - 1]
         yield from (given.unsaved(number, cause, text[:length]) for length in range(len(text)))
@@ -386,7 +403,7 @@ def is_right_in_rounds(kind: str, how: str, number: int, answer: Answer, ample: 
     if kind in EACH:
         wanted = in_turn(kind, how, given)
         return (number <= len(wanted) and answer == wanted[number - 1] and seconds < SECONDS
-                and (kind != "thread" or machine.has_waited_for(number - 1)))
+                and (kind != "thread" or answer == ample or machine.has_waited_for(number - 1)))
     if answer == ample and may_be_ample(kind, how, ample, given):
         return True
     if how in SHORT:
@@ -440,7 +457,7 @@ def are_in_order(causes: List[str], ample: Answer, given: Input) -> bool:
 
 
 def complaints(kind: str, how: str, ample: Answer, answers: List[Answer], given: Input) -> Iterator[str]:
-    """If too few or too many calls were refused, or not all that exist."""
+    """A complaint if too few or too many calls were refused, or not all that exist."""
     causes = [answer.err for answer in answers]
     if not answers and are_due(kind, ample, given):
         yield "nothing of this kind is ever refused"

@@ -1,10 +1,11 @@
 #!/usr/bin/env python3
-"""Writes to files in place, while other programs read them, until it is killed, or a minute has
+"""Overwrites parts of files while other programs read them, until it is killed or a minute has
 passed.
 
     rewriting.py SEED FILE...
 
-It prints a line when it begins. A change is undone a moment later, so a reader may go on."""
+It prints a line when it begins. Each change is undone a moment later, so that readers may
+continue."""
 import contextlib
 import os
 import random
@@ -25,8 +26,8 @@ CUT = "a file was truncated while it was read\n"
 
 
 def changed(text: bytes, numbers: random.Random) -> bytes:
-    """Numbers are replaced; all lines, or all numbers, become one; one byte is everywhere, or any
-    bytes."""
+    """Replaces numbers; makes all lines, or all numbers, the same; writes one byte everywhere, or
+    random bytes."""
     digits = bytes(numbers.sample(b"123456789", 9))
     kinds: List[Callable[[], bytes]] = [
         lambda: text.translate(bytes.maketrans(b"123456789", digits)),
@@ -66,8 +67,8 @@ def rewritten(seed: int, paths: Sequence[Path]) -> Iterator[None]:
 
 
 def chained(streams: int, lines: int, work: Path) -> List[Path]:
-    """Over the four clauses: each line cites the one before, which is in the stream before. A
-    stream leaves out every second of its identities. The last line is the empty clause."""
+    """Streams over the four clauses: each line cites the one before it, which is in the stream
+    before. A stream uses every second of its identities. The last line is the empty clause."""
     identities = [5 + 2 * (place - place % streams) + place % streams for place in range(lines)]
     texts = ["5 1 2 0 1 0\n"]
     texts += [f"{now} 1 2 0 {before} 0\n" for before, now in zip(identities, identities[1:-2])]

@@ -6,7 +6,7 @@
 A command comes after '$ ' in a block that is indented by four spaces or more. If its line ends with
 a backslash, a bar or '&&', it continues in the next one. The text below is its expected output,
 standard error, too: a line '..' stands for any lines, and in a line with lrup-solve's times each
-number for any other. If there is no text, any output will do. Some commands aren't run, since they
+number for any other. If there is no text, any output is fine. Some commands aren't run, since they
 would prove the program: see NOT_RUN. Then the examples' scripts get wrong arguments, files and
 answers. Failures are shown; the last line is 'N passed, M failed'."""
 import os
@@ -71,7 +71,8 @@ def pattern(wanted: Sequence[str]) -> str:
 
 
 def timed(line: str) -> str:
-    """The line with other numbers, also for one engine."""
+    """A pattern for the line with any numbers, and with `engine` or `clause` in the singular,
+    too."""
     return re.sub(r"\b(engine|clause)s\b", r"\1s?", re.sub(r"\d(\\?[.,\d])*", r"[\\d.,]+", re.escape(line)))
 
 

@@ -124,7 +124,7 @@ def before_lrupd(what: str, work: Path) -> Path:
 
 
 def of_process(pid: int, name: str) -> str:
-    """What /proc has about it; empty if it doesn't exist."""
+    """What /proc has about a process; empty if it doesn't exist."""
     try:
         return Path(f"/proc/{pid}/{name}").read_text()
     except OSError:
@@ -155,21 +155,21 @@ def processes_of_run(pid: int) -> Dict[str, int]:
 
 
 def end_group(process: "subprocess.Popen[Any]") -> None:
-    """Ends everything in its session."""
+    """Ends every process in the session."""
     with contextlib.suppress(ProcessLookupError):
         os.killpg(process.pid, signal.SIGKILL)
     process.wait()
 
 
 def waits_of(pid: int) -> int:
-    """How often it has waited for something."""
+    """How often the process has waited for something."""
     found = re.search(r"^voluntary_ctxt_switches:\s+(\d+)", of_process(pid, "status"), re.M)
     return int(found[1]) if found else 0
 
 
 def sleep(pids: Sequence[int]) -> None:
-    """None of them wakes up for a second, once nothing is left to do. The system counts their
-    waits."""
+    """None of the processes wakes up for a second, once nothing is left to do. The system counts
+    their waits."""
     def all_slept() -> bool:
         before = [waits_of(pid) for pid in pids]
         time.sleep(1)
@@ -220,7 +220,7 @@ def end_all(mark: str) -> None:
 
 
 def kill_children(children: Mapping[str, int], names: Sequence[str], number: int = signal.SIGKILL) -> None:
-    """Raises ProcessLookupError if one has already ended."""
+    """Raises ProcessLookupError if a process has already ended."""
     for name in names:
         pid = children.get(name, 0)
         if not is_alive(pid):
@@ -233,8 +233,9 @@ def kill_children(children: Mapping[str, int], names: Sequence[str], number: int
 
 def is_built(path: Path) -> bool:
     """Whether it is newer than its sources."""
-    sources = [ROOT / "Makefile", ROOT / "VERSION", ROOT / "tools" / "lrup-chain", *ROOT.glob("tools/solve/**/*.[ch]*"),
-               *ROOT.glob("tools/exact/*.*")]
+    files = ("Makefile", "VERSION", "tools/lrup-chain", "tools/help.awk")
+    sources = [*(ROOT / name for name in files), *ROOT.glob("docs/lrup-*.1"),
+               *ROOT.glob("tools/solve/**/*.[ch]*"), *ROOT.glob("tools/exact/*.*")]
     return path.exists() and path.stat().st_mtime > max(file.stat().st_mtime for file in sources)
 
 

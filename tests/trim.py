@@ -207,7 +207,7 @@ def whole_pages(work: Path) -> None:
 
 
 def other_hints(work: Path) -> None:
-    """Fewer lines are needed."""
+    """With new hints fewer lines are needed."""
     streams = [example(name) for name in ("bmc-four.1", "bmc-four.2", "bmc-four.3", "bmc-four.4")]
     lines = []
     for rehints in (False, True):
@@ -300,7 +300,7 @@ def base(number: int, work: Path) -> Garbled:
 
 
 FAULTY_LINE = (r"spelling|too long|truncated|rat hint|identity|an identity above that of the last addition|missing \d+|"
-               r"a circle of lines that cite each other: \d+")
+               r"a cycle of lines that cite each other: \d+")
 FAULT = (rf"lrup-trim: (\S+, line \d+: ({FAULTY_LINE})|no line derives the empty clause|the run ends in round \d+, at that line|"
          r"needed line \d+: (no conflict by unit propagation: .*|a variable that the formula doesn't have)|"
          r"\S+: not STREAMS LINES ROOM|\S+: compressed: unpack it with \w+|\S+: No such file or directory)")
@@ -368,7 +368,7 @@ def satisfiable(number: int, work: Path) -> None:
 
 
 def fault(streams: Sequence[str], said: Sequence[str], work: Path) -> None:
-    """Then nothing refutes the four clauses."""
+    """Without these lines nothing refutes the four clauses."""
     for number, text in enumerate(streams, 1):
         written(text, work, f"f{number}")
     done = trim([*outputs_of(work), written(FOUR, work), *(f"f{number}" for number in range(1, len(streams) + 1))], work)
@@ -394,7 +394,7 @@ FAULTS = [("spelling", [FIRST + "6  0 5 3 4 0\n"], ["f1, line 2: spelling"]), ("
           ("of a stream that ends", ["5 0 6 3 4 0\n", ""], ["f1, line 1: missing 6"]),
           ("of a stream with a fault", ["5 0 6 3 4 0\n", "6 x 0\n"], ["f2, line 1: spelling", "f1, line 1: missing 6"]),
           ("a circle", ["5 2 0 6 2 0\n", "6 1 0 5 3 0\n"],
-           ["f2, line 1: a circle of lines that cite each other: 5", "f1, line 1: missing 6"]),
+           ["f2, line 1: a cycle of lines that cite each other: 5", "f1, line 1: missing 6"]),
           ("too many hints", ["5 0 " + "1 " * 65537 + "0\n"], ["f1, line 1: too long"]),
           ("bytes", ["\0\0\0\0"], ["f1, line 1: truncated"]), ("a deletion without an end", ["4 d 1\n"], ["f1, line 1: spelling"]),
           ("an import without an end", ["4 i 1\n"], ["f1, line 1: spelling"])]

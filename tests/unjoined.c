@@ -12,7 +12,8 @@ int main(void) {
         pthread_t thread;
         if (pthread_create(&thread, NULL, leave, NULL) != 0) {
             char text[64];
-            int length = snprintf(text, sizeof text, "lrupd: worker %d not started\n", number % 3 + 1);
+            int length = snprintf(text, sizeof text, "lrupd: worker %d not started\n",
+                                  number % 3 + 1);
             return write(STDERR_FILENO, text, (size_t)length) == length ? 6 : 1;
         }
         pthread_detach(thread);

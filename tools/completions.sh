@@ -8,7 +8,8 @@ set -eu
 [ $# -eq 2 ] || { echo "usage: sh $0 PROGRAMS FOLDER" >&2; exit 2; }
 for program in "$1"/lrup*; do
     name=${program##*/}
-    options=$({ "$program" --help 2>&1 || :; } | grep -oE -- '(^|[ [,|])--[a-z][a-z-]*' | sed 's/^[^-]//' | LC_ALL=C sort -u | tr '\n' ' ')
+    options=$({ "$program" --help 2>&1 || :; } | grep -E '^( |usage)' |
+        grep -oE -- '(^|[ [,|])--[a-z][a-z-]*' | sed 's/^[^-]//' | LC_ALL=C sort -u | tr '\n' ' ')
     [ -n "$options" ] || { echo "$name --help names no option" >&2; exit 1; }
     function=_$(echo "$name" | tr - _)
     cat > "$2/$name" << END

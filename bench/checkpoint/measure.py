@@ -23,7 +23,7 @@ from building import build_c, build_proved
 CRATES = {
     "lrup_model": "",
     "dimacs": "lrup_model memchr thiserror",
-    "lrup_text": "lrup_model memchr thiserror",
+    "lrup_text": "lrup_model itoa memchr thiserror",
     "idwords": "lrup_model atomic_table",
     "clause_store": "idwords lrup_model",
     "checkpoint": "dimacs lrup_text lrup_model thiserror",

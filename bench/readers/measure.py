@@ -16,7 +16,7 @@ import tempfile
 sys.path.insert(0, os.path.dirname(os.path.dirname(os.path.abspath(__file__))))
 from building import build_c, build_proved
 
-CRATES = {"lrup_model": "", "dimacs": "lrup_model memchr thiserror", "lrup_text": "lrup_model memchr thiserror"}
+CRATES = {"lrup_model": "", "dimacs": "lrup_model memchr thiserror", "lrup_text": "lrup_model itoa memchr thiserror"}
 
 
 def speed(program, path):

@@ -18,7 +18,7 @@ import time
 sys.path.insert(0, os.path.dirname(os.path.dirname(os.path.abspath(__file__))))
 from building import build_proved
 
-CRATES = {"lrup_model": "", "lrup_text": "lrup_model memchr thiserror", "propagate": "lrup_model",
+CRATES = {"lrup_model": "", "lrup_text": "lrup_model itoa memchr thiserror", "propagate": "lrup_model",
           "stream_check": "lrup_text propagate lrup_model", "idwords": "lrup_model atomic_table",
           "clause_store": "idwords lrup_model",
           "stream_threads": "clause_store stream_check lrup_text lrup_model rtrb crossbeam_utils"}

@@ -39,7 +39,7 @@ class Circuit:
         return out
 
     def choose(self, condition, then, other):
-        """The first word if the condition is true, and otherwise the second."""
+        """The first word if the condition is true, otherwise the second."""
         return [self.either(self.both(condition, a), self.both(-condition, b)) for a, b in zip(then, other)]
 
     def sum(self, one, other, carry):

@@ -46,8 +46,8 @@ def failed(steps):
 
 
 def corridor(cells, horizon):
-    """To be in a cell at a time, one was there before, or walked there; a step begins in the cell
-    where one is."""
+    """Someone who is in a cell at a time was there before, or walked there; a step begins in the
+    current cell."""
     width = 3 * (cells + 1)
 
     def at(cell, time):

@@ -79,7 +79,7 @@ def numbers(pattern: str, text: str) -> List[float]:
 
 
 def parts_of(said: str) -> Dict[str, float]:
-    """The parts of processor time that `lrup-solve -v` prints."""
+    """The shares of processor time that `lrup-solve -v` prints."""
     pairs = re.findall(r"^c engine \d+: ([\d.]+) s, its filter ([\d.]+) s", said, re.M)
     engines, filters, lrupd = numbers(r"s of processor time: engines ([\d.]+), filters ([\d.]+), lrupd ([\d.]+)", said)
     verdict, = numbers(r"the verdict came ([\d.]+) s after", said)

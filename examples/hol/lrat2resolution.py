@@ -14,7 +14,7 @@ Chain = List[Tuple[int, int]]       # a clause's id, and the variable on which i
 
 
 def coded(value: int) -> bytes:
-    """In one to four bytes; the first bits say how many."""
+    """A number in one to four bytes; the first bits say how many."""
     if value < 0x80:
         return bytes([value])
     for more, mark in ((1, 0x80), (2, 0xA0), (3, 0xC0)):

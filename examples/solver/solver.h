@@ -59,9 +59,9 @@ typedef struct Clause {
 } Clause;
 
 typedef struct { Clause *clause; Literal other; } Watch;
-typedef struct { Watch *items; size_t length, capacity; } Watches;
-typedef struct { Clause **items; size_t length, capacity; } Clauses;
-typedef struct { Gift **items; size_t length, capacity; } Gifts;
+typedef LIST_OF(Watch) Watches;
+typedef LIST_OF(Clause *) Clauses;
+typedef LIST_OF(Gift *) Gifts;
 
 typedef enum { UNKNOWN = 0, SATISFIABLE = 10, UNSATISFIABLE = 20 } Answer;
 

@@ -99,8 +99,10 @@ static void lrat_step(Filter *filter, Input *input, int letter, Numbers *list, C
     decode(list, addition, hints, DOUBLED);
     decode(list, hints, list->length, *coding);
     if (addition)
-        filter_add(filter, &(Addition){ .named = true, .name = list->items[0], .literals = list->items + 1, .length = hints - 1,
-                                        .hints = list->items + hints, .hinted = list->length - hints });
+        filter_add(filter, &(Addition){
+            .named = true, .name = list->items[0],
+            .literals = list->items + 1, .length = hints - 1,
+            .hints = list->items + hints, .hinted = list->length - hints });
     else
         filter_delete(filter, list->items, list->length);
 }
@@ -114,8 +116,10 @@ void binary_run(Filter *filter, Input *input, Form form) {
         if (letter < 0) break;
         list.length = 0;
         if (form == SHARING_DRAT && letter == 'x') filter->marked++;
-        else if (form == SHARING_DRAT && (letter == 'i' || letter == 'r')) sharing_step(filter, input, letter, &list);
-        else if (letter != 'a' && letter != 'd') stop("not a step of a binary proof, which begins with a or d");
+        else if (form == SHARING_DRAT && (letter == 'i' || letter == 'r'))
+            sharing_step(filter, input, letter, &list);
+        else if (letter != 'a' && letter != 'd')
+            stop("not a step of a binary proof, which begins with a or d");
         else if (form == BINARY_LRAT) lrat_step(filter, input, letter, &list, &coding);
         else drat_step(filter, input, letter, &list);
     }

@@ -70,13 +70,15 @@ void chain_open(const char *path) {
 static const char *name_in(const char *path) { return strrchr(path, '/') + 1; }
 
 static void name_file(char path[LONGEST_PATH], const char *what) {
-    snprintf(path, LONGEST_PATH, "%s/" OF_A_ROUND "%llu.%s", folder, (unsigned long long)round_number, what);
+    snprintf(path, LONGEST_PATH, "%s/" OF_A_ROUND "%llu.%s", folder,
+             (unsigned long long)round_number, what);
 }
 
 // The sizes come first: lrupd reads them as soon as the stream exists.
 static void make_files(void) {
     char text[LONGEST_NAME];
-    int length = snprintf(text, sizeof text, "1 %llu %llu\n", (unsigned long long)rows.row.lines, (unsigned long long)rows.row.room);
+    int length = snprintf(text, sizeof text, "1 %llu %llu\n", (unsigned long long)rows.row.lines,
+                          (unsigned long long)rows.row.room);
     name_file(sizes, "sizes");
     name_file(stream, "stream-1");
     int out = openat(held, name_in(sizes), O_WRONLY | O_CREAT | O_EXCL, 0666);
@@ -123,7 +125,8 @@ static void open_stream(void) {
         if (poll(&reader, 1, PAUSE) <= 0) continue;
         if (reader.revents & POLLERR) {
             remove_files();
-            stop("the reader of standard output, which runs lrupd, ended before it read %s", stream);
+            stop("the reader of standard output, which runs lrupd, ended before it read %s",
+                 stream);
         }
         reader.fd = -1;
     }
@@ -193,7 +196,8 @@ void chain_begin(Filter *one, uint64_t memory) {
     take_signals();
     rows_open(&rows, memory, 0, 1);
     size_round(filter->formula.clauses, filter->formula.literals.length, 0, "the formula leaves");
-    if (!write_whole(STDOUT_FILENO, stream, strlen(stream)) || !write_whole(STDOUT_FILENO, "\n", 1)) {
+    if (!write_whole(STDOUT_FILENO, stream, strlen(stream)) ||
+        !write_whole(STDOUT_FILENO, "\n", 1)) {
         remove_files();
         fail("cannot write to standard output:", strerror(errno));
     }

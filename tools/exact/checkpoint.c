@@ -6,7 +6,8 @@
 
 static uint64_t last_number(Line line) {
     uint64_t number = 0, ten = 1;
-    for (const unsigned char *at = line.end; at > line.start && at[-1] >= '0' && at[-1] <= '9'; ten *= 10)
+    for (const unsigned char *at = line.end; at > line.start && at[-1] >= '0' && at[-1] <= '9';
+         ten *= 10)
         number += ten * (uint64_t)(*--at - '0');
     return number;
 }
@@ -50,4 +51,6 @@ uint64_t checkpoint_place(const Checkpoint *checkpoint, uint64_t identity) {
     return low < checkpoint->old.length && items[low] == identity ? low + 1 : 0;
 }
 
-void checkpoint_free(Checkpoint *checkpoint) { checkpoint->old.items = grow(checkpoint->old.items, 0); }
+void checkpoint_free(Checkpoint *checkpoint) {
+    checkpoint->old.items = grow(checkpoint->old.items, 0);
+}

@@ -10,7 +10,7 @@
 #include "literals.h"
 
 typedef uint32_t ClauseRef;             // a place in the row; 0: none
-typedef struct { ClauseRef *items; size_t length, capacity; } ClauseRefs;
+typedef LIST_OF(ClauseRef) ClauseRefs;
 
 enum { MANY = 1024 };                   // a clause with more literals is long
 // a clause is recent while a bit of RECENT is set
@@ -32,8 +32,7 @@ typedef struct { uint64_t name; ClauseRef clause; } Named;
 typedef struct {
     uint64_t *row;
     size_t used, capacity, dead;        // in words; dead: those of deleted clauses
-    ClauseRef *near;                    // by name, as long as names are dense
-    size_t near_length;
+    ClauseRefs near;                    // by name, as long as names are dense
     Named *far;                         // a hash table of the other names
     size_t far_length, far_capacity;
     size_t names;                       // given so far
@@ -41,19 +40,24 @@ typedef struct {
     size_t sets_length, sets_capacity;
 } Clauses;
 
-static inline Clause *clause_at(const Clauses *clauses, ClauseRef ref) { return (Clause *)(clauses->row + ref); }
+static inline Clause *clause_at(const Clauses *clauses, ClauseRef ref) {
+    return (Clause *)(clauses->row + ref);
+}
 
-ClauseRef clauses_add(Clauses *clauses, uint64_t identity, const Literal *literals, size_t length, bool tautology);
+ClauseRef clauses_add(Clauses *clauses, uint64_t identity, const Literal *literals, size_t length,
+                      bool tautology);
 ClauseRef clauses_named_far(const Clauses *clauses, uint64_t name);
 static inline ClauseRef clauses_named(const Clauses *clauses, uint64_t name) {
-    if (name < clauses->near_length && clauses->near[name] != 0) return clauses->near[name];
+    if (name < clauses->near.length && clauses->near.items[name] != 0)
+        return clauses->near.items[name];
     return clauses->far_length > 0 ? clauses_named_far(clauses, name) : 0;
 }
 void clauses_name(Clauses *clauses, uint64_t name, ClauseRef ref);
 void clauses_forget_name(Clauses *clauses, uint64_t name);
 void clauses_keep_sets(Clauses *clauses);       // from now on, and of the clauses present
 void clauses_keep_set(Clauses *clauses, ClauseRef ref);
-ClauseRef clauses_take_set(Clauses *clauses, const Literal *literals, size_t length, const unsigned char *marks);
+ClauseRef clauses_take_set(Clauses *clauses, const Literal *literals, size_t length,
+                           const unsigned char *marks);
 void clauses_delete(Clauses *clauses, ClauseRef ref);
 // the next clause that isn't deleted, or 0; after 0 the first
 ClauseRef clauses_after(const Clauses *clauses, ClauseRef ref);

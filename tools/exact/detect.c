@@ -17,7 +17,7 @@ static size_t skip_line(Input *input, size_t at) {
     return at + (byte == '\n');
 }
 
-// Whether the line goes on with numbers only, or the letter of FRAT's hints, and ends with "0".
+// Whether the rest of the line has only numbers and the letter of FRAT's hints, and ends with "0".
 static bool numbers_follow(Input *input, size_t at) {
     bool ends = false;
     for (;;) {
@@ -27,7 +27,8 @@ static bool numbers_follow(Input *input, size_t at) {
             at++;
             continue;
         }
-        ends = byte == '0' && (input_ahead(input, at + 1) == -1 || is_space(input_ahead(input, at + 1)));
+        ends = byte == '0' &&
+            (input_ahead(input, at + 1) == -1 || is_space(input_ahead(input, at + 1)));
         if (byte == '-') byte = input_ahead(input, ++at);
         if (byte == 'l' || (byte >= '0' && byte <= '9')) at++;
         else return false;
@@ -80,7 +81,8 @@ Form form_of(Input *input, const Formula *formula) {
     position_set("byte", 1);
     int first = input_ahead(input, 0);
     check_plain(input);
-    if ((first == 'a' || first == 'd') && !(is_blank(input_ahead(input, 1)) && numbers_follow(input, 1)))
+    if ((first == 'a' || first == 'd') &&
+        !(is_blank(input_ahead(input, 1)) && numbers_follow(input, 1)))
         return binary_form(input, formula);
     for (size_t at = 0;;) {
         at = skip_spaces(input, at);

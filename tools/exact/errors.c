@@ -24,14 +24,11 @@ void position_set(const char *unit, uint64_t number) {
     position_number = number;
 }
 
-_Noreturn void show_text(const char *text) {
-    fputs(text, stdout);
-    exit(fflush(stdout) == 0 ? 0 : 1);
-}
-
 _Noreturn void stop(const char *cause, ...) {
     char text[LONGEST_TEXT];
-    int length = position_unit ? snprintf(text, sizeof text, "%s %llu: ", position_unit, (unsigned long long)position_number) : 0;
+    int length = position_unit ? snprintf(text, sizeof text, "%s %llu: ", position_unit,
+                                          (unsigned long long)position_number)
+                               : 0;
     va_list rest;
     va_start(rest, cause);
     vsnprintf(text + length, sizeof text - (size_t)length, cause, rest);

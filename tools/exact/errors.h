@@ -17,11 +17,6 @@ void position_set(const char *unit, uint64_t number);
 _Noreturn void stop(const char *cause, ...) __attribute__((format(printf, 1, 2)));
 _Noreturn void fail(const char *cause, const char *object);  // without the position
 _Noreturn void fail_file(const char *path, const char *cause);  // 'PATH: CAUSE', likewise
-_Noreturn void show_text(const char *text);     // prints --help or --version, and exits
-
-#ifndef VERSION
-#define VERSION "unknown"       // make passes the version
-#endif
 
 #ifdef __cplusplus
 }

@@ -25,7 +25,8 @@ void filter_open(Filter *filter, bool frat) {
     Formula *formula = &filter->formula;
     Literals *literals = &filter->literals;
     filter->frat = frat;
-    filter->keeps_identities = (!filter->hooks && filter->streams == 1) || filter->others.length > 0;
+    filter->keeps_identities = (!filter->hooks && filter->streams == 1) ||
+        filter->others.length > 0;
     propagation_open(&filter->propagation, &filter->clauses, formula->variables);
     hints_open(&filter->hints, &filter->clauses, formula->variables);
     for (size_t k = 0; k < formula->clauses; k++) {
@@ -33,7 +34,8 @@ void filter_open(Filter *filter, bool frat) {
         if (filter->hooks && filter->hooks->lacks && filter->hooks->lacks(k, length)) continue;
         formula_clause(formula, k, literals);
         bool tautology = literals_clash(literals->items, literals->length);
-        ClauseRef ref = clauses_add(&filter->clauses, k + 1, literals->items, literals->length, tautology);
+        ClauseRef ref = clauses_add(&filter->clauses, k + 1, literals->items, literals->length,
+                                    tautology);
         if (!frat) clauses_name(&filter->clauses, k + 1, ref);
         make_known(filter, ref);
     }
@@ -45,7 +47,8 @@ void filter_open(Filter *filter, bool frat) {
 
 void filter_name_formula(Filter *filter) {
     uint64_t name = 0;
-    for (ClauseRef ref = 0; (ref = clauses_after(&filter->clauses, ref)) != 0;) clauses_name(&filter->clauses, ++name, ref);
+    for (ClauseRef ref = 0; (ref = clauses_after(&filter->clauses, ref)) != 0;)
+        clauses_name(&filter->clauses, ++name, ref);
     filter->frat = false;
 }
 
@@ -73,13 +76,15 @@ static bool mark_literals(Filter *filter, const int64_t *numbers, size_t length,
 }
 
 static void unmark_literals(Filter *filter) {
-    for (size_t k = 0; k < filter->literals.length; k++) filter->hints.marks[filter->literals.items[k]] = OPEN;
+    for (size_t k = 0; k < filter->literals.length; k++)
+        filter->hints.marks[filter->literals.items[k]] = OPEN;
     filter->literals.length = 0;
 }
 
 static bool mark_or_stop(Filter *filter, const int64_t *numbers, size_t length) {
     bool tautology;
-    if (!mark_literals(filter, numbers, length, &tautology)) stop("a variable that the formula doesn't have");
+    if (!mark_literals(filter, numbers, length, &tautology))
+        stop("a variable that the formula doesn't have");
     return tautology;
 }
 
@@ -113,7 +118,8 @@ static Found try_hints(Filter *filter, const Addition *addition) {
 }
 
 uint64_t filter_next_identity(const Filter *filter) {
-    uint64_t identity = filter->last ? filter->last + filter->streams : filter->formula.clauses + filter->stream;
+    uint64_t identity = filter->last ? filter->last + filter->streams
+                                     : filter->formula.clauses + filter->stream;
     if (identity > LAST_IDENTITY) stop("an identity of more than %d digits", DIGITS);
     return identity;
 }
@@ -123,8 +129,10 @@ uint64_t filter_next_identity(const Filter *filter) {
 static uint64_t new_identity(const Filter *filter, const Addition *addition) {
     int64_t formula = (int64_t)filter->formula.clauses, name = addition->name;
     if (addition->named && filter->keeps_identities && !filter->frat) {
-        if (name <= formula || name <= (int64_t)filter->last || owner(filter, (uint64_t)name) != filter->stream)
-            stop("the identity %lld isn't the stream's own, or not above the one before", (long long)name);
+        if (name <= formula || name <= (int64_t)filter->last ||
+            owner(filter, (uint64_t)name) != filter->stream)
+            stop("the identity %lld isn't the stream's own, or not above the one before",
+                 (long long)name);
         return (uint64_t)name;
     }
     return filter_next_identity(filter);
@@ -134,13 +142,16 @@ static uint64_t new_identity(const Filter *filter, const Addition *addition) {
 // other have none to spare.
 static bool has_identities(const Filter *filter, const Addition *addition) {
     bool is_alone = (filter->hooks || filter->streams == 1) && filter->others.length == 0;
-    return !addition->named || filter->frat || is_alone || (filter->renumbered && !filter->keeps_identities);
+    return !addition->named || filter->frat || is_alone ||
+        (filter->renumbered && !filter->keeps_identities);
 }
 
 static ClauseRef add_clause(Filter *filter, uint64_t identity) {
-    assert(identity > filter->last && identity > filter->formula.clauses && owner(filter, identity) == filter->stream);
+    assert(identity > filter->last && identity > filter->formula.clauses &&
+           owner(filter, identity) == filter->stream);
     filter->last = identity;
-    return clauses_add(&filter->clauses, identity, filter->literals.items, filter->literals.length, false);
+    return clauses_add(&filter->clauses, identity, filter->literals.items, filter->literals.length,
+                       false);
 }
 
 static void write_line(const Filter *filter) {
@@ -158,8 +169,10 @@ ClauseRef filter_write_line(Filter *filter, uint64_t identity) {
 
 static void write_addition(Filter *filter, const Addition *addition, Found found) {
     bool same = found == SAME_CHAIN;
-    if (same && addition->line && !filter->renumbered && addition->length == filter->literals.length) {
-        write_bytes((const char *)addition->line->start, (size_t)(addition->line->end - addition->line->start) + 1);
+    if (same && addition->line && !filter->renumbered &&
+        addition->length == filter->literals.length) {
+        write_bytes((const char *)addition->line->start,
+                    (size_t)(addition->line->end - addition->line->start) + 1);
         return;
     }
     if (same) filter->chain.length = 0;
@@ -197,7 +210,8 @@ static bool is_rat(Filter *filter) {
         const Clause *clause = clause_at(&filter->clauses, ref);
         if (!has_literal(clause, complement)) continue;
         propagation_take_back(&filter->propagation);
-        follows = !resolve(filter, clause, complement) || propagation_conflict(&filter->propagation, literals) != 0;
+        follows = !resolve(filter, clause, complement) ||
+            propagation_conflict(&filter->propagation, literals) != 0;
         literals->length = length;
     }
     return follows;
@@ -210,10 +224,13 @@ static _Noreturn void stop_without_cause(Filter *filter, const char *none) {
     size_t length = 0;
     const Literals *literals = &filter->literals;
     for (size_t k = 0; k < literals->length && length < LONGEST_SHOWN; k++)
-        length += (size_t)snprintf(clause + length, sizeof clause - length, "%d ", as_written(literals->items[k]));
+        length += (size_t)snprintf(clause + length, sizeof clause - length, "%d ",
+                                   as_written(literals->items[k]));
     snprintf(clause + length, sizeof clause - length, length < LONGEST_SHOWN ? "0" : "..");
-    if (is_rat(filter)) stop("%s: the clause %s is a RAT step, which lrupd doesn't check", none, clause);
-    stop("%s: the clause %s doesn't follow from those that weren't deleted, and it isn't RAT", none, clause);
+    if (is_rat(filter))
+        stop("%s: the clause %s is a RAT step, which lrupd doesn't check", none, clause);
+    stop("%s: the clause %s doesn't follow from those that weren't deleted, and it isn't RAT", none,
+         clause);
 }
 
 // If the step cites a clause that isn't there, this is the most likely reason.
@@ -221,19 +238,25 @@ static _Noreturn void stop_without_conflict(Filter *filter, const Addition *addi
     static const char none[] = "no conflict by unit propagation";
     int64_t missing = 0;
     for (size_t k = addition->hinted; k-- > 0;)
-        if (clauses_named(&filter->clauses, (uint64_t)addition->hints[k]) == 0) missing = addition->hints[k];
+        if (clauses_named(&filter->clauses, (uint64_t)addition->hints[k]) == 0)
+            missing = addition->hints[k];
     if (missing == 0) stop_without_cause(filter, none);
     long long name = missing;
     bool is_alone = filter->frat || (filter->hooks && filter->others.length == 0);
     bool may_be_shared = !is_alone && missing > (int64_t)filter->formula.clauses;
     unsigned long long stream = may_be_shared ? owner(filter, (uint64_t)missing) : filter->stream;
     if (may_be_shared && filter->streams == 1)
-        stop("%s, and the step cites the clause %lld, which isn't there: if it is another stream's, use --streams and --other", none, name);
+        stop("%s, and the step cites the clause %lld, which isn't there: if it is another "
+             "stream's, use --streams and --other",
+             none, name);
     if (stream == filter->stream || clauses_named(&filter->dropped, (uint64_t)missing) != 0)
         stop("%s, and the step cites the clause %lld, which isn't there", none, name);
     if (others_find(&filter->others, stream))
-        stop("%s, and the step cites the clause %lld, which isn't in --other %llu", none, name, stream);
-    stop("%s, and the step cites the clause %lld of stream %llu: it needs an import, or --other %llu=STREAM", none, name, stream, stream);
+        stop("%s, and the step cites the clause %lld, which isn't in --other %llu", none, name,
+             stream);
+    stop("%s, and the step cites the clause %lld of stream %llu: it needs an import, "
+         "or --other %llu=STREAM",
+         none, name, stream, stream);
 }
 
 // Finds a chain by unit propagation. A round may end at each lemma that is written for it.
@@ -269,7 +292,8 @@ static Found find_chain(Filter *filter, const Addition *addition) {
         found = SOME_CHAIN;
         hints = filter->chain.length;
     }
-    if (hints > IDENTITIES_OF_A_LINE || filter->literals.length > LITERALS_OF_A_LINE) stop("longer than a line may be");
+    if (hints > IDENTITIES_OF_A_LINE || filter->literals.length > LITERALS_OF_A_LINE)
+        stop("longer than a line may be");
     return found;
 }
 
@@ -293,8 +317,11 @@ static void derive(Filter *filter, const Addition *addition) {
 // A tautology is of no use, and lrupd refuses it.
 void filter_add(Filter *filter, const Addition *addition) {
     int64_t least = 0;
-    for (size_t k = 0; k < addition->hinted; k++) least = addition->hints[k] < least ? addition->hints[k] : least;
-    if (least < 0) stop("a RAT step (negative hints), which lrupd doesn't check: switch off the techniques that make them");
+    for (size_t k = 0; k < addition->hinted; k++)
+        least = addition->hints[k] < least ? addition->hints[k] : least;
+    if (least < 0)
+        stop("a RAT step (negative hints), which lrupd doesn't check: switch off the "
+             "techniques that make them");
     bool tautology = mark_or_stop(filter, addition->literals, addition->length);
     if (addition->named && clauses_named(&filter->clauses, (uint64_t)addition->name) != 0)
         stop("the identity %lld is used twice", (long long)addition->name);
@@ -325,20 +352,24 @@ static void write_import(uint64_t identity, const int64_t *literals, size_t leng
 // From now on steps may use the clause.
 void filter_import(Filter *filter, int64_t identity, const int64_t *literals, size_t length) {
     int64_t formula = (int64_t)filter->formula.clauses;
-    if (filter->hooks && filter->others.length == 0) stop("an import, but the solver shares nothing");
+    if (filter->hooks && filter->others.length == 0)
+        stop("an import, but the solver shares nothing");
     if (filter->refuted) return;
     if (identity < 1 || (identity > formula && owner(filter, (uint64_t)identity) == filter->stream))
-        stop("an import of %lld, which is no clause of the formula or of another stream", (long long)identity);
+        stop("an import of %lld, which is no clause of the formula or of another stream",
+             (long long)identity);
     bool tautology = mark_or_stop(filter, literals, length);
     if (length > LITERALS_OF_A_LINE) stop("longer than a line may be");
     if (identity > formula && filter->renumbered && !filter->keeps_identities)
         stop("an import, but the proof's identities aren't those of its stream");
     filter->keeps_identities |= identity > formula;
     ClauseRef ref = find(filter, identity);
-    if (clauses_named(&filter->dropped, (uint64_t)identity) != 0 || (ref == 0 && identity <= formula))
+    if (clauses_named(&filter->dropped, (uint64_t)identity) != 0 ||
+        (ref == 0 && identity <= formula))
         stop("an import of %lld, which was deleted", (long long)identity);
     if (ref == 0) {
-        ref = clauses_add(&filter->clauses, (uint64_t)identity, filter->literals.items, filter->literals.length, tautology);
+        ref = clauses_add(&filter->clauses, (uint64_t)identity, filter->literals.items,
+                          filter->literals.length, tautology);
         clauses_name(&filter->clauses, (uint64_t)identity, ref);
         make_known(filter, ref);
     } else if (!same_literals(filter, clause_at(&filter->clauses, ref))) {
@@ -352,7 +383,9 @@ void filter_import(Filter *filter, int64_t identity, const int64_t *literals, si
 void filter_take_over(Filter *filter, uint64_t identity, const int64_t *literals, size_t length) {
     bool tautology = mark_or_stop(filter, literals, length);
     if (length > LITERALS_OF_A_LINE) stop("longer than a line may be");
-    make_known(filter, clauses_add(&filter->clauses, identity, filter->literals.items, filter->literals.length, tautology));
+    make_known(filter,
+               clauses_add(&filter->clauses, identity, filter->literals.items,
+                           filter->literals.length, tautology));
     unmark_literals(filter);
     write_import(identity, literals, length);
 }
@@ -364,7 +397,7 @@ void filter_take_over(Filter *filter, uint64_t identity, const int64_t *literals
 static void give_back(Filter *filter) {
     Clauses *clauses = &filter->clauses;
     if (filter->busy) return;
-    size_t least = DEAD_WORDS + (size_t)filter->formula.variables + clauses->near_length / 4;
+    size_t least = DEAD_WORDS + (size_t)filter->formula.variables + clauses->near.length / 4;
     if (clauses->dead < least || 2 * clauses->dead < clauses->used) return;
     uint64_t *old = clauses_begin_move(clauses);
     propagation_move(&filter->propagation, old);
@@ -386,7 +419,8 @@ void filter_write_deletion(Filter *filter) {
         size_t left = filter->chain.length - start;
         write_number(filter->last ? filter->last : 1, ' ');
         write_bytes("d ", 2);
-        write_numbers(filter->chain.items + start, left < IDENTITIES_OF_A_LINE ? left : IDENTITIES_OF_A_LINE);
+        write_numbers(filter->chain.items + start,
+                      left < IDENTITIES_OF_A_LINE ? left : IDENTITIES_OF_A_LINE);
     }
     give_back(filter);
 }
@@ -420,7 +454,8 @@ static ClauseRef take_set(Filter *filter, const int64_t *literals, size_t length
     bool tautology;
     ClauseRef ref = 0;
     if (mark_literals(filter, literals, length, &tautology))
-        ref = clauses_take_set(&filter->clauses, filter->literals.items, filter->literals.length, filter->hints.marks);
+        ref = clauses_take_set(&filter->clauses, filter->literals.items, filter->literals.length,
+                               filter->hints.marks);
     unmark_literals(filter);
     return ref;
 }
@@ -431,7 +466,8 @@ void filter_delete_literals(Filter *filter, const int64_t *literals, size_t leng
     propagation_settle(&filter->propagation);
     ClauseRef ref = take_set(filter, literals, length);
     filter->chain.length = 0;
-    if (ref == 0 || filter->ignores_deletions || propagation_needs(&filter->propagation, ref)) return;
+    if (ref == 0 || filter->ignores_deletions || propagation_needs(&filter->propagation, ref))
+        return;
     delete(filter, ref);
     filter_write_deletion(filter);
 }
@@ -439,9 +475,10 @@ void filter_delete_literals(Filter *filter, const int64_t *literals, size_t leng
 // Steps that only FRAT has.
 
 void filter_original(Filter *filter, int64_t name, const int64_t *literals, size_t length) {
-    if (clauses_named(&filter->clauses, (uint64_t)name) != 0) stop("the identity %lld is used twice", (long long)name);
+    if (clauses_named(&filter->clauses, (uint64_t)name) != 0)
+        stop("the identity %lld is used twice", (long long)name);
     ClauseRef ref = take_set(filter, literals, length);
-    if (ref == 0) stop("an original clause that the formula lacks, or has less often");
+    if (ref == 0) stop("an original clause that the formula doesn't have, or not as often");
     clauses_name(&filter->clauses, (uint64_t)name, ref);
 }
 
@@ -455,7 +492,8 @@ void filter_rename(Filter *filter, const int64_t *pairs, size_t length) {
     }
     for (size_t k = 0; k < given->length; k++) {
         int64_t name = pairs[2 * k + 1];
-        if (clauses_named(&filter->clauses, (uint64_t)name) != 0) stop("the identity %lld is used twice", (long long)name);
+        if (clauses_named(&filter->clauses, (uint64_t)name) != 0)
+            stop("the identity %lld is used twice", (long long)name);
         if (given->items[k] != 0) clauses_name(&filter->clauses, (uint64_t)name, given->items[k]);
     }
 }
@@ -469,21 +507,28 @@ static void identities_check(const Filter *filter) {
     for (ClauseRef ref = 0; (ref = clauses_after(clauses, ref)) != 0;) {
         uint64_t identity = clause_at(clauses, ref)->identity;
         assert(identity > 0);
-        assert(identity <= filter->formula.clauses || owner(filter, identity) != filter->stream || identity <= filter->last);
+        assert(identity <= filter->formula.clauses || owner(filter, identity) != filter->stream ||
+               identity <= filter->last);
     }
-    for (size_t name = 0; name < clauses->near_length && !filter->frat && !filter->renumbered; name++)
-        assert(clauses->near[name] == 0 || clause_at(clauses, clauses->near[name])->identity == name);
+    for (size_t name = 0; name < clauses->near.length && !filter->frat && !filter->renumbered;
+         name++)
+        assert(clauses->near.items[name] == 0 ||
+               clause_at(clauses, clauses->near.items[name])->identity == name);
 }
 
 void filter_check(const Filter *filter) {
     static size_t taken;        // by steps since the last check
-    if ((taken += WORDS_OF_A_STEP) < filter->clauses.used + (size_t)filter->formula.variables || filter->refuted) return;
+    if ((taken += WORDS_OF_A_STEP) < filter->clauses.used + (size_t)filter->formula.variables ||
+        filter->refuted)
+        return;
     taken = 0;
-    assert(filter->literals.length == 0 && filter->lemmas.length == 0 && filter->left.length == 0 && !filter->busy);
+    assert(filter->literals.length == 0 && filter->lemmas.length == 0 && filter->left.length == 0 &&
+           !filter->busy);
     for (int k = 0; filter->weights && k < filter->formula.variables; k++)
         assert(filter->weights[k].uses == 0 && filter->weights[k].hints == 0);
     clauses_check(&filter->clauses);
-    for (size_t k = 0; k < filter->others.length; k++) clauses_check(&filter->others.items[k].clauses);
+    for (size_t k = 0; k < filter->others.length; k++)
+        clauses_check(&filter->others.items[k].clauses);
     hints_check(&filter->hints, filter->formula.variables);
     propagation_check(&filter->propagation);
     identities_check(filter);

@@ -22,9 +22,12 @@ static size_t end_of(const Words *words, size_t start) {
 static void add(Filter *filter, const Words *words, size_t end) {
     const int64_t *numbers = words->numbers.items;
     size_t length = words->numbers.length;
-    Addition addition = { .named = true, .name = numbers[1], .literals = numbers + 2, .length = end - 3 };
+    Addition addition = {
+        .named = true, .name = numbers[1], .literals = numbers + 2, .length = end - 3
+    };
     if (end < length) {
-        if (numbers[end] != LETTER('l') || end_of(words, end + 1) != length) stop("not a step of FRAT text");
+        if (numbers[end] != LETTER('l') || end_of(words, end + 1) != length)
+            stop("not a step of FRAT text");
         addition.hints = numbers + end + 1;
         addition.hinted = length - end - 2;
     }
@@ -34,8 +37,11 @@ static void add(Filter *filter, const Words *words, size_t end) {
 static void step(Filter *filter, const Words *words) {
     const int64_t *numbers = words->numbers.items;
     size_t length = words->numbers.length;
-    char letter = numbers[0] > LETTER('a') - 1 && numbers[0] <= LETTER('z') ? (char)(numbers[0] - INT64_MIN) : ' ';
-    if (letter != 'o' && letter != 'a' && letter != 'd' && letter != 'f' && letter != 'r') stop("not a step of FRAT text");
+    char letter = numbers[0] > LETTER('a') - 1 && numbers[0] <= LETTER('z')
+        ? (char)(numbers[0] - INT64_MIN)
+        : ' ';
+    if (letter != 'o' && letter != 'a' && letter != 'd' && letter != 'f' && letter != 'r')
+        stop("not a step of FRAT text");
     if (letter == 'r') {
         if (end_of(words, 1) != length || length % 2 != 0) stop("not a step of FRAT text");
         filter_rename(filter, numbers + 1, length - 2);
@@ -52,7 +58,8 @@ static void step(Filter *filter, const Words *words) {
 void frat_run(Filter *filter, Input *input) {
     Words words = {0};
     Line line;
-    for (uint64_t number = 1; position_set("line", number), !filter_ends(filter) && input_line(input, &line); number++) {
+    for (uint64_t number = 1;
+         position_set("line", number), !filter_ends(filter) && input_line(input, &line); number++) {
         words_read(&words, line);
         if (words.numbers.length == 0 || words.numbers.items[0] == LETTER('c')) continue;
         words_check_whole(&words, line);

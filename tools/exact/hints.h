@@ -17,8 +17,8 @@ typedef struct {
     const Clauses *clauses;
     unsigned char *marks;       // by literal; all OPEN between two steps
     uint32_t *heads;            // by literal: the list of clauses held by it
-    struct { Step *items; size_t length, capacity; } steps;
-    struct { Held *items; size_t length, capacity; } held;
+    LIST_OF(Step) steps;
+    LIST_OF(Held) held;
     Literals headed;
 } Hints;
 

@@ -11,7 +11,8 @@ enum { MOST_NEEDED = IDENTITIES_OF_A_LINE - 1 };        // literals of one claus
 enum { WORTH_A_LEMMA = 16 };  // hints, and one more for each literal of the clause
 enum { NONE = -1 };
 
-_Static_assert((int)MOST_NEEDED <= (int)LITERALS_OF_A_LINE, "a lemma has as many literals as a clause may need");
+_Static_assert((int)MOST_NEEDED <= (int)LITERALS_OF_A_LINE,
+               "a lemma has as many literals as a clause may need");
 
 // The end of a conflict's chain, from a position on the trail: its hints, and the literals that it
 // needs from before, which a lemma would have. `met` counts the clause's own literals, `open` the
@@ -30,7 +31,8 @@ static ClauseRef write_lemma(Filter *filter, ClauseRef ref) {
     filter->keeps_identities = false;
     propagation_need(propagation, ref, &filter->literals);
     propagation_need_all(propagation, &filter->literals);
-    if (propagation->needed.length > MOST_NEEDED || filter->literals.length > LITERALS_OF_A_LINE) stop("longer than a line may be");
+    if (propagation->needed.length > MOST_NEEDED || filter->literals.length > LITERALS_OF_A_LINE)
+        stop("longer than a line may be");
     if (filter->hooks) filter->hooks->derives(filter);
     propagation_chain(propagation, ref, &filter->chain);
     ClauseRef lemma = filter_write_line(filter, filter_next_identity(filter));
@@ -72,7 +74,8 @@ static ClauseRef shorten(Filter *filter, ClauseRef ref, int own) {
     size_t found = 0;
     for (unsigned k = 0; k < clause->length; k++) {
         int variable = variable_of(clause->literals[k]);
-        if (propagation->seen[variable] == UNSEEN && (variable == own || ++found > MOST_NEEDED)) PUSH(left, clause->literals[k]);
+        if (propagation->seen[variable] == UNSEEN && (variable == own || ++found > MOST_NEEDED))
+            PUSH(left, clause->literals[k]);
     }
     return write_shorter(filter, ref);
 }
@@ -134,8 +137,11 @@ static void leave_open(Filter *filter, const Cut *cut) {
     const Propagation *propagation = &filter->propagation;
     for (size_t k = 0; k < cut->marked; k++) {
         int variable = propagation->marked.items[k];
-        if (propagation->seen[variable] != NEEDED || propagation->positions[variable] >= cut->position) continue;
-        if (!has_unit(filter, variable)) PUSH(&filter->left, propagation->trail.items[propagation->positions[variable]]);
+        if (propagation->seen[variable] != NEEDED ||
+            propagation->positions[variable] >= cut->position)
+            continue;
+        if (!has_unit(filter, variable))
+            PUSH(&filter->left, propagation->trail.items[propagation->positions[variable]]);
     }
     assert(filter->left.length == cut->open);
 }
@@ -165,7 +171,8 @@ static bool cut_chain(Filter *filter, ClauseRef *conflict) {
 
 // How many hints derive all literals that the clause needs, and the clause; and how many literals
 // these are.
-static uint64_t hints_for(const Filter *filter, ClauseRef ref, int own, size_t floor, size_t *needed) {
+static uint64_t hints_for(const Filter *filter, ClauseRef ref, int own, size_t floor,
+                          size_t *needed) {
     const Propagation *propagation = &filter->propagation;
     const Clause *clause = clause_at(&filter->clauses, ref);
     uint64_t hints = 1;
@@ -189,12 +196,15 @@ static ClauseRef fit(Filter *filter, ClauseRef ref, int own, size_t floor, uint3
         size_t share = needed < MOST_NEEDED ? MOST_NEEDED / needed : 1;
         for (unsigned k = 0; k < clause_at(&filter->clauses, ref)->length; k++) {
             int variable = variable_of(clause_at(&filter->clauses, ref)->literals[k]);
-            if (variable == own || propagation->seen[variable] != UNSEEN || propagation->positions[variable] < floor) continue;
+            if (variable == own || propagation->seen[variable] != UNSEEN ||
+                propagation->positions[variable] < floor)
+                continue;
             if (filter->weights[variable].hints <= share) continue;
             give_lemma(filter, variable);
             filter->weights[variable].hints = 1;
         }
-        while ((all = hints_for(filter, ref, own, floor, &needed)) > IDENTITIES_OF_A_LINE) ref = shorten(filter, ref, own);
+        while ((all = hints_for(filter, ref, own, floor, &needed)) > IDENTITIES_OF_A_LINE)
+            ref = shorten(filter, ref, own);
     }
     *hints = (uint32_t)all;
     return ref;
@@ -205,7 +215,9 @@ static void use(Filter *filter, ClauseRef ref, int own, size_t floor) {
     const Clause *clause = clause_at(&filter->clauses, ref);
     for (unsigned k = 0; k < clause->length; k++) {
         int variable = variable_of(clause->literals[k]);
-        if (variable == own || propagation->seen[variable] != UNSEEN || propagation->positions[variable] < floor) continue;
+        if (variable == own || propagation->seen[variable] != UNSEEN ||
+            propagation->positions[variable] < floor)
+            continue;
         filter->weights[variable].uses++;
     }
 }
@@ -216,7 +228,8 @@ static void count_uses(Filter *filter, ClauseRef conflict, size_t floor) {
     use(filter, conflict, NONE, floor);
     for (size_t position = propagation->trail.length; position-- > floor;) {
         int variable = variable_of(propagation->trail.items[position]);
-        if (filter->weights[variable].uses > 0) use(filter, propagation->reasons[variable], variable, floor);
+        if (filter->weights[variable].uses > 0)
+            use(filter, propagation->reasons[variable], variable, floor);
     }
 }
 
@@ -228,7 +241,8 @@ static void weigh(Filter *filter, size_t floor, size_t worth) {
         int variable = variable_of(propagation->trail.items[position]);
         Weight *weight = &filter->weights[variable];
         if (weight->uses == 0) continue;
-        propagation->reasons[variable] = fit(filter, propagation->reasons[variable], variable, floor, &weight->hints);
+        propagation->reasons[variable] = fit(filter, propagation->reasons[variable], variable,
+                                             floor, &weight->hints);
         if ((uint64_t)(weight->uses - 1) * weight->hints <= worth || weight->hints == 1) continue;
         give_lemma(filter, variable);
         weight->hints = 1;
@@ -240,7 +254,8 @@ static ClauseRef split(Filter *filter, ClauseRef conflict, size_t floor, size_t 
     const Propagation *propagation = &filter->propagation;
     uint32_t hints;
     if (cut_chain(filter, &conflict)) return conflict;
-    if (filter->weights == NULL) filter->weights = zeroed((size_t)propagation->variables, sizeof *filter->weights);
+    if (filter->weights == NULL)
+        filter->weights = zeroed((size_t)propagation->variables, sizeof *filter->weights);
     count_uses(filter, conflict, floor);
     weigh(filter, floor, worth);
     conflict = fit(filter, conflict, NONE, floor, &hints);
@@ -266,7 +281,8 @@ static void give_units(Filter *filter) {
         int variable = variable_of(propagation->trail.items[missing->items[k]]);
         ClauseRef *reason = &propagation->reasons[variable];
         if (clause_at(&filter->clauses, *reason)->length == 1) continue;
-        while (clause_at(&filter->clauses, *reason)->length > IDENTITIES_OF_A_LINE) *reason = shorten(filter, *reason, variable);
+        while (clause_at(&filter->clauses, *reason)->length > IDENTITIES_OF_A_LINE)
+            *reason = shorten(filter, *reason, variable);
         give_lemma(filter, variable);
     }
 }

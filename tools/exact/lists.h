@@ -9,9 +9,10 @@
 extern "C" {
 #endif
 
-// Each is a structure with `items`, `length` and `capacity`.
-typedef struct { uint64_t *items; size_t length, capacity; } Identities;
-typedef struct { int64_t *items; size_t length, capacity; } Numbers;
+#define LIST_OF(Item) struct { Item *items; size_t length, capacity; }
+
+typedef LIST_OF(uint64_t) Identities;
+typedef LIST_OF(int64_t) Numbers;
 
 #define PUSH(list, item)                                                                    \
     do {                                                                                    \

@@ -20,7 +20,7 @@ static inline int as_written(Literal literal) {
     return literal & 1 ? -(variable_of(literal) + 1) : variable_of(literal) + 1;
 }
 
-typedef struct { Literal *items; size_t length, capacity; } Literals;
+typedef LIST_OF(Literal) Literals;
 
 // removes repeated ones; returns how many are left
 size_t literals_sort(Literal *literals, size_t length);

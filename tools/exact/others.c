@@ -25,11 +25,14 @@ static void keep(Other *other, const Words *words) {
     literals->length = 0;
     for (size_t k = 1; k < words->first_zero; k++) {
         if (numbers[k] > other->variables || numbers[k] < -other->variables)
-            stop("%s: a variable that the formula doesn't have, or not a number", other->input.path);
-        PUSH(literals, (Literal)(numbers[k] > 0 ? 2 * (numbers[k] - 1) : 2 * (-numbers[k] - 1) + 1));
+            stop("%s: a variable that the formula doesn't have, or not a number",
+                 other->input.path);
+        PUSH(literals,
+             (Literal)(numbers[k] > 0 ? 2 * (numbers[k] - 1) : 2 * (-numbers[k] - 1) + 1));
     }
     if (numbers[0] <= (int64_t)other->last || words->zeros == 0 || words->first_zero == 0)
-        stop("%s: not a step of LRAT text, or an identity that isn't above the one before", other->input.path);
+        stop("%s: not a step of LRAT text, or an identity that isn't above the one before",
+             other->input.path);
     other->last = (uint64_t)numbers[0];
     size_t length = literals_sort(literals->items, literals->length);
     bool tautology = literals_clash(literals->items, length);
@@ -43,7 +46,8 @@ static void read_to(Other *other, uint64_t identity) {
         words_read(&other->words, line);
         const Numbers *numbers = &other->words.numbers;
         if (numbers->length < 2 || numbers->items[0] == LETTER('c')) continue;
-        if (numbers->items[1] != LETTER('d') && numbers->items[1] != LETTER('i')) keep(other, &other->words);
+        if (numbers->items[1] != LETTER('d') && numbers->items[1] != LETTER('i'))
+            keep(other, &other->words);
     }
 }
 
@@ -54,7 +58,8 @@ ClauseRef other_clause(Other *other, Clauses *clauses, uint64_t identity) {
     ClauseRef ref = clauses_named(&other->clauses, identity);
     if (ref == 0) return 0;
     const Clause *clause = clause_at(&other->clauses, ref);
-    ClauseRef taken = clauses_add(clauses, identity, clause->literals, clause->length, clause->flags & TAUTOLOGY);
+    ClauseRef taken = clauses_add(clauses, identity, clause->literals, clause->length,
+                                  clause->flags & TAUTOLOGY);
     clauses_forget_name(&other->clauses, identity);
     clauses_delete(&other->clauses, ref);
     if (other->clauses.dead > DEAD_WORDS && 2 * other->clauses.dead > other->clauses.used)

@@ -18,7 +18,7 @@ typedef struct {
     Clauses clauses;
 } Other;
 
-typedef struct { Other *items; size_t length, capacity; } Others;
+typedef LIST_OF(Other) Others;
 
 void others_open(Others *others, uint64_t number, const char *path, int variables);
 Other *others_find(const Others *others, uint64_t number);

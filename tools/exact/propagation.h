@@ -12,7 +12,7 @@
 // `other` is twice the other watched literal, plus 1 if the clause has no more than these two.
 typedef struct { ClauseRef clause; uint32_t other; } Watch;
 typedef struct { Watch *items; uint32_t length, capacity; } Watches;
-typedef struct { uint32_t *items; size_t length, capacity; } Positions;     // on the trail
+typedef LIST_OF(uint32_t) Positions;     // on the trail
 
 // marks of variables while a conflict is traced; MET: assumed and needed
 enum { UNSEEN, ASSUMED, MET, NEEDED };
@@ -41,8 +41,10 @@ void propagation_settle(Propagation *propagation);
 // the assumptions stay
 ClauseRef propagation_conflict(Propagation *propagation, const Literals *literals);
 void propagation_take_back(Propagation *propagation);
-bool propagation_trace(Propagation *propagation, const Literals *literals, ClauseRef conflict, Identities *chain);
-void propagation_trace_all(Propagation *propagation, const Literals *literals, ClauseRef conflict, Identities *chain);
+bool propagation_trace(Propagation *propagation, const Literals *literals, ClauseRef conflict,
+                       Identities *chain);
+void propagation_trace_all(Propagation *propagation, const Literals *literals, ClauseRef conflict,
+                           Identities *chain);
 void propagation_see(Propagation *propagation, const Literals *literals, unsigned char what);
 void propagation_need(Propagation *propagation, ClauseRef ref, Literals *met);
 void propagation_need_all(Propagation *propagation, Literals *met);

@@ -17,7 +17,8 @@ static bool is_own(const Filter *filter, uint64_t identity) {
 static void mark(const Filter *filter, unsigned char *marks, uint64_t identity) {
     uint64_t formula = filter->formula.clauses;
     if (identity <= formula) marks[identity - 1] = 1;
-    else if (identity <= filter->last && is_own(filter, identity)) marks[formula + (identity - formula - 1) / filter->streams] = 1;
+    else if (identity <= filter->last && is_own(filter, identity))
+        marks[formula + (identity - formula - 1) / filter->streams] = 1;
 }
 
 // Deletes the clauses of the formula and of the stream, except those that are spared, those in
@@ -32,7 +33,8 @@ void round_delete(Filter *filter, const Identities *kept, bool goes_on) {
     for (size_t k = 0; k < kept->length; k++) mark(filter, marks, kept->items[k]);
     filter->chain.length = 0;
     for (uint64_t k = filter->spared; k < formula + own; k++)
-        if (!marks[k]) PUSH(&filter->chain, k < formula ? k + 1 : first + (k - formula) * filter->streams);
+        if (!marks[k])
+            PUSH(&filter->chain, k < formula ? k + 1 : first + (k - formula) * filter->streams);
     grow(marks, 0);
     filter_write_deletion(filter);
 }
@@ -48,7 +50,8 @@ uint64_t round_clauses(const Filter *filter, uint64_t *literals) {
 
 // Call before a line. If the row has no room for it, the stream ends here, since lrupd would refuse
 // the line; `next_round` makes room, or ends the program.
-void round_make_room(const Filter *filter, bool (*has_room)(uint64_t literals), void (*next_round)(uint64_t literals)) {
+void round_make_room(const Filter *filter, bool (*has_room)(uint64_t literals),
+                     void (*next_round)(uint64_t literals)) {
     size_t length = filter->literals.length;
     while (!has_room(length)) next_round(length);
 }
@@ -60,7 +63,9 @@ void round_begin(Filter *filter, const Checkpoint *checkpoint, uint64_t stream, 
         Clause *clause = clause_at(&filter->clauses, ref);
         uint64_t new_one = checkpoint_place(checkpoint, clause->identity);
         assert(new_one <= checkpoint->old.length);
-        if (new_one == 0) stop("lrupd hasn't saved the clause %llu, which the solver has", (unsigned long long)clause->identity);
+        if (new_one == 0)
+            stop("lrupd hasn't saved the clause %llu, which the solver has",
+                 (unsigned long long)clause->identity);
         clause->identity = new_one;
     }
     filter->formula.clauses = checkpoint->old.length;

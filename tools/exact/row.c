@@ -25,7 +25,8 @@ uint64_t memory_read(const char *word) {
     static const char units[] = "KMGT";
     uint64_t bytes = 0;
     const char *at = word;
-    for (; *at >= '0' && *at <= '9'; at++) bytes = lesser(10 * bytes + (uint64_t)(*at - '0'), MOST_MEMORY + 1);
+    for (; *at >= '0' && *at <= '9'; at++)
+        bytes = lesser(10 * bytes + (uint64_t)(*at - '0'), MOST_MEMORY + 1);
     if (at == word) return 0;
     if (*at == 0) return bytes;
     const char *unit = strchr(units, *at);
@@ -64,7 +65,8 @@ static Row split(uint64_t words, double length) {
     return (Row){ lines, words - lines };
 }
 
-bool rows_size(Rows *rows, uint64_t streams, uint64_t clauses, uint64_t literals, Row used, uint64_t wanted) {
+bool rows_size(Rows *rows, uint64_t streams, uint64_t clauses, uint64_t literals, Row used,
+               uint64_t wanted) {
     uint64_t most = streams > 1 ? rows->most : rows->largest, formula = 1 + clauses + literals;
     uint64_t words = streams * (2 * wanted + LEAST_WORDS);
     uint64_t all = lesser(most, greater(rows->usual, formula + greater(formula, words)));

@@ -34,7 +34,8 @@ void rows_grow(Rows *rows);                     // before the next round
 // to have the average length of those that all streams derived in the round before. `wanted` is the
 // length of a clause for which a stream had no room, or 0. If the formula leaves too little of the
 // largest row, the streams get what is left, perhaps nothing, and the result is false.
-bool rows_size(Rows *rows, uint64_t streams, uint64_t clauses, uint64_t literals, Row used, uint64_t wanted);
+bool rows_size(Rows *rows, uint64_t streams, uint64_t clauses, uint64_t literals, Row used,
+               uint64_t wanted);
 
 // Whether another clause of this length fits.
 static inline bool row_holds(Row row, Row used, uint64_t literals) {

@@ -28,7 +28,8 @@ static void step(Filter *filter, const Words *words, const Line *line, Form *for
     const int64_t *numbers = words->numbers.items;
     size_t length = words->numbers.length;
     int64_t second = length > 1 ? numbers[1] : 0;
-    bool ends = numbers[length - 1] == 0, one = words->zeros - (numbers[0] == 0) == 1 && ends && length > 2;
+    bool ends = numbers[length - 1] == 0,
+         one = words->zeros - (numbers[0] == 0) == 1 && ends && length > 2;
     bool deletion = second == LETTER('d') && one, import = second == LETTER('i') && one;
     bool addition = !deletion && !import && words->zeros == 2 && ends && words->first_zero > 0;
     if (!deletion && !import && !addition && !(words->zeros == 1 && ends))
@@ -41,18 +42,21 @@ static void step(Filter *filter, const Words *words, const Line *line, Form *for
     }
     if (deletion) filter_delete(filter, numbers + 2, length - 3);
     else if (import) filter_import(filter, numbers[0], numbers + 2, length - 3);
-    else if (*form == DRAT && numbers[0] == LETTER('d')) filter_delete_literals(filter, numbers + 1, length - 2);
+    else if (*form == DRAT && numbers[0] == LETTER('d'))
+        filter_delete_literals(filter, numbers + 1, length - 2);
     else add(filter, words, line, addition);
 }
 
 void text_run(Filter *filter, Input *input, Form form) {
     Words words = {0};
     Line line;
-    for (uint64_t number = 1; position_set("line", number), !filter_ends(filter) && input_line(input, &line); number++) {
+    for (uint64_t number = 1;
+         position_set("line", number), !filter_ends(filter) && input_line(input, &line); number++) {
         if (number == 1 && *line.start == '%') continue;        // PicoSAT's header
         words_read(&words, line);
         if (words.numbers.length == 0) continue;
-        if (words.numbers.items[0] == LETTER('c') || words.numbers.items[0] == LETTER('o')) continue;
+        if (words.numbers.items[0] == LETTER('c') || words.numbers.items[0] == LETTER('o'))
+            continue;
         if (words.garbled && !line_is_text(line)) stop("not text: use --format for a binary proof");
         words_check_whole(&words, line);
         step(filter, &words, &line, &form);

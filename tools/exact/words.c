@@ -6,7 +6,9 @@
 #include "stream.h"
 #include "words.h"
 
-static inline bool is_space(unsigned char byte) { return byte == ' ' || (byte >= '\t' && byte <= '\r'); }
+static inline bool is_space(unsigned char byte) {
+    return byte == ' ' || (byte >= '\t' && byte <= '\r');
+}
 static inline bool is_digit(unsigned char byte) { return (unsigned char)(byte - '0') < 10; }
 
 // The code of a word that isn't a number of at most 18 digits; moves to its end.
@@ -41,7 +43,9 @@ static inline unsigned short_number(const unsigned char *at, uint64_t *value) {
     return length;
 }
 #else
-static inline unsigned short_number(const unsigned char *at, uint64_t *value) { return *value = 0, is_digit(*at) ? 8 : 0; }
+static inline unsigned short_number(const unsigned char *at, uint64_t *value) {
+    return *value = 0, is_digit(*at) ? 8 : 0;
+}
 #endif
 
 // How many digits there are, and the number that they spell, if it has at most 19.
@@ -49,7 +53,8 @@ static inline size_t digits(const unsigned char *start, uint64_t *value) {
     size_t length = short_number(start, value);
     if (length < 8) return length;
     *value = 0;
-    for (length = 0; is_digit(start[length]); length++) *value = 10 * *value + (start[length] - '0');
+    for (length = 0; is_digit(start[length]); length++)
+        *value = 10 * *value + (start[length] - '0');
     return length;
 }
 
@@ -127,7 +132,8 @@ void words_check(const Words *words, size_t start, size_t end) {
 
 // A whole step ends with 0.
 void words_check_whole(const Words *words, Line line) {
-    if (!line.ends && words->numbers.items[words->numbers.length - 1] != 0) stop("the proof ends within a step");
+    if (!line.ends && words->numbers.items[words->numbers.length - 1] != 0)
+        stop("the proof ends within a step");
 }
 
 bool line_is_text(Line line) {

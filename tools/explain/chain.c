@@ -17,14 +17,16 @@ typedef struct {
 } Search;
 
 // Propagation prefers recent clauses, so those that come first are marked as recent.
-static ClauseRef take(Search *search, uint64_t identity, const Literal *literals, size_t length, bool comes_first) {
+static ClauseRef take(Search *search, uint64_t identity, const Literal *literals, size_t length,
+                      bool comes_first) {
     ClauseRef ref = clauses_add(&search->clauses, identity, literals, length, false);
     if (!comes_first) clause_at(&search->clauses, ref)->flags = length > MANY ? LONG : 0;
     PUSH(&search->propagation.waiting, ref);
     return ref;
 }
 
-static ClauseRef take_known(Search *search, const Replay *replay, uint64_t identity, bool comes_first) {
+static ClauseRef take_known(Search *search, const Replay *replay, uint64_t identity,
+                            bool comes_first) {
     const Clause *clause = clause_at(&replay->store, clause_of(replay, identity));
     return take(search, identity, clause->literals, clause->length, comes_first);
 }
@@ -32,7 +34,8 @@ static ClauseRef take_known(Search *search, const Replay *replay, uint64_t ident
 static void take_hints(Search *search, const Replay *replay, const Stream *stream, uint64_t also) {
     for (size_t k = 0; k < replay->line.count; k++) {
         uint64_t hint = (uint64_t)replay->line.cited[k];
-        if (hint <= replay->last && clause_of(replay, hint) != 0 && (hint == also || is_usable(replay, stream, hint)))
+        if (hint <= replay->last && clause_of(replay, hint) != 0 &&
+            (hint == also || is_usable(replay, stream, hint)))
             PUSH(&search->hints, take_known(search, replay, hint, true));
     }
     propagation_settle(&search->propagation);
@@ -46,7 +49,8 @@ static void take_others(Search *search, const Replay *replay, const Stream *stre
 }
 
 static void open_search(Search *search, const Replay *replay, const Stream *stream, uint64_t also) {
-    *search = (Search){ .values = zeroed(2 * (size_t)replay->variables, 1), .needed = zeroed((size_t)replay->variables, 1) };
+    *search = (Search){ .values = zeroed(2 * (size_t)replay->variables, 1),
+                        .needed = zeroed((size_t)replay->variables, 1) };
     propagation_open(&search->propagation, &search->clauses, replay->variables);
     for (size_t k = 0; k < replay->line.length; k++) {
         Literal literal = complement_of(literal_of(replay->line.literals[k]));
@@ -90,14 +94,17 @@ static bool is_wanted(const Search *search, Literal literal) {
     return search->propagation.values[literal] < 0 && search->values[literal] >= 0;
 }
 
-static size_t position_of(const Search *search, Literal literal) { return search->propagation.positions[variable_of(literal)]; }
+static size_t position_of(const Search *search, Literal literal) {
+    return search->propagation.positions[variable_of(literal)];
+}
 
 static void want(Search *search, ClauseRef ref, Literal left, size_t *behind) {
     const Clause *clause = clause_at(&search->clauses, ref);
     for (unsigned k = 0; k < clause->length; k++) {
         if (!is_wanted(search, clause->literals[k]) || clause->literals[k] == left) continue;
         search->needed[variable_of(clause->literals[k])] = 1;
-        if (position_of(search, clause->literals[k]) >= *behind) *behind = position_of(search, clause->literals[k]) + 1;
+        if (position_of(search, clause->literals[k]) >= *behind)
+            *behind = position_of(search, clause->literals[k]) + 1;
     }
 }
 
@@ -127,7 +134,8 @@ static Literal left_by(const Search *search, ClauseRef ref) {
         if (search->values[literal] > 0) return NEITHER;
         if (search->values[literal] < 0) continue;
         if (search->propagation.values[literal] < 0) {
-            if (last == CONFLICT || position_of(search, literal) > position_of(search, last)) last = literal;
+            if (last == CONFLICT || position_of(search, literal) > position_of(search, last))
+                last = literal;
         } else if (open != CONFLICT) {
             return NEITHER;
         } else {
@@ -145,19 +153,23 @@ static void collect(Search *search, Identities *hints) {
         const Clause *clause = clause_at(&search->clauses, chain->items[k]);
         bool is_needed = k + 1 == chain->length;
         for (unsigned at = 0; at < clause->length; at++)
-            is_needed |= search->values[clause->literals[at]] > 0 && search->needed[variable_of(clause->literals[at])];
-        for (unsigned at = 0; at < clause->length && is_needed; at++) search->needed[variable_of(clause->literals[at])] = 1;
+            is_needed |= search->values[clause->literals[at]] > 0 &&
+                search->needed[variable_of(clause->literals[at])];
+        for (unsigned at = 0; at < clause->length && is_needed; at++)
+            search->needed[variable_of(clause->literals[at])] = 1;
         if (is_needed) chain->items[--first] = chain->items[k];
     }
     hints->length = 0;
-    for (size_t k = first; k < chain->length; k++) PUSH(hints, clause_at(&search->clauses, chain->items[k])->identity);
+    for (size_t k = first; k < chain->length; k++)
+        PUSH(hints, clause_at(&search->clauses, chain->items[k])->identity);
 }
 
 // How many clauses that the line may cite have no true literal. Hints are in the store twice, and
 // are counted once.
 static size_t count_open(const Search *search) {
     size_t count = 0;
-    for (ClauseRef ref = clauses_after(&search->clauses, 0); ref != 0; ref = clauses_after(&search->clauses, ref)) {
+    for (ClauseRef ref = clauses_after(&search->clauses, 0); ref != 0;
+         ref = clauses_after(&search->clauses, ref)) {
         const Clause *clause = clause_at(&search->clauses, ref);
         unsigned k = 0;
         while (k < clause->length && search->propagation.values[clause->literals[k]] <= 0) k++;
@@ -191,7 +203,8 @@ Chain chain_find(const Replay *replay, const Stream *stream, uint64_t also) {
         bring(&search, conflict, CONFLICT);
         put(&search, conflict);
     }
-    Chain chain = { .is_found = search.is_found, .true_literals = search.propagation.trail.length, .open_clauses = count_open(&search) };
+    Chain chain = { .is_found = search.is_found, .true_literals = search.propagation.trail.length,
+                    .open_clauses = count_open(&search) };
     if (search.is_found) collect(&search, &hints);
     chain.hints = hints;
     close_search(&search);

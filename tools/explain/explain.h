@@ -15,7 +15,8 @@
 
 // lrupd's faults, by lrupd's names.
 typedef enum {
-    NO_FAULT, SPELLING, TOO_LONG_LINE, TRUNCATED, RAT_HINT, IDENTITY, LITERAL, TAUTOLOGICAL, NO_ROOM, EXCESS, DROPPED, MISSING, RETIRED,
+    NO_FAULT, SPELLING, TOO_LONG_LINE, TRUNCATED, RAT_HINT, IDENTITY, LITERAL, TAUTOLOGICAL,
+    NO_ROOM, EXCESS, DROPPED, MISSING, RETIRED,
     // WAITING: no fault, but another stream has to go on first
     NOT_UNIT, NO_CONFLICT, NOT_LIVE, DIFFERS, WAITING
 } Kind;
@@ -62,7 +63,7 @@ typedef struct {
     uint32_t count;
     bool serial, all;                   // the options
     bool refuted, faulty;               // the empty clause was derived; a line is bad
-    bool is_stuck;                      // streams wait for each other in a circle
+    bool is_stuck;                      // streams wait for each other in a cycle
 
     // Of the line being judged.
     signed char *values;                // by literal: 1 true, -1 false
@@ -72,7 +73,9 @@ typedef struct {
     Reading line;                       // a copy, if it is bad
 } Replay;
 
-static inline Literal literal_of(int64_t written) { return (Literal)(written > 0 ? 2 * (written - 1) : 2 * (-written - 1) + 1); }
+static inline Literal literal_of(int64_t written) {
+    return (Literal)(written > 0 ? 2 * (written - 1) : 2 * (-written - 1) + 1);
+}
 
 // judge.c
 Stream *owner_of(const Replay *replay, uint64_t identity);  // for one above the formula's
@@ -92,7 +95,8 @@ Fault judge(Replay *replay, Stream *stream, const Reading *line);  // call forge
 void forget_values(Replay *replay);
 
 // replay.c
-void replay_all(Replay *replay, const char *formula, const char *folder, char **paths, uint32_t count);
+void replay_all(Replay *replay, const char *formula, const char *folder, const char *const *paths,
+                uint32_t count);
 Line line_at_hand(const Stream *stream, bool *is_whole);
 // from the current line on: its number, or 0
 uint64_t line_deriving(const Stream *stream, uint64_t identity);

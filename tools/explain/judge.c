@@ -5,13 +5,17 @@
 
 // Clauses and identities.
 
-Stream *owner_of(const Replay *replay, uint64_t identity) { return &replay->streams[(identity - replay->clauses - 1) % replay->count]; }
+Stream *owner_of(const Replay *replay, uint64_t identity) {
+    return &replay->streams[(identity - replay->clauses - 1) % replay->count];
+}
 
 Known *known_of(const Replay *replay, uint64_t identity) {
     return &owner_of(replay, identity)->known[(identity - replay->clauses - 1) / replay->count];
 }
 
-static bool is_derived(const Replay *replay, uint64_t identity) { return identity > replay->clauses && identity <= replay->last; }
+static bool is_derived(const Replay *replay, uint64_t identity) {
+    return identity > replay->clauses && identity <= replay->last;
+}
 
 bool is_foreign(const Replay *replay, const Stream *stream, uint64_t identity) {
     return is_derived(replay, identity) && owner_of(replay, identity) != stream;
@@ -26,7 +30,9 @@ ClauseRef clause_of(const Replay *replay, uint64_t identity) {
     return identity <= replay->last ? known_of(replay, identity)->clause : 0;
 }
 
-bool is_dropped(const Stream *stream, uint64_t identity) { return clauses_named(&stream->dropped, identity) != 0; }
+bool is_dropped(const Stream *stream, uint64_t identity) {
+    return clauses_named(&stream->dropped, identity) != 0;
+}
 
 bool is_usable(const Replay *replay, const Stream *stream, uint64_t identity) {
     if (is_dropped(stream, identity) || clause_of(replay, identity) == 0) return false;
@@ -41,7 +47,8 @@ uint64_t last_derived(const Replay *replay) {
 }
 
 uint64_t next_identity(const Replay *replay, const Stream *stream) {
-    return stream->last > replay->clauses ? stream->last + replay->count : replay->clauses + stream->number;
+    return stream->last > replay->clauses ? stream->last + replay->count
+                                          : replay->clauses + stream->number;
 }
 
 // Values.
@@ -55,7 +62,8 @@ static void make_true(Replay *replay, Literal literal, uint32_t reason) {
 
 void forget_values(Replay *replay) {
     for (size_t k = 0; k < replay->trail.length; k++)
-        replay->values[replay->trail.items[k]] = replay->values[complement_of(replay->trail.items[k])] = 0;
+        replay->values[replay->trail.items[k]] =
+            replay->values[complement_of(replay->trail.items[k])] = 0;
     replay->trail.length = 0;
 }
 
@@ -73,7 +81,9 @@ Literal unit_of(const Replay *replay, ClauseRef ref) {
 
 // Lines.
 
-static Fault fault(Kind kind, uint64_t object, size_t place) { return (Fault){ kind, object, place }; }
+static Fault fault(Kind kind, uint64_t object, size_t place) {
+    return (Fault){ kind, object, place };
+}
 static const Fault no_fault;
 
 // Whether the other stream may still derive it.
@@ -87,7 +97,9 @@ static Kind look_up(const Replay *replay, const Stream *stream, uint64_t identit
     if (identity <= replay->clauses) return NO_FAULT;
     if (identity > replay->last) return MISSING;
     const Known *known = known_of(replay, identity);
-    if (known->clause == 0) return owner_of(replay, identity) != stream && is_awaited(replay, identity) ? WAITING : MISSING;
+    if (known->clause == 0)
+        return owner_of(replay, identity) != stream && is_awaited(replay, identity) ? WAITING
+                                                                                    : MISSING;
     return known->deleted ? RETIRED : NO_FAULT;
 }
 
@@ -107,7 +119,8 @@ static bool take_literals(Replay *replay, const Reading *line) {
     return true;
 }
 
-static Fault take_hint(Replay *replay, const Stream *stream, const Reading *line, size_t place, bool *is_conflict) {
+static Fault take_hint(Replay *replay, const Stream *stream, const Reading *line, size_t place,
+                       bool *is_conflict) {
     uint64_t hint = (uint64_t)line->cited[place];
     if (*is_conflict) return fault(EXCESS, hint, place);
     Kind kind = look_up(replay, stream, hint);
@@ -121,7 +134,8 @@ static Fault take_hint(Replay *replay, const Stream *stream, const Reading *line
 
 static Fault judge_addition(Replay *replay, const Stream *stream, const Reading *line) {
     bool is_conflict = false;
-    if (!is_own(replay, stream, line->identity) || line->identity <= stream->last) return fault(IDENTITY, 0, 0);
+    if (!is_own(replay, stream, line->identity) || line->identity <= stream->last)
+        return fault(IDENTITY, 0, 0);
     if (!are_literals(replay, line)) return fault(LITERAL, 0, 0);
     if (!take_literals(replay, line)) return fault(TAUTOLOGICAL, 0, 0);
     if (replay->trail.length > stream->room) return fault(NO_ROOM, 0, 0);
@@ -146,7 +160,8 @@ static bool is_same(Replay *replay, const Reading *line, const Clause *clause) {
 }
 
 static Fault judge_import(Replay *replay, const Stream *stream, const Reading *line) {
-    if (line->identity > replay->last || is_own(replay, stream, line->identity)) return fault(IDENTITY, 0, 0);
+    if (line->identity > replay->last || is_own(replay, stream, line->identity))
+        return fault(IDENTITY, 0, 0);
     if (!are_literals(replay, line)) return fault(LITERAL, 0, 0);
     Kind kind = look_up(replay, stream, line->identity);
     if (kind != NO_FAULT) return fault(kind, line->identity, 0);
@@ -177,7 +192,9 @@ static void add(Replay *replay, Stream *stream, const Reading *line) {
     static Literals literals;
     size_t length = 0;
     literals.length = 0;
-    while (length < replay->trail.length && replay->reasons[variable_of(replay->trail.items[length])] == 0) length++;
+    while (length < replay->trail.length &&
+           replay->reasons[variable_of(replay->trail.items[length])] == 0)
+        length++;
     for (size_t k = 0; k < length; k++) PUSH(&literals, complement_of(replay->trail.items[k]));
     ClauseRef ref = clauses_add(&replay->store, line->identity, literals.items, length, false);
     *known_of(replay, line->identity) = (Known){ .clause = ref, .line = stream->lines + 1 };

@@ -36,7 +36,7 @@ static void end_with(Replay *replay, Stream *stream, const Reading *line, Fault 
     if (stream->told) tell(replay, stream);
 }
 
-// Whether the stream went on or ended, rather than waits.
+// Whether the stream moved on or ended, instead of waiting.
 static bool take_line(Replay *replay, Stream *stream) {
     bool is_whole;
     Line line = line_at_hand(stream, &is_whole);
@@ -67,7 +67,7 @@ static bool take_turn(Replay *replay, Stream *stream) {
     return take_line(replay, stream);
 }
 
-// All unfinished streams wait for each other. The cause is a stream in the circle.
+// All unfinished streams wait for each other. The cause is a stream in the cycle.
 static Stream *in_circle(const Replay *replay) {
     Stream *stream = replay->streams;
     while (stream->over) stream++;
@@ -84,7 +84,8 @@ static void replay_round(Replay *replay) {
     uint32_t over = 0;
     for (bool moves = true; moves;) {
         moves = false;
-        for (uint32_t k = 0; k < replay->count; k++) moves |= take_turn(replay, &replay->streams[k]);
+        for (uint32_t k = 0; k < replay->count; k++)
+            moves |= take_turn(replay, &replay->streams[k]);
     }
     for (uint32_t k = 0; k < replay->count; k++) over += replay->streams[k].over;
     if (over < replay->count) {
@@ -95,7 +96,8 @@ static void replay_round(Replay *replay) {
             if (!replay->streams[k].over) take_line(replay, &replay->streams[k]);
     }
     for (uint32_t k = 0; k < replay->count; k++)
-        if (replay->streams[k].fault.kind != NO_FAULT && !replay->streams[k].told) tell_short(replay, &replay->streams[k]);
+        if (replay->streams[k].fault.kind != NO_FAULT && !replay->streams[k].told)
+            tell_short(replay, &replay->streams[k]);
 }
 
 // Rounds.
@@ -123,23 +125,25 @@ static void take_formula(Replay *replay, const char *path) {
             else replay->marks[literal] = 1;
         }
         for (size_t at = 0; at < literals.length; at++) replay->marks[literals.items[at]] = 0;
-        replay->first[k] = clauses_add(&replay->store, k + 1, literals.items, literals.length, false);
+        replay->first[k] = clauses_add(&replay->store, k + 1, literals.items, literals.length,
+                                       false);
         replay->literals += literals.length;
     }
     formula.starts.items = grow(formula.starts.items, 0);
     formula.literals.items = grow(formula.literals.items, 0);
 }
 
-static void open_streams(Replay *replay, const char *folder, char **paths, uint32_t count) {
+static void open_streams(Replay *replay, const char *folder, const char *const *paths,
+                         uint32_t count) {
     replay->count = count;
     replay->last = replay->clauses + count * replay->row.lines;
     uint64_t words = 1 + replay->last + replay->literals + count * replay->row.room;
     if (words > MOST_WORDS)
-        stop("row too long: %llu words, and lrupd takes at most %llu: smaller --lines or --room", (unsigned long long)words,
-             (unsigned long long)MOST_WORDS);
+        stop("row too long: %llu words, and lrupd takes at most %llu: smaller --lines or --room",
+             (unsigned long long)words, (unsigned long long)MOST_WORDS);
     replay->streams = zeroed(count, sizeof *replay->streams);
     for (uint32_t k = 0; k < count; k++) {
-        const char *path = paths ? paths[k] : record_file(folder, replay->round, "stream-", k + 1);
+        const char *path = folder ? record_file(folder, replay->round, "stream-", k + 1) : paths[k];
         Stream *stream = &replay->streams[k];
         size_t length;
         stream->number = k + 1;
@@ -159,21 +163,24 @@ static void close_streams(Replay *replay) {
         file_unmap(stream->start, (size_t)(stream->end - stream->start));
         grow(stream->path, 0);
         grow(stream->known, 0);
-        grow(stream->dropped.near, 0);
+        grow(stream->dropped.near.items, 0);
         grow(stream->dropped.far, 0);
     }
     grow(replay->streams, 0);
 }
 
 static Origin origin_of(const Replay *replay, uint64_t identity) {
-    if (identity <= replay->clauses) return replay->origins ? replay->origins[identity - 1] : (Origin){ .number = identity };
-    return (Origin){ replay->round, owner_of(replay, identity)->number, known_of(replay, identity)->line };
+    if (identity <= replay->clauses)
+        return replay->origins ? replay->origins[identity - 1] : (Origin){ .number = identity };
+    return (Origin){ replay->round, owner_of(replay, identity)->number,
+                     known_of(replay, identity)->line };
 }
 
 // The formula's clauses except those that all streams deleted, and derived clauses that their
 // owners didn't delete.
 static bool is_carried(const Replay *replay, uint64_t identity) {
-    if (identity > replay->clauses) return clause_of(replay, identity) != 0 && !known_of(replay, identity)->deleted;
+    if (identity > replay->clauses)
+        return clause_of(replay, identity) != 0 && !known_of(replay, identity)->deleted;
     for (uint32_t k = 0; k < replay->count; k++)
         if (!is_dropped(&replay->streams[k], identity)) return true;
     return false;
@@ -182,8 +189,8 @@ static bool is_carried(const Replay *replay, uint64_t identity) {
 // The clauses that the next round begins with. Their new identities are their places.
 static void carry(Replay *replay) {
     Clauses store = {0};
-    struct { ClauseRef *items; size_t length, capacity; } places = {0};
-    struct { Origin *items; size_t length, capacity; } origins = {0};
+    ClauseRefs places = {0};
+    LIST_OF(Origin) origins = {0};
     uint64_t last = last_derived(replay);
     replay->literals = 0;
     for (uint64_t identity = 1; identity <= last; identity++) {
@@ -203,7 +210,8 @@ static void carry(Replay *replay) {
     replay->origins = origins.items;
 }
 
-void replay_all(Replay *replay, const char *formula, const char *folder, char **paths, uint32_t count) {
+void replay_all(Replay *replay, const char *formula, const char *folder, const char *const *paths,
+                uint32_t count) {
     replay->round = 1;
     if (folder) count = record_streams(folder, 1, 0, &replay->row);
     if (count == 0) stop("%s: No such file or directory", record_file(folder, 1, "stream-", 1));

@@ -12,9 +12,12 @@ typedef unsigned long long Printed;
 
 const char *fault_words(const Fault *fault) {
     static const char *const words[] = {
-        [SPELLING] = "spelling", [TOO_LONG_LINE] = "too long", [TRUNCATED] = "truncated", [RAT_HINT] = "rat hint", [IDENTITY] = "identity",
-        [LITERAL] = "literal", [TAUTOLOGICAL] = "tautology", [NO_ROOM] = "no room", [EXCESS] = "excess", [DROPPED] = "dropped",
-        [MISSING] = "missing", [RETIRED] = "retired", [NOT_UNIT] = "not unit", [NO_CONFLICT] = "no conflict", [NOT_LIVE] = "not live",
+        [SPELLING] = "spelling", [TOO_LONG_LINE] = "too long", [TRUNCATED] = "truncated",
+        [RAT_HINT] = "rat hint", [IDENTITY] = "identity",
+        [LITERAL] = "literal", [TAUTOLOGICAL] = "tautology", [NO_ROOM] = "no room",
+        [EXCESS] = "excess", [DROPPED] = "dropped",
+        [MISSING] = "missing", [RETIRED] = "retired", [NOT_UNIT] = "not unit",
+        [NO_CONFLICT] = "no conflict", [NOT_LIVE] = "not live",
         [DIFFERS] = "differs" };
     static char text[LONGEST_WORD];
     if (fault->object == 0) return words[fault->kind];
@@ -32,9 +35,12 @@ void tell_place(const Replay *replay, uint64_t identity) {
     if (identity > replay->last) {
         printf("above the last identity, %llu", (Printed)replay->last);
     } else if (identity <= replay->clauses) {
-        tell_origin(replay->origins ? replay->origins[identity - 1] : (Origin){ .number = identity }, replay->round);
+        tell_origin(replay->origins ? replay->origins[identity - 1]
+                                    : (Origin){ .number = identity },
+                    replay->round);
     } else {
-        Origin origin = { replay->round, owner_of(replay, identity)->number, known_of(replay, identity)->line };
+        Origin origin = { replay->round, owner_of(replay, identity)->number,
+                          known_of(replay, identity)->line };
         if (origin.number) tell_origin(origin, replay->round);
         else printf("stream %u, no such line so far", origin.stream);
     }
@@ -45,12 +51,14 @@ static void tell_more(size_t count) {
 }
 
 void tell_literals(const Literal *literals, size_t count, const char *between) {
-    for (size_t k = 0; k < count && k < MOST_SHOWN; k++) printf("%s%d", k ? between : "", as_written(literals[k]));
+    for (size_t k = 0; k < count && k < MOST_SHOWN; k++)
+        printf("%s%d", k ? between : "", as_written(literals[k]));
     tell_more(count);
 }
 
 void tell_list(const int64_t *numbers, size_t count) {
-    for (size_t k = 0; k < count && k < MOST_SHOWN; k++) printf("%s%lld", k ? " " : "", (long long)numbers[k]);
+    for (size_t k = 0; k < count && k < MOST_SHOWN; k++)
+        printf("%s%lld", k ? " " : "", (long long)numbers[k]);
     tell_more(count);
 }
 
@@ -58,7 +66,9 @@ void tell_list(const int64_t *numbers, size_t count) {
 
 static size_t false_at_first(const Replay *replay) {
     size_t count = 0;
-    while (count < replay->trail.length && replay->reasons[variable_of(replay->trail.items[count])] == 0) count++;
+    while (count < replay->trail.length &&
+           replay->reasons[variable_of(replay->trail.items[count])] == 0)
+        count++;
     return count;
 }
 
@@ -78,7 +88,8 @@ static void tell_derived(const Replay *replay, bool is_begun) {
 // Hints.
 
 static char sign_of(const Replay *replay, Literal literal, uint32_t place) {
-    if (replay->values[literal] > 0) return replay->reasons[variable_of(literal)] == place ? '!' : 'T';
+    if (replay->values[literal] > 0)
+        return replay->reasons[variable_of(literal)] == place ? '!' : 'T';
     return replay->values[literal] < 0 ? 'F' : '?';
 }
 
@@ -86,7 +97,8 @@ static void tell_clause(const Replay *replay, ClauseRef clause_place, uint32_t p
     const Clause *clause = clause_at(&replay->store, clause_place);
     int width = 0;
     for (unsigned k = 0; k < clause->length && k < MOST_SHOWN; k++)
-        width += printf("%s%d%c", k ? " " : "", as_written(clause->literals[k]), sign_of(replay, clause->literals[k], place));
+        width += printf("%s%d%c", k ? " " : "", as_written(clause->literals[k]),
+                        sign_of(replay, clause->literals[k], place));
     if (clause->length == 0) width += printf("(empty)");
     tell_more(clause->length);
     printf("%*s  ", width < CLAUSE_WIDTH ? CLAUSE_WIDTH - width : 0, "");
@@ -104,7 +116,8 @@ static void tell_hint(const Replay *replay, size_t place, const char *word, uint
 
 // A right hint: what it made true, or that it is the conflict.
 static void tell_good_hint(const Replay *replay, size_t place) {
-    const Clause *clause = clause_at(&replay->store, clause_of(replay, (uint64_t)replay->line.cited[place]));
+    const Clause *clause = clause_at(&replay->store,
+                                     clause_of(replay, (uint64_t)replay->line.cited[place]));
     char word[LONGEST_WORD] = "conflict";
     for (unsigned k = 0; k < clause->length; k++)
         if (sign_of(replay, clause->literals[k], (uint32_t)place + 1) == '!')
@@ -114,15 +127,18 @@ static void tell_good_hint(const Replay *replay, size_t place) {
 
 static void tell_hints(const Replay *replay, const Stream *stream) {
     bool has_bad = stream->fault.kind != NO_CONFLICT;
-    size_t good = has_bad ? stream->fault.place : replay->line.count, first = good > MOST_HINTS ? good - MOST_HINTS : 0;
-    if (replay->line.count > 0) printf("     hint           its clause: ! made true by it, T true, F false, ? neither\n");
+    size_t good = has_bad ? stream->fault.place : replay->line.count,
+           first = good > MOST_HINTS ? good - MOST_HINTS : 0;
+    if (replay->line.count > 0)
+        printf("     hint           its clause: ! made true by it, T true, F false, ? neither\n");
     if (first > 0) printf("       ..  %zu hints, each unit\n", first);
     for (size_t k = first; k < good; k++) tell_good_hint(replay, k);
     if (!has_bad) return;
     tell_hint(replay, good, "BAD", UINT32_MAX);
     if (good + 1 < replay->line.count) {
         printf("  %7llu  unread", (Printed)replay->line.cited[good + 1]);
-        printf(good + 2 < replay->line.count ? "   .. %zu more\n" : "\n", replay->line.count - good - 2);
+        printf(good + 2 < replay->line.count ? "   .. %zu more\n" : "\n",
+               replay->line.count - good - 2);
     }
 }
 
@@ -130,7 +146,8 @@ static void tell_hints(const Replay *replay, const Stream *stream) {
 
 static void tell_title(const Replay *replay, const Stream *stream) {
     if (replay->round > 1) printf("round %u, ", replay->round);
-    printf("stream %u (%s), line %llu: %s", stream->number, stream->path, (Printed)stream->lines + 1, fault_words(&stream->fault));
+    printf("stream %u (%s), line %llu: %s", stream->number, stream->path,
+           (Printed)stream->lines + 1, fault_words(&stream->fault));
 }
 
 void tell(const Replay *replay, const Stream *stream) {
@@ -152,14 +169,16 @@ bool is_cut_off(const Stream *owner, uint64_t identity) {
 
 bool is_effect(const Replay *replay, const Stream *stream) {
     uint64_t missing = stream->fault.object;
-    return stream->fault.kind == MISSING && is_foreign(replay, stream, missing) && is_cut_off(owner_of(replay, missing), missing);
+    return stream->fault.kind == MISSING && is_foreign(replay, stream, missing) &&
+        is_cut_off(owner_of(replay, missing), missing);
 }
 
 void tell_short(const Replay *replay, const Stream *stream) {
     tell_title(replay, stream);
     if (is_effect(replay, stream)) {
         const Stream *owner = owner_of(replay, stream->fault.object);
-        printf(", of stream %u, whose line %llu is bad\n", owner->number, (Printed)owner->lines + 1);
+        printf(", of stream %u, whose line %llu is bad\n", owner->number,
+               (Printed)owner->lines + 1);
     } else {
         printf(", by itself: --all says why\n");
     }

@@ -16,12 +16,16 @@ typedef unsigned long long Printed;
 
 static int tell_byte(unsigned char byte) {
     if (byte >= ' ' && byte <= '~') return printf("%c", byte);
-    return byte == '\n' ? printf("\\n") : byte == '\r' ? printf("\\r") : byte == '\t' ? printf("\\t") : printf("\\x%02x", byte);
+    return byte == '\n' ? printf("\\n")
+        : byte == '\r'  ? printf("\\r")
+        : byte == '\t'  ? printf("\\t")
+                        : printf("\\x%02x", byte);
 }
 
 // The bytes around the one that decides, with a caret below it.
 static void tell_bytes(Line line, bool is_whole, size_t place) {
-    size_t length = (size_t)(line.end - line.start), first = place > BYTES_BEFORE ? place - BYTES_BEFORE : 0;
+    size_t length = (size_t)(line.end - line.start),
+           first = place > BYTES_BEFORE ? place - BYTES_BEFORE : 0;
     size_t behind = place + BYTES_BEHIND < length ? place + BYTES_BEHIND : length;
     int width = printf("      %s", first > 0 ? ".." : "") - 6;
     for (size_t k = first; k < behind; k++) {
@@ -37,7 +41,10 @@ static const char *name_of(unsigned char byte) {
     static char text[16];
     snprintf(text, sizeof text, byte >= ' ' && byte <= '~' ? "'%c'" : "byte 0x%02x", byte);
     if (byte == '\n') return "the line's end";
-    return byte == '\r' ? "a carriage return" : byte == '\t' ? "a tab" : byte == ' ' ? "a space" : text;
+    return byte == '\r' ? "a carriage return"
+        : byte == '\t'  ? "a tab"
+        : byte == ' '   ? "a space"
+                        : text;
 }
 
 // The usual cause.
@@ -49,7 +56,8 @@ static const char *guess_of(const Stream *stream, Line line, size_t place, unsig
     if (place == 0 && byte == '\n') return "an empty line, which streams don't have";
     if (place == 0 && byte == 'c') return "a comment, which streams don't have?";
     if (place == 0 && byte == 'd') return "a deletion of DRAT, which has no identities?";
-    if (place == 0 && byte == '-') return "a clause of DRAT, which has neither identities nor hints?";
+    if (place == 0 && byte == '-')
+        return "a clause of DRAT, which has neither identities nor hints?";
     if (place == 0 && byte == 'a') return "a binary proof?";
     bool ends_with_zero = line.end - line.start > 1 && line.end[-1] == '0' && line.end[-2] == ' ';
     if (byte == '\n' && ends_with_zero) return "a line of DRAT, which has no hints?";
@@ -66,17 +74,22 @@ static void why_form(const Stream *stream) {
     bool is_end = line.start + fault.place == line.end;
     unsigned char byte = is_end ? '\n' : line.start[fault.place];
     const char *guess = fault.kind == SPELLING ? guess_of(stream, line, fault.place, byte) : NULL;
-    if (fault.kind == SPELLING) printf("  why: expected %s, found %s\n", fault.wanted, name_of(byte));
+    if (fault.kind == SPELLING)
+        printf("  why: expected %s, found %s\n", fault.wanted, name_of(byte));
     else if (fault.kind == RAT_HINT)
-        printf("  why: a negative hint, of a RAT step, which lrupd doesn't check: switch off what makes such steps\n");
+        printf("  why: a negative hint, of a RAT step, which lrupd doesn't check: switch "
+               "off what makes such steps\n");
     else if (fault.kind == TRUNCATED)
-        printf("  why: the stream ends within this line, after %zu bytes: expected %s\n", fault.place, fault.wanted);
+        printf("  why: the stream ends within this line, after %zu bytes: expected %s\n",
+               fault.place, fault.wanted);
     else
-        printf("  why: %zu %s%s, %zu too many: a %s may have %zu\n", fault.count, fault.of, fault.most == DIGITS ? " of a number" : "",
-               fault.count - fault.most, fault.most == DIGITS ? "number" : "line", fault.most);
+        printf("  why: %zu %s%s, %zu too many: a %s may have %zu\n", fault.count, fault.of,
+               fault.most == DIGITS ? " of a number" : "", fault.count - fault.most,
+               fault.most == DIGITS ? "number" : "line", fault.most);
     tell_bytes(line, is_whole, fault.place);
     if (guess) printf("       %s\n", guess);
-    if (fault.kind == TRUNCATED) printf("       was the solver killed, or its buffer not flushed?\n");
+    if (fault.kind == TRUNCATED)
+        printf("       was the solver killed, or its buffer not flushed?\n");
 }
 
 // Identities, literals and room.
@@ -109,7 +122,8 @@ static bool next_addition(const Stream *stream, unsigned char **at, Reading *rea
 static uint64_t step_of(const Stream *stream) {
     uint64_t step = 0, last = 0, count = 0;
     Reading reading;
-    for (unsigned char *at = stream->start; next_addition(stream, &at, &reading); last = reading.identity, count++) {
+    for (unsigned char *at = stream->start; next_addition(stream, &at, &reading);
+         last = reading.identity, count++) {
         uint64_t rest = reading.identity > last ? reading.identity - last : last - reading.identity;
         while (last != 0 && rest != 0) {
             uint64_t next = step % rest;
@@ -124,18 +138,21 @@ static uint64_t step_of(const Stream *stream) {
 static void tell_left_out(const Replay *replay, const Stream *stream) {
     uint64_t step = step_of(stream);
     if (step > replay->count && step <= STREAMS)
-        printf("       the identities of stream %u go up by %llu, as with %llu streams, but %u %s given: was one left out?\n", stream->number,
-               (Printed)step, (Printed)step, replay->count, replay->count == 1 ? "is" : "are");
+        printf("       the identities of stream %u go up by %llu, as with %llu streams, but "
+               "%u %s given: was one left out?\n",
+               stream->number, (Printed)step, (Printed)step, replay->count,
+               replay->count == 1 ? "is" : "are");
 }
 
 static void tell_right_identity(const Replay *replay, const Stream *stream) {
     uint64_t next = next_identity(replay, stream);
     if (next > replay->last) {
-        printf("       stream %u has no identity left: its next one would be %llu\n", stream->number, (Printed)next);
+        printf("       stream %u has no identity left: its next one would be %llu\n",
+               stream->number, (Printed)next);
         tell_lines_for(replay, next);
     } else {
-        printf("       right here: %llu, or after a gap %llu, %llu and so on\n", (Printed)next, (Printed)(next + replay->count),
-               (Printed)(next + 2 * replay->count));
+        printf("       right here: %llu, or after a gap %llu, %llu and so on\n", (Printed)next,
+               (Printed)(next + replay->count), (Printed)(next + 2 * replay->count));
     }
 }
 
@@ -144,7 +161,8 @@ static void tell_lines_of(const Replay *replay, const Stream *stream, uint64_t i
     uint64_t greatest = identity;
     Reading reading;
     for (unsigned char *at = stream->start; next_addition(stream, &at, &reading);)
-        if (number_of_owner(replay, reading.identity) == stream->number && reading.identity > greatest)
+        if (number_of_owner(replay, reading.identity) == stream->number &&
+            reading.identity > greatest)
             greatest = reading.identity;
     if (greatest == identity) return tell_lines_for(replay, identity);
     printf("       --lines %llu is enough for this line, and %llu for all lines of the stream\n",
@@ -154,26 +172,33 @@ static void tell_lines_of(const Replay *replay, const Stream *stream, uint64_t i
 static void why_identity(const Replay *replay, const Stream *stream) {
     uint64_t identity = replay->line.identity;
     if (replay->line.kind == 'i') {
-        if (identity > replay->last) printf("  why: %llu is above %llu, the last identity\n", (Printed)identity, (Printed)replay->last);
-        else printf("  why: %llu is this stream's own: an import names a clause of another stream, or of the formula\n", (Printed)identity);
+        if (identity > replay->last)
+            printf("  why: %llu is above %llu, the last identity\n", (Printed)identity,
+                   (Printed)replay->last);
+        else
+            printf("  why: %llu is this stream's own: an import names a clause of another "
+                   "stream, or of the formula\n",
+                   (Printed)identity);
         if (identity > replay->last) tell_lines_for(replay, identity);
         return;
     }
     if (identity <= replay->clauses) {
-        printf("  why: %llu is of the formula, whose clauses are 1 to %llu\n", (Printed)identity, (Printed)replay->clauses);
+        printf("  why: %llu is of the formula, whose clauses are 1 to %llu\n", (Printed)identity,
+               (Printed)replay->clauses);
     } else if (number_of_owner(replay, identity) != stream->number) {
-        printf("  why: %llu belongs to stream %u: %u streams take turns above %llu\n", (Printed)identity, number_of_owner(replay, identity),
-               replay->count, (Printed)replay->clauses);
+        printf("  why: %llu belongs to stream %u: %u streams take turns above %llu\n",
+               (Printed)identity, number_of_owner(replay, identity), replay->count,
+               (Printed)replay->clauses);
         tell_left_out(replay, stream);
     } else if (identity > replay->last) {
-        printf("  why: %llu is above %llu, the last identity with --lines %llu\n", (Printed)identity, (Printed)replay->last,
-               (Printed)replay->row.lines);
+        printf("  why: %llu is above %llu, the last identity with --lines %llu\n",
+               (Printed)identity, (Printed)replay->last, (Printed)replay->row.lines);
         tell_lines_of(replay, stream, identity);
         return;
     } else {
         uint64_t line = known_of(replay, stream->last)->line;
-        printf("  why: %llu isn't above %llu, the identity of line %llu\n", (Printed)identity, (Printed)stream->last,
-               (Printed)line);
+        printf("  why: %llu isn't above %llu, the identity of line %llu\n", (Printed)identity,
+               (Printed)stream->last, (Printed)line);
     }
     tell_right_identity(replay, stream);
 }
@@ -197,8 +222,8 @@ static void why_tautology(const Replay *replay) {
     const Reading *line = &replay->line;
     for (size_t k = 0; k < line->length; k++) {
         if (replay->values[literal_of(line->literals[k])] <= 0) continue;
-        printf("  why: the clause has %lld and %lld, so it is always true: leave the line out\n", -(long long)line->literals[k],
-               (long long)line->literals[k]);
+        printf("  why: the clause has %lld and %lld, so it is always true: leave the line out\n",
+               -(long long)line->literals[k], (long long)line->literals[k]);
         return;
     }
 }
@@ -207,14 +232,17 @@ static void why_tautology(const Replay *replay) {
 static uint64_t literals_of_stream(const Stream *stream) {
     uint64_t literals = 0;
     Reading reading;
-    for (unsigned char *at = stream->start; next_addition(stream, &at, &reading);) literals += reading.length;
+    for (unsigned char *at = stream->start; next_addition(stream, &at, &reading);)
+        literals += reading.length;
     return literals;
 }
 
 static void why_no_room(const Replay *replay, const Stream *stream) {
     uint64_t wanted = replay->trail.length, literals = literals_of_stream(stream);
-    printf("  why: the clause has %llu different literals, and %llu of --room %llu %s left: %llu too few\n", (Printed)wanted,
-           (Printed)stream->room, (Printed)replay->row.room, stream->room == 1 ? "is" : "are", (Printed)(wanted - stream->room));
+    printf("  why: the clause has %llu different literals, and %llu of --room %llu %s "
+           "left: %llu too few\n",
+           (Printed)wanted, (Printed)stream->room, (Printed)replay->row.room,
+           stream->room == 1 ? "is" : "are", (Printed)(wanted - stream->room));
     printf("       --room %llu is enough for this line, and %llu for all lines of the stream\n",
            (Printed)(replay->row.room + wanted - stream->room), (Printed)literals);
 }
@@ -230,8 +258,8 @@ static void tell_clause_and_place(const Replay *replay, uint64_t identity) {
 static void why_missing(const Replay *replay, const Stream *stream, uint64_t hint) {
     uint64_t later = hint <= replay->last ? line_deriving(owner_of(replay, hint), hint) : 0;
     if (hint > replay->last) {
-        printf("  why: %llu is above %llu, the last identity with --lines %llu\n", (Printed)hint, (Printed)replay->last,
-               (Printed)replay->row.lines);
+        printf("  why: %llu is above %llu, the last identity with --lines %llu\n", (Printed)hint,
+               (Printed)replay->last, (Printed)replay->row.lines);
         tell_lines_for(replay, hint);
         return;
     }
@@ -241,37 +269,47 @@ static void why_missing(const Replay *replay, const Stream *stream, uint64_t hin
         return;
     }
     printf("  why: %llu is of stream %u", (Printed)hint, owner->number);
-    if (owner == stream && later) printf(", this one, which derives it later, in its line %llu\n", (Printed)later);
+    if (owner == stream && later)
+        printf(", this one, which derives it later, in its line %llu\n", (Printed)later);
     else if (owner == stream) printf(", this one, and none of its lines derives it\n");
     else if (is_cut_off(owner, hint))
-        printf(", which stopped at its bad line %llu (%s)\n", (Printed)owner->lines + 1, fault_words(&owner->fault));
+        printf(", which stopped at its bad line %llu (%s)\n", (Printed)owner->lines + 1,
+               fault_words(&owner->fault));
     else if (!later) printf(", and none of its lines derives it\n");
     else if (replay->is_stuck)
-        printf(", whose line %llu waits for %llu, in a circle that comes back to this line\n", (Printed)owner->lines + 1,
-               (Printed)owner->awaited);
-    else printf(", which derives it in its line %llu, and with --serial only later: threads wait for it\n", (Printed)later);
+        printf(", whose line %llu waits for %llu, in a cycle that leads back to this line\n",
+               (Printed)owner->lines + 1, (Printed)owner->awaited);
+    else
+        printf(", which derives it in its line %llu, and with --serial only later: threads "
+               "wait for it\n",
+               (Printed)later);
     if (later || is_cut_off(owner, hint)) return;
-    if (owner->start == owner->end) printf("       stream %u has no lines: was it left out?\n", owner->number);
+    if (owner->start == owner->end)
+        printf("       stream %u has no lines: was it left out?\n", owner->number);
     else tell_left_out(replay, owner);
 }
 
 static void why_deleted(const Replay *replay, const Stream *stream, uint64_t hint) {
     if (stream->fault.kind == DROPPED) {
-        printf("  why: this stream deleted %llu in its line %llu, for itself\n", (Printed)hint, (Printed)line_deleting(stream, hint));
+        printf("  why: this stream deleted %llu in its line %llu, for itself\n", (Printed)hint,
+               (Printed)line_deleting(stream, hint));
         return;
     }
     const Stream *owner = owner_of(replay, hint);
-    printf("  why: its owner deleted %llu in stream %u, line %llu, for all\n", (Printed)hint, owner->number,
-           (Printed)line_deleting(owner, hint));
+    printf("  why: its owner deleted %llu in stream %u, line %llu, for all\n", (Printed)hint,
+           owner->number, (Printed)line_deleting(owner, hint));
     if (owner != stream)
-        printf("       threads may reach that line earlier or later: don't delete a clause that others cite\n");
+        printf("       threads may reach that line earlier or later: don't delete a clause "
+               "that others cite\n");
 }
 
 // The first clause that is unit with this literal now, or the conflict; or 0.
 static uint64_t clause_with_unit(const Replay *replay, const Stream *stream, Literal literal) {
     uint64_t last = last_derived(replay);
     for (uint64_t identity = 1; identity <= last; identity++)
-        if (is_usable(replay, stream, identity) && unit_of(replay, clause_of(replay, identity)) == literal) return identity;
+        if (is_usable(replay, stream, identity) &&
+            unit_of(replay, clause_of(replay, identity)) == literal)
+            return identity;
     return 0;
 }
 
@@ -281,7 +319,9 @@ static size_t later_with_unit(const Replay *replay, const Stream *stream, Litera
     size_t place = stream->fault.place + 1;
     for (; place < line->count; place++) {
         uint64_t hint = (uint64_t)line->cited[place];
-        if (hint <= replay->last && is_usable(replay, stream, hint) && unit_of(replay, clause_of(replay, hint)) == literal) break;
+        if (hint <= replay->last && is_usable(replay, stream, hint) &&
+            unit_of(replay, clause_of(replay, hint)) == literal)
+            break;
     }
     return place;
 }
@@ -289,7 +329,8 @@ static size_t later_with_unit(const Replay *replay, const Stream *stream, Litera
 static void tell_follows(const Replay *replay, const Stream *stream, Literal literal) {
     size_t later = later_with_unit(replay, stream, complement_of(literal));
     bool is_hint = later < replay->line.count;
-    uint64_t unit = is_hint ? (uint64_t)replay->line.cited[later] : clause_with_unit(replay, stream, complement_of(literal));
+    uint64_t unit = is_hint ? (uint64_t)replay->line.cited[later]
+                            : clause_with_unit(replay, stream, complement_of(literal));
     if (unit == 0) return;
     printf("       %d would follow here from ", as_written(complement_of(literal)));
     tell_clause_and_place(replay, unit);
@@ -301,7 +342,8 @@ static void tell_true(const Replay *replay, Literal literal, uint64_t hint) {
     uint32_t reason = replay->reasons[variable_of(literal)];
     printf("  why: %d is true already, ", as_written(literal));
     if (reason == 0) printf("since the new clause has %d\n", as_written(complement_of(literal)));
-    else if ((uint64_t)replay->line.cited[reason - 1] == hint) printf("by hint %u, the same clause: once is enough\n", reason);
+    else if ((uint64_t)replay->line.cited[reason - 1] == hint)
+        printf("by hint %u, the same clause: once is enough\n", reason);
     else printf("by hint %u, %lld\n", reason, (long long)replay->line.cited[reason - 1]);
 }
 
@@ -318,20 +360,23 @@ static void why_not_unit(const Replay *replay, const Stream *stream, uint64_t hi
     printf("  why: %zu literals are neither true nor false: ", open.length);
     tell_literals(open.items, open.length, " ");
     printf("\n");
-    for (size_t k = 0; k < open.length && k < MOST_LITERALS; k++) tell_follows(replay, stream, open.items[k]);
+    for (size_t k = 0; k < open.length && k < MOST_LITERALS; k++)
+        tell_follows(replay, stream, open.items[k]);
     open.items = grow(open.items, 0);
 }
 
 static void why_excess(const Replay *replay, const Stream *stream) {
     size_t place = stream->fault.place;
-    printf("  why: hint %zu, %lld, is the conflict, and none may follow: %zu too many\n", place, (long long)replay->line.cited[place - 1],
-           replay->line.count - place);
+    printf("  why: hint %zu, %lld, is the conflict, and none may follow: %zu too many\n", place,
+           (long long)replay->line.cited[place - 1], replay->line.count - place);
 }
 
 static void why_no_conflict(const Replay *replay, const Stream *stream) {
     uint64_t conflict = clause_with_unit(replay, stream, CONFLICT);
     if (replay->line.count == 0) printf("  why: the line has no hints\n");
-    else printf("  why: each hint is unit, and none has all its literals false: the conflict is missing\n");
+    else
+        printf("  why: each hint is unit, and none has all its literals false: the conflict "
+               "is missing\n");
     if (conflict == 0) return;
     printf("       all literals are false in ");
     tell_clause_and_place(replay, conflict);
@@ -343,8 +388,10 @@ static void tell_chain(const Replay *replay, const Stream *stream) {
     uint64_t also = is_deleted ? stream->fault.object : 0;
     Chain chain = chain_find(replay, stream, also);
     if (!chain.is_found) {
-        printf("  no chain: unit propagation over all clauses that the line may cite ends without a conflict: %zu literals are true\n"
-               "       then, and %zu clauses have none of these. The clause is wrong, or another one is missing\n",
+        printf("  no chain: unit propagation over all clauses that the line may cite ends "
+               "without a conflict: %zu literals are true\n"
+               "       then, and %zu clauses have none of these. The clause is wrong, or "
+               "another one is missing\n",
                chain.true_literals, chain.open_clauses);
         return;
     }
@@ -355,22 +402,27 @@ static void tell_chain(const Replay *replay, const Stream *stream) {
         cites_it |= is_deleted && chain.hints.items[k] == also;
     }
     printf(cites_it ? "    (if %llu isn't deleted)\n" : "\n", (Printed)also);
-    if (chain.hints.length > IDENTITIES_OF_A_LINE) printf("       it is longer than a line may be: derive a part of it first\n");
+    if (chain.hints.length > IDENTITIES_OF_A_LINE)
+        printf("       it is longer than a line may be: derive a part of it first\n");
 }
 
 // Deletions and imports.
 
 static void why_not_live(const Replay *replay, const Stream *stream, uint64_t identity) {
-    uint64_t line = line_deleting(stream, identity), later = identity <= replay->last ? line_deriving(stream, identity) : 0;
-    bool is_own = identity > replay->clauses && identity <= replay->last && !is_foreign(replay, stream, identity);
+    uint64_t line = line_deleting(stream, identity),
+             later = identity <= replay->last ? line_deriving(stream, identity) : 0;
+    bool is_own = identity > replay->clauses && identity <= replay->last &&
+        !is_foreign(replay, stream, identity);
     if (identity > replay->last) {
-        printf("  why: %llu is above %llu, the last identity\n", (Printed)identity, (Printed)replay->last);
+        printf("  why: %llu is above %llu, the last identity\n", (Printed)identity,
+               (Printed)replay->last);
         tell_lines_for(replay, identity);
     } else if (is_own && clause_of(replay, identity) == 0) {
         printf("  why: no line of this stream has derived %llu", (Printed)identity);
         printf(later ? "; line %llu does, which comes later\n" : "\n", (Printed)later);
     } else if (line <= stream->lines) {
-        printf("  why: this stream has deleted %llu before, in its line %llu\n", (Printed)identity, (Printed)line);
+        printf("  why: this stream has deleted %llu before, in its line %llu\n", (Printed)identity,
+               (Printed)line);
     } else {
         printf("  why: %llu is in this line twice\n", (Printed)identity);
     }

@@ -100,7 +100,7 @@ void Front::say(const std::string &line) const {
     while (heard >= 0 && write(heard, block.data(), BLOCK) < 0 && errno == EINTR) {}
 }
 
-// The probe ended with another status than 3, and not by a signal.
+// The probe ended with a status other than 3, and not by a signal.
 bool Front::has_refused() const {
     return probe.child.ended() && WIFEXITED(probe.child.status) && !probe.child.ended_with(UNKNOWN_STATUS);
 }
@@ -184,6 +184,19 @@ void Checker::start(Row row, const std::vector<int> &files) {
     expect(front.output_of_lrupd);
 }
 
+bool Checker::was_killed() const { return child.ended() && WIFSIGNALED(child.status); }
+
+// All that the killed lrupd wrote was read. Another one appends its lines to the same file.
+void Checker::renew() {
+    opener.end();
+    close_file(sizes);
+    for (Stream &stream : streams) close_file(stream.pipe);
+    Checker another;
+    another.keeps_digests = keeps_digests;
+    another.written = written;
+    *this = another;
+}
+
 // Between rounds lrupd opens the sizes first, and then the streams in order. Each open waits for a
 // writer.
 void Checker::expect_round(const std::string &path) {
@@ -226,7 +239,7 @@ bool Checker::feed(size_t number, uint64_t bytes, bool drop) {
     while (stream.pipe >= 0 && stream.fed < bytes) {
         size_t wanted = size_t(std::min<uint64_t>(piece.size(), bytes - stream.fed));
         ssize_t got = pread(stream.file, piece.data(), wanted, off_t(stream.fed));
-        if (got <= 0) refuse("cannot read " + stream.name + " again: " + (got < 0 ? error_text() : "it is cut"));
+        if (got <= 0) refuse("cannot read " + stream.name + " again: " + (got < 0 ? error_text() : "it was truncated"));
         ssize_t count = write(stream.pipe, piece.data(), size_t(got));
         if (count < 0 && errno == EAGAIN) stream.is_full = true;
         if (stream.is_full) break;

@@ -19,6 +19,7 @@ public:
     void ask(const std::string &path);
     bool has_opened(std::string &path);     // the first one asked for; the opener waits for go_on
     void go_on();
+    void end();
     pollfd says() const { return { socket, POLLIN, 0 }; }   // for when something was opened
 
 private:
@@ -42,6 +43,8 @@ public:
     void expect(const std::string &path);   // it runs, or will run; the file with its output
     // asks the front for it; round 1 reads these files
     void start(Row row, const std::vector<int> &files);
+    bool was_killed() const;                // a signal has ended it
+    void renew();                           // after that; another one may be started
 
     // expect_round comes before a round's streams end: how the names of the next round's files in
     // lrupd's folder begin. Once lrupd has saved the round, begin_round gives it the next round's

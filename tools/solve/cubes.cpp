@@ -12,11 +12,13 @@ const double BUMP = 1.0005;
 
 // The place after the last engine of this host that takes clauses over, from 0.
 int end_of_engines(const Shared &shared, const Options &options) {
-    return std::min(shared.first_here + shared.engines_here, options.engines - int(options.solvers.size()));
+    return std::min(shared.first_here + shared.engines_here,
+                    options.engines - int(options.solvers.size()));
 }
 
 bool has_cube(const EngineStatus &engine_status) {
-    return engine_status.cube_number != 0 && LOAD(engine_status.refuted_cube) != engine_status.cube_number;
+    return engine_status.cube_number != 0 &&
+        LOAD(engine_status.refuted_cube) != engine_status.cube_number;
 }
 
 // Without those of the user's cube.
@@ -25,7 +27,8 @@ Cube literals_of(const EngineStatus &engine_status) {
 }
 
 bool has_variable(const Cube &cube, int variable) {
-    return std::any_of(cube.begin(), cube.end(), [&](int literal) { return std::abs(literal) == variable; });
+    return std::any_of(cube.begin(), cube.end(),
+                       [&](int literal) { return std::abs(literal) == variable; });
 }
 
 }
@@ -37,8 +40,10 @@ bool has_cubes(const Shared &shared, const Options &options) {
 // An engine's part.
 
 Cubes::Cubes(const Engine &given, CaDiCaL::Solver &its_solver)
-    : engine(given), solver(its_solver), engine_status(given.shared->engine_statuses[given.number - 1]),
-      takes(has_cubes(*given.shared, *given.options) || !given.cubes->empty()), idle(!given.cubes->empty()) {
+    : engine(given), solver(its_solver),
+      engine_status(given.shared->engine_statuses[given.number - 1]),
+      takes(has_cubes(*given.shared, *given.options) || !given.cubes->empty()),
+      idle(!given.cubes->empty()) {
     if (takes && is_first()) scores.assign(size_t(engine.formula->variables) + 1, 0);
 }
 
@@ -51,7 +56,9 @@ void Cubes::keep_variables() {
         }
 }
 
-bool Cubes::looks() const { return takes && is_first() && LOAD(engine.shared->variable_count) == 0; }
+bool Cubes::looks() const {
+    return takes && is_first() && LOAD(engine.shared->variable_count) == 0;
+}
 
 void Cubes::count_conflict() { bump *= BUMP; }
 
@@ -71,8 +78,10 @@ void Cubes::tell_variables(const std::vector<unsigned char> &gone) {
     std::vector<int> order;
     for (Literal literal : *engine.assumed) scores[size_t(variable_of(literal)) + 1] = 0;
     for (int variable = 1; variable <= engine.formula->variables; variable++)
-        if (scores[size_t(variable)] > 0 && !gone[size_t(variable)] && solver.fixed(variable) == 0) order.push_back(variable);
-    std::sort(order.begin(), order.end(), [&](int one, int other) { return scores[size_t(one)] > scores[size_t(other)]; });
+        if (scores[size_t(variable)] > 0 && !gone[size_t(variable)] && solver.fixed(variable) == 0)
+            order.push_back(variable);
+    std::sort(order.begin(), order.end(),
+              [&](int one, int other) { return scores[size_t(one)] > scores[size_t(other)]; });
     size_t count = std::min(order.size(), size_t(VARIABLES_OF_CUBES));
     std::copy_n(order.begin(), count, engine.shared->variables);
     STORE(engine.shared->variable_count, count);
@@ -92,7 +101,8 @@ void Cubes::get_ready(const std::vector<unsigned char> &gone) {
 void Cubes::tell_usable() {
     uint64_t usable = kept;
     for (uint64_t k = 0; k < engine.shared->variable_count; k++)
-        if (kept >> k & 1 && solver.fixed(engine.shared->variables[k]) != 0) usable &= ~(uint64_t(1) << k);
+        if (kept >> k & 1 && solver.fixed(engine.shared->variables[k]) != 0)
+            usable &= ~(uint64_t(1) << k);
     STORE(engine_status.usable, usable);
     STORE(engine_status.ready, 1);
 }
@@ -104,14 +114,17 @@ void Cubes::take() {
     idle = found == number ? std::max(int(may_come), idle - 1) : 0;
     if (found == number) return;
     literals.clear();
-    if (int of_file = LOAD(engine_status.cube_of_file)) literals = (*engine.cubes)[size_t(of_file) - 1];
-    for (int k = 0, length = LOAD(engine_status.cube_length); k < length; k++) literals.push_back(LOAD(engine_status.cube[k]));
+    if (int of_file = LOAD(engine_status.cube_of_file))
+        literals = (*engine.cubes)[size_t(of_file) - 1];
+    for (int k = 0, length = LOAD(engine_status.cube_length); k < length; k++)
+        literals.push_back(LOAD(engine_status.cube[k]));
     number = LOAD(engine_status.cube_number) == found ? found : 0;
     if (number == 0) literals.clear();
 }
 
 bool Cubes::is_refuted() const {
-    return std::any_of(literals.begin(), literals.end(), [&](int literal) { return solver.failed(literal); });
+    return std::any_of(literals.begin(), literals.end(),
+                       [&](int literal) { return solver.failed(literal); });
 }
 
 void Cubes::tell_refuted() {
@@ -187,12 +200,14 @@ void Dealer::share_out(Shared &shared, int end, EngineStatus &idle, uint64_t usa
     has_whole = true;
 }
 
-void Dealer::halve(const Shared &shared, EngineStatus &oldest, EngineStatus &idle, uint64_t usable) {
+void Dealer::halve(const Shared &shared, EngineStatus &oldest, EngineStatus &idle,
+                   uint64_t usable) {
     int of_file = oldest.cube_of_file;
     Cube cube = literals_of(oldest);
     for (uint64_t k = 0; k < shared.variable_count; k++) {
         int variable = shared.variables[k];
-        bool is_there = has_variable(cube, variable) || (of_file && has_variable((*cubes)[size_t(of_file) - 1], variable));
+        bool is_there = has_variable(cube, variable) ||
+            (of_file && has_variable((*cubes)[size_t(of_file) - 1], variable));
         if (!(usable >> k & 1) || is_there) continue;
         if (of_file) parts[size_t(of_file) - 1]++;
         cube.push_back(-variable);

@@ -37,7 +37,9 @@ std::string grouped(uint64_t number) {
     return digits;
 }
 
-std::string counted(uint64_t number, const char *what) { return grouped(number) + " " + what + (number == 1 ? "" : "s"); }
+std::string counted(uint64_t number, const char *what) {
+    return grouped(number) + " " + what + (number == 1 ? "" : "s");
+}
 
 static std::string sizes_of_record() {
     return format("%.1f MB kept, %s MB free", double(bytes_of_record()) / 1e6,
@@ -68,13 +70,16 @@ void Display::end_reading() const {
     if (shown > 0) hide();
 }
 
-double Display::next_show() const { return shows_progress || shows_lines() ? shown + SHOWING : INFINITY; }
+double Display::next_show() const {
+    return shows_progress || shows_lines() ? shown + SHOWING : INFINITY;
+}
 
 void Display::show() {
     if (now() < next_show()) return;
     shown = now();
     show_lines();
-    if (shows_progress) fprintf(stderr, "\r%s\33[K", progress().substr(0, terminal_columns() - 1).c_str());
+    if (shows_progress)
+        fprintf(stderr, "\r%s\33[K", progress().substr(0, terminal_columns() - 1).c_str());
 }
 
 void Display::show_lines() {
@@ -103,38 +108,50 @@ double Display::fullness() const {
     double fullest = 0;
     for (size_t k = 0; k < teams.size(); k++) {
         const EngineStatus &engine_status = teams.engine_status(k);
-        fullest = std::max(fullest, double(LOAD(engine_status.round_lines)) / double(std::max<uint64_t>(1, rounds.rows.row.lines)));
-        fullest = std::max(fullest, double(LOAD(engine_status.round_literals)) / double(std::max<uint64_t>(1, rounds.rows.row.room)));
+        fullest = std::max(fullest,
+                           double(LOAD(engine_status.round_lines)) /
+                               double(std::max<uint64_t>(1, rounds.rows.row.lines)));
+        fullest = std::max(fullest,
+                           double(LOAD(engine_status.round_literals)) /
+                               double(std::max<uint64_t>(1, rounds.rows.row.room)));
     }
     return fullest;
 }
 
 std::string Display::progress() const {
     double time = now() - started;
-    uint64_t bytes = teams.all(&EngineStatus::bytes), lines = teams.all(&EngineStatus::round_lines), read = 0;
+    uint64_t bytes = teams.all(&EngineStatus::bytes), lines = teams.all(&EngineStatus::round_lines),
+             read = 0;
     for (size_t k = 0; k < teams.size() && checker.child.pid && !rounds.is_behind(); k++)
-        if (uint64_t number = LOAD(teams.engine_status(k).stream)) read += checker.read_of(number - 1);
+        if (uint64_t number = LOAD(teams.engine_status(k).stream))
+            read += checker.read_of(number - 1);
     double share = bytes > 0 ? std::min(1.0, double(read) / double(bytes)) : 0;
     uint64_t checked = rounds.lines_before + uint64_t(share * double(lines));
     uint64_t conflicts = uint64_t(double(teams.all(&EngineStatus::conflicts)) / time);
     std::string work = inputs.options.check ? proofs_read() : grouped(conflicts) + " conflicts/s";
     std::string room = inputs.options.proofs ? ", " + sizes_of_record() : "";
     std::string of_lrupd = grouped(checked) + " checked";
-    if (rounds.checked > 0 && rounds.is_behind()) of_lrupd = format("lrupd at round %llu", (unsigned long long)rounds.checked);
-    return format("%.1f s, %s, %s, %s kB behind, round %llu at %.0f %%", time, (cubes_to_come() + work).c_str(),
-                  of_lrupd.c_str(), grouped(teams.all(&EngineStatus::behind) / 1000).c_str(),
-                  (unsigned long long)rounds.number, 100 * fullness()) + room;
+    if (rounds.checked > 0 && rounds.is_behind())
+        of_lrupd = format("lrupd at round %llu", (unsigned long long)rounds.checked);
+    return format("%.1f s, %s, %s, %s kB behind, round %llu at %.0f %%", time,
+                  (cubes_to_come() + work).c_str(), of_lrupd.c_str(),
+                  grouped(teams.all(&EngineStatus::behind) / 1000).c_str(),
+                  (unsigned long long)rounds.number, 100 * fullness()) +
+        room;
 }
 
 // Cubes of the user's file.
 std::string Display::cubes_refuted() const {
-    return grouped(teams.dealer.refuted + teams.dealer.refuted_elsewhere) + " of " + counted(inputs.cubes.size(), "cube");
+    return grouped(teams.dealer.refuted + teams.dealer.refuted_elsewhere) + " of " +
+        counted(inputs.cubes.size(), "cube");
 }
 
 std::string Display::cubes_to_come() const {
     if (inputs.cubes.empty()) return "";
-    double refuted = double(teams.dealer.refuted + teams.dealer.refuted_elsewhere), rate = refuted / (now() - started);
-    std::string rest = format(", %.1f/s, %.0f s for the rest", rate, (double(inputs.cubes.size()) - refuted) / rate);
+    double refuted = double(teams.dealer.refuted + teams.dealer.refuted_elsewhere),
+           rate = refuted / (now() - started);
+    std::string rest = format(", %.1f/s, %.0f s for the rest", rate,
+                              (double(inputs.cubes.size()) - refuted) / rate);
     return cubes_refuted() + (refuted > 0 ? rest : "") + ", ";
 }
 
@@ -146,7 +163,8 @@ std::string Display::proofs_read() const {
         size += teams[k].proof_size;
         is_known &= teams[k].proof_size > 0;
     }
-    return is_known ? format("%.0f %% read", 100.0 * double(read) / double(size)) : grouped(read / 1000) + " kB read";
+    return is_known ? format("%.0f %% read", 100.0 * double(read) / double(size))
+                    : grouped(read / 1000) + " kB read";
 }
 
 // At the end.
@@ -155,22 +173,29 @@ void Display::details() const {
     for (size_t k = 0; k < teams.size() && !inputs.options.check; k++) {
         const EngineStatus &engine_status = teams.engine_status(k);
         uint64_t lines = LOAD(engine_status.lines);
-        tell(format("%s: %.2f s, its filter %.2f s; %s conflicts; clauses: %s taken over, %s refused, %s given away; "
+        tell(format("%s: %.2f s, its filter %.2f s; %s conflicts; clauses: %s taken over, %s "
+                    "refused, %s given away; "
                     "%s, %.0f %% of them cite another stream",
-                    teams.title(k).c_str(), teams[k].engine.seconds, teams[k].filter.seconds, grouped(LOAD(engine_status.conflicts)).c_str(),
-                    grouped(LOAD(engine_status.taken)).c_str(), grouped(LOAD(engine_status.refused)).c_str(),
+                    teams.title(k).c_str(), teams[k].engine.seconds, teams[k].filter.seconds,
+                    grouped(LOAD(engine_status.conflicts)).c_str(),
+                    grouped(LOAD(engine_status.taken)).c_str(),
+                    grouped(LOAD(engine_status.refused)).c_str(),
                     grouped(LOAD(engine_status.given)).c_str(), counted(lines, "line").c_str(),
                     lines ? 100.0 * double(LOAD(engine_status.citing_others)) / double(lines) : 0));
     }
     if (teams.dealer.dealt > 0)
-        tell(format("cubes: %s dealt out, %s refuted, %s of lost engines handed on", grouped(teams.dealer.dealt).c_str(),
-                    grouped(teams.all(&EngineStatus::refuted_cubes)).c_str(), grouped(teams.dealer.handed_on).c_str()));
-    if (teams.answered > 0) tell(format("the verdict came %.2f s after an engine's answer", now() - teams.answered));
+        tell(format("cubes: %s dealt out, %s refuted, %s of lost engines handed on",
+                    grouped(teams.dealer.dealt).c_str(),
+                    grouped(teams.all(&EngineStatus::refuted_cubes)).c_str(),
+                    grouped(teams.dealer.handed_on).c_str()));
+    if (teams.answered > 0)
+        tell(format("the verdict came %.2f s after an engine's answer", now() - teams.answered));
 }
 
 // With -v these lines were printed when the engines were lost.
 void Display::lost() const {
-    for (size_t k = 0; k < teams.size() && !inputs.options.verbose && inputs.contradiction().empty(); k++)
+    for (size_t k = 0;
+         k < teams.size() && !inputs.options.verbose && inputs.contradiction().empty(); k++)
         if (teams[k].told) tell(teams.why_lost(k));
 }
 
@@ -179,7 +204,8 @@ void Display::causes(const std::string &cause) const {
     const std::string &report = checker.report;
     size_t begin = 0;
     for (size_t end; (end = report.find('\n', begin)) != std::string::npos; begin = end + 1)
-        if (report.compare(begin, 2, "c ") == 0) tell("lrupd: " + report.substr(begin + 2, end - begin - 2));
+        if (report.compare(begin, 2, "c ") == 0)
+            tell("lrupd: " + report.substr(begin + 2, end - begin - 2));
     tell(cause);
 }
 
@@ -198,13 +224,20 @@ void Display::summary() const {
         filters += teams[k].filter.seconds;
         left += !teams[k].told;
     }
-    std::string left_of = left < teams.size() && inputs.contradiction().empty() ? std::to_string(left) + " of " : "";
-    std::string of_rounds = format("%llu rounds with %.1f %% of pauses, ", (unsigned long long)rounds.number, 100 * rounds.paused / wall);
-    const char *what = inputs.options.check ? "proof" : "engine", *ran = inputs.options.check ? "reading" : "engines";
+    std::string left_of = left < teams.size() && inputs.contradiction().empty()
+        ? std::to_string(left) + " of "
+        : "";
+    std::string of_rounds = format("%llu rounds with %.1f %% of pauses, ",
+                                   (unsigned long long)rounds.number, 100 * rounds.paused / wall);
+    const char *what = inputs.options.check ? "proof" : "engine",
+               *ran = inputs.options.check ? "reading" : "engines";
     if (inputs.options.cubes) tell(cubes_refuted() + " refuted");
-    tell(format("%.2f s, %s%s, %s%s checked; %.2f s of processor time: %s %.2f, filters %.2f, lrupd %.2f", wall, left_of.c_str(),
-                counted(uint64_t(inputs.options.engines), what).c_str(), rounds.number > 1 ? of_rounds.c_str() : "",
-                counted(teams.all(&EngineStatus::lines), "clause").c_str(), engines + filters + lrupd, ran, engines, filters, lrupd));
+    tell(format("%.2f s, %s%s, %s%s checked; %.2f s of processor time: %s %.2f, filters "
+                "%.2f, lrupd %.2f",
+                wall, left_of.c_str(), counted(uint64_t(inputs.options.engines), what).c_str(),
+                rounds.number > 1 ? of_rounds.c_str() : "",
+                counted(teams.all(&EngineStatus::lines), "clause").c_str(),
+                engines + filters + lrupd, ran, engines, filters, lrupd));
 }
 
 void tell_model(const std::vector<signed char> &model) {

@@ -15,7 +15,8 @@ class Teams;
 
 class Display {
 public:
-    Display(const Inputs &its_inputs, const Teams &its_teams, const Rounds &its_rounds, Checker &its_checker)
+    Display(const Inputs &its_inputs, const Teams &its_teams, const Rounds &its_rounds,
+            Checker &its_checker)
         : inputs(its_inputs), teams(its_teams), rounds(its_rounds), checker(its_checker) {}
     void begin();                       // on a terminal, shows progress from now on
     double next_reading() const;        // when show_reading is due; INFINITY: never

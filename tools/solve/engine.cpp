@@ -40,7 +40,8 @@ enum { OUT_OF_MEMORY = 3, NO_PROOF = 4 };       // the process's statuses
 class Worker : CaDiCaL::Learner, CaDiCaL::WitnessIterator {
 public:
     explicit Worker(const Engine &given)
-        : engine(given), engine_status(given.shared->engine_statuses[given.number - 1]), cubes(given, solver) {}
+        : engine(given), engine_status(given.shared->engine_statuses[given.number - 1]),
+          cubes(given, solver) {}
 
     int run() {
         open();
@@ -76,13 +77,15 @@ private:
         STORE(engine_status.conflicts, engine_status.conflicts + 1);
         learned = size;
         if (cubes.looks()) cubes.count_conflict();
-        return shares() && size >= 2 && (cubes.looks() || size <= engine.options->share_size + int(cubes.cube().size()));
+        return shares() && size >= 2 &&
+            (cubes.looks() || size <= engine.options->share_size + int(cubes.cube().size()));
     }
 
     // The cube's literals don't count towards the length.
     void learn(int literal) override {
         const std::vector<int> &cube = cubes.cube();
-        if (literal == 0 && learned <= engine.options->share_size && !LOAD(engine.shared->crowded)) putc_unlocked('x', proof);
+        if (literal == 0 && learned <= engine.options->share_size && !LOAD(engine.shared->crowded))
+            putc_unlocked('x', proof);
         if (literal != 0 && cubes.looks()) cubes.count_literal(literal);
         learned -= literal != 0 && std::find(cube.begin(), cube.end(), -literal) != cube.end();
     }
@@ -108,7 +111,9 @@ private:
             case 0: solver.configure("unsat"); break;
             case 1: solver.set("stabilizeonly", 1); break;
             case 3: solver.set("phase", 0); break;
-            case 4: solver.set("reverse", 1), solver.set("shuffle", 1), solver.set("shufflerandom", 1); break;
+            case 4:
+                solver.set("reverse", 1), solver.set("shuffle", 1), solver.set("shufflerandom", 1);
+                break;
             case 5: solver.set("stabilizeonly", 1), solver.set("reduceint", 150); break;
             case 6: solver.set("elim", 0); break;
             case 7: solver.set("bumpreason", 0), solver.set("shrink", 0); break;
@@ -123,12 +128,14 @@ private:
         solver.set("quiet", 1);
         solver.set("seed", engine.options->seed + engine.number - 1);
         if (engine.number > 1) solver.set("lucky", 0);
-        if (shares() && !has_cubes(*engine.shared, *engine.options) && engine.cubes->empty()) solver.set("rephase", 0);
+        if (shares() && !has_cubes(*engine.shared, *engine.options) && engine.cubes->empty())
+            solver.set("rephase", 0);
         if (size_t(engine.options->engines) > engine.options->solvers.size() + 1) differ();
         if (test_hooks.set) {
             std::istringstream list(test_hooks.set);
             bool any = false;       // a version of CaDiCaL may lack some
-            for (std::string word; list >> word;) any |= solver.set_long_option(("--" + word).c_str());
+            for (std::string word; list >> word;)
+                any |= solver.set_long_option(("--" + word).c_str());
             if (!any) abort();
         }
     }
@@ -147,7 +154,9 @@ private:
         solver.reserve(engine.formula->variables);
         const Formula &formula = *engine.formula;
         for (size_t k = 0; k < formula.clauses; k++) {
-            if (!begins_with(engine.beginning, k, formula.starts.items[k + 1] - formula.starts.items[k], engine.number)) continue;
+            if (!begins_with(engine.beginning, k,
+                             formula.starts.items[k + 1] - formula.starts.items[k], engine.number))
+                continue;
             for (size_t at = formula.starts.items[k]; at < formula.starts.items[k + 1]; at++)
                 solver.add(as_written(formula.literals.items[at]));
             solver.add(0);
@@ -161,7 +170,8 @@ private:
     void assume() {
         for (Literal literal : *engine.assumed) solver.assume(as_written(literal));
         for (int literal : cubes.cube()) solver.assume(literal);
-        if (engine.number == 1 && engine_status.slices > 0) solver.assume(engine.formula->variables + 1);
+        if (engine.number == 1 && engine_status.slices > 0)
+            solver.assume(engine.formula->variables + 1);
     }
 
     // The clause is given away, regardless of its length.
@@ -187,12 +197,15 @@ private:
             assume();
             bool is_whole = !cubes.is_idle() && !test_hooks.slice;
             if (shares() || cubes.is_idle())
-                solver.limit("conflicts", is_whole ? int(conflicts) : int(hooked(test_hooks.slice, LEAST_CONFLICTS)));
+                solver.limit("conflicts",
+                             is_whole ? int(conflicts)
+                                      : int(hooked(test_hooks.slice, LEAST_CONFLICTS)));
             double begin = now();
             int status = solver.solve();
             if ((status != 0 && !(status == 20 && refutes_cube())) || !goes_on()) return status;
             double factor = SLICE / std::max(now() - begin, 1e-6);
-            if (is_whole && status == 0) conflicts = within_limits(conflicts * std::min(2.0, std::max(0.5, factor)));
+            if (is_whole && status == 0)
+                conflicts = within_limits(conflicts * std::min(2.0, std::max(0.5, factor)));
             STORE(engine_status.slices, engine_status.slices + 1);
             take_over();
             cubes.look(gone);
@@ -261,11 +274,14 @@ private:
         look_for_witnesses();
         int left = MOST_TAKEN;
         for (int other = 0; other < engine.options->engines; other++) {
-            uint64_t end = LOAD(engine.shared->engine_statuses[other].outbox_used), at = read[size_t(other)];
-            while (const uint32_t *gift = next_gift(engine.shared, engine.outboxes[other], &at, end)) {
+            uint64_t end = LOAD(engine.shared->engine_statuses[other].outbox_used),
+                     at = read[size_t(other)];
+            while (
+                const uint32_t *gift = next_gift(engine.shared, engine.outboxes[other], &at, end)) {
                 size_t length = length_of(gift);
                 if (other + 1 == engine.number) is_new(literals_of(gift), length);
-                else if (length <= 2 || gift[0] & OF_A_CUBE || left-- > 0) take(other, at - HEAD_OF_A_GIFT - length, literals_of(gift), length);
+                else if (length <= 2 || gift[0] & OF_A_CUBE || left-- > 0)
+                    take(other, at - HEAD_OF_A_GIFT - length, literals_of(gift), length);
             }
             if (at > read[size_t(other)]) put_step('r', other, at);
             read[size_t(other)] = at;

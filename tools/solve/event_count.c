@@ -7,7 +7,9 @@
 
 #include "shared.h"
 
-uint64_t events_so_far(const EventCount *events) { return __atomic_load_n(&events->count, __ATOMIC_SEQ_CST); }
+uint64_t events_so_far(const EventCount *events) {
+    return __atomic_load_n(&events->count, __ATOMIC_SEQ_CST);
+}
 
 // At least one side sees the other: the count advances before `waits` is read, and `waits` is set
 // before the count is read.
@@ -30,7 +32,8 @@ void events_end_wait(EventCount *events, bool is_readable) {
 }
 
 bool events_await(EventCount *events, uint64_t seen, int file) {
-    struct pollfd list[] = { { .fd = events->file, .events = POLLIN }, { .fd = file, .events = POLLIN } };
+    struct pollfd list[] = { { .fd = events->file, .events = POLLIN },
+                             { .fd = file, .events = POLLIN } };
     bool waits = events_begin_wait(events, seen);
     poll(list, 2, waits ? -1 : 0);
     events_end_wait(events, list[0].revents != 0);

@@ -107,7 +107,8 @@ static void out(const char *bytes, size_t length) {
 static void keep_for_imports(void) {
     uint64_t formula = filter.formula.clauses;
     for (int k = 0; k < own->shared->engines; k++) {
-        uint64_t at = engine_status->floors[k], end = LOAD(own->shared->engine_statuses[k].outbox_used);
+        uint64_t at = engine_status->floors[k],
+                 end = LOAD(own->shared->engine_statuses[k].outbox_used);
         if (k == own->engine - 1 || test_hooks.without_floor) continue;
         for (uint32_t *gift; (gift = next_gift(own->shared, own->outboxes[k], &at, end)) != NULL;) {
             uint64_t identity = gift_identity(gift);
@@ -124,7 +125,8 @@ static void await_round(const uint64_t *field, uint64_t wanted) {
 // Whether it is the file that the first process made for the round.
 static bool is_as_made(int stream) {
     struct stat found;
-    return fstat(stream, &found) == 0 && S_ISREG(found.st_mode) && found.st_nlink == 1 && found.st_size == 0;
+    return fstat(stream, &found) == 0 && S_ISREG(found.st_mode) && found.st_nlink == 1 &&
+        found.st_size == 0;
 }
 
 static void open_stream(void) {
@@ -138,7 +140,8 @@ static void open_stream(void) {
         lseek(own->stream, 0, SEEK_SET);        // the first process has emptied it
         return;
     }
-    snprintf(name, sizeof name, "round-%llu.stream-%llu", (unsigned long long)round_number, (unsigned long long)filter.stream);
+    snprintf(name, sizeof name, "round-%llu.stream-%llu", (unsigned long long)round_number,
+             (unsigned long long)filter.stream);
     int file = openat(own->record, name, O_WRONLY | O_NOFOLLOW | O_NONBLOCK | O_CLOEXEC);
     if (file < 0 ? errno == ELOOP : !is_as_made(file)) leave_unwritten("replaced by another file");
     if (file < 0 || dup2(file, own->stream) < 0) leave_unwritten(strerror(errno));
@@ -165,7 +168,8 @@ static void next_round(void) {
     checkpoint_read(&checkpoint, own->shared->checkpoint);
     round_begin(&filter, &checkpoint, engine_status->stream, own->shared->streams);
     filter.others.length = 0;       // their identities are those of round 1
-    if (!test_hooks.without_renewal) outbox_renew(own->shared, own->outboxes[own->engine - 1], own->engine, &checkpoint);
+    if (!test_hooks.without_renewal)
+        outbox_renew(own->shared, own->outboxes[own->engine - 1], own->engine, &checkpoint);
     checkpoint_free(&checkpoint);
     kept.length = 0;
     STORE(engine_status->bytes, 0);
@@ -195,7 +199,8 @@ static void await_proof(int file) {
 
 static bool has_room(uint64_t literals) {
     Row row = { LOAD(own->shared->most_lines), LOAD(own->shared->most_literals) };
-    return row_holds(row, (Row){ engine_status->round_lines, engine_status->round_literals }, literals);
+    return row_holds(row, (Row){ engine_status->round_lines, engine_status->round_literals },
+                     literals);
 }
 
 static void next_round_for(uint64_t literals) {
@@ -210,11 +215,13 @@ static void derives(const Filter *one) { round_make_room(one, has_room, next_rou
 // Gives the clause away, if the outbox has room.
 static void give(uint32_t mark) {
     uint32_t *outbox = own->outboxes[own->engine - 1];
-    if (!outbox_put(own->shared, outbox, own->engine, &staged, filter.last, &filter.literals, mark)) return;
+    if (!outbox_put(own->shared, outbox, own->engine, &staged, filter.last, &filter.literals, mark))
+        return;
     PUSH(&kept, filter.last);
     STORE(engine_status->given, engine_status->given + 1);
     if (test_hooks.without_flush) STORE(engine_status->outbox_used, staged);
-    if (test_hooks.last_gift && own->engine == 1 && engine_status->given == test_hooks.last_gift) _exit(1);
+    if (test_hooks.last_gift && own->engine == 1 && engine_status->given == test_hooks.last_gift)
+        _exit(1);
 }
 
 // Whether the stream is an engine's of another host.
@@ -229,7 +236,8 @@ static bool is_elsewhere(uint64_t stream) {
 static void count(void) {
     uint64_t others = 0, elsewhere = 0, formula = filter.formula.clauses;
     for (size_t k = 0; k < filter.chain.length; k++) {
-        uint64_t identity = filter.chain.items[k], stream = identity > formula ? (identity - formula - 1) % filter.streams + 1 : 0;
+        uint64_t identity = filter.chain.items[k],
+                 stream = identity > formula ? (identity - formula - 1) % filter.streams + 1 : 0;
         if (stream == 0 || stream == filter.stream) continue;
         others++;
         elsewhere += is_elsewhere(stream);
@@ -254,14 +262,16 @@ static bool is_wanted(void) {
 static void derived(const Filter *one) {
     size_t length = one->literals.length;
     count();
-    if (own->shares && length > 0 && (length == 1 || one->marked)) give(one->marked > 1 ? OF_A_CUBE : 0);
+    if (own->shares && length > 0 && (length == 1 || one->marked))
+        give(one->marked > 1 ? OF_A_CUBE : 0);
     refuted |= is_wanted();
 }
 
 // Taking over.
 
 static int engine_of(uint64_t number) {
-    if (number < 1 || number > (uint64_t)own->shared->engines) stop("no engine %llu", (unsigned long long)number);
+    if (number < 1 || number > (uint64_t)own->shared->engines)
+        stop("no engine %llu", (unsigned long long)number);
     return (int)number - 1;
 }
 
@@ -276,7 +286,9 @@ static bool lacks(uint64_t clause, uint64_t length) {
     return !begins_with(&own->beginning, clause, length, own->engine);
 }
 
-static void passed(uint64_t engine, uint64_t position) { STORE(engine_status->floors[engine_of(engine)], position); }
+static void passed(uint64_t engine, uint64_t position) {
+    STORE(engine_status->floors[engine_of(engine)], position);
+}
 
 // The filter is already open, since a round may end before the first bytes arrive. If a binary
 // proof may be DRAT or LRAT, it is DRAT.
@@ -288,7 +300,8 @@ static Form form_found(const Formula *formula) {
 
 static void open_others(void) {
     for (int k = 0; own->cited && k < own->shared->engines; k++)
-        if (k != own->engine - 1) others_open(&filter.others, (uint64_t)k + 1, own->cited[k], filter.formula.variables);
+        if (k != own->engine - 1)
+            others_open(&filter.others, (uint64_t)k + 1, own->cited[k], filter.formula.variables);
 }
 
 static void read_proof(const Formula *formula) {
@@ -303,7 +316,9 @@ static void read_proof(const Formula *formula) {
 
 // A solver said 20, but hasn't written the empty clause.
 static void end_proof(void) {
-    if (refuted || LOAD(own->shared->over) || own->form != UNKNOWN_FORM || LOAD(engine_status->answer) != 20) return;
+    if (refuted || LOAD(own->shared->over) || own->form != UNKNOWN_FORM ||
+        LOAD(engine_status->answer) != 20)
+        return;
     propagation_settle(&filter.propagation);
     if (filter.propagation.conflict == 0) leave("the proof ends without the empty clause");
     filter_add(&filter, &(Addition){0});
@@ -313,7 +328,8 @@ static void end_proof(void) {
 // process. The stream deletes no clause before its round ends: others may cite what was given away
 // at any time, and lrupd reuses no memory of deleted clauses.
 void filter_process(const Filtering *filtering, const void *formula) {
-    static const Hooks hooks = { .ends = ends, .derives = derives, .derived = derived, .gift = gift, .passed = passed,
+    static const Hooks hooks = { .ends = ends, .derives = derives, .derived = derived,
+                                  .gift = gift, .passed = passed,
                                  .lacks = lacks };
     own = filtering;
     errors_handle(end);

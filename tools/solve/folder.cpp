@@ -23,12 +23,14 @@ int place = -1, folder_file = -1;           // the folder that it is in; the fol
 Pipe life;                                  // closed when this process ends
 pid_t cleaner = 0;
 
-// Removes by descriptors only, since a name may be another file's by now. Closes `file`.
-void remove_within(int file) {
+// Removes what has names that begin so, by descriptors only, since a name may be another file's by
+// now. Closes `file`.
+void remove_within(int file, const std::string &beginning = "") {
     DIR *list = file < 0 ? nullptr : fdopendir(file);
     while (const dirent *entry = list ? readdir(list) : nullptr) {
         const std::string name = entry->d_name;
-        if (name == "." || name == ".." || unlinkat(file, name.c_str(), 0) == 0) continue;
+        bool is_meant = name != "." && name != ".." && name.compare(0, beginning.size(), beginning) == 0;
+        if (!is_meant || unlinkat(file, name.c_str(), 0) == 0) continue;
         remove_within(openat(file, name.c_str(), O_RDONLY | O_DIRECTORY | O_NOFOLLOW | O_CLOEXEC));
         unlinkat(file, name.c_str(), AT_REMOVEDIR);
     }
@@ -99,7 +101,8 @@ std::string Folder::make_if_possible() {
     uint64_t number;
     struct stat made;
     place = kept_open(open(within.c_str(), O_PATH | O_DIRECTORY | O_CLOEXEC));
-    if (place >= 0 && others_may_write(place)) return within + ": others may write there: another TMPDIR";
+    if (place >= 0 && others_may_write(place))
+        return within + ": others may write there: choose another TMPDIR";
     if (place < 0 || getrandom(&number, sizeof number, 0) != sizeof number)
         return "cannot make a folder " + within + "/lrup-solve-XXXXXX: " + error_text();
     last_name = "lrup-solve-" + std::to_string(number);
@@ -112,7 +115,8 @@ std::string Folder::make_if_possible() {
     }
     folder_file = kept_open(open_folder());
     signal(SIGPIPE, SIG_IGN);       // the cleaner may have been killed
-    bool is_kept = fstat(folder_file, &made) == 0 && write(life.write, &made, sizeof made) == sizeof made;
+    bool is_kept = fstat(folder_file, &made) == 0 &&
+        write(life.write, &made, sizeof made) == sizeof made;
     std::string cause = error_text();
     if (is_kept) return "";
     unlinkat(place, last_name.c_str(), AT_REMOVEDIR);
@@ -127,7 +131,9 @@ void Folder::make() {
 
 const std::string &Folder::name() { return path; }
 
-std::string Folder::numbers() { return std::to_string(getpid()) + " " + std::to_string(folder_file); }
+std::string Folder::numbers() {
+    return std::to_string(getpid()) + " " + std::to_string(folder_file);
+}
 
 std::string Folder::open_name() { return name_of_file(folder_file); }
 
@@ -136,6 +142,10 @@ std::string Folder::room() {
     uint64_t left = fstatvfs(place, &found) == 0 ? uint64_t(found.f_bavail) * found.f_frsize : 0;
     std::string within = quoted(path.substr(0, path.rfind('/')));
     return "TMPDIR (" + within + ") has " + std::to_string(left / 1000000) + " MB left";
+}
+
+void Folder::remove_rounds() {
+    remove_within(openat(folder_file, ".", O_RDONLY | O_DIRECTORY | O_CLOEXEC), "round-");
 }
 
 // This process removes it itself, since the cleaner may be stopped.

@@ -1,4 +1,4 @@
-// Unverified, as all of this solver. The formula and the assumptions are read.
+// Unverified, like the whole solver. Reads the formula and the assumptions.
 #include <algorithm>
 #include <cerrno>
 #include <cmath>
@@ -24,7 +24,7 @@ const int LONGEST_NUMBER = 20;
 
 const Inputs *the_inputs;
 
-// Of a thread that reads the formula. It says how that ended by the file; a fault ends the run.
+// A thread reads the formula, and then writes to the file; a fault ends the run.
 pthread_t reader;
 bool is_reading = false;
 int read_file = -1;
@@ -49,8 +49,10 @@ Inputs::Inputs(const Options &given) : options(given) {
     errors_handle(refused);
 }
 
-// By which it can be read more than once: what is no file on a disk the front has copied, and that is kept where the record is.
-std::string Inputs::again(const std::string &path, const std::string &fronts, const char *kept_as) const {
+// A path by which the input can be read more than once. The front has copied an input that isn't a
+// file on disk; a record keeps that copy.
+std::string Inputs::again(const std::string &path, const std::string &fronts,
+                          const char *kept_as) const {
     if (is_read_again(path)) return path[0] == '-' ? "./" + path : path;
     if (!options.proofs) return fronts;
     std::string copied = std::string(options.proofs) + "/" + kept_as, begun = unfinished(copied);
@@ -62,7 +64,8 @@ std::string Inputs::again(const std::string &path, const std::string &fronts, co
     return copied;
 }
 
-// Of an earlier run in the folder nothing is removed until they are read: they may come from there, by a pipe.
+// Nothing of an earlier run in the folder is removed until the inputs are read: they may come from
+// there, through a pipe.
 void Inputs::find() {
     std::vector<std::string> inputs = { options.formula };
     if (options.assume) inputs.push_back(options.assume);
@@ -80,10 +83,12 @@ void Inputs::find() {
     clear_record(options.proofs, kept);
 }
 
-std::string Inputs::path_of_digests() const { return std::string(options.proofs) + "/formula.sha256"; }
+std::string Inputs::path_of_digests() const {
+    return std::string(options.proofs) + "/formula.sha256";
+}
 
-// The record is of this formula, and of these assumptions, or nothing of it is touched. A run that was ended as it read them has
-// left no digests.
+// Unless the record is that of this formula and these assumptions, nothing in it is touched. A run
+// that ended while it read them has left no digests.
 void Inputs::check_digests() {
     const std::string path = path_of_digests(), name[] = { "formula", "assumptions" };
     if (saved.count() == 0 && !is_there(path)) return;
@@ -95,12 +100,13 @@ void Inputs::check_digests() {
         std::string digest = digest_of(file, name[k]);
         close(file);
         if (!std::getline(lines, line))
-            refuse(path + " doesn't have the SHA-256 of the " + name[k] + ": the run can't go on");
+            refuse(path + " doesn't have the SHA-256 of the " + name[k] + ": the run can't be resumed");
         if (line.compare(line[0] == '\\', DIGEST_DIGITS + 2, digest + "  ") != 0)
-            refuse(title(k == 0 ? options.formula : options.assume) + " isn't the " + name[k] + " of " +
-                   options.resumed + ", or was changed since");
+            refuse(title(k == 0 ? options.formula : options.assume) + " isn't the " + name[k] +
+                   " of " + options.resumed + ", or was changed since");
     }
-    if (std::getline(lines, line)) refuse(std::string(options.resumed) + " is the record of a run with --assume");
+    if (std::getline(lines, line))
+        refuse(std::string(options.resumed) + " is the record of a run with --assume");
 }
 
 void Inputs::find_again() {
@@ -121,7 +127,8 @@ void Inputs::read(const Meanwhile &meanwhile) {
     if (!unwritten.empty()) refuse(unwritten);
 }
 
-// A large one takes seconds, in which a signal ends the run at once. No process is started then.
+// Reading a large formula takes seconds, in which a signal ends the run at once. No process has
+// been started by then.
 void Inputs::read_in_thread(const Meanwhile &meanwhile) {
     auto begin = [](void *inputs) -> void * {
         static_cast<Inputs *>(inputs)->read_formula();
@@ -137,7 +144,7 @@ void Inputs::read_in_thread(const Meanwhile &meanwhile) {
     is_reading = false;
 }
 
-// By a name that is short: what is said of it isn't cut.
+// Reads the formula under a short name, so that messages about it aren't cut off.
 void Inputs::read_formula() {
     int file = open_input(formula_path);
     formula_read(&formula, (OPEN_FILES + std::to_string(file)).c_str());
@@ -152,15 +159,15 @@ void Inputs::read_formula() {
     if (options.assume) digests += digest_line(assume_path);
 }
 
-// It begins with the formula's own clauses, which no round leaves out.
+// The checkpoint begins with the formula's own clauses, which no round drops.
 void Inputs::read_first_formula(const std::string &path) {
     first_formula = Formula();
     formula_read(&first_formula, path.c_str());
     if (first_formula.variables != formula.variables || first_formula.clauses < formula.clauses)
-        refuse(path + " isn't of this formula: the run can't go on");
+        refuse(path + " isn't of this formula: the run can't be resumed");
 }
 
-// How they are separated is lrupd's to judge.
+// Whether the literals are separated correctly is for lrupd to judge.
 void Inputs::read_assumptions() {
     std::ifstream file(assume_path);
     std::string word, name = title(options.assume);
@@ -168,7 +175,9 @@ void Inputs::read_assumptions() {
     while (file >> std::setw(LONGEST_NUMBER) >> word && word != "0") {
         if (!number_read(word.c_str(), &literal)) refuse_formula(name + ": not a number: " + word);
         if (std::abs(literal) > formula.variables)
-            refuse_formula(name + ": the literal " + word + ", and the formula has the variables 1 to " + std::to_string(formula.variables));
+            refuse_formula(name + ": the literal " + word +
+                           ", and the formula has the variables 1 to " +
+                           std::to_string(formula.variables));
         assumed.push_back(literal > 0 ? 2 * (literal - 1) : 2 * (-literal - 1) + 1);
     }
     if (word != "0") refuse_formula(name + ": no line of literals that ends with 0");
@@ -176,17 +185,20 @@ void Inputs::read_assumptions() {
     assumed.resize(literals_sort(assumed.data(), assumed.size()));
 }
 
-// Of iCNF: a header, comments and clauses are left out. Nobody believes a cube, so it is read as well as it can be.
+// Reads iCNF, and skips a header, comments and clauses. Cubes aren't trusted, so no spelling that
+// makes sense is refused.
 void Inputs::read_cubes() {
     std::string name = title(options.cubes), line;
     check_plain(options.cubes, name);
     std::ifstream file(options.cubes);
     for (uint64_t number = 1; std::getline(file, line); number++)
-        if (!read_cube(line)) refuse(name + ", line " + std::to_string(number) + ": not a cube of the formula's literals, like 'a 1 -2 0'");
+        if (!read_cube(line))
+            refuse(name + ", line " + std::to_string(number) +
+                   ": not a cube of the formula's literals, like 'a 1 -2 0'");
     if (file.bad()) refuse("cannot read " + name);
 }
 
-// False where it is no line of such a file.
+// False if the line can't be one of such a file.
 bool Inputs::read_cube(const std::string &line) {
     static const std::string others = "cp-0123456789";
     std::istringstream words(line);
@@ -196,9 +208,12 @@ bool Inputs::read_cube(const std::string &line) {
     if (word != "a") return others.find(word[0]) != std::string::npos;
     bool is_open = true;
     for (int literal = 0; words >> word && word != "0";) {
-        if (!number_read(word.c_str(), &literal) || std::abs(literal) > formula.variables || literal == 0) return false;
+        if (!number_read(word.c_str(), &literal) || std::abs(literal) > formula.variables ||
+            literal == 0)
+            return false;
         Literal one = literal > 0 ? 2 * (literal - 1) : 2 * (-literal - 1) + 1;
-        is_open &= !found.count(complement_of(one)) && !std::binary_search(assumed.begin(), assumed.end(), complement_of(one));
+        is_open &= !found.count(complement_of(one)) &&
+            !std::binary_search(assumed.begin(), assumed.end(), complement_of(one));
         if (!std::binary_search(assumed.begin(), assumed.end(), one)) found.insert(one);
     }
     bool is_ended = word == "0" && !(words >> word);
@@ -208,47 +223,52 @@ bool Inputs::read_cube(const std::string &line) {
     return is_ended;
 }
 
-// lrupd takes one line, with single spaces and LF.
+// lrupd accepts one line, with single spaces and LF.
 std::string Inputs::fault_of_assumptions() const {
     std::ifstream file(assume_path);
     std::string text((std::istreambuf_iterator<char>(file)), std::istreambuf_iterator<char>());
     size_t end = text.find('\n');
     bool is_spaced = text.find("  ") != std::string::npos || text.find('\t') != std::string::npos ||
                      text[0] == ' ' || text.find(" \n") != std::string::npos;
-    if (text.find('\r') != std::string::npos) return ": a CR, and a line ends with LF alone";
+    if (text.find('\r') != std::string::npos) return ": it has a CR, but lines end with LF alone";
     if (end == std::string::npos) return ": no LF at its end";
     if (end + 1 < text.size()) return ": a second line";
-    return is_spaced ? ": more than the single spaces between its words" : "";
+    return is_spaced ? ": more than single spaces between its literals" : "";
 }
 
-double Inputs::deadline() const { return options.seconds > 0 ? started + options.seconds : INFINITY; }
+double Inputs::deadline() const {
+    return options.seconds > 0 ? started + options.seconds : INFINITY;
+}
 
-// No clause shows it, so no proof does.
+// No clause can show this, and so no proof can.
 std::string Inputs::contradiction() const {
     for (size_t k = 1; k < assumed.size(); k++)
         if (assumed[k] == complement_of(assumed[k - 1]))
-            return format("assumptions %d and %d contradict each other, which no clause shows",
+            return format("assumptions %d and %d contradict each other, which no proof can show",
                           as_written(assumed[k - 1]), as_written(assumed[k]));
     return "";
 }
 
 bool Inputs::is_model(const signed char *values) const {
-    auto is_true = [&](Literal literal) { return values[variable_of(literal)] == (literal & 1 ? -1 : 1); };
+    auto is_true = [&](Literal literal) {
+        return values[variable_of(literal)] == (literal & 1 ? -1 : 1);
+    };
     if (!std::all_of(assumed.begin(), assumed.end(), is_true)) return false;
     const Literal *all = formula.literals.items;
     for (size_t k = 0; k < formula.clauses; k++)
-        if (!std::any_of(all + formula.starts.items[k], all + formula.starts.items[k + 1], is_true)) return false;
+        if (!std::any_of(all + formula.starts.items[k], all + formula.starts.items[k + 1], is_true))
+            return false;
     return true;
 }
 
-// Of the file that it was about.
+// The cause, with the formula's name in place of the short one.
 std::string Inputs::named(const std::string &cause) const {
     size_t begin = strlen(OPEN_FILES);
     if (cause.rfind(OPEN_FILES, 0) != 0) return cause;
     return title(options.formula) + cause.substr(cause.find_first_not_of("0123456789", begin));
 }
 
-// What is known here is told, too.
+// Also prints the cause that was found here.
 void Inputs::refuse_formula(const std::string &cause) const {
     std::string said = front.await_refusal(deadline());
     if (said.empty()) refuse(named(cause));

@@ -1,4 +1,5 @@
-// Unverified, as all of this solver. What is to be solved: the words, the formula and the assumptions.
+// Unverified, like the whole solver. What is to be solved: the options, the formula and the
+// assumptions.
 #ifndef INPUTS_H
 #define INPUTS_H
 
@@ -10,25 +11,26 @@ class Inputs {
 public:
     Options options;
     Formula formula = {};
-    SavedRounds saved;                          // of an earlier run, with which this one goes on
-    Formula first_formula = {};                 // of this run's first round: the formula, where none was saved
+    SavedRounds saved;                          // of the earlier run that this one resumes
+    Formula first_formula = {};                 // the formula of this run's first round
     std::vector<Literal> assumed;
-    std::vector<Cube> cubes;                    // but those that contradict themselves, or what is assumed
-    std::string formula_path, assume_path;      // by which they are read again
-    double reading = 0;                         // seconds, of the formula
+    std::vector<Cube> cubes;                    // without contradictory ones
+    std::string formula_path, assume_path;      // to read them again
+    double reading = 0;                         // seconds that the formula took
     std::string digests;                        // of both files, a line each, for the record
 
     explicit Inputs(const Options &given);
-    void find();                                // their paths, and the folder of --proofs
-    using Meanwhile = std::function<void(int file)>;    // until that file can be read
+    void find();                                // their paths; opens the folder of --proofs
+    using Meanwhile = std::function<void(int file)>;    // runs until the file can be read
     void read(const Meanwhile &meanwhile);
     void read_formula();
     void read_first_formula(const std::string &path);
     double deadline() const;                    // by --time; INFINITY without
-    std::string contradiction() const;          // of the assumptions; none
+    std::string contradiction() const;          // of the assumptions; or ""
     bool is_model(const signed char *values) const;
-    std::string fault_of_assumptions() const;   // how they are spelled; empty if that isn't known
-    [[noreturn]] void refuse_formula(const std::string &cause) const;   // in lrupd's words, where it refuses it, too
+    std::string fault_of_assumptions() const;   // in their spelling; "" if unknown
+    // in lrupd's words, if it refuses it, too
+    [[noreturn]] void refuse_formula(const std::string &cause) const;
 
 private:
     double started = now();
@@ -37,7 +39,8 @@ private:
     std::string path_of_digests() const;
     void check_digests();
     void read_in_thread(const Meanwhile &meanwhile);
-    std::string again(const std::string &path, const std::string &fronts, const char *kept_as) const;
+    std::string again(const std::string &path, const std::string &fronts,
+                      const char *kept_as) const;
     void read_assumptions();
     void read_cubes();
     bool read_cube(const std::string &line);

@@ -241,7 +241,8 @@ std::string Keeping::describe(const Checker &checker, uint64_t rounds, const Wai
     text += "kit: " KIT "\n";
     text += format("machine: %s %s %s, %ld processors, %.0f MB\n", machine.sysname, machine.release,
                    machine.machine, sysconf(_SC_NPROCESSORS_ONLN), memory);
-    text += "verdict: " + lines_of(checker.report).back() + "\n";
+    const std::vector<std::string> report = lines_of(checker.report);
+    text += "verdict: " + (report.empty() ? "" : report.back()) + "\n";
     text += format("record: %s, %s\n", counted(rounds, "round").c_str(),
                    counted(bytes_of_record(), "byte").c_str());
     text += "\n" + digest_line(checker_program) + digests_of_record(known_digests(checker));

@@ -15,9 +15,11 @@ const std::string ENDING = "-mpi";
 std::string program_for_mpi() {
     std::string path = own_path();
     if (path.empty()) refuse("cannot find this program's folder, which has lrup-engines-mpi");
-    bool is_it = path.size() > ENDING.size() && path.compare(path.size() - ENDING.size(), ENDING.size(), ENDING) == 0;
+    bool is_it = path.size() > ENDING.size() &&
+        path.compare(path.size() - ENDING.size(), ENDING.size(), ENDING) == 0;
     if (!is_it) path += ENDING;
-    if (!is_program(path)) refuse(quoted(path) + ": cannot be run: `make solve-mpi` builds lrup-engines-mpi");
+    if (!is_program(path))
+        refuse(quoted(path) + ": cannot be run: `make solve-mpi` builds lrup-engines-mpi");
     return path;
 }
 
@@ -26,7 +28,8 @@ std::string program_for_mpi() {
 // The command gets no input. When the front ends, SIGTERM makes the command end its processes.
 void start_by_mpi(const Options &options, int count, char **words) {
     if (!options.mpi || front.is_elsewhere()) return;
-    std::string program = program_for_mpi(), line = std::string("exec ") + options.mpi + " \"$0\" \"$@\"";
+    std::string program = program_for_mpi(),
+                line = std::string("exec ") + options.mpi + " \"$0\" \"$@\"";
     std::vector<std::string> fronts = front.words();
     std::vector<const char *> list = { "sh", "-c", line.c_str(), program.c_str() };
     for (const std::string &word : fronts) list.push_back(word.c_str());

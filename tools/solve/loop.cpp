@@ -12,14 +12,16 @@ void Loop::begin() {
     sigemptyset(&taken);
     struct sigaction found;
     for (int number : { SIGCHLD, SIGINT, SIGTERM, SIGHUP })
-        if (sigaction(number, nullptr, &found) != 0 || found.sa_handler != SIG_IGN) sigaddset(&taken, number);
+        if (sigaction(number, nullptr, &found) != 0 || found.sa_handler != SIG_IGN)
+            sigaddset(&taken, number);
     sigprocmask(SIG_BLOCK, &taken, nullptr);
     signals = signalfd(-1, &taken, SFD_CLOEXEC | SFD_NONBLOCK);
     if (signals < 0) refuse("cannot wait for signals: " + error_text());
     signal(SIGPIPE, SIG_IGN);
 }
 
-void Loop::wait(EventCount &events, std::vector<pollfd> &files, double time, const std::vector<Child *> &children) {
+void Loop::wait(EventCount &events, std::vector<pollfd> &files, double time,
+                const std::vector<Child *> &children) {
     files.push_back({ events.file, POLLIN, 0 });
     files.push_back({ signals, POLLIN, 0 });
     bool waits = events_begin_wait(&events, seen) && !looks_again;

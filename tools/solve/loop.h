@@ -15,7 +15,8 @@ public:
     void begin();               // takes signals from now on
     // Waits for a signal, the end of a child, an event of engines and filters, input from these
     // files, or that time.
-    void wait(EventCount &events, std::vector<pollfd> &files, double time, const std::vector<Child *> &children);
+    void wait(EventCount &events, std::vector<pollfd> &files, double time,
+              const std::vector<Child *> &children);
 
 private:
     int signals = -1;

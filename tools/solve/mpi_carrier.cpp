@@ -72,7 +72,8 @@ private:
         std::vector<int32_t> all(static_cast<size_t>(size));
         int32_t here = engines;
         MPI_Allgather(&here, 1, MPI_INT32_T, all.data(), 1, MPI_INT32_T, MPI_COMM_WORLD);
-        tell(HELLO, rank, std::string(reinterpret_cast<const char *>(all.data()), all.size() * sizeof all[0]));
+        tell(HELLO, rank,
+             std::string(reinterpret_cast<const char *>(all.data()), all.size() * sizeof all[0]));
     }
 
     std::string read_input() {
@@ -129,7 +130,8 @@ private:
         Flying &one = flying.back();
         append_message(one.bytes, message.head.word, rank, message.bytes);
         bytes_flying += one.bytes.size();
-        MPI_Isend(one.bytes.data(), int(one.bytes.size()), MPI_BYTE, message.head.process, 0, MPI_COMM_WORLD, &one.request);
+        MPI_Isend(one.bytes.data(), int(one.bytes.size()), MPI_BYTE, message.head.process, 0,
+                  MPI_COMM_WORLD, &one.request);
     }
 
     // A deque doesn't move its items.
@@ -152,7 +154,8 @@ private:
         if (!there) return false;
         MPI_Get_count(&status, MPI_BYTE, &count);
         std::string bytes(size_t(count), 0);
-        MPI_Recv(&bytes[0], count, MPI_BYTE, status.MPI_SOURCE, 0, MPI_COMM_WORLD, MPI_STATUS_IGNORE);
+        MPI_Recv(&bytes[0], count, MPI_BYTE, status.MPI_SOURCE, 0, MPI_COMM_WORLD,
+                 MPI_STATUS_IGNORE);
         if (write_some(to_run, bytes, 0) < bytes.size()) _exit(1);
         return true;
     }
@@ -192,8 +195,8 @@ private:
         }
         found.assign(size_t(all), 0);
         if (left) return;
-        MPI_Iallgatherv(gifts.data(), int(gifts.size()), MPI_BYTE, &found[0], lengths.data(), places.data(), MPI_BYTE,
-                        MPI_COMM_WORLD, &request);
+        MPI_Iallgatherv(gifts.data(), int(gifts.size()), MPI_BYTE, &found[0], lengths.data(),
+                        places.data(), MPI_BYTE, MPI_COMM_WORLD, &request);
         state = BYTES;
     }
 
@@ -201,7 +204,8 @@ private:
         state = QUIET;
         for (int k = 0; k < size && !leaves; k++) {
             size_t length_of_k = size_t(lengths[size_t(k)]);
-            if (k != rank && length_of_k > 0) tell(GIFTS, k, found.substr(size_t(places[size_t(k)]), length_of_k));
+            if (k != rank && length_of_k > 0)
+                tell(GIFTS, k, found.substr(size_t(places[size_t(k)]), length_of_k));
         }
         Message time;
         time.put(uint64_t(1e9 * (now() - begun)));

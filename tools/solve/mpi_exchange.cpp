@@ -44,15 +44,19 @@ std::string Exchange::collect() {
     if (LOAD(shared->round) != round) begin_round();
     if (LOAD(shared->saved_round) >= round && !test_hooks.without_passing) pass_over();
     for (size_t k = size_t(first); k < size_t(end); k++)
-        while (const uint32_t *gift = next_gift(shared, outboxes[k], &read[k], cleared[k])) all.push_back({ int(k), gift });
+        while (const uint32_t *gift = next_gift(shared, outboxes[k], &read[k], cleared[k]))
+            all.push_back({ int(k), gift });
     auto cost = [](const uint32_t *gift) { return gift[0] & OF_A_CUBE ? 0 : length_of(gift); };
-    std::stable_sort(all.begin(), all.end(), [&](const Found &one, const Found &other) { return cost(one.gift) < cost(other.gift); });
+    std::stable_sort(all.begin(), all.end(), [&](const Found &one, const Found &other) {
+        return cost(one.gift) < cost(other.gift);
+    });
     message.put(round);
     size_t left = LITERALS_OF_AN_ENGINE * size_t(end - first), sent = 0;
     for (; sent < all.size() && cost(all[sent].gift) <= left; sent++) {
         const uint32_t *gift = all[sent].gift;
         message.put(Sent{ uint32_t(all[sent].engine), gift_identity(gift), gift[0] });
-        message.bytes.append(reinterpret_cast<const char *>(literals_of(gift)), length_of(gift) * sizeof(Literal));
+        message.bytes.append(reinterpret_cast<const char *>(literals_of(gift)),
+                             length_of(gift) * sizeof(Literal));
         left -= cost(gift);
     }
     for (int k = first; k < end; k++) pass(k, read[size_t(k)]);
@@ -76,7 +80,8 @@ void Exchange::place(Message &message) {
         Literals list = { literals.data(), literals.size(), literals.size() };
         uint64_t &place = staged[sent.engine];
         bool placed = (!late || test_hooks.without_lateness) &&
-                      outbox_put(shared, outboxes[sent.engine], int(sent.engine) + 1, &place, sent.identity, &list, sent.length & OF_A_CUBE);
+            outbox_put(shared, outboxes[sent.engine], int(sent.engine) + 1, &place, sent.identity,
+                       &list, sent.length & OF_A_CUBE);
         ++(placed ? traffic.in : traffic.dropped);
         STORE(shared->engine_statuses[sent.engine].outbox_used, place);
     }

@@ -36,7 +36,9 @@ public:
             look_here();
             for (size_t k = 0; k < teams.size(); k++)
                 if (teams.is_here(k)) say(k);
-            if (now() - traffic_at >= PULSE || teams.dealer.taken != peer.exchange.traffic.cubes_taken) say_traffic();
+            if (now() - traffic_at >= PULSE ||
+                teams.dealer.taken != peer.exchange.traffic.cubes_taken)
+                say_traffic();
         }
         for (Child *child : teams.children()) child->signal(SIGKILL), wait_for(*child);
         for (size_t k = 0; k < teams.size(); k++)
@@ -50,7 +52,12 @@ public:
 
 private:
     enum State { SOLVING, BETWEEN_ROUNDS, OVER };
-    struct Told { uint64_t sent = 0, dropped = 0; bool has_model = false; double at = 0; Facts facts = {}; };
+    struct Told {
+        uint64_t sent = 0, dropped = 0;
+        bool has_model = false;
+        double at = 0;
+        Facts facts = {};
+    };
 
     Inputs inputs;
     Teams teams;
@@ -98,21 +105,24 @@ private:
     static void keep(int file, const char *bytes, size_t length) {
         while (length > 0) {
             ssize_t count = write(file, bytes, length);
-            if (count < 0 && errno != EINTR) refuse("cannot store data from process 0: " + error_text());
+            if (count < 0 && errno != EINTR)
+                refuse("cannot store data from process 0: " + error_text());
             if (count > 0) bytes += count, length -= size_t(count);
         }
     }
 
-    // Of a run that goes on also what a round before has saved. The round that this run begins with.
+    // Broadcasts the formula; in a resumed run also the last checkpoint. Returns the round with
+    // which this run begins.
     uint64_t receive_inputs() {
         int file = file_in_memory(), saved_before = file_in_memory();
         uint64_t round = 1;
         for (Message message;;) {
-            if (!link.wait(message, STARTING)) refuse("no formula comes from process 0");
+            if (!link.wait(message, STARTING)) refuse("no formula came from process 0");
             if (message.head.word != INPUT || message.bytes.empty()) break;
             char kind = 0;
             message.take(kind);
-            for (Literal literal; kind == 'a' && message.take(literal);) inputs.assumed.push_back(literal);
+            for (Literal literal; kind == 'a' && message.take(literal);)
+                inputs.assumed.push_back(literal);
             if (kind == 'c') receive_cubes(message);
             if (kind == 'f') keep(file, message.rest(), message.left());
             if (kind == 'r') message.take(round);
@@ -181,12 +191,14 @@ private:
         text.insert(0, format("p cnf 0 %llu\n", (unsigned long long)count));
         saved_file = file_in_memory();
         keep(saved_file, text.data(), text.size());
-        std::string path = "/proc/" + std::to_string(getpid()) + "/fd/" + std::to_string(saved_file);
+        std::string path = "/proc/" + std::to_string(getpid()) + "/fd/" +
+            std::to_string(saved_file);
         saved_bytes.clear();
         checkpoint_read(&saved, path.c_str());
         for (size_t k = 0; k < teams.size(); k++) {
             if (!teams.is_here(k)) continue;
-            if (ftruncate(teams[k].stream, 0) != 0) refuse("cannot empty a stream: " + error_text());
+            if (ftruncate(teams[k].stream, 0) != 0)
+                refuse("cannot empty a stream: " + error_text());
             told[k].dropped = 0;
         }
         copy_name(teams.shared->checkpoint, path);
@@ -211,7 +223,8 @@ private:
     }
 
     void take_cubes(Message &message) {
-        for (uint64_t cube; message.take(cube) && cube < inputs.cubes.size();) teams.dealer.queue.push_back(size_t(cube));
+        for (uint64_t cube; message.take(cube) && cube < inputs.cubes.size();)
+            teams.dealer.queue.push_back(size_t(cube));
     }
 
     // The processes here.
@@ -224,7 +237,8 @@ private:
             if (!teams.is_here(k)) continue;
             Team &team = teams[k];
             if (team.filter.ended()) STORE(teams.engine_status(k).gone, 1);
-            if (told[k].facts.of_filter.ended && LOAD(teams.engine_status(k).answer) == 0) team.engine.signal(SIGKILL);
+            if (told[k].facts.of_filter.ended && LOAD(teams.engine_status(k).answer) == 0)
+                team.engine.signal(SIGKILL);
         }
         bool is_late = now() >= ending;
         if (is_late) ending = INFINITY;
@@ -238,15 +252,21 @@ private:
         EngineStatus &engine_status = teams.engine_status(k);
         Told &one = told[k];
         uint64_t round_on = LOAD(teams.shared->round);
-        if (LOAD(engine_status.mapped_round) + 1 != round_on || LOAD(teams.shared->saved_round) >= round_on) return true;
+        if (LOAD(engine_status.mapped_round) + 1 != round_on ||
+            LOAD(teams.shared->saved_round) >= round_on)
+            return true;
         uint64_t used = LOAD(engine_status.outbox_used), bytes = LOAD(engine_status.bytes);
         static std::vector<char> piece(PIECE_OF_A_STREAM);
         bool is_whole = teams[k].filter.ended() || LOAD(engine_status.ended_round) == round_on;
         uint64_t pieces = test_hooks.late_lines ? is_whole : UINT64_MAX;
-        for (; pieces > 0 && one.sent < bytes && one.sent < LOAD(engine_status.fed) + WINDOW && !link.is_full(); pieces--) {
+        for (; pieces > 0 && one.sent < bytes && one.sent < LOAD(engine_status.fed) + WINDOW &&
+             !link.is_full();
+             pieces--) {
             size_t wanted = std::min<uint64_t>(piece.size(), bytes - one.sent);
             ssize_t count = pread(teams[k].stream, piece.data(), wanted, off_t(one.sent));
-            if (count <= 0) refuse("cannot read a stream again: " + (count < 0 ? error_text() : "it is cut"));
+            if (count <= 0)
+                refuse("cannot read a stream again: " +
+                       (count < 0 ? error_text() : "it was truncated"));
             Message message;
             message.put(int32_t(k));
             message.bytes.append(piece.data(), size_t(count));
@@ -255,7 +275,8 @@ private:
             peer.exchange.traffic.bytes_of_streams += uint64_t(count);
         }
         if (one.sent - one.dropped > DROPPED) {
-            fallocate(teams[k].stream, FALLOC_FL_PUNCH_HOLE | FALLOC_FL_KEEP_SIZE, 0, off_t(one.sent / PAGE * PAGE));
+            fallocate(teams[k].stream, FALLOC_FL_PUNCH_HOLE | FALLOC_FL_KEEP_SIZE, 0,
+                      off_t(one.sent / PAGE * PAGE));
             one.dropped = one.sent;
         }
         if (one.sent == bytes || test_hooks.without_clearing) peer.exchange.clear(int(k), used);
@@ -268,7 +289,8 @@ private:
             Message message;
             message.put(int32_t(k));
             message.put(uint64_t(from));
-            message.bytes.append(reinterpret_cast<const char *>(teams[k].model) + from, std::min(PIECE_OF_INPUT, all - from));
+            message.bytes.append(reinterpret_cast<const char *>(teams[k].model) + from,
+                                 std::min(PIECE_OF_INPUT, all - from));
             link.send(MODEL, 0, message.bytes);
         }
         told[k].has_model = true;
@@ -283,7 +305,9 @@ private:
         traffic_at = now();
     }
 
-    static Ended end_of(const Child &child) { return { child.ended(), child.status, child.seconds }; }
+    static Ended end_of(const Child &child) {
+        return { child.ended(), child.status, child.seconds };
+    }
 
     // Reads the counts backwards, rounds first: what a filter stores before it ends a round is then
     // stored.
@@ -303,8 +327,9 @@ private:
 
     static bool is_news(const Facts &one, const Facts &other) {
         auto what_counts = [](const Facts &facts) {
-            return std::make_tuple(facts.answer, facts.refuted, facts.of_engine.ended, facts.of_filter.ended,
-                                   facts.counts[ENDED_ROUND], facts.counts[MAPPED_ROUND]);
+            return std::make_tuple(facts.answer, facts.refuted, facts.of_engine.ended,
+                                   facts.of_filter.ended, facts.counts[ENDED_ROUND],
+                                   facts.counts[MAPPED_ROUND]);
         };
         return what_counts(one) != what_counts(other);
     }

@@ -14,11 +14,14 @@ const double LEAVING = 3;               // seconds
 
 class Leader {
 public:
-    Leader(const Options &options, Link &connected) : run(options), peer(run.inputs.options, run.teams, connected), link(connected) {
+    Leader(const Options &options, Link &connected)
+        : run(options), peer(run.inputs.options, run.teams, connected), link(connected) {
         peer.told = [this](Message &message) { look_at(message); };
         elsewhere.begin = [this] { begin(); };
         elsewhere.look = [this] { return look(); };
-        elsewhere.next_look = [this] { return is_news(control(), told) ? 0 : std::min(told_at + PULSE, peer.next_look()); };
+        elsewhere.next_look = [this] {
+            return is_news(control(), told) ? 0 : std::min(told_at + PULSE, peer.next_look());
+        };
         elsewhere.files = [this] { return link.files(); };
         elsewhere.details = [this] { details(); };
         elsewhere.end = [this](bool at_once) { end(at_once); };
@@ -74,7 +77,8 @@ private:
         std::vector<char> piece(PIECE_OF_INPUT);
         int file = open_input(path);
         for (ssize_t count; (count = read(file, piece.data(), piece.size())) != 0;) {
-            if (count < 0 && errno != EINTR) refuse("cannot read " + path + " again: " + error_text());
+            if (count < 0 && errno != EINTR)
+                refuse("cannot read " + path + " again: " + error_text());
             if (count > 0) broadcast(kind, piece.data(), size_t(count));
         }
         close(file);
@@ -100,7 +104,9 @@ private:
             const Traffic &theirs = traffic[size_t(k)];
             dealer.refuted_elsewhere += theirs.cubes_refuted;
             Message message;
-            for (; !dealer.queue.empty() && sent[size_t(k)] < theirs.cubes_taken + uint64_t(link.engines[size_t(k)]); sent[size_t(k)]++) {
+            for (; !dealer.queue.empty() &&
+                 sent[size_t(k)] < theirs.cubes_taken + uint64_t(link.engines[size_t(k)]);
+                 sent[size_t(k)]++) {
                 message.put(uint64_t(dealer.queue.front()));
                 dealer.queue.pop_front();
             }
@@ -110,7 +116,9 @@ private:
 
     // What the others send.
 
-    bool is_elsewhere(int k) const { return k >= 0 && size_t(k) < run.teams.size() && !run.teams.is_here(size_t(k)); }
+    bool is_elsewhere(int k) const {
+        return k >= 0 && size_t(k) < run.teams.size() && !run.teams.is_here(size_t(k));
+    }
 
     void take_end(Child &child, const Ended &end) {
         child.seconds = end.seconds;
@@ -142,7 +150,9 @@ private:
             int file = run.teams.file_to_write(size_t(k));
             ssize_t count = pwrite(file, bytes, left, off_t(engine_status.bytes));
             bool is_lost = count < 0 && errno != EINTR && !run.teams.spill(size_t(k));
-            if (is_lost) refuse("cannot write " + run.teams.stream_path(size_t(k), run.rounds.number) + ": " + error_text());
+            if (is_lost)
+                refuse("cannot write " + run.teams.stream_path(size_t(k), run.rounds.number) +
+                       ": " + error_text());
             if (count <= 0) continue;
             bytes += count;
             left -= size_t(count);
@@ -154,7 +164,8 @@ private:
         int32_t k = -1;
         uint64_t from = 0, variables = uint64_t(run.inputs.formula.variables);
         if (!message.take(k) || !message.take(from) || !is_elsewhere(k) || from > variables) return;
-        memcpy(run.teams[size_t(k)].model + from, message.rest(), std::min<size_t>(message.left(), variables - from));
+        memcpy(run.teams[size_t(k)].model + from, message.rest(),
+               std::min<size_t>(message.left(), variables - from));
     }
 
     void look_at(Message &message) {
@@ -227,9 +238,12 @@ private:
     std::string look() {
         peer.look();
         for (size_t k = 0; k < run.teams.size(); k++)
-            if (run.teams.is_here(k)) peer.exchange.clear(int(k), LOAD(run.teams.engine_status(k).outbox_used));
+            if (run.teams.is_here(k))
+                peer.exchange.clear(int(k), LOAD(run.teams.engine_status(k).outbox_used));
         if (link.carrier.ended()) return "MPI's process here " + link.carrier.end();
-        if (peer.silent_process() >= 0) return format("no message from process %d for %.0f seconds", peer.silent_process(), SILENCE);
+        if (peer.silent_process() >= 0)
+            return format("no message from process %d for %.0f seconds", peer.silent_process(),
+                          SILENCE);
         share_cubes();
         say();
         return "";
@@ -240,17 +254,22 @@ private:
         for (size_t process = 0, k = 0; process < traffic.size(); process++) {
             const Traffic &one = process == 0 ? peer.exchange.traffic : traffic[process];
             uint64_t lines = 0, citing = 0;
-            double each = one.exchanges ? 1e-6 * double(one.nanoseconds) / double(one.exchanges) : 0;
+            double each = one.exchanges ? 1e-6 * double(one.nanoseconds) / double(one.exchanges)
+                                        : 0;
             for (size_t end = k + size_t(link.engines[process]); k < end; k++) {
                 lines += LOAD(run.teams.engine_status(k).lines);
                 citing += LOAD(run.teams.engine_status(k).citing_elsewhere);
             }
-            run.display.tell(format("process %zu: %s; clauses: %s sent, %s came, %s beyond the budget, %s late; %s out, %s in; %.1f ms each; "
-                        "%.0f %% of lines cite another process; %s of streams",
-                        process, counted(one.exchanges, "exchange").c_str(), grouped(one.out).c_str(), grouped(one.in).c_str(),
-                        grouped(one.left_out).c_str(), grouped(one.dropped).c_str(), counted(one.bytes_out, "byte").c_str(),
-                        counted(one.bytes_in, "byte").c_str(), each,
-                        lines ? 100.0 * double(citing) / double(lines) : 0, counted(one.bytes_of_streams, "byte").c_str()));
+            run.display.tell(format(
+                "process %zu: %s; clauses: %s sent, %s received, %s beyond the budget, %s late; "
+                "%s out, %s in; %.1f ms each; "
+                "%.0f %% of lines cite another process; %s of streams",
+                process, counted(one.exchanges, "exchange").c_str(), grouped(one.out).c_str(),
+                grouped(one.in).c_str(), grouped(one.left_out).c_str(),
+                grouped(one.dropped).c_str(), counted(one.bytes_out, "byte").c_str(),
+                counted(one.bytes_in, "byte").c_str(), each,
+                lines ? 100.0 * double(citing) / double(lines) : 0,
+                counted(one.bytes_of_streams, "byte").c_str()));
         }
     }
 

@@ -56,15 +56,18 @@ size_t write_some(int file, const std::string &bytes, size_t from) {
 // A killed carrier leaves Open MPI's files for shared memory behind, unless they are in this
 // process's folder. If the folder can't be made, process 0 says so later.
 void Link::open(int engines_here) {
-    if (Folder::make_if_possible().empty()) setenv("OMPI_MCA_btl_vader_backing_directory", Folder::name().c_str(), 0);
+    if (Folder::make_if_possible().empty())
+        setenv("OMPI_MCA_btl_vader_backing_directory", Folder::name().c_str(), 0);
     out = make_pipe(MESSAGE_PIPE);
     in = make_pipe(MESSAGE_PIPE);
-    if (begin(carrier, "carrier", { out.read, in.write })) carrier_process(out.read, in.write, engines_here);
+    if (begin(carrier, "carrier", { out.read, in.write }))
+        carrier_process(out.read, in.write, engines_here);
     close_file(out.read);
     close_file(in.write);
     for (int file : { out.write, in.read }) fcntl(file, F_SETFL, O_NONBLOCK);
     Message message;
-    if (!wait(message, STARTING) || message.head.word != HELLO) refuse("the MPI processes can't reach each other");
+    if (!wait(message, STARTING) || message.head.word != HELLO)
+        refuse("the MPI processes can't reach each other");
     process = message.head.process;
     for (int32_t one; message.take(one);) engines.push_back(one);
 }

@@ -7,10 +7,24 @@
 #include "mpi_run.h"
 
 uint64_t EngineStatus::*const COUNTED[COUNTS] = {
-    &EngineStatus::conflicts, &EngineStatus::slices, &EngineStatus::taken, &EngineStatus::refused, &EngineStatus::satisfied,
-    &EngineStatus::lines, &EngineStatus::literals, &EngineStatus::hints, &EngineStatus::given, &EngineStatus::citing_others,
-    &EngineStatus::citing_elsewhere, &EngineStatus::round_lines, &EngineStatus::round_literals, &EngineStatus::behind,
-    &EngineStatus::wanted, &EngineStatus::held, &EngineStatus::ended_round, &EngineStatus::mapped_round,
+    &EngineStatus::conflicts,
+    &EngineStatus::slices,
+    &EngineStatus::taken,
+    &EngineStatus::refused,
+    &EngineStatus::satisfied,
+    &EngineStatus::lines,
+    &EngineStatus::literals,
+    &EngineStatus::hints,
+    &EngineStatus::given,
+    &EngineStatus::citing_others,
+    &EngineStatus::citing_elsewhere,
+    &EngineStatus::round_lines,
+    &EngineStatus::round_literals,
+    &EngineStatus::behind,
+    &EngineStatus::wanted,
+    &EngineStatus::held,
+    &EngineStatus::ended_round,
+    &EngineStatus::mapped_round,
 };
 
 namespace {
@@ -18,7 +32,7 @@ namespace {
 const uint64_t EXCHANGING = 500;        // milliseconds
 const double STARTING = 600;            // seconds
 
-// As mpirun and SLURM's launcher say before MPI is initialised.
+// By the variables that mpirun and SLURM's launcher set before MPI is initialised.
 bool is_process_0() {
     for (const char *name : { "OMPI_COMM_WORLD_RANK", "PMIX_RANK", "PMI_RANK" })
         if (const char *rank = getenv(name)) return atoi(rank) == 0;
@@ -27,7 +41,7 @@ bool is_process_0() {
 
 }
 
-// Only one process reports an error. The others must not end before it with another status than 0:
+// Only one process reports an error. The others must not end before it with a status other than 0:
 // mpirun would then kill it, and nothing would be reported.
 int solve(int count, char **words) {
     if (front.is_there() && is_process_0()) front.open();
@@ -40,13 +54,15 @@ int solve(int count, char **words) {
     int all = 0;
     for (int one : link.engines) all += one;
     another_refuses = link.process != 0;
-    if (all > MOST_ENGINES) refuse(format("%d engines in all processes: at most %d", all, int(MOST_ENGINES)));
+    if (all > MOST_ENGINES)
+        refuse(format("%d engines in all processes: at most %d", all, int(MOST_ENGINES)));
     another_refuses = false;
     options.engines = all;
     return link.process == 0 ? lead(options, link) : follow(options, link);
 }
 
-Peer::Peer(const Options &given, Teams &its_teams, Link &connected) : link(connected), options(given), teams(its_teams) {
+Peer::Peer(const Options &given, Teams &its_teams, Link &connected)
+    : link(connected), options(given), teams(its_teams) {
     silent.assign(link.engines.size(), -STARTING);
 }
 
@@ -91,7 +107,8 @@ void Peer::look() {
 void Peer::take(Message &message) {
     if (message.head.word == GIFTS) exchange.place(message);
     else if (message.head.word != EXCHANGED) told(message);
-    else if (uint64_t taken = 0; message.take(taken)) exchange.traffic.nanoseconds += taken, exchanging = false;
+    else if (uint64_t taken = 0; message.take(taken))
+        exchange.traffic.nanoseconds += taken, exchanging = false;
 }
 
 // Late messages in tests (test_hooks.h).
@@ -106,14 +123,16 @@ bool Peer::keeps(const Message &message) {
     uint32_t word = message.head.word;
     if (test_hooks.late_gifts) return word == GIFTS && !is_due(message);
     if (word == GIFTS && message.head.process == 0) awaited--;
-    bool is_kept = test_hooks.late_saved && word == CONTROL && beginning<Control>(message).saved_round > LOAD(teams.shared->saved_round);
+    bool is_kept = test_hooks.late_saved && word == CONTROL &&
+        beginning<Control>(message).saved_round > LOAD(teams.shared->saved_round);
     // one may be on its way; the others share until the last one
     if (is_kept && kept.empty()) awaited = 3;
     return is_kept;
 }
 
 bool Peer::is_due(const Message &message) const {
-    return message.head.word == GIFTS ? beginning<uint64_t>(message) < LOAD(teams.shared->round) : awaited <= 0;
+    return message.head.word == GIFTS ? beginning<uint64_t>(message) < LOAD(teams.shared->round)
+                                      : awaited <= 0;
 }
 
 // Process 0 collects when a round begins, and then not before its filters have the new identities.

@@ -21,7 +21,7 @@
 // processes.
 enum Word : uint32_t {
     HELLO,          // from the carrier: the processes, and how many engines each has
-    INPUT,          // from process 0 to all: a piece of what is read at first; an empty one is the end
+    INPUT,          // from process 0 to all: a piece of what is read first; an empty one is the end
     GIFTS,          // from each process to all: the clauses of an exchange
     LEAVE,          // the last one: the process exchanges nothing more
     EXCHANGED,      // from the carrier: the nanoseconds that an exchange took
@@ -41,7 +41,9 @@ struct Message {
     Head head = {};
     std::string bytes;
 
-    template <typename Item> void put(const Item &item) { bytes.append(reinterpret_cast<const char *>(&item), sizeof item); }
+    template <typename Item> void put(const Item &item) {
+        bytes.append(reinterpret_cast<const char *>(&item), sizeof item);
+    }
     template <typename Item> bool take(Item &item) {
         if (bytes.size() - at < sizeof item) return false;
         memcpy(&item, bytes.data() + at, sizeof item);

@@ -2,6 +2,7 @@
 // other: each open waits until lrupd opens the pipe, too, and nothing else shows when that happens.
 // It keeps the pipe open until the first process has also opened it.
 #include <cerrno>
+#include <csignal>
 #include <cstring>
 
 #include <fcntl.h>
@@ -30,7 +31,8 @@ namespace {
 
 void Opener::start() {
     int ends[2];
-    if (socketpair(AF_UNIX, SOCK_SEQPACKET | SOCK_CLOEXEC, 0, ends) != 0) refuse("cannot make a socket: " + error_text());
+    if (socketpair(AF_UNIX, SOCK_SEQPACKET | SOCK_CLOEXEC, 0, ends) != 0)
+        refuse("cannot make a socket: " + error_text());
     socket = kept_open(ends[0]);
     int other = kept_open(ends[1]);
     if (begin(child, "opener", { other })) open_pipes(other);
@@ -38,7 +40,9 @@ void Opener::start() {
 }
 
 // If the process has ended, the run sees that separately.
-void Opener::say(const std::string &path) const { send(socket, path.c_str(), path.size() + 1, MSG_NOSIGNAL); }
+void Opener::say(const std::string &path) const {
+    send(socket, path.c_str(), path.size() + 1, MSG_NOSIGNAL);
+}
 
 void Opener::ask(const std::string &path) {
     if (path.size() >= LONGEST_PATH) refuse(path + ": file name too long");
@@ -60,4 +64,10 @@ bool Opener::has_opened(std::string &path) {
 void Opener::go_on() {
     asked.pop_front();
     say(asked.empty() ? "" : asked.front());
+}
+
+void Opener::end() {
+    child.signal(SIGKILL);
+    wait_for(child);
+    close_file(socket);
 }

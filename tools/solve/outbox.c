@@ -11,7 +11,9 @@ static uint64_t least_floor(const Shared *shared, int engine, uint64_t end, bool
     uint64_t least = end;
     for (int k = 0; k < shared->engines; k++) {
         uint64_t floor = LOAD(shared->engine_statuses[k].floors[engine - 1]);
-        if (floor < least && !LOAD(shared->engine_statuses[k].gone) && (with_own || k != engine - 1)) least = floor;
+        if (floor < least && !LOAD(shared->engine_statuses[k].gone) &&
+            (with_own || k != engine - 1))
+            least = floor;
     }
     return least;
 }
@@ -24,9 +26,10 @@ uint32_t gift_identity(const uint32_t *gift) { return LOAD(gift[1]) & ~OF_AN_ODD
 
 // Puts a clause after what is staged. False if there is no room: what others may still read or ask
 // for isn't overwritten.
-bool outbox_put(const Shared *shared, uint32_t *outbox, int engine, uint64_t *staged, uint64_t identity, const Literals *literals,
-                uint32_t mark) {
-    uint64_t size = shared->outbox_words, words = HEAD_OF_A_GIFT + literals->length, begin = *staged;
+bool outbox_put(const Shared *shared, uint32_t *outbox, int engine, uint64_t *staged,
+                uint64_t identity, const Literals *literals, uint32_t mark) {
+    uint64_t size = shared->outbox_words, words = HEAD_OF_A_GIFT + literals->length,
+             begin = *staged;
     if (begin % size + words > size) begin += size - begin % size;
     uint64_t end = begin + words, floor = least_floor(shared, engine, *staged, true);
     if (words > size || (end - floor > size && !test_hooks.without_floor)) return false;
@@ -42,8 +45,10 @@ bool outbox_put(const Shared *shared, uint32_t *outbox, int engine, uint64_t *st
 
 // Sets the identities of the next round. A clause that already has its new identity keeps it, since
 // a filter may have died halfway. A clause that wasn't saved gets 0.
-void outbox_renew(const Shared *shared, uint32_t *outbox, int engine, const Checkpoint *checkpoint) {
-    uint64_t end = LOAD(shared->engine_statuses[engine - 1].outbox_used), round = LOAD(shared->round);
+void outbox_renew(const Shared *shared, uint32_t *outbox, int engine,
+                  const Checkpoint *checkpoint) {
+    uint64_t end = LOAD(shared->engine_statuses[engine - 1].outbox_used),
+             round = LOAD(shared->round);
     uint64_t at = least_floor(shared, engine, end, false);
     for (uint32_t *gift; (gift = next_gift(shared, outbox, &at, end)) != NULL;) {
         uint32_t identity = gift_identity(gift);

@@ -30,7 +30,8 @@ const unsigned LETTING_ANOTHER = 30;    // seconds
 int new_file(const std::string &path) {
     Place place = place_of(path);
     if (!claim(place) || !remove_file(path)) return -1;
-    return openat(place.folder, place.name.c_str(), O_RDWR | O_CREAT | O_EXCL | O_NOFOLLOW | O_CLOEXEC, 0666);
+    return openat(place.folder, place.name.c_str(),
+                  O_RDWR | O_CREAT | O_EXCL | O_NOFOLLOW | O_CLOEXEC, 0666);
 }
 
 }
@@ -65,7 +66,8 @@ double now() {
 }
 
 int milliseconds_to(double time) {
-    return time == INFINITY ? -1 : int(std::ceil(1000 * std::min(3600.0, std::max(0.0, time - now()))));
+    return time == INFINITY ? -1
+                            : int(std::ceil(1000 * std::min(3600.0, std::max(0.0, time - now()))));
 }
 
 // Files.
@@ -113,7 +115,8 @@ int open_pipe(const std::string &path, int bytes) {
     struct stat found;
     int file = open(path.c_str(), O_WRONLY | O_NONBLOCK | O_NOFOLLOW | O_CLOEXEC);
     if (file < 0) return -1;
-    if (fstat(file, &found) != 0 || !S_ISFIFO(found.st_mode)) refuse(path + ": replaced by another file");
+    if (fstat(file, &found) != 0 || !S_ISFIFO(found.st_mode))
+        refuse(path + ": replaced by another file");
     unlink(path.c_str());
     if (bytes > 0) fcntl(file, F_SETPIPE_SZ, bytes);
     return kept_open(file);
@@ -130,7 +133,8 @@ std::string write_file(const std::string &path, const std::string &text) {
 }
 
 void *shared_bytes(size_t bytes) {
-    void *memory = mmap(nullptr, bytes, PROT_READ | PROT_WRITE, MAP_SHARED | MAP_ANONYMOUS | MAP_NORESERVE, -1, 0);
+    void *memory = mmap(nullptr, bytes, PROT_READ | PROT_WRITE,
+                        MAP_SHARED | MAP_ANONYMOUS | MAP_NORESERVE, -1, 0);
     if (memory == MAP_FAILED) refuse("cannot share memory: " + error_text());
     return memory;
 }
@@ -175,17 +179,21 @@ void copy_file(int file, const std::string &name, int copy) {
         if (count < 0 && errno == EINTR) continue;
         if (count < 0) refuse("cannot read " + name + ": " + error_text());
         if (count == 0) return;
-        if (!write_all(copy, bytes.data(), size_t(count))) refuse("cannot write a copy of " + name + ": " + error_text());
+        if (!write_all(copy, bytes.data(), size_t(count)))
+            refuse("cannot write a copy of " + name + ": " + error_text());
     }
 }
 
 // Children. A child is killed when its parent ends. Signals from the terminal are left to the
 // parent.
 
-bool Child::ended_with(int code) const { return ended() && WIFEXITED(status) && WEXITSTATUS(status) == code; }
+bool Child::ended_with(int code) const {
+    return ended() && WIFEXITED(status) && WEXITSTATUS(status) == code;
+}
 
 std::string Child::end() const {
-    if (WIFSIGNALED(status)) return std::string("ended by a signal: ") + strsignal(WTERMSIG(status));
+    if (WIFSIGNALED(status))
+        return std::string("ended by a signal: ") + strsignal(WTERMSIG(status));
     return "ended with status " + std::to_string(WEXITSTATUS(status));
 }
 
@@ -262,7 +270,8 @@ void wait_for(Child &child) {
 
 void end_children() {
     for (pid_t pid : alive)
-        send(pid, SIGKILL, std::find(handing_on.begin(), handing_on.end(), pid) != handing_on.end());
+        send(pid, SIGKILL,
+             std::find(handing_on.begin(), handing_on.end(), pid) != handing_on.end());
     for (pid_t pid : alive)
         while (waitpid(pid, nullptr, 0) < 0 && errno == EINTR) {}
     alive.clear();

@@ -96,7 +96,7 @@ std::vector<std::string> files_of(const std::string &folder) {
 }
 
 [[noreturn]] void refuse_own(const std::string &path) {
-    refuse(path + " is there, and isn't of an earlier run: another --proofs");
+    refuse(path + " is there, and isn't of an earlier run: choose another --proofs");
 }
 
 bool write_list(const std::string &text) {
@@ -284,10 +284,10 @@ void check_plain(const std::string &path, const std::string &name) {
 static void hold_folder(const std::string &folder, double seconds) {
     int file = open(folder.c_str(), O_RDONLY | O_DIRECTORY | O_CLOEXEC);
     if (file < 0) refuse(folder + ": " + error_text());
-    if (others_may_write(file)) refuse(folder + ": others may write there: another --proofs");
+    if (others_may_write(file)) refuse(folder + ": others may write there: choose another --proofs");
     kept_open(file);
     for (double until = now() + seconds; flock(file, LOCK_EX | LOCK_NB) != 0 && errno == EWOULDBLOCK; usleep(PAUSE))
-        if (now() >= until) refuse(folder + ": another run that goes on has its files there: another --proofs");
+        if (now() >= until) refuse(folder + ": another run has its files there, and hasn't ended: choose another --proofs");
     // opened again, so it doesn't hold the lock
     record_folder = kept_open(openat(file, ".", O_PATH | O_DIRECTORY | O_CLOEXEC));
     record_name = absolute(folder) + "/";
@@ -308,10 +308,10 @@ void open_record(const std::string &folder, const std::vector<std::string> &inpu
     for (const std::string &path : paths)
         for (const std::string &name : inputs)
             if (find(path, found) && find(name, input) && is_same(found, input))
-                refuse(path + " would be written over: another --proofs");
+                refuse(path + " would be overwritten: choose another --proofs");
     read_list(folder + "/" + LIST);
     if (!replaces && has_proof())
-        refuse(folder + " has the proof of an earlier run: --replace, or another --proofs");
+        refuse(folder + " has the proof of an earlier run: add --replace, or choose another --proofs");
     check_own(folder, paths);
     if (list_file < 0 && !list_anew({})) refuse_unlisted(folder);
 }

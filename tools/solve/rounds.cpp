@@ -1,4 +1,5 @@
-// Unverified, as all of this solver. From round to round; and what is kept of them.
+// Unverified, like the whole solver. Goes from round to round, and keeps in the record what was
+// checked.
 #include <algorithm>
 #include <cmath>
 #include <csignal>
@@ -10,15 +11,16 @@
 
 namespace {
 
-const uint64_t SHORT_STREAMS = UINT64_C(1) << 20;   // bytes of all streams, that don't want lrupd yet
-const uint64_t ALL_FED = UINT64_MAX / 2;     // bytes of a stream, so that nobody waits
-const double CROWDED = 0.75;        // of the largest row, that live clauses take
+const uint64_t SHORT_STREAMS = UINT64_C(1) << 20;   // bytes of all streams that lrupd waits for
+const uint64_t ALL_FED = UINT64_MAX / 2;     // more bytes than a stream has, so no filter waits
+const double CROWDED = 0.75;        // how much of the largest row live clauses may take
+const int MOST_STARTS = 3;          // how often lrupd is started without saving a new round
 
 std::string in_a_row_of(uint64_t words) { return " in a row of " + counted(8 * words, "byte"); }
 
-// Each once in a clause, as a row has them.
+// Counts each literal of a clause once, as a row does.
 uint64_t literals_of(const Formula &formula) {
-    std::vector<size_t> last(2 * size_t(formula.variables));        // by literal: the clause, from 1, that had it last
+    std::vector<size_t> last(2 * size_t(formula.variables));        // by literal: its last clause
     uint64_t count = 0;
     for (size_t k = 1; k <= formula.clauses; k++)
         for (size_t at = formula.starts.items[k - 1]; at < formula.starts.items[k]; at++) {
@@ -33,7 +35,7 @@ uint64_t literals_of(const Formula &formula) {
 
 // Sizes.
 
-// The row of the round that comes next. A filter that has no room for one clause gets some.
+// Chooses the next round's row. A clause for which a filter had no room will fit.
 bool Rounds::size(uint64_t clauses, uint64_t literals) {
     Shared *shared = teams.shared;
     uint64_t streams = std::max<uint64_t>(1, shared->streams), wanted = 0;
@@ -45,10 +47,12 @@ bool Rounds::size(uint64_t clauses, uint64_t literals) {
     return fits;
 }
 
-// The formula has room for as much again, whatever --memory says. Rows of a run that goes on are as large as they were.
+// Whatever --memory says, a row may take twice the formula. A resumed run's row is as large as
+// before.
 void Rounds::begin(const std::string &program) {
     uint64_t clauses = inputs.first_formula.clauses, literals = literals_of(inputs.first_formula), last = inputs.saved.count();
     number = last + 1;
+    ended = inputs.saved;
     saver.saved = last > 0 ? number : 0;
     checker_program = program;
     rows_open(&rows, inputs.options.memory, inputs.options.most_memory, teams.size());
@@ -66,8 +70,9 @@ std::string Rounds::beginning() const {
     return folder + ": round " + std::to_string(number) + " begins, with " + counted(inputs.first_formula.clauses, "clause");
 }
 
-// For the clauses of all, in the largest row. First no engine gives away what others can do without. Where that isn't enough one
-// ends with the round that comes, and all that it alone has is gone then; but never the last one.
+// Makes room for the live clauses in the largest row. First, engines stop giving away clauses that
+// others can do without. If that isn't enough, an engine ends with the next round, and clauses that
+// only its stream keeps are dropped. The last engine never ends.
 bool Rounds::make_room(bool fits) {
     Shared *shared = teams.shared;
     bool is_alone = shared->streams <= 1, was_crowded = shared->crowded;
@@ -79,7 +84,7 @@ bool Rounds::make_room(bool fits) {
     return true;
 }
 
-// For what there is.
+// The row that the streams' lines need.
 Row Rounds::needed_row() const {
     Row needed = { 0, 0 };
     for (size_t k = 0; k < teams.size(); k++) {
@@ -89,27 +94,28 @@ Row Rounds::needed_row() const {
     return needed;
 }
 
-// What is kept.
+// What the record keeps.
 
 static std::string sizes_in_command(Row sizes) {
     return " --tries " + tries() + " --lines " + std::to_string(sizes.lines) + " --room " +
            std::to_string(sizes.room);
 }
 
-// A word for lrupd, in a command: where the name isn't UTF-8 the shell opens the file.
+// A path in lrupd's command. If it isn't UTF-8, the shell opens the file, and lrupd gets the
+// descriptor.
 static std::string word_in_command(const std::string &path, int number, std::string &opened) {
     if (is_utf8(path)) return " " + quoted(path);
     opened += " " + std::to_string(number) + "< " + quoted(path);
     return " " + (OPEN_FILES + std::to_string(number));
 }
 
-// Without the folder, where it is in that.
+// The path, without the folder if the file is in it.
 static std::string within(const std::string &folder, const std::string &path) {
     if (folder.empty() || path.compare(0, folder.size(), folder) != 0) return path;
     return (path[folder.size()] == '-' ? "./" : "") + path.substr(folder.size());
 }
 
-// Of round 1, with names that a record's streams have, as they are from this folder.
+// The command that checks round 1, with the names of a record's streams, relative to this folder.
 std::string Rounds::command_of(Row sizes, const std::string &folder) const {
     std::string opened, line = quoted(checker_program) + sizes_in_command(sizes);
     const std::string assume = within(folder, absolute(inputs.assume_path));
@@ -120,12 +126,12 @@ std::string Rounds::command_of(Row sizes, const std::string &folder) const {
     return line + opened;
 }
 
-size_t Rounds::first_streams() const { return inputs.saved.count() > 0 ? inputs.saved.streams(1) : teams.size(); }
+size_t Rounds::first_streams() const { return ended.count() > 0 ? ended.streams(1) : teams.size(); }
 
-// Of all rounds, wherever the record is by now: of each input the path from there comes first. Names
-// are values of variables, and stand nowhere else. lrupd reads open files, as what checks the
-// digests does. In rounds lrupd writes some, into a new folder with links to the record's files;
-// and of a stream that is packed there is a pipe.
+// Checks all rounds, even if the record has moved: each input is first looked for at its path
+// relative to the record. Names are values of variables, and occur nowhere else. lrupd reads the
+// same open files whose digests are checked. In rounds it also writes files, so it runs in a new
+// folder with links to the record's files; a packed stream comes through a pipe.
 static const char CHECK_AGAIN[] = R"sh(
 CDPATH=
 clean() { printf '%s' "$1" | LC_ALL=C tr '\001-\037\177' '?'; }
@@ -199,7 +205,7 @@ trap 'kill $checker $writers 2> /dev/null; wait; exit 143' HUP INT QUIT TERM
 if [ "$rounds" -gt 1 ] || [ "$#" -gt 0 ]; then
     place=$(cd -- "${TMPDIR:-/tmp}" && pwd) || exit 1
     [ -z "$(find "$place/." -prune -perm -2 ! -perm -1000)" ] ||
-        refuse "$place: others may write there: another TMPDIR"
+        refuse "$place: others may write there: choose another TMPDIR"
     trap '[ -z "$writers" ] || { kill $writers 2> /dev/null; wait; }
         [ -z "$inside" ] || find . -name "round-*" -exec rm -f {} +
         [ -z "$made" ] || { cd / && rmdir -- "$made"; }' EXIT
@@ -226,7 +232,8 @@ checker=$!
 wait "$checker"
 )sh";
 
-// From the record's folder, by what its folder and the file's really are; none where it is there.
+// The file's path relative to the record's folder, with symbolic links resolved; empty if it is in
+// the record.
 std::string Rounds::from_record(const std::string &path) const {
     std::string whole = absolute(path);
     size_t slash = whole.rfind('/');
@@ -256,14 +263,14 @@ std::string Rounds::command_again() const {
     return text + "\nsizes='" + sizes_in_command(first).substr(1) + "'" + CHECK_AGAIN;
 }
 
-// In the record.
+// Writes the round's sizes into the record.
 void Rounds::keep_sizes() const {
     if (!inputs.options.proofs || !teams.lost.empty()) return;
     std::string text = sizes_text(LOAD(teams.shared->streams), rows.row);
     teams.lost = write_file(teams.record + name_of_round(number) + ".sizes", text);
 }
 
-// What one needs to have the streams checked again.
+// Writes lrupd's report, and the command that checks the streams again.
 std::string Rounds::keep_report() const {
     if (!inputs.options.record) return "";
     if (!teams.lost.empty()) return "the record is lost: " + teams.lost;
@@ -273,13 +280,14 @@ std::string Rounds::keep_report() const {
 
 // lrupd.
 
-// It gets first what was saved, by a run that goes on.
+// lrupd first gets the rounds that have ended.
 void Rounds::start_checker(Row wanted) {
     const std::string &record = teams.record;
-    bool goes_on = inputs.saved.count() > 0;
+    bool goes_on = ended.count() > 0;
     if (!goes_on) rows.row = wanted;
-    wanted = first = goes_on ? inputs.saved.row(1) : wanted;
+    wanted = first = goes_on ? ended.row(1) : wanted;
     checked = 1;
+    starts++;
     keep_sizes();
     display.tell_more(is_utf8(record) ? command_of(wanted, "") :
                       "cd " + quoted(record) + " && " + command_of(wanted, record));
@@ -288,8 +296,28 @@ void Rounds::start_checker(Row wanted) {
     if (goes_on) checker.expect_round(Folder::name() + "/" + name_of_round(checked + 1));
 }
 
+// The record has what the killed lrupd read. Each may be killed, so the number of starts is limited.
+bool Rounds::may_check_again() {
+    if (!checker.was_killed()) return false;
+    teams.look_at_record();
+    return inputs.options.record && teams.lost.empty() && starts < MOST_STARTS;
+}
+
+// Not while filters read what the killed one has saved. What it was saving is saved again.
+std::string Rounds::check_again() {
+    const std::string missing = ended.missing();
+    if (!missing.empty()) return ", and " + missing + " is gone";
+    if (state == SAVING) state = ENDING;
+    for (int &file : saved_streams) close_file(file);
+    compared = 0;
+    checker.renew();
+    Folder::remove_rounds();
+    start_checker(rows.row);
+    return "";
+}
+
 void Rounds::open_saved() {
-    saved_streams = inputs.saved.open(checked);
+    saved_streams = ended.open(checked);
     saved_bytes.clear();
     for (int file : saved_streams) {
         struct stat found = {};
@@ -298,7 +326,7 @@ void Rounds::open_saved() {
     }
 }
 
-// Meanwhile filters don't wait for it.
+// Feeds lrupd a saved round. Meanwhile filters don't wait for it.
 std::string Rounds::feed_saved() {
     bool are_compared = true;
     for (size_t k = 0; k < teams.size(); k++) teams.tell_fed(k, ALL_FED);
@@ -313,40 +341,42 @@ std::string Rounds::feed_saved() {
     return "";
 }
 
-// Of those that lrupd has read.
+// Returns the first file, of those that lrupd has read, that was changed; or "".
 std::string Rounds::changed_file() {
     for (; compared < checker.digests.size(); compared++)
-        if (inputs.saved.is_changed(checker.digests[compared]))
+        if (ended.is_changed(checker.digests[compared]))
             return teams.record + checker.digests[compared].substr(DIGEST_DIGITS + 2);
     return "";
 }
 
-// What lrupd has saved last: the round that it is at begins with that.
+// The checkpoint with which lrupd's round begins.
 std::string Rounds::checkpoint_path() const {
     return Folder::name() + "/" + name_of_round(checked) + ".cnf";
 }
 
-// The round that lrupd is at was changed. It is no use, nor are those after it; the record ends
-// before it, so that a run may go on from there.
+// A file of lrupd's round was changed, so this round and those after it are useless. The record now
+// ends before it, and the run can be resumed from there.
 std::string Rounds::end_record(const std::string &path) {
     std::vector<std::string> &digests = checker.digests;
     size_t named = 0;
-    if (inputs.saved.is_as_saved(path)) return path + " has other bytes now than it had: disk or memory is at fault";
+    if (ended.is_as_saved(path)) return path + " was read with other bytes than before: disk or memory is at fault";
     const std::string cause = path + " was changed since it was saved", sizes = name_of_round(checked) + ".sizes";
     if (checked > 1) {
         while (named < digests.size() && digests[named].substr(DIGEST_DIGITS + 2) != sizes) named++;
         digests.resize(named);
         saver.save(checked, inputs.options.record, checkpoint_path(), digests);
-        wait_for(saver.child);
     }
-    std::string unsaved = saver.look();
-    if (!unsaved.empty()) display.tell(unsaved);
+    do {
+        wait_for(saver.child);
+        std::string unsaved = saver.look();
+        if (!unsaved.empty()) display.tell(unsaved);
+    } while (saver.is_busy());
     if (saver.saved == checked) return cause;
     saver.saved = 0;
-    return cause + ": the run can't go on";
+    return cause + ": the run can't be resumed";
 }
 
-// It has saved what the round came to, as it had for the run before.
+// lrupd has saved the round's clauses, as it did for the earlier run.
 void Rounds::begin_next() {
     for (int &file : saved_streams) close_file(file);
     checked++;
@@ -356,7 +386,7 @@ void Rounds::begin_next() {
         return checker.begin_round(rows.row, teams.stream_files());
     }
     open_saved();
-    checker.begin_round(inputs.saved.row(checked), saved_streams);
+    checker.begin_round(ended.row(checked), saved_streams);
     checker.expect_round(Folder::name() + "/" + name_of_round(checked + 1));
 }
 
@@ -367,7 +397,7 @@ std::string Rounds::feed(bool is_last) {
     return "";
 }
 
-// While filters come to the next round their counts are of either.
+// While filters go to the next round, their counts may be either round's.
 void Rounds::feed_teams(bool is_last) {
     for (size_t k = 0; k < teams.size(); k++) {
         uint64_t stream = LOAD(teams.engine_status(k).stream);
@@ -391,7 +421,7 @@ void Rounds::end_streams() {
     if (!checker.child.pid) start_checker(needed_row());
 }
 
-// From round to round. The first lrupd starts once streams aren't short any more.
+// Goes from round to round. lrupd starts once the streams aren't short any more.
 std::string Rounds::look() {
     bool is_short_no_more = teams.all(&EngineStatus::bytes) >= (test_hooks.first_words ? 1 : SHORT_STREAMS);
     teams.look_at_record();
@@ -402,7 +432,10 @@ std::string Rounds::look() {
     if (!unsaved.empty()) display.tell(unsaved);
     for (size_t k = 0; k < teams.size() && state == OPEN; k++)
         if (LOAD(teams.engine_status(k).ended_round) == number) end_round(true);
-    if (state == OPEN && ends_here && !has_more()) state = SAVED, next = number;
+    if (state == OPEN && ends_here && !has_more()) {
+        state = SAVED;
+        if (!has_lines()) next = number;
+    }
     if (state == OPEN && (ends_here || now() >= next_saving())) end_round(false);
     if (state == ENDING && !checker.child.pid) start_checker(rows.row);
     if (state == ENDING && !is_behind() && teams.have_all(&EngineStatus::ended_round, number)) {
@@ -414,15 +447,17 @@ std::string Rounds::look() {
     return cause;
 }
 
-// That can be saved.
+bool Rounds::has_lines() const { return teams.all(&EngineStatus::lines) > lines_before; }
+
+// Whether there are new lines that can be saved.
 bool Rounds::has_more() const {
     bool is_wanted = inputs.options.may_be_resumed() && teams.lost.empty() && (checked == 0 || !is_behind());
-    return is_wanted && teams.all(&EngineStatus::lines) > lines_before;
+    return is_wanted && has_lines();
 }
 
 double Rounds::next_saving() const { return state == OPEN && has_more() ? begun + inputs.options.save_every : INFINITY; }
 
-// Engines leave the cores to the others.
+// Stops the engines, which leaves the cores to the filters and lrupd.
 void Rounds::save_last() {
     ends_here = true;
     if (!inputs.options.may_be_resumed()) return;
@@ -436,24 +471,30 @@ void Rounds::keep_checkpoint() {
     saver.save(number + 1, inputs.options.record, teams.shared->checkpoint, checker.digests);
 }
 
-// None, where nothing was saved.
+// Keeps what another lrupd needs to read the round again.
+void Rounds::keep_round(uint64_t streams) {
+    if (inputs.options.record) ended.add(inputs.options.record, streams, rows.row);
+    for (; compared < checker.digests.size(); compared++) ended.add_digest(checker.digests[compared]);
+    starts = 0;
+}
+
+// Empty if nothing was saved.
 std::string Rounds::how_to_go_on() {
     std::string unsaved = saver.end();
     if (!unsaved.empty()) display.tell(unsaved);
     if (!inputs.options.may_be_resumed() || saver.saved == 0) return "";
-    bool has_more = teams.all(&EngineStatus::lines) > lines_before;
-    bool is_all = next != 0 ? saver.saved == next : saver.saved == number && !has_more;
+    bool is_all = next != 0 ? saver.saved == next : saver.saved == number && !has_lines();
     const std::string folder = quoted(inputs.options.record);
     std::string line = folder + " has " + counted(saver.saved - 1, "round");
-    line += (is_all ? "" : ", and nothing of what came then") + (": lrup-solve --resume " + folder);
+    line += (is_all ? "" : ", but not what came after") + (": lrup-solve --resume " + folder);
     if (inputs.options.assume) line += " --assume " + quoted(inputs.assume_path);
-    return line + " " + quoted(inputs.formula_path) + " goes on";
+    return line + " " + quoted(inputs.formula_path) + " continues the run";
 }
 
-// All streams end. Those that stand still go on to their ends.
+// Ends all streams. Paused filters continue, to end theirs.
 void Rounds::end_round(bool full) {
     is_full = full;
-    teams.start_others();       // they begin with round 1
+    teams.start_others();       // all engines begin with round 1
     STORE(teams.shared->ending_round, number);
     teams.tell_filters();
     pause_begun = now();
@@ -461,7 +502,7 @@ void Rounds::end_round(bool full) {
     teams.go_on();
 }
 
-// lrupd has saved: the filters take the new identities, and meanwhile it begins the next round.
+// lrupd has saved the round: filters take the new identities, and meanwhile it begins the next one.
 std::string Rounds::map_round() {
     uint64_t streams = teams.shared->streams;
     teams.cut_streams();
@@ -474,6 +515,7 @@ std::string Rounds::map_round() {
     checkpoint_read(&saved, teams.shared->checkpoint);
     said = words(streams);
     keep_checkpoint();
+    keep_round(streams);
     if (ends_here) {
         state = SAVED;
         next = number + 1;
@@ -483,7 +525,7 @@ std::string Rounds::map_round() {
     if (is_full) rows_grow(&rows);
     if (test_hooks.same_words) rows.words = before;
     if (!make_room(size(saved.old.length, saved.literals)))
-        return "the clauses that are left leave no room" + in_a_row_of(rows.largest);
+        return "the remaining clauses leave no room" + in_a_row_of(rows.largest);
     begin_round();
     return "";
 }
@@ -510,7 +552,7 @@ void Rounds::go_on() {
     teams.tell_filters();
 }
 
-// Of the round that lrupd has saved.
+// A message about the round that lrupd has saved.
 std::string Rounds::words(uint64_t streams) const {
     uint64_t lines = teams.all(&EngineStatus::lines) - lines_before, literals = teams.all(&EngineStatus::literals) - literals_before;
     uint64_t taken = rows.formula + streams * (rows.row.lines + rows.row.room);

@@ -1,6 +1,8 @@
-// Unverified, as all of this solver. Rounds: a row of lrupd's is made before it reads a line, and doesn't grow. Where it is full all
-// streams end after a whole line, and lrupd goes on in a new one, with the clauses that are there for its formula. It has saved them,
-// too: filters read there which identities they have from then on (filtering.c). tools/exact/row.c has the sizes of rows.
+// Unverified, like the whole solver. Rounds: lrupd makes a row before it reads the first line, and
+// the row doesn't grow. When it is full, all streams end after a whole line, and lrupd continues in
+// a new row, whose formula has the clauses that are live. lrupd has also saved them as a
+// checkpoint, from which filters take the clauses' new identities (filtering.c). tools/exact/row.c
+// has the sizes of rows.
 #ifndef ROUNDS_H
 #define ROUNDS_H
 
@@ -11,32 +13,35 @@
 
 class Rounds {
 public:
-    // Solving, until a filter finds the row full; then all streams end, lrupd saves what it has, and filters take its identities. A run
-    // that is to end saves its last round.
+    // The engines solve until a filter finds the row full; then all streams end, lrupd saves the
+    // live clauses, and filters take their new identities. A run that has to end saves its last
+    // round.
     enum State { OPEN, ENDING, SAVING, MAPPING, SAVED };
 
     State state = OPEN;
     uint64_t number = 1;
-    uint64_t checked = 0;               // the one that lrupd is at: before `number` an earlier run's; 0: it hasn't begun
+    uint64_t checked = 0;               // lrupd's round; below `number`: an earlier run's; 0: none
     Saver saver;
-    uint64_t lines_before = 0;          // of the rounds before
+    uint64_t lines_before = 0;          // of earlier rounds
     double paused = 0;                  // seconds in all
     Rows rows = {};
-    Checkpoint saved = {};              // what the round before came to, while filters take its identities
+    Checkpoint saved = {};              // by the last round, while filters take the identities
 
     Rounds(const Inputs &its_inputs, Teams &its_teams, Checker &its_checker, const Display &its_display)
         : inputs(its_inputs), teams(its_teams), checker(its_checker), display(its_display) {}
-    void begin(const std::string &program);     // the one that lrupd's command names
-    std::string beginning() const;              // of a run that goes on, in words
-    std::string look();                         // goes on; why it can't, where it can't
-    std::string feed(bool is_last);             // of the streams to lrupd; why it can't, where it can't
-    bool is_behind() const { return checked < number; }     // lrupd
-    void save_last();                           // round, so that the run may go on
+    void begin(const std::string &program);     // lrupd's path
+    std::string beginning() const;              // a message about a resumed run
+    bool may_check_again();                     // whether another lrupd may replace a killed one
+    std::string check_again();                  // starts it; returns why it can't, or ""
+    std::string look();                         // returns why the run can't go on, or ""
+    std::string feed(bool is_last);             // feeds lrupd; returns why it can't, or ""
+    bool is_behind() const { return checked < number; }     // lrupd reads rounds that have ended
+    void save_last();                           // round, so that the run can be resumed
     bool is_saving() const;
-    std::string how_to_go_on();                 // in words
-    double next_saving() const;                 // when the round ends, though there is room; INFINITY: it doesn't
-    void end_streams();                         // of the last round; they are whole
-    std::string keep_report() const;            // why it can't, where it can't
+    std::string how_to_go_on();                 // a message
+    double next_saving() const;                 // when a round with room ends; INFINITY: never
+    void end_streams();                         // those of the last round, which are whole
+    std::string keep_report() const;            // returns why it can't, or ""
 
 private:
     const Inputs &inputs;
@@ -44,15 +49,17 @@ private:
     Checker &checker;
     const Display &display;
     std::string checker_program, said;
+    int starts = 0;                             // of lrupd, since it saved a round that is new
+    SavedRounds ended;                          // before `number`: lrupd gets them again
     Row first = {};                             // of round 1
-    std::vector<int> saved_streams;             // of the saved round that lrupd is at, and how many bytes each has
+    std::vector<int> saved_streams;             // of the saved round that lrupd is in; their sizes
     std::vector<uint64_t> saved_bytes;
-    size_t compared = 0;                        // of its digests
+    size_t compared = 0;                        // how many of the checker's digests
     uint64_t literals_before = 0;
-    double pause_begun = 0, begun = now();      // the last pause, and the round
-    bool is_full = false;                       // its row, and it ends
-    bool ends_here = false;                     // the run, with the round that is on
-    uint64_t next = 0;                          // the round that a run begins with, once all is saved; 0: it isn't
+    double pause_begun = 0, begun = now();      // when the last pause and the round began
+    bool is_full = false;                       // the row, so the round ends
+    bool ends_here = false;                     // the run ends with this round
+    uint64_t next = 0;                          // a resumed run's first round, if it is saved
     bool has_told_loss = false;
 
     bool size(uint64_t clauses, uint64_t literals);
@@ -67,8 +74,10 @@ private:
     void feed_teams(bool is_last);
     void begin_next();
     void start_checker(Row wanted);
+    bool has_lines() const;                     // new ones in this round
     bool has_more() const;
     void keep_checkpoint();
+    void keep_round(uint64_t streams);
     void end_round(bool full);
     std::string map_round();
     void begin_round();

@@ -1,4 +1,5 @@
-// Unverified, like the whole solver. The first process: handles the ends of the others, and finds the answer.
+// Unverified, like the whole solver. The first process: handles the ends of the others, and finds
+// the answer.
 #include <algorithm>
 #include <cmath>
 #include <csignal>
@@ -12,12 +13,12 @@
 
 namespace {
 
-const double ENDING = 10;       // seconds that a filter has for the line that it is at
-const double SAVING = 6;        // seconds for the round that is on, where the run is to end; the front waits a bit longer
+const double ENDING = 10;       // seconds that a filter has for its current line
+const double SAVING = 6;        // seconds to save the last round; the front waits a bit longer
 
 }
 
-// Signals are taken from when there is something to end.
+// Signals are handled here only once there is something to end.
 void Run::prepare() {
     Options &options = inputs.options;
     std::string program = absolute(front.lrupd);
@@ -43,7 +44,7 @@ void Run::prepare() {
         if (teams.is_solver(k)) display.tell_more(teams.title(k) + ": " + teams[k].command);
 }
 
-// Until it is read. A signal, and the time, end the run.
+// Waits until the formula is read. A signal or the time limit ends the run.
 void Run::await_formula(int file) {
     double limit = inputs.deadline();
     std::string why;
@@ -81,7 +82,7 @@ std::vector<Child *> Run::children() {
     return list;
 }
 
-// Also until the front says something, or lrupd has opened a pipe, or has room in one.
+// Also wakes up if the front says something, or lrupd has opened a pipe, or a full pipe has room.
 void Run::wait() {
     std::vector<pollfd> files = { front.says(), checker.opener.says() };
     for (const pollfd &file : checker.full_pipes()) files.push_back(file);
@@ -107,7 +108,8 @@ std::string Run::why_it_is_asked() const {
     return now() >= inputs.deadline() ? "time is up" : "";
 }
 
-// A record gets what was found since its last round, as far as that takes some seconds; or the verdict, where a proof is there.
+// Before it ends, a run saves what it found since its last round, or checks its proof, if that
+// takes only some seconds. Returns whether it still does.
 bool Run::saves_first() {
     if (saving == 0) {
         saving = now() + SAVING;
@@ -122,7 +124,8 @@ void Run::look() {
     Rounds::State state_before = rounds.state;
     std::string why = why_it_ends();
     if (!why.empty()) return finish(UNKNOWN_ANSWER, why);
-    look_at_reading();
+    look_at_killed();
+    if (phase != DONE) look_at_reading();
     if (phase == SOLVING) look_at_teams();
     if (phase == SOLVING && rounds.state == Rounds::OPEN) look_at_solving();
     if (phase == SOLVING) look_at_checker();
@@ -131,6 +134,17 @@ void Run::look() {
     if (!why.empty()) finish(UNKNOWN_ANSWER, why);
     if (phase == CHECKING && checker.child.ended()) verdict();
     loop.looks_again = phase != DONE && (phase != phase_before || rounds.state != state_before);
+}
+
+bool Run::may_check_again() { return asked.empty() && rounds.may_check_again(); }
+
+// Another lrupd begins, while engines go on, once no filter reads what the killed one has saved.
+void Run::look_at_killed() {
+    if (!may_check_again() || rounds.state == Rounds::MAPPING) return;
+    display.show_lines();
+    display.tell_more("lrupd " + checker.child.end() + ", and is started again");
+    std::string why = rounds.check_again();
+    if (!why.empty()) finish(UNKNOWN_ANSWER, end_of_checker() + why);
 }
 
 void Run::look_at_reading() {
@@ -164,7 +178,7 @@ void Run::look_at_teams() {
     if (!any_has_begun) unstarted = "nothing could run: " + teams[0].cause;
 }
 
-// The proof is written once the filter has written its last line; what the engine says counts for nothing.
+// The proof is there once the filter has written its last line, whatever the engine says.
 void Run::look_at_team(size_t k) {
     Team &team = teams[k];
     EngineStatus &facts = teams.engine_status(k);
@@ -204,7 +218,7 @@ static bool is_usual(const Child &engine) {
     return has_answered || engine.ended_with(0);
 }
 
-// Where that explains what its filter found.
+// How the engine ended, if that explains what its filter found.
 std::string Run::end_before(size_t k) const {
     return teams.engine_status(k).proof_ended && !is_usual(teams[k].engine) ? end_of(k) + "; " : "";
 }
@@ -220,11 +234,12 @@ bool Run::look_at_end(size_t k) {
     static const char no_values[] = "it says 'satisfiable', and gives no assignment in lines v";
     std::string end = inputs.options.check ? "it can't be read" : end_of(k);
     tell_lost(k, unfounded ? no_values : end);
-    if (LOAD(facts.group)) kill(-LOAD(facts.group), SIGKILL);       // where not even its process could do that
+    if (LOAD(facts.group)) kill(-LOAD(facts.group), SIGKILL);       // in case its process couldn't
     return true;
 }
 
-// Of all, once one of them has the answer: from now on they are ended. A filter that has the proof ends before its engine.
+// Looks at all engines once one has the answer, before they are killed. A filter that has the proof
+// ends before its engine.
 void Run::look_at_ends() {
     for (size_t k = 0; k < teams.size(); k++)
         if (!teams[k].told && !LOAD(teams.engine_status(k).refuted)) look_at_end(k);
@@ -236,7 +251,7 @@ void Run::tell_lost(size_t k, const std::string &why) {
     display.tell_more(teams.why_lost(k));
 }
 
-// The answer waits for lrupd's reading of the formula: it may refuse it.
+// The answer has to wait until lrupd has read the formula, which it may refuse.
 void Run::look_at_model(size_t k) {
     if (!front.probe.child.ended()) return;
     const signed char *values = teams[k].model;
@@ -253,7 +268,7 @@ void Run::look_at_model(size_t k) {
 void Run::look_at_checker() {
     bool is_proved = checker.child.ended_with(0) || checker.child.ended_with(8);
     if (is_proved || (checker.child.ended() && rounds.state == Rounds::SAVING)) return verdict();
-    if (checker.child.ended()) return finish(UNKNOWN_ANSWER, end_of_checker());
+    if (checker.child.ended() && !may_check_again()) return finish(UNKNOWN_ANSWER, end_of_checker());
     std::string why = rounds.look();
     if (!why.empty()) finish(UNKNOWN_ANSWER, why);
 }
@@ -266,7 +281,7 @@ void Run::end_streams() {
     phase = CHECKING;
 }
 
-// By lrupd's status alone. It is told even where it can't be kept.
+// Depends on lrupd's status alone. The answer is printed even if the report can't be kept.
 void Run::verdict() {
     display.show_lines();
     bool is_proved = checker.child.ended_with(0) || checker.child.ended_with(8);
@@ -293,14 +308,15 @@ void Run::finish(Answer found, const std::string &why) {
     phase = DONE;
 }
 
-// If lrupd refuses the formula, the run says that, however early the solving has ended. A signal and the time end the waiting.
+// If lrupd refuses the formula, the run says so, no matter how early solving ended. A signal or the
+// time limit ends the wait.
 void Run::await_reading() {
     for (Child *child : children()) child->signal(SIGKILL);
     while (answer == UNKNOWN_ANSWER && front.probe.child.running && !is_ended() && now() < inputs.deadline()) wait();
     if (answer == UNKNOWN_ANSWER && !is_ended()) look_at_reading();
 }
 
-// Of a tool that is called in the end. False where the run is to end before.
+// Waits for a tool that is called at the end. False if the run has to end first.
 bool Run::await_end(Child &child) {
     double time = inputs.deadline();
     bool goes_on = true;
@@ -334,7 +350,7 @@ void Run::end_all() {
     end_children();
 }
 
-// The front says which one it is.
+// The front prints the answer itself.
 void Run::send_answer() {
     display.hide();
     if (inputs.options.verbose) display.details();

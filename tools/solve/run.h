@@ -36,7 +36,7 @@ private:
 
     Phase phase = SOLVING;
     Answer answer = UNKNOWN_ANSWER;
-    // why there is no answer, no record, and nothing was done
+    // why there is no answer; why there is no record; why nothing was done
     std::string cause, unkept, unstarted;
     bool has_report = false;                    // in the record
     std::vector<signed char> model;
@@ -44,8 +44,8 @@ private:
     Keeping keeping{ inputs, display };
     const Elsewhere *others = nullptr;
     double ending = 0;
-    std::string asked;          // why it is to end, once its record is saved
-    double saving = 0;          // when it ends at the latest then
+    std::string asked;          // why the run has to end once its record is saved
+    double saving = 0;          // when it then ends at the latest
 
     void prepare();
     void await_formula(int file);
@@ -56,7 +56,9 @@ private:
     std::string why_it_ends();
     std::string why_it_is_asked() const;
     bool saves_first();
+    bool may_check_again();
     void look();
+    void look_at_killed();
     void look_at_reading();
     void look_at_solving();
     void look_at_teams();

@@ -1,4 +1,5 @@
-// Unverified, as all of this solver. What a record has of rounds with which a run may go on.
+// Unverified, like the whole solver. Reads and writes the rounds of a record from which a run can
+// be resumed.
 #include <algorithm>
 #include <cerrno>
 #include <cstdio>
@@ -27,13 +28,13 @@ std::string stream_name(uint64_t round, size_t number) {
     return name_of_round(round) + ".stream-" + std::to_string(number);
 }
 
-[[noreturn]] void refuse_file(const std::string &why) { refuse(why + ": the run can't go on"); }
+[[noreturn]] void refuse_file(const std::string &why) { refuse(why + ": the run can't be resumed"); }
 
 [[noreturn]] void refuse_changed(const std::string &path) {
     refuse_file(path + " was changed since it was saved");
 }
 
-// That is a regular file.
+// Opens a file of the record, which has to be a regular one.
 int open_regular(const std::string &path) {
     struct stat found;
     int file = open_in_record(path.substr(path.rfind('/') + 1));
@@ -77,7 +78,8 @@ SavedRounds::Sizes SavedRounds::read_sizes(uint64_t round) const {
     return { size_t(streams), { lines, room } };
 }
 
-// All that it names has to be there; streams are compared with their digests as lrupd gets them.
+// All files in the list have to exist; streams are compared with their digests while lrupd reads
+// them.
 void SavedRounds::read(const std::string &record) {
     folder = record + "/";
     if (!is_there(folder + LIST_OF_ROUNDS)) return;
@@ -91,6 +93,22 @@ void SavedRounds::read(const std::string &record) {
     bool has_checkpoint = count() > 0 && digests.count(checkpoint_name(count() + 1)) != 0;
     if (!has_checkpoint || digests.size() != named)
         refuse_file(folder + LIST_OF_ROUNDS + " names other files than a run saves");
+}
+
+void SavedRounds::add(const std::string &record, size_t streams, Row row) {
+    folder = record + "/";
+    sizes.push_back({ streams, row });
+}
+
+void SavedRounds::add_digest(const std::string &line) {
+    digests[line.substr(BEFORE_NAME)] = line.substr(0, DIGEST_DIGITS);
+}
+
+std::string SavedRounds::missing() const {
+    for (uint64_t round = 1; round <= count(); round++)
+        for (size_t k = 1; k <= streams(round); k++)
+            if (!is_there(folder + stream_name(round, k))) return folder + stream_name(round, k);
+    return "";
 }
 
 int SavedRounds::open_stream(uint64_t round, size_t number) const {
@@ -141,7 +159,7 @@ void bring_to_disk(const std::string &name) {
     close(file);
 }
 
-// Of the file that is written there until it is whole.
+// Gives a whole file its name, once it is on disk; else removes it, and returns the cause.
 std::string written(const std::string &path, int file, bool is_whole) {
     const std::string begun = unfinished(path);
     if (is_whole && file >= 0 && fsync(file) == 0 && rename_file(begun, path)) return "";
@@ -150,7 +168,7 @@ std::string written(const std::string &path, int file, bool is_whole) {
     return cause;
 }
 
-// With its digest.
+// Copies the checkpoint, and finds its digest.
 std::string copy_checkpoint(int file, const std::string &path, std::string &digest) {
     static char bytes[PIECE];
     char text[DIGEST_DIGITS + 1];
@@ -174,13 +192,12 @@ void Saver::save(uint64_t round, const std::string &record, const std::string &c
                  const std::vector<std::string> &all) {
     if (!cause) cause = shared_memory<char>(LONGEST_CAUSE);
     folder = record + "/";
-    digests = &all;
     close_file(next.file);
-    next = { round, kept_open(::open(checkpoint.c_str(), O_RDONLY | O_CLOEXEC)), all.size() };
+    next = { round, kept_open(::open(checkpoint.c_str(), O_RDONLY | O_CLOEXEC)), all };
     if (!child.running) start();
 }
 
-// Names are listed here: the process has no list.
+// Lists the names of the new files here, since the process doesn't have the list.
 void Saver::start() {
     now = next;
     next = Work();
@@ -197,13 +214,13 @@ void Saver::start() {
     close_file(now.file);
 }
 
-// Once it is named, the one before isn't needed.
+// Once the list names the new checkpoint, the last one isn't needed any more.
 std::string Saver::write() const {
     const std::string path = folder + checkpoint_name(now.round), list = folder + LIST_OF_ROUNDS;
-    for (size_t k = on_disk; k < now.named; k++) bring_to_disk((*digests)[k].substr(BEFORE_NAME));
+    for (size_t k = on_disk; k < now.digests.size(); k++) bring_to_disk(now.digests[k].substr(BEFORE_NAME));
     std::string text, digest, why = copy_checkpoint(now.file, path, digest);
     if (!why.empty()) return why;
-    for (size_t k = 0; k < now.named; k++) text += (*digests)[k] + "\n";
+    for (const std::string &line : now.digests) text += line + "\n";
     text += digest + "  " + checkpoint_name(now.round) + "\n";
     int file = create_if_possible(unfinished(list));
     why = written(list, file, file >= 0 && write_all(file, text.data(), text.size()));
@@ -224,7 +241,7 @@ std::string Saver::look() {
     bool is_saved = child.ended_with(0);
     std::string why = child.ended_with(1) ? cause : "its process " + child.end();
     std::string line = "round " + std::to_string(now.round - 1) + " isn't saved: " + why;
-    if (is_saved) saved = now.round, on_disk = now.named;
+    if (is_saved) saved = now.round, on_disk = now.digests.size();
     now = Work();
     if (next.round != 0) start();
     return is_saved ? "" : line;

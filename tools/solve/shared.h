@@ -111,7 +111,8 @@ enum { OUTBOX_WORDS = 1 << 20, HEAD_OF_A_GIFT = 2 };
 static inline uint32_t length_of(const uint32_t *gift) { return gift[0] & ~OF_A_CUBE; }
 
 // The gift at that position, which moves to the next gift; NULL at the end.
-static inline uint32_t *next_gift(const Shared *shared, uint32_t *outbox, uint64_t *at, uint64_t end) {
+static inline uint32_t *next_gift(const Shared *shared, uint32_t *outbox, uint64_t *at,
+                                  uint64_t end) {
     uint64_t size = shared->outbox_words;
     if (*at < end && outbox[*at % size] == TO_THE_BEGINNING) *at += size - *at % size;
     if (*at >= end) return NULL;
@@ -120,19 +121,23 @@ static inline uint32_t *next_gift(const Shared *shared, uint32_t *outbox, uint64
     return gift;
 }
 
-static inline const Literal *literals_of(const uint32_t *gift) { return (const Literal *)(const void *)(gift + HEAD_OF_A_GIFT); }
+static inline const Literal *literals_of(const uint32_t *gift) {
+    return (const Literal *)(const void *)(gift + HEAD_OF_A_GIFT);
+}
 
 // Which clauses an engine begins with: the user's formula, and the short ones of those that an
-// earlier run saved. Each longer one, up to a length, goes to one engine: most were one engine's
-// only, and no engine deletes what it begins with.
+// earlier run saved. Each longer one, up to a length, goes to one engine, since most had been
+// derived by one engine only, and no engine deletes what it begins with.
 typedef struct {
     uint64_t formula;               // clauses of the user's formula, which come first
     uint64_t for_all, for_one;      // most literals
     uint64_t engines;
 } Beginning;
 
-static inline bool begins_with(const Beginning *beginning, uint64_t clause, uint64_t length, int engine) {
-    bool is_own = length <= beginning->for_one && clause % beginning->engines == (uint64_t)engine - 1;
+static inline bool begins_with(const Beginning *beginning, uint64_t clause, uint64_t length,
+                               int engine) {
+    bool is_own = length <= beginning->for_one &&
+        clause % beginning->engines == (uint64_t)engine - 1;
     return clause < beginning->formula || length <= beginning->for_all || is_own;
 }
 
@@ -170,8 +175,8 @@ void events_end_wait(EventCount *events, bool is_readable);     // whether its f
 bool events_await(EventCount *events, uint64_t seen, int file);
 
 // outbox.c: engines are counted from 1.
-bool outbox_put(const Shared *shared, uint32_t *outbox, int engine, uint64_t *staged, uint64_t identity, const Literals *literals,
-                uint32_t mark);
+bool outbox_put(const Shared *shared, uint32_t *outbox, int engine, uint64_t *staged,
+                uint64_t identity, const Literals *literals, uint32_t mark);
 uint32_t gift_identity(const uint32_t *gift);
 void outbox_renew(const Shared *shared, uint32_t *outbox, int engine, const Checkpoint *checkpoint);
 

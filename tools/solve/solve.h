@@ -26,7 +26,8 @@ struct Options {
     int share_size = 4;         // most literals of a clause that is given away; units always are
     bool share = true;
     int seed = 0;
-    const char *proofs = nullptr, *assume = nullptr, *cubes = nullptr, *mpi = nullptr, *formula = nullptr;
+    const char *proofs = nullptr, *assume = nullptr, *cubes = nullptr, *mpi = nullptr,
+               *formula = nullptr;
     const char *record = nullptr;       // the user's folder of --proofs
     const char *resumed = nullptr;      // the folder of --resume
     double save_every = 0;              // seconds after which a round ends
@@ -111,6 +112,7 @@ namespace Folder {
     std::string numbers();          // this process's id, and the folder's descriptor, for the front
     std::string open_name();        // its name for other processes, in UTF-8
     std::string room();             // the space left there, in words
+    void remove_rounds();           // pipes, and what lrupd has saved
     void remove();
 }
 
@@ -135,7 +137,7 @@ extern int record_folder;                               // open; -1: none
 Place place_of(const std::string &path);  // files of the record are named relative to record_folder
 // Refuses to write over these inputs.
 void open_record(const std::string &folder, const std::vector<std::string> &inputs, bool replaces);
-void open_record_again(const std::string &folder);      // of a run that goes on
+void open_record_again(const std::string &folder);      // of a resumed run
 // of an earlier run
 void clear_record(const std::string &folder, const std::vector<std::string> &kept);
 int open_in_record(const std::string &name);            // -1: it can't be
@@ -168,8 +170,10 @@ struct Engine {
 const char *engine_version();
 
 // solver.cpp: the same for a user's solver, which opens these files.
-std::string solver_command(const std::string &command, const std::string &formula, const std::string &proof);
-[[noreturn]] void solver_process(const Engine &engine, const std::string &command, const std::vector<int> &files);
+std::string solver_command(const std::string &command, const std::string &formula,
+                           const std::string &proof);
+[[noreturn]] void solver_process(const Engine &engine, const std::string &command,
+                                 const std::vector<int> &files);
 [[noreturn]] void proof_process(const Engine &engine, const std::string &path);     // of --check
 
 #endif

@@ -25,7 +25,8 @@ const char SATISFIABLE_LINE[] = "SATISFIABLE", UNSATISFIABLE_LINE[] = "UNSATISFI
 // The lines `s` and `v` of its output, read word by word, since a line may be very long.
 class Printed {
 public:
-    explicit Printed(const Engine &engine) : variables(engine.formula->variables), model(engine.model) {
+    explicit Printed(const Engine &engine)
+        : variables(engine.formula->variables), model(engine.model) {
         std::fill(model, model + variables, -1);        // variables that it leaves out are false
     }
 
@@ -40,7 +41,8 @@ public:
     // 10, 20, or 0 for no answer. The status counts first. A status that the line `s` contradicts,
     // or 10 without an assignment, is no answer.
     int answer(int status) const {
-        bool satisfiable = verdict == SATISFIABLE_LINE, unsatisfiable = verdict == UNSATISFIABLE_LINE;
+        bool satisfiable = verdict == SATISFIABLE_LINE,
+             unsatisfiable = verdict == UNSATISFIABLE_LINE;
         if (says_satisfiable(status)) return has_values ? 10 : 0;
         return (status == 20 && !satisfiable) || (unsatisfiable && status != 10) ? 20 : 0;
     }
@@ -54,7 +56,8 @@ private:
     bool has_values = false;
 
     bool says_satisfiable(int status) const {
-        return (status == 10 && verdict != UNSATISFIABLE_LINE) || (status != 20 && verdict == SATISFIABLE_LINE);
+        return (status == 10 && verdict != UNSATISFIABLE_LINE) ||
+            (status != 20 && verdict == SATISFIABLE_LINE);
     }
 
     void take(char letter) {
@@ -75,7 +78,8 @@ private:
         int literal;
         if (!number_read(word.c_str(), &literal)) return;
         has_values = true;
-        if (literal != 0 && std::abs(literal) <= variables) model[std::abs(literal) - 1] = literal > 0 ? 1 : -1;
+        if (literal != 0 && std::abs(literal) <= variables)
+            model[std::abs(literal) - 1] = literal > 0 ? 1 : -1;
     }
 };
 
@@ -176,7 +180,8 @@ int wait_for_solver(pid_t group, int signals, int out, int error, Printed &print
 
 // Both paths need no quotes, and are right within quotes, too. Inserted paths aren't searched
 // again.
-std::string solver_command(const std::string &command, const std::string &formula, const std::string &proof) {
+std::string solver_command(const std::string &command, const std::string &formula,
+                           const std::string &proof) {
     static const std::string names[] = { "%formula", "%proof" };
     const std::string *values[] = { &formula, &proof };
     std::string found;
@@ -191,7 +196,8 @@ std::string solver_command(const std::string &command, const std::string &formul
 
 // Holds the proof open until the answer is stored. With -v the solver's standard error is the
 // user's.
-void solver_process(const Engine &engine, const std::string &command, const std::vector<int> &files) {
+void solver_process(const Engine &engine, const std::string &command,
+                    const std::vector<int> &files) {
     Printed printed(engine);
     LastLine last;
     int signals = open_signals();
@@ -208,7 +214,8 @@ void solver_process(const Engine &engine, const std::string &command, const std:
     int status = wait_for_solver(pid, signals, out.read, error.read, printed, last);
     last.copy_to(engine.shared->engine_statuses[engine.number - 1].last_words);
     int exited = WIFEXITED(status) ? WEXITSTATUS(status) : 0, answer = printed.answer(exited);
-    if (printed.is_unfounded(exited)) STORE(engine.shared->engine_statuses[engine.number - 1].unfounded, 1);
+    if (printed.is_unfounded(exited))
+        STORE(engine.shared->engine_statuses[engine.number - 1].unfounded, 1);
     if (answer != 0) STORE(engine.shared->engine_statuses[engine.number - 1].answer, answer);
     if (WIFEXITED(status)) _exit(WEXITSTATUS(status));
     signal(WTERMSIG(status), SIG_DFL);

@@ -29,7 +29,9 @@ const size_t HEAD = 1 << 20;    // bytes of a proof that show whether it is a st
 int half_of_the_cores() {
     cpu_set_t cores;
     CPU_ZERO(&cores);
-    int count = sched_getaffinity(0, sizeof cores, &cores) == 0 ? CPU_COUNT(&cores) : int(sysconf(_SC_NPROCESSORS_ONLN));
+    int count = sched_getaffinity(0, sizeof cores, &cores) == 0
+        ? CPU_COUNT(&cores)
+        : int(sysconf(_SC_NPROCESSORS_ONLN));
     return std::min(int(MOST_ENGINES), std::max(1, count / 2));
 }
 
@@ -43,7 +45,8 @@ std::string name_of_round(uint64_t number) { return "round-" + std::to_string(nu
 // Facts.
 
 bool Teams::is_lost(size_t k) const {
-    return list[k].wrong || (list[k].told && list[k].filter.ended() && LOAD(engine_status(k).answer) != SATISFIABLE);
+    return list[k].wrong ||
+        (list[k].told && list[k].filter.ended() && LOAD(engine_status(k).answer) != SATISFIABLE);
 }
 
 std::string Teams::title(size_t k) const {
@@ -57,7 +60,8 @@ std::string Teams::why_lost(size_t k) const {
 }
 
 bool Teams::is_any_at_work() const {
-    return std::any_of(list.begin(), list.end(), [](const Team &team) { return team.filter.running; });
+    return std::any_of(list.begin(), list.end(),
+                       [](const Team &team) { return team.filter.running; });
 }
 
 uint64_t Teams::all(uint64_t EngineStatus::*field) const {
@@ -94,7 +98,8 @@ void Teams::open(uint64_t round) {
         STORE(engine_status(k).mapped_round, round - 1);
         engine_status(k).events.file = event_file();
         if (is_solver(k)) std::fill_n(engine_status(k).floors, MOST_ENGINES, UINT64_MAX);
-        list[k].stream = options.proofs ? create_file(stream_path(k, shared->round)) : file_in_memory();
+        list[k].stream = options.proofs ? create_file(stream_path(k, shared->round))
+                                        : file_in_memory();
         if (options.proofs) list[k].spare = file_in_memory();
         outboxes.push_back(shared_memory<uint32_t>(shared->outbox_words));
     }
@@ -102,7 +107,8 @@ void Teams::open(uint64_t round) {
 }
 
 void Teams::open_models() {
-    for (size_t k = 0; k < list.size(); k++) list[k].model = shared_memory<signed char>(size_t(inputs.formula.variables));
+    for (size_t k = 0; k < list.size(); k++)
+        list[k].model = shared_memory<signed char>(size_t(inputs.formula.variables));
 }
 
 void Teams::set_here(int first, int count) {
@@ -124,7 +130,8 @@ bool Teams::is_a_stream(size_t k) const {
         if (line.empty() || line[0] == 'c') continue;
         if (!(words >> identity >> second)) return false;
         if (second == "d" || second == "i") continue;
-        return identity > inputs.formula.clauses && (identity - inputs.formula.clauses - 1) % list.size() == k;
+        return identity > inputs.formula.clauses &&
+            (identity - inputs.formula.clauses - 1) % list.size() == k;
     }
     return false;
 }
@@ -139,7 +146,8 @@ void Teams::find_streams() {
 // usually learns. Half of that is for clauses that all engines get.
 void Teams::find_beginning() {
     const Formula &all = inputs.first_formula;
-    uint64_t own = inputs.formula.clauses, engines = std::max<uint64_t>(1, list.size() - inputs.options.solvers.size());
+    uint64_t own = inputs.formula.clauses,
+             engines = std::max<uint64_t>(1, list.size() - inputs.options.solvers.size());
     uint64_t left = std::max<uint64_t>(LEARNED, all.starts.items[own]) / 2, taken = 0;
     std::vector<uint64_t> literals(1);      // of all clauses, by length
     for (size_t k = own; k < all.clauses; k++) {
@@ -149,9 +157,12 @@ void Teams::find_beginning() {
     }
     beginning = { own, 0, 0, engines };
     size_t length = 1;
-    for (; length < literals.size() && taken + literals[length] <= left; length++) taken += literals[length];
+    for (; length < literals.size() && taken + literals[length] <= left; length++)
+        taken += literals[length];
     beginning.for_all = length - 1;
-    for (taken = 0; length < literals.size() && taken + literals[length] <= engines * left; length++) taken += literals[length];
+    for (taken = 0; length < literals.size() && taken + literals[length] <= engines * left;
+         length++)
+        taken += literals[length];
     beginning.for_one = length - 1;
 }
 
@@ -183,7 +194,8 @@ double Teams::next_start() const {
 // take cores from others, and its proof would come late.
 int Teams::size_of_pipes() const {
     bool is_crowded = shared->engines_here > half_of_the_cores();
-    return is_crowded ? CROWDED_PIPE : std::min(PROOF_PIPE, ALL_PROOF_PIPES / inputs.options.engines);
+    return is_crowded ? CROWDED_PIPE
+                      : std::min(PROOF_PIPE, ALL_PROOF_PIPES / inputs.options.engines);
 }
 
 // No other child gets these pipes: a child that is stopped when it starts would keep them open.
@@ -191,7 +203,8 @@ int Teams::size_of_pipes() const {
 void Teams::start_team(size_t k) {
     Team &team = list[k];
     if (!is_here(k)) {
-        for (Child *child : { &team.engine, &team.filter }) child->pid = ELSEWHERE, child->running = true;
+        for (Child *child : { &team.engine, &team.filter })
+            child->pid = ELSEWHERE, child->running = true;
         return;
     }
     team.proof = make_pipe(size_of_pipes());
@@ -207,13 +220,20 @@ void Teams::start_filter(size_t k) {
     const std::vector<int> files = { team.proof.read, team.stream, team.spare, record_folder };
     if (!begin(team.filter, "filter " + std::to_string(number), files)) return;
     give_way();
-    Filtering filtering = { shared, outboxes.data(), number, team.proof.read, team.stream,
-                            team.spare, record_folder,
+    Filtering filtering = { shared,
+                            outboxes.data(),
+                            number,
+                            team.proof.read,
+                            team.stream,
+                            team.spare,
+                            record_folder,
                             is_solver(k) ? UNKNOWN_FORM : SHARING_DRAT,
-                            inputs.options.shares() && !is_solver(k), cited.empty() ? nullptr : cited.data(),
-                            inputs.assumed.data(), inputs.assumed.size(),
+                            inputs.options.shares() && !is_solver(k),
+                            cited.empty() ? nullptr : cited.data(),
+                            inputs.assumed.data(),
+                            inputs.assumed.size(),
                             inputs.options.may_be_resumed() ? inputs.formula.clauses : 0,
-                            is_solver(k) ? Beginning{ UINT64_MAX, 0, 0, 1 } : beginning };
+                            is_solver(k) ? Beginning { UINT64_MAX, 0, 0, 1 } : beginning };
     filter_process(&filtering, &inputs.first_formula);
 }
 
@@ -234,7 +254,8 @@ void Teams::look_at_proof(size_t k) {
     struct stat found;
     const char *path = inputs.options.solvers[k];
     bool is_standard = strcmp(path, "-") == 0;
-    if ((is_standard ? fstat(STDIN_FILENO, &found) : stat(path, &found)) != 0) refuse(::title(path) + ": " + error_text());
+    if ((is_standard ? fstat(STDIN_FILENO, &found) : stat(path, &found)) != 0)
+        refuse(::title(path) + ": " + error_text());
     if (S_ISDIR(found.st_mode)) refuse(::title(path) + " is a folder");
     if (S_ISREG(found.st_mode)) list[k].proof_size = uint64_t(found.st_size);
     list[k].command = ::title(path);
@@ -243,8 +264,9 @@ void Teams::look_at_proof(size_t k) {
 void Teams::start_engine(size_t k) {
     Team &team = list[k];
     int number = int(k) + 1, renamed = -1;
-    Engine engine = { &inputs.options, &inputs.first_formula, &inputs.assumed, &inputs.cubes, shared,
-                      outboxes.data(), &beginning, team.model, number, team.proof.write };
+    Engine engine = { &inputs.options, &inputs.first_formula, &inputs.assumed, &inputs.cubes,
+                      shared,          outboxes.data(),       &beginning,      team.model,
+                      number,          team.proof.write };
     std::vector<int> files = { team.proof.write };
     bool is_proof = inputs.options.check;
     if (is_proof) look_at_proof(k);
@@ -268,7 +290,9 @@ void Teams::look() {
     pause_others();
 }
 
-bool Teams::has_refuted(size_t k) const { return LOAD(engine_status(k).answer) == UNSATISFIABLE && list[k].filter.running; }
+bool Teams::has_refuted(size_t k) const {
+    return LOAD(engine_status(k).answer) == UNSATISFIABLE && list[k].filter.running;
+}
 
 // While the filter of an engine that has refuted the formula catches up, the other engines and
 // filters on this host are paused, so that it has the cores. They continue if it stops.
@@ -282,7 +306,8 @@ void Teams::pause_others() {
         bool stops = wanted && !has_refuted(k);
         if (stops == list[k].paused || !is_here(k)) continue;
         list[k].paused = stops;
-        for (Child *child : { &list[k].engine, &list[k].filter }) child->signal(stops ? SIGSTOP : SIGCONT);
+        for (Child *child : { &list[k].engine, &list[k].filter })
+            child->signal(stops ? SIGSTOP : SIGCONT);
     }
 }
 
@@ -351,7 +376,8 @@ void Teams::tell_fed(size_t k, uint64_t bytes) const {
 // Streams.
 
 std::string Teams::stream_path(size_t k, uint64_t round) const {
-    return record + name_of_round(round) + ".stream-" + std::to_string(LOAD(engine_status(k).stream));
+    return record + name_of_round(round) + ".stream-" +
+        std::to_string(LOAD(engine_status(k).stream));
 }
 
 std::vector<int> Teams::stream_files() const {
@@ -430,13 +456,15 @@ void Teams::cut_streams() {
 }
 
 void Teams::cut_stream(size_t k, uint64_t bytes) {
-    if (list[k].stream >= 0 && ftruncate(list[k].stream, off_t(bytes)) != 0) refuse("cannot cut a stream: " + error_text());
+    if (list[k].stream >= 0 && ftruncate(list[k].stream, off_t(bytes)) != 0)
+        refuse("cannot cut a stream: " + error_text());
 }
 
 // Clauses given away by a filter that has died, or is on another host, may still be taken over.
 void Teams::renew_outboxes(const Checkpoint &saved, uint64_t round) {
     for (size_t k = 0; k < list.size(); k++) {
         list[k].silent = LOAD(engine_status(k).mapped_round) != round - 1;
-        if (list[k].filter.ended() || !is_here(k)) outbox_renew(shared, outboxes[k], int(k) + 1, &saved);
+        if (list[k].filter.ended() || !is_here(k))
+            outbox_renew(shared, outboxes[k], int(k) + 1, &saved);
     }
 }

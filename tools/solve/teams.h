@@ -39,7 +39,9 @@ public:
     bool is_solver(size_t k) const { return k + inputs.options.solvers.size() >= list.size(); }
     std::string why_lost(size_t k) const;
     bool is_any_at_work() const;        // whether a filter is running
-    bool is_here(size_t k) const { return int(k) >= shared->first_here && int(k) < shared->first_here + shared->engines_here; }
+    bool is_here(size_t k) const {
+        return int(k) >= shared->first_here && int(k) < shared->first_here + shared->engines_here;
+    }
     // it has no assignment, its proof isn't read any more, and the cause is known
     bool is_lost(size_t k) const;
     std::string title(size_t k) const;  // engine 1, solver 1 or proof 1

@@ -28,14 +28,16 @@ static struct { unsigned char *items; size_t capacity; } copy;     // of the las
 // /dev/null takes the place of a stream that is left out.
 static bool is_null(const struct stat *found) {
     struct stat null;
-    return S_ISCHR(found->st_mode) && stat("/dev/null", &null) == 0 && found->st_rdev == null.st_rdev;
+    return S_ISCHR(found->st_mode) && stat("/dev/null", &null) == 0 &&
+        found->st_rdev == null.st_rdev;
 }
 
 static int file_open(const char *path, size_t *length) {
     struct stat found;
     int file = open(path, O_RDONLY | O_NONBLOCK | O_CLOEXEC);
     if (file < 0 || fstat(file, &found) != 0) stop("%s: %s", path, strerror(errno));
-    if (!S_ISREG(found.st_mode) && !is_null(&found)) stop("%s: not a regular file, but it is read more than once", path);
+    if (!S_ISREG(found.st_mode) && !is_null(&found))
+        stop("%s: not a regular file, but it is read more than once", path);
     *length = (size_t)found.st_size;
     return file;
 }
@@ -50,7 +52,8 @@ static const char *packer_of(const char *path) {
     size_t length = strlen(path);
     for (size_t k = 0; k < PACKED_FORMS; k++) {
         size_t ending = strlen(PACKED[k].ending);
-        if (length > ending && strcmp(path + length - ending, PACKED[k].ending) == 0) return PACKED[k].program;
+        if (length > ending && strcmp(path + length - ending, PACKED[k].ending) == 0)
+            return PACKED[k].program;
     }
     return NULL;
 }
@@ -60,7 +63,9 @@ static int file_without_name(void) {
     const char *folder = getenv("TMPDIR");
     int length = snprintf(name, sizeof name, "%s/lrup-XXXXXX", folder && *folder ? folder : "/tmp");
     int file = length < LONGEST_PATH ? mkostemp(name, O_CLOEXEC) : -1;
-    if (file < 0) stop("cannot create a file in %s: %s", folder && *folder ? folder : "/tmp", strerror(errno));
+    if (file < 0)
+        stop("cannot create a file in %s: %s", folder && *folder ? folder : "/tmp",
+             strerror(errno));
     unlink(name);
     return file;
 }
@@ -71,11 +76,14 @@ static int unpacked(int packed, const char *program, const char *path) {
     fflush(NULL);
     pid_t child = fork();
     if (child == 0) {
-        if (dup2(packed, 0) == 0 && dup2(file, 1) == 1) execlp(program, program, "-dcq", (char *)NULL);
+        if (dup2(packed, 0) == 0 && dup2(file, 1) == 1)
+            execlp(program, program, "-dcq", (char *)NULL);
         _exit(errno == ENOENT ? 127 : 126);
     }
-    if (child < 0 || waitpid(child, &status, 0) != child) stop("cannot start %s: %s", program, strerror(errno));
-    if (WIFEXITED(status) && WEXITSTATUS(status) == 127) stop("no %s on the PATH for %s", program, path);
+    if (child < 0 || waitpid(child, &status, 0) != child)
+        stop("cannot start %s: %s", program, strerror(errno));
+    if (WIFEXITED(status) && WEXITSTATUS(status) == 127)
+        stop("no %s on the PATH for %s", program, path);
     if (status != 0) stop("%s: %s can't unpack it", path, program);
     close(packed);
     return file;
@@ -99,8 +107,10 @@ unsigned char *file_map(const char *path, size_t *length) {
         *length = (size_t)found.st_size;
     }
     signal(SIGBUS, file_was_cut);
-    unsigned char *start = mmap(NULL, *length + BEYOND, PROT_READ, MAP_PRIVATE | MAP_ANONYMOUS, -1, 0);
-    if (start != MAP_FAILED && *length > 0) start = mmap(start, *length, PROT_READ, MAP_PRIVATE | MAP_FIXED, file, 0);
+    unsigned char *start = mmap(NULL, *length + BEYOND, PROT_READ, MAP_PRIVATE | MAP_ANONYMOUS, -1,
+                                0);
+    if (start != MAP_FAILED && *length > 0)
+        start = mmap(start, *length, PROT_READ, MAP_PRIVATE | MAP_FIXED, file, 0);
     if (start == MAP_FAILED) stop("cannot map %s: %s", path, strerror(errno));
     close(file);
     return start;
@@ -146,7 +156,8 @@ static unsigned char *mark_of(unsigned char *at, uint64_t *lead) {
         value = 10 * value + (uint64_t)(*at - '0');
     *lead = value;
     bool is_number = at > start && *start != '0' && at - start <= DIGITS;
-    return is_number && at[0] == ' ' && (at[1] == 'd' || at[1] == 'i') && at[2] == ' ' ? at + 1 : NULL;
+    return is_number && at[0] == ' ' && (at[1] == 'd' || at[1] == 'i') && at[2] == ' ' ? at + 1
+                                                                                       : NULL;
 }
 
 const char *line_read(Line line, Reading *reading) {
@@ -158,7 +169,8 @@ const char *line_read(Line line, Reading *reading) {
     words_read(&words, line);
     const int64_t *numbers = words.numbers.items;
     size_t length = words.numbers.length;
-    if (!words.plain || numbers[length - 1] != 0 || words.zeros != (mark ? 1 : 2)) return "spelling";
+    if (!words.plain || numbers[length - 1] != 0 || words.zeros != (mark ? 1 : 2))
+        return "spelling";
     if (!mark && numbers[0] <= 0) return "spelling";
     if (!mark) reading->identity = (uint64_t)numbers[0];
     reading->hints = (const char *)words.zero + 2;
@@ -167,7 +179,9 @@ const char *line_read(Line line, Reading *reading) {
     reading->cited = mark ? numbers : reading->literals + reading->length + 1;
     reading->count = reading->kind == 'i' ? 0 : (size_t)(numbers + length - 1 - reading->cited);
     if (!is_positive(reading->cited, reading->count)) return mark ? "spelling" : "rat hint";
-    return reading->length > LITERALS_OF_A_LINE || reading->count > IDENTITIES_OF_A_LINE ? "too long" : NULL;
+    return reading->length > LITERALS_OF_A_LINE || reading->count > IDENTITIES_OF_A_LINE
+        ? "too long"
+        : NULL;
 }
 
 const int64_t *line_hints(Line line, size_t *count) {
@@ -184,6 +198,22 @@ void lines_free(void) {
 
 // A record.
 
+static bool is_folder(const char *path) {
+    struct stat found;
+    return stat(path, &found) == 0 && S_ISDIR(found.st_mode);
+}
+
+const char *folder_of(const Texts *files) {
+    if (files->length < 1) refuse("no", "FORMULA");
+    if (files->length < 2) refuse("no", "DIR or STREAM");
+    if (files->length > 1 + STREAMS)
+        refuse("more than 64 streams, from", files->items[1 + STREAMS]);
+    for (size_t k = 1; k < files->length && files->length > 2; k++)
+        if (is_folder(files->items[k]))
+            stop("%s: a folder has to be the only input", files->items[k]);
+    return is_folder(files->items[1]) ? files->items[1] : NULL;
+}
+
 static bool is_there(const char *path) { return access(path, F_OK) == 0; }
 
 // Streams have a number, and may be compressed.
@@ -191,7 +221,8 @@ const char *record_file(const char *folder, size_t round, const char *kind, uint
     static char path[LONGEST_PATH];
     const int most = LONGEST_PATH - LONGEST_ENDING;
     int length = snprintf(path, LONGEST_PATH, "%s/round-%zu.%s", folder, round, kind);
-    if (number > 0 && length < most) length += snprintf(path + length, (size_t)(LONGEST_PATH - length), "%u", number);
+    if (number > 0 && length < most)
+        length += snprintf(path + length, (size_t)(LONGEST_PATH - length), "%u", number);
     if (length >= most) stop("%s: name too long", folder);
     for (size_t k = 0; k < PACKED_FORMS && number > 0 && !is_there(path); k++) {
         strcpy(path + length, PACKED[k].ending);
@@ -213,7 +244,8 @@ void record_check(const char *folder, const char *formula) {
     digest_file(file, formula, found);
     close(file);
     if (strncmp(kept + (kept[0] == '\\'), found, DIGEST_DIGITS) != 0)
-        stop("%s isn't the formula of %s, or was changed since: its digest isn't that of %s", formula, folder, path);
+        stop("%s isn't the formula of %s, or was changed since: its digest isn't that of %s",
+             formula, folder, path);
 }
 
 // In round 1 counts the streams' files; later rounds have as many as the sizes say, or as the round
@@ -222,13 +254,16 @@ void record_check(const char *folder, const char *formula) {
 uint32_t record_streams(const char *folder, size_t round, uint32_t before, Row *row) {
     if (!is_there(record_file(folder, round, "stream-", 1))) return 0;
     uint32_t count = round == 1 ? 1 : before;
-    while (round == 1 && count < STREAMS && is_there(record_file(folder, round, "stream-", count + 1))) count++;
+    while (round == 1 && count < STREAMS &&
+           is_there(record_file(folder, round, "stream-", count + 1)))
+        count++;
     const char *path = record_file(folder, round, "sizes", 0);
     if ((round == 1 && !row) || !is_there(path)) return count;
     size_t length;
     const int64_t *sizes = numbers_read(path, &length);
     bool are_sizes = sizes && length == 3 && sizes[0] >= 1 && sizes[0] <= STREAMS;
-    for (size_t k = 1; k < 3 && are_sizes; k++) are_sizes = sizes[k] >= 0 && sizes[k] <= (int64_t)MOST_WORDS;
+    for (size_t k = 1; k < 3 && are_sizes; k++)
+        are_sizes = sizes[k] >= 0 && sizes[k] <= (int64_t)MOST_WORDS;
     if (!are_sizes) stop("%s: not STREAMS LINES ROOM", path);
     if (row) *row = (Row){ (uint64_t)sizes[1], (uint64_t)sizes[2] };
     return round == 1 ? count : (uint32_t)sizes[0];

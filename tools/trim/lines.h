@@ -3,6 +3,7 @@
 #define LINES_H
 
 #include "../exact/input.h"
+#include "../exact/options.h"
 #include "../exact/row.h"
 
 enum { STREAMS = 64 };                  // lrupd's limit
@@ -26,6 +27,9 @@ Line line_copy(Line line);              // with LF and zeros; overwrites the las
 const char *line_read(Line line, Reading *reading);
 const int64_t *line_hints(Line line, size_t *count);  // of the rest after the literals; or NULL
 void lines_free(void);                  // frees the buffers, which are as large as the longest line
+
+// Refuses other words than FORMULA DIR|STREAM... Returns the folder, or NULL.
+const char *folder_of(const Texts *files);
 
 // A record of rounds.
 // stops if its digest isn't the formula's

@@ -12,14 +12,16 @@ typedef enum { TAKEN, STOPPED, WAITS } Outcome;
 
 static Outcome stopped(Stream *stream, const char *fault, uint64_t object) {
     stream->stopped = true;
-    fprintf(stderr, "lrup-trim: %s, line %llu: %s", stream->path, (unsigned long long)stream->line + 1, fault);
+    fprintf(stderr, "lrup-trim: %s, line %llu: %s", stream->path,
+            (unsigned long long)stream->line + 1, fault);
     if (object) fprintf(stderr, " %llu", (unsigned long long)object);
     fputc('\n', stderr);
     return STOPPED;
 }
 
 static bool is_over(Stream *stream) {
-    if (stream->at == stream->end && stream->cut && !stream->stopped) stopped(stream, "truncated", 0);
+    if (stream->at == stream->end && stream->cut && !stream->stopped)
+        stopped(stream, "truncated", 0);
     return stream->stopped || stream->at == stream->end;
 }
 
@@ -41,20 +43,24 @@ static void take(Proof *proof, Stream *stream, const Reading *reading, uint64_t 
     proof->target = number;
 }
 
-static Outcome add(Proof *proof, const Round *round, Stream *stream, const Reading *reading, uint64_t *awaited) {
+static Outcome add(Proof *proof, const Round *round, Stream *stream, const Reading *reading,
+                   uint64_t *awaited) {
     Stream *streams = &proof->streams.items[round->first];
-    if (reading->identity <= round->formula || &streams[owner_of(round, reading->identity)] != stream)
+    if (reading->identity <= round->formula ||
+        &streams[owner_of(round, reading->identity)] != stream)
         return stopped(stream, "identity", 0);
     uint64_t slot = slot_of(round, reading->identity);
     if (slot < stream->seen || slot >= MOST_WORDS) return stopped(stream, "identity", 0);
-    if (slot >= stream->slots) return stopped(stream, "an identity above that of the last addition", 0);
+    if (slot >= stream->slots)
+        return stopped(stream, "an identity above that of the last addition", 0);
     for (size_t k = 0; k < reading->count; k++) {
         uint64_t hint = (uint64_t)reading->cited[k];
         if (hint <= round->formula) continue;
         Stream *owner = &streams[owner_of(round, hint)];
         uint64_t cited = slot_of(round, hint);
         if (cited < owner->seen && owner->hints[cited]) continue;
-        if (cited < owner->seen || owner == stream || is_over(owner)) return stopped(stream, "missing", hint);
+        if (cited < owner->seen || owner == stream || is_over(owner))
+            return stopped(stream, "missing", hint);
         *awaited = hint;
         return WAITS;
     }
@@ -63,17 +69,22 @@ static Outcome add(Proof *proof, const Round *round, Stream *stream, const Readi
 }
 
 // Deletions don't matter for the order, only for what the next round begins with.
-static void delete(const Proof *proof, const Round *round, const Stream *stream, const Reading *reading, unsigned char *dropped) {
+static void delete (const Proof *proof, const Round *round, const Stream *stream,
+                    const Reading *reading, unsigned char *dropped) {
     const Stream *streams = &proof->streams.items[round->first];
     for (size_t k = 0; k < reading->count; k++) {
         uint64_t identity = (uint64_t)reading->cited[k];
-        if (identity <= round->formula) dropped[identity - 1] = (unsigned char)(dropped[identity - 1] + (dropped[identity - 1] < STREAMS));
-        else if (&streams[owner_of(round, identity)] == stream && slot_of(round, identity) < stream->seen)
+        if (identity <= round->formula)
+            dropped[identity - 1] = (unsigned char)(dropped[identity - 1] +
+                                                    (dropped[identity - 1] < STREAMS));
+        else if (&streams[owner_of(round, identity)] == stream &&
+                 slot_of(round, identity) < stream->seen)
             stream->deleted[slot_of(round, identity)] = 1;
     }
 }
 
-static Outcome step(Proof *proof, const Round *round, Stream *stream, unsigned char *dropped, uint64_t *awaited) {
+static Outcome step(Proof *proof, const Round *round, Stream *stream, unsigned char *dropped,
+                    uint64_t *awaited) {
     Reading reading;
     Line line = line_at(stream, stream->at);
     const char *fault = line_read(line, &reading);
@@ -106,8 +117,10 @@ static void merge(Proof *proof, const Round *round, unsigned char *dropped) {
             if (!waits[number]) depth--;
             else if (step(proof, round, stream, dropped, &awaited) == WAITS) {
                 uint32_t owner = (uint32_t)owner_of(round, awaited);
-                if (waits[owner]) stopped(stream, "a circle of lines that cite each other:", awaited);
-                else stack[depth].stream = owner, stack[depth++].slots = slot_of(round, awaited) + 1;
+                if (waits[owner])
+                    stopped(stream, "a cycle of lines that cite each other:", awaited);
+                else
+                    stack[depth].stream = owner, stack[depth++].slots = slot_of(round, awaited) + 1;
             }
             if (proof->target) return;
         }
@@ -116,11 +129,14 @@ static void merge(Proof *proof, const Round *round, unsigned char *dropped) {
 
 // Rounds.
 
-void round_add(Proof *proof, char **paths, uint32_t count) {
+void round_add(Proof *proof, const char *const *paths, uint32_t count) {
     Round round = { .first = (uint32_t)proof->streams.length, .count = count };
     for (uint32_t k = 0; k < count; k++) {
-        const char *path = paths ? paths[k] : record_file(proof->folder, proof->rounds.length + 1, "stream-", k + 1);
-        Stream stream = { .path = zeroed(strlen(path) + 1, 1), .round = (uint32_t)proof->rounds.length };
+        const char *path = paths
+            ? paths[k]
+            : record_file(proof->folder, proof->rounds.length + 1, "stream-", k + 1);
+        Stream stream = { .path = zeroed(strlen(path) + 1, 1),
+                          .round = (uint32_t)proof->rounds.length };
         strcpy(stream.path, path);
         PUSH(&proof->streams, stream);
     }
@@ -129,7 +145,8 @@ void round_add(Proof *proof, char **paths, uint32_t count) {
 
 // The formula of the next round, as lrupd makes it: the round's formula without clauses that all
 // streams deleted, and the derived clauses that their owners didn't delete, by identity.
-static void carry(const Proof *proof, const Round *round, const unsigned char *dropped, Round *next) {
+static void carry(const Proof *proof, const Round *round, const unsigned char *dropped,
+                  Round *next) {
     const Stream *streams = &proof->streams.items[round->first];
     uint64_t slots = 0, most = round->formula;
     for (uint32_t k = 0; k < round->count; k++) {
@@ -138,7 +155,8 @@ static void carry(const Proof *proof, const Round *round, const unsigned char *d
     }
     next->carried = grow(NULL, (most + 1) * sizeof *next->carried);
     for (uint64_t k = 1; k <= round->formula; k++)
-        if (dropped[k - 1] < round->count) next->carried[next->formula++] = number_of(proof, round, k);
+        if (dropped[k - 1] < round->count)
+            next->carried[next->formula++] = number_of(proof, round, k);
     for (uint64_t slot = 0; slot < slots; slot++)
         for (uint32_t k = 0; k < round->count; k++)
             if (slot < streams[k].seen && streams[k].hints[slot] && !streams[k].deleted[slot])
@@ -157,10 +175,13 @@ static void round_end(Proof *proof, const Round *round) {
 // Whether a round comes after the last one.
 static bool goes_on(Proof *proof, const unsigned char *dropped) {
     uint32_t index = (uint32_t)proof->rounds.length - 1, before = proof->rounds.items[index].count;
-    uint32_t count = proof->target || !proof->folder ? 0 : record_streams(proof->folder, index + 2, before, NULL);
+    uint32_t count = proof->target || !proof->folder
+        ? 0
+        : record_streams(proof->folder, index + 2, before, NULL);
     if (count == 0) return false;
     for (uint32_t k = 0; k < proof->rounds.items[index].count; k++)
-        if (proof->streams.items[proof->rounds.items[index].first + k].stopped) stop("the run ends in round %u, at that line", index + 1);
+        if (proof->streams.items[proof->rounds.items[index].first + k].stopped)
+            stop("the run ends in round %u, at that line", index + 1);
     round_add(proof, NULL, count);
     carry(proof, &proof->rounds.items[index], dropped, &proof->rounds.items[index + 1]);
     return true;
@@ -169,7 +190,8 @@ static bool goes_on(Proof *proof, const unsigned char *dropped) {
 void order(Proof *proof) {
     if (proof->folder) {
         uint32_t count = record_streams(proof->folder, 1, 0, NULL);
-        if (count == 0) stop("%s: No such file or directory", record_file(proof->folder, 1, "stream-", 1));
+        if (count == 0)
+            stop("%s: No such file or directory", record_file(proof->folder, 1, "stream-", 1));
         round_add(proof, NULL, count);
     }
     proof->rounds.items[0].formula = proof->formula.clauses;
@@ -178,12 +200,15 @@ void order(Proof *proof) {
         size_t index = proof->rounds.length - 1;
         const Round *round = &proof->rounds.items[index];
         unsigned char *dropped = proof->folder ? zeroed(round->formula, 1) : NULL;
-        for (uint32_t k = 0; k < round->count; k++) stream_open(proof, &proof->streams.items[round->first + k], round, k);
+        for (uint32_t k = 0; k < round->count; k++)
+            stream_open(proof, &proof->streams.items[round->first + k], round, k);
         merge(proof, round, dropped);
         more = goes_on(proof, dropped);
         round_end(proof, &proof->rounds.items[index]);
         if (dropped) grow(dropped, 0);
     }
     lines_free();
-    if (!proof->target) stop("no line derives %s", proof->assumed ? "a clause that contradicts the assumptions" : "the empty clause");
+    if (!proof->target)
+        stop("no line derives %s",
+             proof->assumed ? "a clause that contradicts the assumptions" : "the empty clause");
 }

@@ -59,7 +59,9 @@ static bool is_same(const Formula *one, size_t clause, const Formula *other, siz
     const size_t *starts = one->starts.items + clause, *others = other->starts.items + another;
     size_t length = starts[1] - starts[0];
     if (others[1] - others[0] != length) return false;
-    return length == 0 || memcmp(one->literals.items + starts[0], other->literals.items + others[0], length * sizeof(Literal)) == 0;
+    return length == 0 ||
+        memcmp(one->literals.items + starts[0], other->literals.items + others[0],
+               length * sizeof(Literal)) == 0;
 }
 
 static void core_check(const Proof *proof, const char *core, const char *formula) {
@@ -70,10 +72,13 @@ static void core_check(const Proof *proof, const char *core, const char *formula
     for (Number k = 1; k <= proof->formula.clauses; k++) {
         size_t name = name_of(proof, k);
         if (proof->last_use[k] == 0) continue;
-        if (name > whole.clauses || place >= found.clauses || !is_same(&whole, name - 1, &found, place++))
-            stop("%s: clause %zu isn't clause %zu of %s: was one of them changed?", core, place, name, formula);
+        if (name > whole.clauses || place >= found.clauses ||
+            !is_same(&whole, name - 1, &found, place++))
+            stop("%s: clause %zu isn't clause %zu of %s: was one of them changed?", core, place,
+                 name, formula);
     }
-    if (found.clauses != place || found.variables != whole.variables) stop("%s: changed since it was written", core);
+    if (found.clauses != place || found.variables != whole.variables)
+        stop("%s: changed since it was written", core);
     formula_free(&whole);
     formula_free(&found);
 }
@@ -105,8 +110,8 @@ enum { PIECE = 1 << 16 };       // literals and hints
 // first, count: in `cited`; clause, length: in `literals`.
 typedef struct { Number number; size_t first, count, clause, length; } Kept;
 
-static struct { Kept *items; size_t length, capacity; } lines;
-static struct { Number *items; size_t length, capacity; } cited;
+static LIST_OF(Kept) lines;
+static LIST_OF(Number) cited;
 static Numbers literals;
 static Identities list;
 
@@ -214,7 +219,8 @@ void lines_write(Proof *proof, Output *stream, Output *lrat) {
     Output *const outputs[2] = { stream, lrat };
     Number place = 0, derived = 0;
     proof->place = zeroed(proof->numbers, sizeof *proof->place);
-    for (Number k = 1; k <= proof->formula.clauses; k++) proof->place[k] = proof->last_use[k] != 0 ? ++place : 0;
+    for (Number k = 1; k <= proof->formula.clauses; k++)
+        proof->place[k] = proof->last_use[k] != 0 ? ++place : 0;
     lines_begin(proof, stream, false);
     lines_begin(proof, lrat, true);
     for (size_t k = 0; k < proof->runs.length; k++) {

@@ -12,7 +12,8 @@ static void core_of(const Proof *proof, Formula *core, Number *names) {
     PUSH(&core->starts, 0);
     for (size_t k = 0; k < whole->clauses; k++) {
         if (proof->last_use[k + 1] == 0) continue;
-        for (size_t at = whole->starts.items[k]; at < whole->starts.items[k + 1]; at++) PUSH(&core->literals, whole->literals.items[at]);
+        for (size_t at = whole->starts.items[k]; at < whole->starts.items[k + 1]; at++)
+            PUSH(&core->literals, whole->literals.items[at]);
         PUSH(&core->starts, core->literals.length);
         names[core->clauses++] = (Number)k + 1;
     }
@@ -54,7 +55,8 @@ static void proof_free(Proof *proof) {
 }
 
 void rehint(Proof *proof, Output *lines) {
-    Proof again = { .clauses = proof->clauses, .literals = proof->literals, .assumed = proof->assumed };
+    Proof again = { .clauses = proof->clauses, .literals = proof->literals,
+                    .assumed = proof->assumed };
     static Filter filter = { .stream = 1, .streams = 1 };       // never freed
     again.names = zeroed(proof->core, sizeof *again.names);
     core_of(proof, &again.formula, again.names);
@@ -65,7 +67,7 @@ void rehint(Proof *proof, Output *lines) {
     uint64_t count = proof->lines, bytes = proof->bytes;
     proof_free(proof);
     *proof = again;
-    round_add(proof, (char *[]){ (char *)lines->path }, 1);
+    round_add(proof, &lines->path, 1);
     order(proof);
     mark(proof);
     outputs_remove();

@@ -26,7 +26,9 @@ Line line_at(const Stream *stream, unsigned char *start) {
 void hints_keep(Stream *stream, uint64_t slot, unsigned char *place) {
     unsigned char **first = &stream->places[slot / SLOTS];
     if (*first == NULL) *first = place;
-    if (place - *first >= UINT32_MAX) stop("%s, line %llu: too far from other lines of the stream", stream->path, (unsigned long long)stream->line + 1);
+    if (place - *first >= UINT32_MAX)
+        stop("%s, line %llu: too far from other lines of the stream", stream->path,
+             (unsigned long long)stream->line + 1);
     stream->hints[slot] = (uint32_t)(place - *first) + 1;
 }
 
@@ -39,7 +41,8 @@ static unsigned char *hints_of(const Stream *stream, Number number) {
 // Lines that were taken.
 
 Reading line_again(const Stream *stream, Number number) {
-    unsigned char *before = memrchr(stream->start, '\n', (size_t)(hints_of(stream, number) - stream->start));
+    unsigned char *before = memrchr(stream->start, '\n',
+                                    (size_t)(hints_of(stream, number) - stream->start));
     Reading reading;
     const char *fault = line_read(line_at(stream, before ? before + 1 : stream->start), &reading);
     if (fault || reading.kind != 'a') stream_changed(stream);
@@ -58,7 +61,9 @@ static uint64_t slots_of(const Stream *stream, const Round *round, uint64_t numb
     for (unsigned char *end = stream->end, *start; end > stream->start; end = start) {
         start = memrchr(stream->start, '\n', (size_t)(end - 1 - stream->start));
         start = start ? start + 1 : stream->start;
-        if (line_read((Line){ start, end - 1, true }, &reading) || reading.kind != 'a' || reading.identity <= round->formula) continue;
+        if (line_read((Line){ start, end - 1, true }, &reading) || reading.kind != 'a' ||
+            reading.identity <= round->formula)
+            continue;
         uint64_t slot = slot_of(round, reading.identity);
         if (slot < MOST_WORDS && owner_of(round, reading.identity) == number) return slot + 1;
     }
@@ -77,7 +82,8 @@ void stream_open(Proof *proof, Stream *stream, const Round *round, uint64_t numb
     stream->end = last ? last + 1 : stream->start;
     stream->cut = stream->end < stream->start + length;
     stream->slots = slots_of(stream, round, number);
-    if (proof->numbers + stream->slots > UINT32_MAX) stop("%s: more than %u clauses of all streams", stream->path, UINT32_MAX);
+    if (proof->numbers + stream->slots > UINT32_MAX)
+        stop("%s: more than %u clauses of all streams", stream->path, UINT32_MAX);
     stream->first = (Number)proof->numbers;
     proof->numbers += stream->slots;
     // pages in a gap are never touched

@@ -43,9 +43,9 @@ typedef struct {
     Formula formula;                    // FORMULA, or with --re-hint its core
     Number *names;  // numbers of the core's clauses in FORMULA; NULL if formula is FORMULA
     uint64_t clauses, literals;         // of FORMULA
-    struct { Stream *items; size_t length, capacity; } streams;
-    struct { Round *items; size_t length, capacity; } rounds;
-    struct { Run *items; size_t length, capacity; } runs;
+    LIST_OF(Stream) streams;
+    LIST_OF(Round) rounds;
+    LIST_OF(Run) runs;
     const char *folder;                 // of a record of rounds, or NULL
     unsigned char *assumed;             // by literal; NULL: nothing is assumed
     uint64_t numbers;                   // the next free number
@@ -64,8 +64,12 @@ _Noreturn void stream_changed(const Stream *stream);            // stops: it has
 void hints_keep(Stream *stream, uint64_t slot, unsigned char *place);
 void stream_open(Proof *proof, Stream *stream, const Round *round, uint64_t number);
 
-static inline uint64_t owner_of(const Round *round, uint64_t identity) { return (identity - round->formula - 1) % round->count; }
-static inline uint64_t slot_of(const Round *round, uint64_t identity) { return (identity - round->formula - 1) / round->count; }
+static inline uint64_t owner_of(const Round *round, uint64_t identity) {
+    return (identity - round->formula - 1) % round->count;
+}
+static inline uint64_t slot_of(const Round *round, uint64_t identity) {
+    return (identity - round->formula - 1) / round->count;
+}
 
 // 0 if the identity is 0, or above the last one of its stream.
 static inline Number number_of(const Proof *proof, const Round *round, uint64_t identity) {
@@ -76,10 +80,12 @@ static inline Number number_of(const Proof *proof, const Round *round, uint64_t 
     return slot < owner->slots ? owner->first + (Number)slot : 0;
 }
 
-static inline Number name_of(const Proof *proof, Number clause) { return proof->names ? proof->names[clause - 1] : clause; }
+static inline Number name_of(const Proof *proof, Number clause) {
+    return proof->names ? proof->names[clause - 1] : clause;
+}
 
 // order.c
-void round_add(Proof *proof, char **paths, uint32_t count);     // NULL: the record's
+void round_add(Proof *proof, const char *const *paths, uint32_t count);  // NULL: the record's
 void order(Proof *proof);
 
 // mark.c

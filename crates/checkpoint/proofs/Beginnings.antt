@@ -1,4 +1,5 @@
--- A text of a formula has a token `0` for each clause, and a prefix of a printed text has fewer than its header says.
+-- A text of a formula has a token `0` for each clause, and a prefix of a printed text has fewer
+-- than its header says.
 use Rattle.std.proofs.Common.{◌≡◌, ◌≢◌, ◌≤◌, ◌<◌, ◌+◌, ◌-◌, ◌^◌, ◌++◌, ◌⊎◌, ℕ, zero, suc, ℤ, pos, negsuc, List, [], ◌∷◌, length}
 use Rattle.std.proofs.Common.{length-append, map, min, get_or, true, false, not, cond, refl, sym, ap, subst, ◌∙◌, inl, inr, arith}
 use Rattle.std.specs.Prelude.{codes, flat_map, ◌==◌, filter}
@@ -26,7 +27,7 @@ use Rattle.checkpoint.proofs.ReadBack.{token_decimal, token_literal, token_run}
 -- ## a list that is cut in two
 
 -- the cut is after the first list
-record IsBehind (xs ys front back : List ℕ) : Type 0 where
+record IsAfter (xs ys front back : List ℕ) : Type 0 where
   between : List ℕ
   front_is : front ≡ xs ++ between
   back_is : ys ≡ between ++ back
@@ -38,14 +39,14 @@ record IsWithin (xs ys front back : List ℕ) : Type 0 where
   front_is : xs ≡ front ++ between
   back_is : back ≡ between ++ ys
 
-cut : (xs ys front back : List ℕ) → xs ++ ys ≡ front ++ back → IsBehind xs ys front back ⊎ IsWithin xs ys front back
+cut : (xs ys front back : List ℕ) → xs ++ ys ≡ front ++ back → IsAfter xs ys front back ⊎ IsWithin xs ys front back
 cut [] ys front back is = inl (record { between = front; front_is = refl; back_is = is })
 cut (x ∷ xs) ys [] back is = inr (record { between = x ∷ xs; some = omega arith; front_is = refl; back_is = sym is })
 cut (x ∷ xs) ys (f ∷ front) back is =
     let first : x ≡ f = cc in
     let rest : xs ++ ys ≡ front ++ back = cc in
     elim (cut xs ys front back rest) [
-      | inl behind ↦ inl (record { between = behind.between; front_is = cc (behind.front_is, first); back_is = behind.back_is })
+      | inl following ↦ inl (record { between = following.between; front_is = cc (following.front_is, first); back_is = following.back_is })
       | inr within ↦
           inr (record { between = within.between; some = within.some; front_is = cc (within.front_is, first); back_is = within.back_is })
     ]
@@ -55,7 +56,7 @@ before_last : (xs : List ℕ) (x : ℕ) (front back : List ℕ) → xs ++ x ∷ 
     → (rest : List ℕ) × (xs ≡ front ++ rest) × (length back ≡ length rest + 1)
 before_last xs x front back is some =
     elim (cut xs (x ∷ []) front back is) [
-      | inl behind ↦ at_end behind.between behind.front_is behind.back_is
+      | inl following ↦ at_end following.between following.front_is following.back_is
       | inr within ↦ (within.between, within.front_is, ap length within.back_is ∙ length-append within.between (x ∷ []))
     ]
   where
@@ -166,7 +167,7 @@ one_line_zeros line end = elim (one_line line end) [
 token_cut : (t more front back : List ℕ) → t ++ 32 ∷ more ≡ front ++ back
     → ((between : List ℕ) × (t ≡ front ++ between)) ⊎ ((later : List ℕ) × (front ≡ t ++ 32 ∷ later) × (more ≡ later ++ back))
 token_cut t more front back is = elim (cut t (32 ∷ more) front back is) [
-  | inl behind ↦ after behind.between behind.front_is behind.back_is
+  | inl following ↦ after following.between following.front_is following.back_is
   | inr within ↦ inl (within.between, within.front_is)
 ]
   where
@@ -254,10 +255,10 @@ module _ (vars : ℕ) (few : vars ≤ max_variable) where
       → 0 < length back → line_zeros front + min 1 (length back - 1) ≤ 1
   unfolding line_zeros
   entry_part place e front back all is some = elim (cut (note e.id place) (clause_line e.clause) front back is) [
-    | inl behind ↦
-        let tokens = ap token_lines behind.front_is ∙ note_read e.id place behind.between in
+    | inl following ↦
+        let tokens = ap token_lines following.front_is ∙ note_read e.id place following.between in
         let same = ap (λ (ls : List (List (List ℕ))). zeros (flat_map (λ (line : List (List ℕ)). line) ls)) tokens in
-        omega (arith, same, line_part e.clause behind.between back all behind.back_is some)
+        omega (arith, same, line_part e.clause following.between back all following.back_is some)
     | inr within ↦ omega (arith, note_part e.id place front within.between within.front_is within.some)
   ]
 
@@ -267,13 +268,13 @@ module _ (vars : ℕ) (few : vars ≤ max_variable) where
   unfolding line_zeros zeros
   entries_part place [] front back all is long = absurd (omega (arith, long, length-append front back, ap length is))
   entries_part place (e ∷ es) front back all is long = elim (cut (entry_text place e) (entries_text (place + 1) es) front back is) [
-    | inl behind ↦
-        let tokens = ap token_lines behind.front_is ∙ entry_read vars few place e behind.between all.0 in
+    | inl following ↦
+        let tokens = ap token_lines following.front_is ∙ entry_read vars few place e following.between all.0 in
         let same = ap (λ (ls : List (List (List ℕ))). zeros (flat_map (λ (line : List (List ℕ)). line) ls)) tokens
         ∙ zeros-append (map signed_decimal (e.clause ++ pos 0 ∷ [])) (flat_map (λ (line : List (List ℕ)). line)
-        (token_lines behind.between)) in
+        (token_lines following.between)) in
         let one = clause_zeros vars few e.clause [] all.0 in
-        let rest = entries_part (place + 1) es behind.between back all.1 behind.back_is long in
+        let rest = entries_part (place + 1) es following.between back all.1 following.back_is long in
         omega (arith, same, one, rest)
     | inr within ↦
         let this = entry_part place e front within.between all.0 within.front_is within.some in
@@ -312,7 +313,8 @@ zero_alone zero back fits is = (refl, cc (decimal_digit 0 (omega arith)))
 zero_alone (suc n) back fits is = absurd (omega (arith, first_decimal (suc n) (omega arith) fits, ap (λ (t : List ℕ). get_or t 0 0) is))
 
 module _ (vars count : ℕ) (few_vars : vars < 2 ^ 64) (few : count < 2 ^ 64) where
-  -- if a header that is cut is read as a header, it is a line alone, and its count isn't 0, or only the LF is missing
+  -- if a header that is cut is read as a header, it is a line alone, and its count isn't 0, or only
+  -- the LF is missing
   header_part : (front back : List ℕ) → header_line vars count ≡ front ++ back → 0 < length back
       → (v n : ℕ) (lines : List (List (List ℕ))) → token_lines front ≡ (codes "p" ∷ codes "cnf" ∷ decimal v ∷ decimal n ∷ []) ∷ lines
       → (lines ≡ []) × (n ≡ 0 → (count ≡ 0) × (length back ≡ 1))
@@ -360,13 +362,14 @@ a_beginning_is_no_text vars entries is front back whole long f text =
     let read = ap zeros text.tokens ∙ written_zeros f.vars text.few_variables text.written text.literals in
     let size : length f.clauses ≡ length text.written = ap length text.clauses ∙ length-map text.written distinct in
     elim (cut (header_line vars (length entries)) (entries_text 1 entries) front back whole) [
-      | inl behind ↦
-          let lines = sym (ap token_lines behind.front_is ∙ header_read vars (length entries) few_vars few behind.between) ∙ text.header in
+      | inl following ↦
+          let lines = sym (ap token_lines following.front_is ∙ header_read vars (length entries) few_vars few following.between)
+          ∙ text.header in
           let said : decimal (length entries) ≡ decimal (length f.clauses) = cc (lines) in
-          let later : token_lines behind.between ≡ text.lines = cc (lines) in
+          let later : token_lines following.between ≡ text.lines = cc (lines) in
           let same : length entries ≡ length f.clauses =
           decimal_injective (length entries) (length f.clauses) few (omega (arith, text.few_clauses)) said in
-          let less = entries_part vars is.vars 1 entries behind.between back literals behind.back_is long in
+          let less = entries_part vars is.vars 1 entries following.between back literals following.back_is long in
           let zeros_are = ap (λ (ls : List (List (List ℕ))). zeros (flat_map (λ (line : List (List ℕ)). line) ls)) later in
           omega (arith, less, zeros_are, read, size, same)
       | inr within ↦

@@ -1,4 +1,4 @@
-//! What is saved of the worked formula, and of formulas at the limits.
+//! What `save` writes for the worked formula, and for formulas at the limits.
 ghost use Rattle.std.specs.Prelude.{◌≡◌, ◌||◌, false, nat_lt};
 ghost use Rattle.lrup_model.specs.Layout.{Fits, IsStream};
 ghost use Rattle.lrup_model.specs.Plain.{formula_of};
@@ -16,16 +16,16 @@ use test_support::Paper;
 mod limits;
 mod worked;
 
-/// Stops the test where two values differ: an assertion that is proved once for all tests.
+/// Stops the test if two values differ. As a function the assertion is proved only once.
 fn same<T: PartialEq + fmt::Debug + Drop>(rt: &impl Abort, value: T, wanted: T) {
     assert_eq!(rt; value, wanted);
 }
 
-/// All but the identities of a range, both ends among them.
+/// Wants all identities except those of a range, which includes both ends.
 #[derive(Clone, Copy)]
 struct Except(Id, Id);
 
-/// All, since no identity is 0.
+/// Wants all, since no identity is 0.
 const ALL: Except = Except(0, 0);
 
 impl Wanted for Except {
@@ -36,7 +36,7 @@ impl Wanted for Except {
     }
 }
 
-/// Saves a formula's map of one stream without identities.
+/// Opens a formula's map for one stream without identities, and saves it.
 fn save_formula(
     alloc: Global,
     formula: &Formula,
@@ -53,7 +53,7 @@ fn save_formula(
     Ok(save_at_first(alloc, &mut map, &layout, paper))
 }
 
-/// Saves what is live at the first desk.
+/// Saves the live clauses at the first desk.
 fn save_at_first(
     alloc: Global,
     map: &mut PlainMap,
@@ -68,7 +68,7 @@ fn save_at_first(
     save(alloc, &mut map.desk(1), layout, &ALL, false, paper).map(|_| ())
 }
 
-/// Texts that are read, and what is written of their formulas.
+/// Texts that `parse` reads, and what `save` writes for their formulas.
 static WRITTEN: [(&str, &str); 5] = [
     ("p cnf 0 0", "p cnf 0 0\n"),
     ("p cnf 0 1\n0", "p cnf 0 1\n0\n"),
@@ -80,7 +80,8 @@ static WRITTEN: [(&str, &str); 5] = [
     ),
 ];
 
-/// Saves a formula by writes of so many bytes, of which this one fails, and none where that is 0.
+/// Saves a formula by writes of at most `most` bytes. Write number `fails_at` fails; if that is 0,
+/// none does.
 fn saves(
     rt: &(impl Abort + AllocGlobal),
     formula: &Formula,

@@ -82,7 +82,8 @@ module _ (seat : SeatValue) (stream : ℕ) (p : PassValue) (clip : ClipValue) (k
       subst (λ (v : View). slice_get (clip_clause (pass_caller_view v) clip) k ≡ Some l) here
       (literal_is seat.view clip k place known_here below lies rests.fair word l text code)
 
--- the same for the word that `Store::pair` reads: literal `2 * i + half` is in this half of word `i`
+-- the same for the word that `Store::pair` reads: literal `2 * i + half` is in this half of word
+-- `i`
 module _ (seat : SeatValue) (stream : ℕ) (p : PassValue) (clip : ClipValue) (i half place : ℕ) (rests : IsAtRest seat stream)
     (same : pass_value seat ≡ p)
     (known : IsKnown (pass_caller_view p.view) clip) (lies : place ≡ clip.start + i) (is_half : half < 2)

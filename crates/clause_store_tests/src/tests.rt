@@ -27,12 +27,12 @@ mod interleavings;
 mod meeting;
 mod memory;
 
-/// Stops the test where two values differ: an assertion that is proved once for all tests.
+/// Stops the test if two values differ. As a function the assertion is proved only once.
 fn same<T: PartialEq + fmt::Debug + Drop>(rt: &impl Abort, value: T, wanted: T) {
     assert_eq!(rt; value, wanted);
 }
 
-/// Stops the test where this doesn't hold.
+/// Stops the test if this doesn't hold.
 fn holds(rt: &impl Abort, fact: bool)
     ensures { IsTrue fact }
 {
@@ -79,7 +79,7 @@ enum Found {
     Vacant,
     Live,
     Retired,
-    /// Live, with literals that it shouldn't have.
+    /// Live, with the wrong literals.
     Wrong,
 }
 
@@ -145,7 +145,7 @@ enum Call {
     Retire(Id),
 }
 
-/// Publishes `-2`, or retires a clause, and hands the pass back. Was it done?
+/// Publishes `-2`, or retires a clause; returns the pass, and whether the reply was `Done`.
 fn call_once(store: &Store, mut pass: Pass, call: Call) -> (Pass, Option<bool>)
     requires { IsPassAt four store.now pass }
     ensures { IsPassAt four store.now result.0 }
@@ -158,7 +158,7 @@ fn call_once(store: &Store, mut pass: Pass, call: Call) -> (Pass, Option<bool>)
     (pass, done)
 }
 
-/// The same, or in a thread of its own, which is joined.
+/// The same, if `apart` in a thread of its own, which is joined.
 fn call_by<R: Threads>(
     rt: &R,
     apart: bool,
@@ -179,7 +179,7 @@ fn call_by<R: Threads>(
     join(rt, there, || ()).0
 }
 
-/// The second pass publishes, and the first finds that once they have met.
+/// The second pass publishes, and the first finds the clause once they have met.
 fn publish_in_turn<R: Threads + Abort>(
     rt: &R,
     apart: bool,
@@ -199,8 +199,8 @@ fn publish_in_turn<R: Threads + Abort>(
     b
 }
 
-/// The second pass retires it, and publishes the next one. The first reads its clip all the same,
-/// and finds 6 retired and 8 live once they have met.
+/// The second pass retires 6, and publishes 8. The first can still read its clip of 6, and once
+/// they have met it finds 6 retired and 8 live.
 fn retire_in_turn<R: Threads + Abort>(
     rt: &R,
     apart: bool,
@@ -225,7 +225,7 @@ fn retire_in_turn<R: Threads + Abort>(
     b
 }
 
-/// All of that, and then the second pass can do neither again.
+/// All of that; afterwards the second pass can neither publish nor retire there again.
 fn call_in_turn<R: Threads + Abort>(rt: &R, apart: bool, store: &Store, a: &mut Pass, b: Pass)
     requires first { IsPassAt four store.now a.old }
     requires second { IsPassAt four store.now b }
@@ -238,7 +238,7 @@ fn call_in_turn<R: Threads + Abort>(rt: &R, apart: bool, store: &Store, a: &mut 
     same(rt, done, Some(false));
 }
 
-/// Each stream has room for three literals: 5 and 7 are the first's, and 6 and 8 the second's.
+/// Each stream has room for three literals; the first owns 5 and 7, the second 6 and 8.
 #[test]
 fn two_passes_take_turns(rt: HostRuntime) -> Result<(), Fail> {
     for apart in [false, true] {
@@ -248,7 +248,7 @@ fn two_passes_take_turns(rt: HostRuntime) -> Result<(), Fail> {
     Ok(())
 }
 
-/// Are these the literals of a clip's clause, in this order?
+/// Whether a clip's clause has exactly these literals, in this order.
 fn reads_back(store: &Store, pass: &mut Pass, clip: &Clip, clause: &[Lit]) -> bool
     requires store { store_of pass.old ≡ store.now }
     requires known { IsKnown (pass_caller_view pass.old.view) clip.now }
@@ -265,7 +265,7 @@ fn reads_back(store: &Store, pass: &mut Pass, clip: &Clip, clause: &[Lit]) -> bo
     true
 }
 
-/// Is the clause live under this identity, with its literals in this order?
+/// Whether the clause is live under this identity, with its literals in this order.
 fn is_kept(store: &Store, pass: &mut Pass, id: Id, clause: &[Lit]) -> bool
     requires { IsPassAt four store.now pass.old }
     ensures { IsPassAt four store.now pass.new }
@@ -292,7 +292,7 @@ fn spend_room(rt: &impl Abort, store: &Store, pass: &mut Pass)
     same(rt, (again, store.room(pass)), (Some(Published::Taken), 0));
 }
 
-/// They and a clause of the formula are read back, literal by literal.
+/// Reads these and a clause of the formula back, literal by literal.
 fn read_all(rt: &impl Abort, store: &Store, pass: &mut Pass)
     requires { IsPassAt four store.now pass.old }
 {
@@ -312,7 +312,7 @@ fn a_pass_spends_its_room_and_reads_back(rt: HostRuntime) -> Result<(), Fail> {
     Ok(())
 }
 
-/// Publishes `2`, which the first two clauses show, under an identity of the caller's own.
+/// Publishes `2`, which follows from the first two clauses, under an identity of the caller's own.
 fn publish_two<M: ClauseMap>(map: &mut M, id: Id) -> Option<Published>
     requires { (M.caller_view map.old).caller.formula ≡ four }
     ensures { (es : History) × M.moves map.old map.new es }
@@ -339,11 +339,11 @@ fn read_one<M: ClauseMap>(map: &mut M, id: Id) -> Option<Lit>
     Some(map.literal(&clip, 0))
 }
 
-/// How a client's publish was answered, and the literal that it read.
+/// The reply to a client's publish, and the literal that it read.
 type ClientFound = (Option<Published>, Option<Lit>);
 
-/// The client of a clause map, whichever it is: it publishes `2` under its own identity, and reads
-/// the other.
+/// A client of any clause map: it publishes `2` under its own identity, and reads the other one's
+/// clause.
 fn publish_and_read<M: ClauseMap>(map: &mut M, own: Id, other: Id) -> ClientFound
     requires { (M.caller_view map.old).caller.formula ≡ four }
     ensures { (es : History) × M.moves map.old map.new es }
@@ -353,7 +353,7 @@ fn publish_and_read<M: ClauseMap>(map: &mut M, own: Id, other: Id) -> ClientFoun
     (answer, found)
 }
 
-/// The map of one thread, of the four clauses for two streams with one identity and room for one
+/// A map of one thread: the four clauses, and two streams with one identity and room for one
 /// literal each.
 fn open_plain(alloc: Global) -> Result<PlainMap, Fail>
     ensures formula { IfOk result (λ map. formula_of map ≡ four) }
@@ -402,8 +402,8 @@ fn found_at_desks(alloc: Global) -> Result<[ClientFound; 3], Fail> {
     Ok([first, second, third])
 }
 
-/// A stream finds nothing yet, the next one what the first published, and then the first what the
-/// next one did.
+/// Stream 1 finds nothing yet; stream 2 finds what stream 1 published; then stream 1 finds what
+/// stream 2 published.
 fn finds_in_turn(rt: &impl Abort, found: [ClientFound; 3]) {
     let done = Some(Published::Done);
     let wanted = [(done, None), (done, Some(lit(2))), (None, Some(lit(2)))];
@@ -417,7 +417,7 @@ fn one_client_has_both_maps(rt: HostRuntime) -> Result<(), Fail> {
     Ok(())
 }
 
-/// The formula of the empty clause, from which each clause follows.
+/// The formula whose only clause is empty: every clause follows from it.
 fn refuted(alloc: Global) -> Result<Formula, AllocError>
     ensures { IfOk result (λ formula. formula ≡ raced) }
 {
@@ -451,7 +451,8 @@ fn raced_literals(id: Id) -> (Lit, Lit)
     (lit(id as i64), lit((id - 1) as i64).complement())
 }
 
-/// Publishes an identity's clause in the race: none, one or both of its literals, in turn.
+/// Publishes an identity's clause in the race, with none, one or both of its literals, depending on
+/// the identity.
 fn publish_raced(store: &Store, pass: &mut Pass, id: Id) -> Option<Published>
     requires { IsPassAt raced store.now pass.old }
     ensures { IsPassAt raced store.now pass.new }
@@ -467,7 +468,7 @@ fn publish_raced(store: &Store, pass: &mut Pass, id: Id) -> Option<Published>
     })
 }
 
-/// Is this the clause of the race, in whichever order it lies?
+/// Whether this is the identity's clause of the race, in any order.
 fn is_raced(store: &Store, pass: &mut Pass, clip: &Clip) -> bool
     requires store { store_of pass.old ≡ store.now }
     requires known { IsKnown (pass_caller_view pass.old.view) clip.now }

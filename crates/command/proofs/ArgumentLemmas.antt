@@ -6,21 +6,22 @@ use Rattle.std.specs.declared.io.ErrorKind.{ErrorKind}
 use Rattle.std.specs.declared.io.ErrorKind.TheVariants as kinds
 use Rattle.std.specs.declared.string.String.{String}
 use Rattle.std.specs.declared.vec.IntoIter.{IntoIter}
-use Rattle.command.specs.Arguments.{not_utf8, of_kind, refusal_status, refusal_text, words_after_name}
-use Rattle.command.specs.Commands.{FilesView, IsUntouched, SinkChange, SinkTook, Text}
-use Rattle.command.specs.Faults.{error_text, status_of}
+use Rattle.command.specs.Arguments.{not_utf8, refusal_status, refusal_text, words_after_name}
+use Rattle.run_files.specs.Files.{FilesView}
+use Rattle.command.specs.Commands.{IsUntouched, SinkChange, SinkTook}
+use Rattle.run_files.specs.Asked.{Text}
+use Rattle.run_files.specs.Faults.{error_text, status_of}
 use Rattle.command.specs.Rounds.{ProgramEnds}
-use Rattle.command.specs.declared.fault.CommandFault.TheVariants as faults
-use Rattle.command.specs.declared.files.OpenFault.TheVariants as opens
+use Rattle.run_files.specs.declared.fault.CommandFault.TheVariants as faults
 
 -- What holds for the words and a status holds for the arguments and for the exit status.
 module _ {E : Type 0} (arguments : Result (IntoIter (String Global) Global) E) (given : IntoIter (String Global) Global) (words : List Text)
     (is : arguments ≡ Ok given) (same : words ≡ words_after_name given) where
   pub of_arguments : (P : List Text → ℕ → Type 0) (status shown : ℕ) → shown ≡ status → P words status
       → IfOk arguments (λ one. P (words_after_name one) shown)
-  of_arguments P status shown told holds =
+  of_arguments P status shown known holds =
       subst (λ (r : Result (IntoIter (String Global) Global) E). IfOk r (λ one. P (words_after_name one) shown)) (sym is)
-      (subst (P (words_after_name given)) (sym told) (subst (λ (w : List Text). P w status) same holds))
+      (subst (P (words_after_name given)) (sym known) (subst (λ (w : List Text). P w status) same holds))
 
   pub and_arguments : (P : List Text → Type 0) → P words → IsOkAnd arguments (λ one. P (words_after_name one))
   and_arguments P holds =
@@ -48,7 +49,3 @@ other_text kind other = refl
 pub other_status : (kind : ErrorKind) → kind ≢ kinds.OutOfMemory → refusal_status kind ≡ 2
 other_status kinds.OutOfMemory other = absurd (other refl)
 other_status kind other = refl
-
-pub other_fault : (kind : ErrorKind) → kind ≢ kinds.OutOfMemory → of_kind kind ≡ opens.NotOpened
-other_fault kinds.OutOfMemory other = absurd (other refl)
-other_fault kind other = refl

@@ -1,42 +1,34 @@
 -- From what a function read and ran to what the words and the files say.
-use Rattle.std.proofs.Common.{◌≡◌, ◌∙◌, ℕ, Bool, false, List, map, Option, None, Some, IfSome, Result, Ok, Err, IfOk, IfErr, inl}
-use Rattle.std.proofs.Common.{inr, refl, sym, subst, rules}
-use Rattle.std.specs.Prelude.{◌↔◌, IsErrAnd}
+use Rattle.std.proofs.Common.{◌∙◌, ◌≡◌, Bool, Err, IfOk, IfSome, List, Ok, Option, Result, Some, false}
+use Rattle.std.proofs.Common.{inl, inr, refl, rules, subst, sym, ℕ}
+use Rattle.std.specs.Prelude.{◌↔◌}
 use Rattle.lrup_model.specs.Cube.{CubeValue}
 use Rattle.lrup_model.specs.Formula.{Cnf}
-use Rattle.lrup_model.specs.Layout.{LayoutValue, IsFault, IsStream}
+use Rattle.lrup_model.specs.Layout.{IsFault, IsStream, LayoutValue}
 use Rattle.lrup_model.specs.declared.layout.LayoutFault.{LayoutFault}
 use Rattle.lrup_text.specs.ReadOut.{SourceView}
-use Rattle.portfolio.specs.RingStops.{StopsAtRing}
 use Rattle.stream_check.specs.Streams.{RunParamsValue}
+use Rattle.checkpoint.specs.Checkpoints.{IsUnsatisfiableText}
+use Rattle.run_outcome.specs.RingStops.{StopsAtRing}
 use Rattle.run_outcome.specs.declared.outcome.RunFault.{RunFault}
 use Rattle.run_outcome.specs.declared.outcome.RunFault.TheVariants as runs
-use Rattle.checkpoint.specs.Checkpoints.{IsUnsatisfiableText}
 use Rattle.command_line.specs.CommandLine.{AskFor, IsCommandLineOf}
 use Rattle.command_line.specs.declared.sizes.Sizes.{Sizes}
 use Rattle.command_line.specs.declared.words.CommandLine.{CommandLine}
-use Rattle.command.specs.Commands.{AreAssumed, AreOpened, Deeds, FilesView, HasNoFault, IsAssumeCause, IsCause}
-use Rattle.command.specs.Commands.{IsFormulaAt, IsLeftUnused, IsOpenCause, IsReadCause, IsRoundStartCause, IsStartCause}
-use Rattle.command.specs.Commands.{IsUnsatisfiableTextWith, NameUnsatisfiable, NameUnsatisfiableUnder, Text, WasRead, WasReadIn}
-use Rattle.command.specs.Commands.{assumed_at, created_path, run_params_by, sizes_of}
+use Rattle.run_files.specs.Asked.{Text, assumed_at, created_path, run_params_by}
+use Rattle.run_files.specs.Causes.{HasNoFault, IsLeftUnused, IsRoundStartCause, IsStartCause}
+use Rattle.run_files.specs.FaultSources.{of_run}
+use Rattle.run_files.specs.Files.{AreAssumed, Effects, FilesView, WasRead, WasReadIn}
+use Rattle.run_files.specs.Saving.{IsNotCreated}
+use Rattle.run_files.specs.declared.fault.CommandFault.{CommandFault}
+use Rattle.run_files.specs.declared.fault.CommandFault.TheVariants as faults
+use Rattle.command.specs.Commands.{IsUnsatisfiableTextWith, NameUnsatisfiable, NameUnsatisfiableUnder}
 use Rattle.command.specs.internal.Running.{IsLayoutCause, IsRunCause}
-use Rattle.command.specs.internal.Saving.{IsNotCreated}
-use Rattle.command.specs.internal.FaultSources.{of_run}
-use Rattle.command.specs.declared.fault.CommandFault.{CommandFault}
-use Rattle.command.specs.declared.fault.CommandFault.TheVariants as faults
 
 -- a weaker fact about an `Ok` value
 pub if_ok : {T E : Type 0} (r : Result T E) (P Q : T → Type 0) → ((t : T) → P t → Q t) → IfOk r P → IfOk r Q
 if_ok (Ok t) P Q follows known = follows t known
 if_ok (Err e) P Q follows known = tt
-
-pub if_err : {T E : Type 0} (r : Result T E) (P Q : E → Type 0) → ((e : E) → P e → Q e) → IfErr r P → IfErr r Q
-if_err (Ok t) P Q follows known = tt
-if_err (Err e) P Q follows known = follows e known
-
-pub err_given : {T E : Type 0} (r : Result T E) (P Q : E → Type 0) → ((e : E) → P e → Q e) → IsErrAnd r P → IfErr r Q
-err_given (Ok t) P Q follows known = tt
-err_given (Err e) P Q follows known = follows e known
 
 pub some_given : {T : Type 0} {o : Option T} {t : T} (P : T → Type 0) → o ≡ Some t → IfSome o P → P t
 some_given P is known = subst (λ o. IfSome o P) is known
@@ -87,83 +79,19 @@ names_unsatisfiable files words given bytes next line read refuted =
 
 -- the same with the assumed literals, if the files' contents are known as before
 pub names_unsatisfiable_under : (files : FilesView) (words : List Text) (given : CommandLine) (bytes : List ℕ) (next : files.its.State)
-    (tells : Text → Option (List ℕ))
-    → tells ≡ files.tells → IsCommandLineOf words given → WasReadIn files files.first given.formula.now bytes next
-    → IsUnsatisfiableTextWith (WasRead files.its.opens files.its.reading.reads tells) bytes next (assumed_at given)
+    (contents : Text → Option (List ℕ))
+    → contents ≡ files.contents → IsCommandLineOf words given → WasReadIn files files.first given.formula.now bytes next
+    → IsUnsatisfiableTextWith (WasRead files.its.opens files.its.reading.reads contents) bytes next (assumed_at given)
     → NameUnsatisfiableUnder files.its.State (WasReadIn files) files.first words
-names_unsatisfiable_under files words given bytes next tells told line read (f, cube, after, text, assumed, refuted) =
+names_unsatisfiable_under files words given bytes next contents known line read (f, cube, after, text, assumed, refuted) =
     let same =
     subst (λ (t : Text → Option (List ℕ)). AreAssumed (WasRead files.its.opens files.its.reading.reads t) f.vars next (assumed_at given)
     cube after)
-    told assumed in
+    known assumed in
     (given.formula.now, assumed_at given, bytes, f, cube, next, after, ask_for words given line, read, text, same, refuted)
 
-module _ (files : FilesView) (words : List Text) (given : CommandLine) (line : IsCommandLineOf words given) where
-  -- The causes are those of the words and the files.
-  pub read_cause : (fault : CommandFault) (after : files.its.State) → IsReadCause files given fault after
-      → IsCause files words fault after
-  read_cause faults.Unread after cause = (given, line, inl cause)
-  read_cause (faults.Refused fault) after cause = (given, line, inl cause)
-  read_cause faults.Memory after cause = inr (given, line, inl cause)
-  read_cause fault after cause = absurd cause
-
-  module _ (f : Cnf) (next : files.its.State) (at : IsFormulaAt files given.formula.now f next) where
-    assume_cause : (path : Text) → assumed_at given ≡ Some path → (fault : CommandFault) (after : files.its.State)
-        → IsAssumeCause files f.vars next (Some path) fault after → IsCause files words fault after
-    assume_cause path same faults.CubeUnread after cause = (
-      given,
-      line,
-      inr (f, next, at, inl (subst (λ (o : Option Text). IsAssumeCause files f.vars next o faults.CubeUnread after) (sym same) cause)),
-    )
-    assume_cause path same (faults.CubeRefused fault) after cause = (
-      given,
-      line,
-      inr (
-        f,
-        next,
-        at,
-        inl (subst (λ (o : Option Text). IsAssumeCause files f.vars next o (faults.CubeRefused fault) after) (sym same) cause),
-      ),
-    )
-    assume_cause path same faults.Memory after cause = inr (
-      given,
-      line,
-      inr (f, next, at, inl (subst (λ (o : Option Text). IsAssumeCause files f.vars next o faults.Memory after) (sym same) cause)),
-    )
-    assume_cause path same fault after cause = absurd cause
-
-    pub assumed_cause : (path : Option Text) → assumed_at given ≡ path → (fault : CommandFault) (after : files.its.State)
-        → IsAssumeCause files f.vars next path fault after → IsCause files words fault after
-    assumed_cause None same fault after cause = absurd cause
-    assumed_cause (Some path) same fault after cause = assume_cause path same fault after cause
-
-    module _ (cube : CubeValue) (later : files.its.State)
-        (assumed : AreAssumed (WasReadIn files) f.vars next (assumed_at given) cube later) where
-      pub open_cause : (fault : CommandFault) (after : files.its.State) → IsOpenCause files.its 0 later given.streams fault after
-          → IsCause files words fault after
-      open_cause (faults.NotOpened stream) after cause = (given, line, inr (f, next, at, inr (cube, later, assumed, inl cause)))
-      open_cause faults.Memory after cause = inr (given, line, inr (f, next, at, inr (cube, later, assumed, inl cause)))
-      open_cause fault after cause = absurd cause
-
-      pub start_cause : (readers : List files.its.Reader) (last : files.its.State)
-          → AreOpened files.its.opens later given.streams readers last
-          → map files.its.reading.left readers ≡ map files.tells given.streams → (fault : CommandFault) (after : files.its.State)
-          → IsRoundStartCause files.its given cube 1 f (sizes_of given) readers last fault after
-          → IsCause files words fault after
-      start_cause readers last opened left (faults.Layout fault) after cause =
-          (given, line, inr (f, next, at, inr (cube, later, assumed, inr (readers, last, opened, left, cause))))
-      start_cause readers last opened left faults.NotCreated after cause =
-          (given, line, inr (f, next, at, inr (cube, later, assumed, inr (readers, last, opened, left, cause))))
-      start_cause readers last opened left (faults.Spawn stream) after cause =
-          (given, line, inr (f, next, at, inr (cube, later, assumed, inr (readers, last, opened, left, cause))))
-      start_cause readers last opened left (faults.Ring stream) after cause =
-          (given, line, inr (f, next, at, inr (cube, later, assumed, inr (readers, last, opened, left, cause))))
-      start_cause readers last opened left faults.Memory after cause =
-          inr (given, line, inr (f, next, at, inr (cube, later, assumed, inr (readers, last, opened, left, cause))))
-      start_cause readers last opened left fault after cause = absurd cause
-
 -- why streams that were opened weren't checked: they have no layout
-module _ (its : Deeds) (serial : Bool) (f : Cnf) (run_params : RunParamsValue) (readers : List its.Reader) (before : its.State)
+module _ (its : Effects) (serial : Bool) (f : Cnf) (run_params : RunParamsValue) (readers : List its.Reader) (before : its.State)
     (path : Option Text) where
   abbrev Starts : CommandFault → its.State → Type 0
   Starts fault after = IsStartCause its serial f run_params readers before path fault after
@@ -189,7 +117,7 @@ module _ (its : Deeds) (serial : Bool) (f : Cnf) (run_params : RunParamsValue) (
   run_start fault after none cause unused = absurd cause
 
 -- the same for a round, by what the program holds of it
-pub round_start : (its : Deeds) (given : CommandLine) (cube : CubeValue) (number : ℕ) (f : Cnf) (sizes : Sizes)
+pub round_start : (its : Effects) (given : CommandLine) (cube : CubeValue) (number : ℕ) (f : Cnf) (sizes : Sizes)
     (readers : List its.Reader) (before : its.State) (serial : Bool) (run_params : RunParamsValue) (path : Option Text)
     → serial ≡ given.serial → run_params ≡ run_params_by given cube f sizes → path ≡ created_path given.next number
     → (fault : CommandFault) (after : its.State) → IsStartCause its serial f run_params readers before path fault after

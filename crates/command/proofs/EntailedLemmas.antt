@@ -6,13 +6,15 @@ use Rattle.run_outcome.specs.declared.outcome.Verdict.TheVariants.{Unknown, Unsa
 use Rattle.checkpoint.specs.Entails.{Entails, EntailsItself, EntailsOnward}
 use Rattle.command_line.specs.CommandLine.{AskForRounds, rounds_of}
 use Rattle.command_line.specs.declared.words.CommandLine.{CommandLine}
-use Rattle.command.specs.Commands.{Deeds, FilesView, SinkChange, Text}
-use Rattle.command.specs.Paths.{formula_path}
+use Rattle.run_files.specs.Files.{Effects, FilesView}
+use Rattle.command.specs.Commands.{SinkChange}
+use Rattle.run_files.specs.Asked.{Text}
+use Rattle.run_files.specs.Paths.{formula_path}
 use Rattle.command.specs.Rounds.{AreRounds, EndsWithReport, ProgramEnds, ReportsEntailed, Round, SaveEntailed, SavesEntailed}
 use Rattle.command.specs.lemmas.SavedLemmas.{KeptAt, carried_entails, created_in, kept}
 use Rattle.command.proofs.StatusLemmas.{IsOfReport, never_reported, open_is}
 
-module _ (itself : EntailsItself) (onward : EntailsOnward) {its : Deeds} {given : CommandLine} {cube : CubeValue} (folder : Text)
+module _ (itself : EntailsItself) (onward : EntailsOnward) {its : Effects} {given : CommandLine} {cube : CubeValue} (folder : Text)
     (asked : rounds_of given.next ≡ Some folder) (formula : Cnf) where
   -- what a round saved follows from the first formula, if the round's formula does
   saves_entailed : (round : Round its given cube) → Entails formula round.formula

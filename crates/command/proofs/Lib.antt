@@ -1,10 +1,7 @@
 mod CheckingLemmas
-mod OpeningLemmas
 mod WritingLemmas
-mod ReadingLemmas
 mod WordLemmas
 mod ArgumentLemmas
-mod FileLemmas
 mod StatusLemmas
 mod SavingLemmas
 mod RoundLemmas

@@ -1,33 +1,31 @@
 -- A checkpoint's file, from creating it to closing it.
-use Rattle.std.proofs.Common.{◌≡◌, ◌∙◌, Bool, IfOk, IsTrue, List, Option, None, Some, Result, Err, is_some, refl, subst, sym, true}
-use Rattle.std.specs.Prelude.{◌↔◌}
-use Rattle.lrup_model.specs.Event.{History}
+use Rattle.std.proofs.Common.{◌∙◌, ◌≡◌, Bool, List, None, Option, Result, Some, is_some, refl, subst, true}
 use Rattle.lrup_model.specs.Formula.{Cnf}
 use Rattle.lrup_model.specs.Layout.{LayoutValue}
-use Rattle.lrup_model.specs.State.{state}
 use Rattle.lrup_text.specs.ReadOut.{SourceView}
-use Rattle.run_outcome.specs.Saving.{SavesState, WereLeftBy, is_wanted, layout_left}
-use Rattle.run_outcome.specs.declared.saving.Clauses.{Clauses}
-use Rattle.run_outcome.specs.declared.outcome.Verdict.{Verdict}
-use Rattle.run_outcome.specs.declared.outcome.Verdict.TheVariants.{Unsatisfiable, UnsatisfiableUnder, Unknown}
-use Rattle.stream_check.specs.Streams.{RunParamsValue}
 use Rattle.stream_check.specs.DroppedIdsValue.{DroppedIdsValue}
+use Rattle.stream_check.specs.Streams.{RunParamsValue}
 use Rattle.stream_check.specs.declared.report.Report.{Report}
-use Rattle.checkpoint.specs.Checkpoints.{WritesCheckpoint}
 use Rattle.checkpoint.specs.declared.saving.SaveFault.{SaveFault}
-use Rattle.checkpoint.specs.declared.saving.SaveFault.TheVariants as faults
-use Rattle.command.specs.Commands.{AreChecked, Deeds, IsLeftUnused, Text}
-use Rattle.command.specs.Rounds.{ClosesSink, LeavesBehind, SavesCheckpoint}
-use Rattle.command.specs.internal.Running.{StandsBehind}
-use Rattle.command.specs.internal.Saving.{ClosesCheckpoint, CreatesCheckpoint, DiscardsIt, SavesAndCloses}
+use Rattle.run_outcome.specs.Saving.{layout_left}
+use Rattle.run_outcome.specs.declared.outcome.Verdict.{Verdict}
+use Rattle.run_outcome.specs.declared.outcome.Verdict.TheVariants.{Unknown, Unsatisfiable, UnsatisfiableUnder}
+use Rattle.run_outcome.specs.declared.saving.Clauses.{Clauses}
+use Rattle.run_files.specs.Asked.{Text}
+use Rattle.run_files.specs.Causes.{IsLeftUnused}
+use Rattle.run_files.specs.Files.{Effects}
+use Rattle.run_files.specs.Saving.{ClosesCheckpoint, CreatesCheckpoint, DiscardsIt, SavesCheckpoint}
+use Rattle.command.specs.Commands.{AreChecked}
+use Rattle.command.specs.Rounds.{LeavesAtPath}
+use Rattle.command.specs.internal.Running.{IsCheckResult}
 
-module _ (its : Deeds) (Saves : Result (Option Cnf) SaveFault → its.Output → its.Output → Type 0) where
+module _ (its : Effects) (Saves : Result (Option Cnf) SaveFault → its.Output → its.Output → Type 0) where
   -- a file that was created and closed is left at the path
   leaves_file : (verdict : Verdict) (before opened after : its.State) (path : Text) (first : its.Output) (unsaved : Option SaveFault)
       (next : Option Cnf)
       → CreatesCheckpoint its before (Some path) (Some first) opened
       → ClosesCheckpoint its Saves verdict opened (Some first) unsaved next after
-      → LeavesBehind its Saves verdict before (Some path) unsaved next after
+      → LeavesAtPath its Saves verdict before (Some path) unsaved next after
   leaves_file Unsatisfiable before opened after path first unsaved next created closes = (
     closes.0,
     closes.1,
@@ -54,18 +52,18 @@ module _ (its : Deeds) (Saves : Result (Option Cnf) SaveFault → its.Output →
     closed = closes.closed;
   }
 
-  pub leaves_behind : (verdict : Verdict) (before opened after : its.State) (path : Option Text) (output : Option its.Output)
+  pub leaves_at_path : (verdict : Verdict) (before opened after : its.State) (path : Option Text) (output : Option its.Output)
       (unsaved : Option SaveFault) (next : Option Cnf)
       → CreatesCheckpoint its before path output opened → ClosesCheckpoint its Saves verdict opened output unsaved next after
-      → LeavesBehind its Saves verdict before path unsaved next after
-  leaves_behind verdict before opened after None None unsaved next created closes = (closes.0, closes.1, closes.2 ∙ created)
-  leaves_behind verdict before opened after None (Some first) unsaved next created closes = absurd created
-  leaves_behind verdict before opened after (Some path) None unsaved next created closes = absurd created
-  leaves_behind verdict before opened after (Some path) (Some first) unsaved next created closes =
+      → LeavesAtPath its Saves verdict before path unsaved next after
+  leaves_at_path verdict before opened after None None unsaved next created closes = (closes.0, closes.1, closes.2 ∙ created)
+  leaves_at_path verdict before opened after None (Some first) unsaved next created closes = absurd created
+  leaves_at_path verdict before opened after (Some path) None unsaved next created closes = absurd created
+  leaves_at_path verdict before opened after (Some path) (Some first) unsaved next created closes =
       leaves_file verdict before opened after path first unsaved next created closes
 
 -- a file that was created and discarded was left unused
-pub left_unused : (its : Deeds) (before next after : its.State) (path : Option Text) (output : Option its.Output)
+pub left_unused : (its : Effects) (before next after : its.State) (path : Option Text) (output : Option its.Output)
     → CreatesCheckpoint its before path output next → DiscardsIt its next output after → IsLeftUnused its before path after
 left_unused its before next after None None created discards = discards ∙ created
 left_unused its before next after None (Some first) created discards = absurd created
@@ -73,50 +71,27 @@ left_unused its before next after (Some path) None created discards = absurd cre
 left_unused its before next after (Some path) (Some first) created discards =
     record { output = first; next = next; created = created.0; empty = created.1; discarded = discards }
 
-module _ (its : Deeds) (f : Cnf) (h : History) (clauses : Clauses) (dropped : List DroppedIdsValue) (has : WereLeftBy f h clauses)
-    (before after : its.State)
-    (first last : its.Output) (result : Result (Option Cnf) SaveFault)
-    (checkpoint : (f : Cnf) (h : History) → WereLeftBy f h clauses → IfOk result
-    (WritesCheckpoint f (its.written first) (its.written last)))
-    (saves : (f : Cnf) (h : History) → WereLeftBy f h clauses
-    → SavesState its.written result (state f h) (layout_left clauses) (is_wanted dropped) first last)
-    (failed : IsTrue (its.has_failed last) ↔ (result ≡ Err faults.Unwritten)) where
-  abbrev Saved : Result (Option Cnf) SaveFault → its.Output → its.Output → Type 0
-  Saved = SavesCheckpoint its f (layout_left clauses) h dropped
-
-  saving : Saved result first last
-  saving = record { checkpoint = checkpoint f h has; exactly = saves f h has; failed = failed }
-
-  -- what was saved, and how the file was closed
-  pub saves_and_closes : (unsaved : Option SaveFault) (next : Option Cnf) (other : Result (Option Cnf) SaveFault) → result ≡ other
-      → ClosesSink its other before last unsaved next after → SavesAndCloses its Saved before first unsaved next after
-  saves_and_closes unsaved next other same closed = record {
-    result = result;
-    last = last;
-    saving = saving;
-    closed = subst (λ (r : Result (Option Cnf) SaveFault). ClosesSink its r before last unsaved next after) (sym same) closed;
-  }
-
--- A save of what a run left is a save for the run: with its layout, and with what its streams dropped.
+-- A save of what a run left is a save for the run: with its layout, and with what its streams
+-- dropped.
 pub left_moved : {R : Type 0} {view : SourceView R} {serial : Bool} {f : Cnf} {run_params : RunParamsValue} {firsts : List R}
     {reports : List Report} {verdict : Verdict} {clauses : Clauses} {dropped : List DroppedIdsValue}
-    (stands : StandsBehind view serial f run_params firsts reports verdict clauses dropped)
+    (result_is : IsCheckResult view serial f run_params firsts reports verdict clauses dropped)
     (P : LayoutValue → List DroppedIdsValue → Type 0)
-    → P (layout_left clauses) dropped → P run_params.layout stands.checked.dropped
-left_moved {run_params = run_params} {dropped = dropped} stands P is =
-    subst (P run_params.layout) stands.dropped_is (subst (λ (p : LayoutValue). P p dropped) stands.layout is)
+    → P (layout_left clauses) dropped → P run_params.layout result_is.checked.dropped
+left_moved {run_params = run_params} {dropped = dropped} result_is P is =
+    subst (P run_params.layout) result_is.dropped_is (subst (λ (p : LayoutValue). P p dropped) result_is.layout is)
 
--- Streams of this formula, opened as these readers, were checked, and their clauses were left at the path, if there is one, as the verdict
--- says.
-pub record RanAndLeft (its : Deeds) (formula : Cnf) (readers : List its.Reader) (reports : List Report) (verdict : Verdict)
+-- Streams of this formula, opened as these readers, were checked, and their clauses were left at
+-- the path, if there is one, as the verdict says.
+pub record RanAndLeft (its : Effects) (formula : Cnf) (readers : List its.Reader) (reports : List Report) (verdict : Verdict)
     (before : its.State) (unsaved : Option SaveFault) (next : Option Cnf) (after : its.State) (serial : Bool)
     (run_params : RunParamsValue) (path : Option Text) : Type 0 where
   pub checked : AreChecked its.reading serial formula run_params readers reports verdict
-  pub leaves : LeavesBehind its (SavesCheckpoint its formula run_params.layout checked.ran.run.history checked.dropped) verdict before
+  pub leaves : LeavesAtPath its (SavesCheckpoint its formula run_params.layout checked.ran.run.history checked.dropped) verdict before
       path unsaved next after
 
 -- with a path there is a file
-pub creates_some : (its : Deeds) (before after : its.State) (path : Option Text) (output : Option its.Output) (at : Text)
+pub creates_some : (its : Effects) (before after : its.State) (path : Option Text) (output : Option its.Output) (at : Text)
     → CreatesCheckpoint its before path output after → path ≡ Some at → is_some output ≡ true
 creates_some its before after None output at created is = absurd (let no : None ≡ Some at = is in cc)
 creates_some its before after (Some path) None at created is = absurd created

@@ -9,14 +9,15 @@ use Rattle.run_outcome.specs.declared.outcome.Verdict.TheVariants.{Unsatisfiable
 use Rattle.checkpoint.specs.Checkpoints.{IsCheckpoint}
 use Rattle.checkpoint.specs.declared.saving.SaveFault.{SaveFault}
 use Rattle.command_line.specs.CommandLine.{AskToSave, checkpoint_of, rounds_of}
-use Rattle.command.specs.Commands.{CheckpointEntailed, CheckpointLeftEmpty, ComesLast, FilesView, IsAssumeCause}
-use Rattle.command.specs.Commands.{IsLeftEmpty, SinkChange, Text, WasReadIn, WasSavedBy}
-use Rattle.command.specs.Commands.{assumed_at, created_path, report_status, run_params_by}
-use Rattle.command.specs.Faults.{status_of}
-use Rattle.command.specs.Rounds.{EndsWithFault, EndsWithReport, IsCauseIn, LeavesBehind, ProgramEnds, SavesCheckpoint}
-use Rattle.command.specs.Rounds.{Round}
-use Rattle.command.specs.declared.fault.CommandFault.{CommandFault}
-use Rattle.command.specs.declared.fault.CommandFault.TheVariants as faults
+use Rattle.command.specs.Commands.{CheckpointEntailed, CheckpointLeftEmpty, ComesLast, SinkChange, report_status}
+use Rattle.run_files.specs.Files.{FilesView, IsLeftEmpty, WasReadIn, WasSavedBy}
+use Rattle.run_files.specs.Causes.{IsAssumeCause}
+use Rattle.run_files.specs.Asked.{Text, assumed_at, created_path, run_params_by}
+use Rattle.run_files.specs.Faults.{status_of}
+use Rattle.command.specs.Rounds.{EndsWithFault, EndsWithReport, IsCauseIn, LeavesAtPath, ProgramEnds, Round}
+use Rattle.run_files.specs.Saving.{SavesCheckpoint}
+use Rattle.run_files.specs.declared.fault.CommandFault.{CommandFault}
+use Rattle.run_files.specs.declared.fault.CommandFault.TheVariants as faults
 use Rattle.command_line.specs.lemmas.NextLemmas.{never_both}
 use Rattle.command.specs.lemmas.OneRound.{creates_checkpoint, is_over, were_one}
 use Rattle.command.specs.lemmas.SavedLemmas.{kept}
@@ -231,7 +232,7 @@ module _ (files : FilesView) (words : List Text) (after : files.its.State) (out 
         before = last.opened;
         opened = first.opened.opened;
         came = subst (λ (f : Cnf). Came f last.opened after) first.formula_is
-            (subst (λ (s : files.its.State). Came last.formula last.opened s) (sym (is_over once last after report.over)) came);
+            (subst (λ (s : files.its.State). Came last.formula last.opened s) (sym (is_over once last after report.finished)) came);
       }
 
   pub report_saved : (status ≡ 3) ⊎ (status ≡ 8)
@@ -249,9 +250,9 @@ module _ (files : FilesView) (words : List Text) (after : files.its.State) (out 
       let refuted = zero_is out.failed last.unsaved last.verdict (sym report.status_is ∙ is) in
       let Saves = SavesCheckpoint files.its last.formula (run_params_by report.given report.cube last.formula last.sizes).layout
       last.checked.ran.run.history last.checked.dropped in
-      let left = subst (λ (o : Option Text). LeavesBehind files.its Saves last.verdict last.opened o last.unsaved last.next last.after)
+      let left = subst (λ (o : Option Text). LeavesAtPath files.its Saves last.verdict last.opened o last.unsaved last.next last.after)
       created last.leaves in
-      let empty = subst (λ (v : Verdict). LeavesBehind files.its Saves v last.opened (Some path) last.unsaved last.next last.after)
+      let empty = subst (λ (v : Verdict). LeavesAtPath files.its Saves v last.opened (Some path) last.unsaved last.next last.after)
       refuted left in
       comes_last _ empty.2
 

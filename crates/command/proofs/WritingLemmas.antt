@@ -1,25 +1,20 @@
 -- What goes to a sink.
-use Rattle.std.proofs.Common.{◌≡◌, ◌≢◌, ◌++◌, ◌∙◌, ℕ, Bool, true, false, List, [], Option, None, Some, refl, sym, ap, subst}
-use Rattle.std.proofs.lemmas.List.{append_assoc}
+use Rattle.std.proofs.Common.{◌++◌, ◌∙◌, ◌≡◌, ◌≢◌, Bool, List, None, Option, Some, ap, false, refl, subst, sym, true, ℕ}
 use Rattle.std.proofs.KnownBytes.{Appends-trans}
-use Rattle.std.specs.Io.KnownBytes.{Appends, Keeps}
-use Rattle.checkpoint.specs.declared.saving.SaveFault.{SaveFault}
-use Rattle.command.specs.Commands.{SaysOfRound, SinkChange, SinkTook, TakesUnlessFailed}
-use Rattle.std.specs.Fmt.{decimal}
-use Rattle.std.specs.Prelude.{codes, Result, Ok, Err}
 use Rattle.std.proofs.lemmas.Bool.{eq-eqb, ne_eqb}
+use Rattle.std.proofs.lemmas.List.{append_assoc}
+use Rattle.std.specs.Io.KnownBytes.{Appends, Keeps}
+use Rattle.std.specs.Prelude.{Err, Ok, Result}
 use Rattle.lrup_text.specs.Writing.{WritesText}
 use Rattle.stream_check.specs.declared.report.Report.{Report}
-use Rattle.run_outcome.specs.declared.outcome.Verdict.{Verdict}
+use Rattle.checkpoint.specs.declared.saving.SaveFault.{SaveFault}
 use Rattle.run_outcome.specs.ReportText.{report_text}
+use Rattle.run_outcome.specs.declared.outcome.Verdict.{Verdict}
+use Rattle.run_files.specs.Faults.{error_text, round_error_text}
+use Rattle.run_files.specs.declared.fault.CommandFault.{CommandFault}
+use Rattle.run_files.specs.declared.fault.CommandFault.TheVariants as faults
+use Rattle.command.specs.Commands.{SaysOfRound, SinkChange, SinkTook, TakesUnlessFailed}
 use Rattle.command.specs.Rounds.{last_text, round_text}
-use Rattle.command.specs.Faults.{error_text, of_round, round_error_text}
-use Rattle.command.specs.declared.fault.CommandFault.{CommandFault}
-use Rattle.command.specs.declared.fault.CommandFault.TheVariants as faults
-
--- nothing was held before
-pub starts_empty : {held text all : List ℕ} → held ≡ [] → held ++ text ≡ all → text ≡ all
-starts_empty {held} {text} {all} empty is = sym (ap (λ h. h ++ text) empty) ∙ is
 
 -- a write after nothing was written
 after_nothing : (a b c : Option (List ℕ)) (text : List ℕ) → Keeps a b → Appends b c text → Appends a c text
@@ -47,7 +42,8 @@ took_after_text true a b c first text one took = (
 abbrev changed : Option (List ℕ) → Option (List ℕ) → Bool → SinkChange
 changed before after failed = record { before = before; after = after; failed = failed }
 
--- The message about the report follows the one about the round's checkpoint, if that was written whole.
+-- The message about the report follows the one about the round's checkpoint, if that was written
+-- whole.
 pub says_both : (round : ℕ) (a b c : Option (List ℕ)) (broken failed : Bool) (unsaved : Option SaveFault)
     → SaysOfRound round false unsaved (changed a b broken)
     → (broken ≡ true → (c ≡ b) × (failed ≡ true)) → (broken ≡ false → SinkTook (changed b c failed) (error_text faults.Unwritten))
@@ -90,13 +86,6 @@ last_of_one number reports verdict is = rw (eq-eqb number 1 is) refl
 pub last_of_more : (number : ℕ) (reports : List Report) (verdict : Verdict) → number ≢ 1
     → last_text number reports verdict ≡ round_text number ++ report_text reports verdict
 last_of_more number reports verdict other = rw (ne_eqb number 1 other) refl
-
--- the prefix that names a round, from round 2 on
-pub of_more : (number : ℕ) → number ≢ 1 → of_round number ≡ codes "round " ++ decimal number ++ codes ": "
-of_more number other = rw (ne_eqb number 1 other) refl
-
-pub of_one : (number : ℕ) → number ≡ 1 → of_round number ≡ []
-of_one number is = rw (eq-eqb number 1 is) refl
 
 -- for a fault of round 1 just the fault is reported
 pub first_error : (fault : CommandFault) → round_error_text 1 fault ≡ error_text fault

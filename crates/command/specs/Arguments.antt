@@ -1,16 +1,15 @@
 -- The arguments that the program is started with (this project's own).
-use Rattle.std.specs.Prelude.{◌≡◌, ℕ, List, codes, drop, map, string_bytes}
+use Rattle.std.specs.Prelude.{◌≡◌, List, codes, drop, map, string_bytes, ℕ}
 use Rattle.std.specs.Vec.Iter.{into_iter_items}
 use Rattle.std.specs.declared.alloc.Global.{Global}
 use Rattle.std.specs.declared.io.ErrorKind.{ErrorKind}
 use Rattle.std.specs.declared.io.ErrorKind.TheVariants as kinds
 use Rattle.std.specs.declared.string.String.{String}
 use Rattle.std.specs.declared.vec.IntoIter.{IntoIter}
-use Rattle.command.specs.Commands.{IsUntouched, SinkChange, SinkTook, Text}
-use Rattle.command.specs.Faults.{status_of, error_text}
-use Rattle.command.specs.declared.fault.CommandFault.TheVariants as faults
-use Rattle.command.specs.declared.files.OpenFault.{OpenFault}
-use Rattle.command.specs.declared.files.OpenFault.TheVariants as opens
+use Rattle.run_files.specs.Asked.{Text}
+use Rattle.run_files.specs.Faults.{error_text, status_of}
+use Rattle.run_files.specs.declared.fault.CommandFault.TheVariants as faults
+use Rattle.command.specs.Commands.{IsUntouched, SinkChange, SinkTook}
 
 -- the words: the bytes of each argument after the first, which is the program's name
 abbrev pub words_after_name : IntoIter (String Global) Global → List Text
@@ -36,8 +35,3 @@ pub record EndsWithoutArguments (kind : ErrorKind) (out err : SinkChange)
   pub untouched : IsUntouched out
   pub said : SinkTook err (refusal_text kind)
   pub status_is : status ≡ refusal_status kind
-
--- why the system didn't open a file
-abbrev pub of_kind : ErrorKind → OpenFault
-of_kind kinds.OutOfMemory = opens.Memory
-of_kind kind = opens.NotOpened

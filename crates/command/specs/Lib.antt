@@ -1,5 +1,3 @@
-pub mod Faults
-pub mod Paths
 pub mod Commands
 pub mod Arguments
 pub mod Rounds

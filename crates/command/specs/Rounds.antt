@@ -1,78 +1,36 @@
 -- A run is a list of rounds: each starts from what the one before it saved (this project's own).
-use Rattle.std.specs.Prelude.{◌≡◌, ◌==◌, ◌↔◌, if◌then◌else◌, ◌+◌, ◌++◌, ◌∷◌, ◌⊎◌, ◌<◌, ◌≤◌, ◌^◌, ℕ, IsTrue, List, [], Option, None, Some, Result, Ok, Err, IfOk, codes, drop, length, map}
 use Rattle.std.specs.Fmt.{decimal}
 use Rattle.std.specs.List.{AllByRecursion}
 use Rattle.std.specs.Option.{ForSome}
+use Rattle.std.specs.Prelude.{if◌then◌else◌, ◌++◌, ◌+◌, ◌<◌, ◌==◌, ◌^◌, ◌∷◌, ◌≡◌, ◌⊎◌, List, None, Option, Result, Some, [], codes, length, ℕ}
 use Rattle.lrup_model.specs.Cube.{CubeValue}
-use Rattle.lrup_model.specs.Event.{History}
 use Rattle.lrup_model.specs.Formula.{Cnf}
-use Rattle.lrup_model.specs.Layout.{LayoutValue}
-use Rattle.lrup_model.specs.State.{state}
-use Rattle.lrup_text.specs.Reads.{Gave, GaveAll}
-use Rattle.stream_check.specs.DroppedIdsValue.{DroppedIdsValue}
 use Rattle.stream_check.specs.declared.report.Ending.TheVariants as endings
 use Rattle.stream_check.specs.declared.report.Report.{Report}
+use Rattle.checkpoint.specs.Checkpoints.{IsCheckpoint}
+use Rattle.checkpoint.specs.declared.saving.SaveFault.{SaveFault}
 use Rattle.run_outcome.specs.ReportText.{report_text}
-use Rattle.run_outcome.specs.Saving.{SavesState, is_wanted}
 use Rattle.run_outcome.specs.declared.outcome.Verdict.{Verdict}
 use Rattle.run_outcome.specs.declared.outcome.Verdict.TheVariants.{Unknown, Unsatisfiable}
-use Rattle.checkpoint.specs.Checkpoints.{IsCheckpoint, WritesCheckpoint}
-use Rattle.checkpoint.specs.declared.saving.SaveFault.{SaveFault}
-use Rattle.checkpoint.specs.declared.saving.SaveFault.TheVariants as saves
 use Rattle.command_line.specs.CommandLine.{AskForRounds, IsCommandLineOf, rounds_of}
-use Rattle.command_line.specs.Sizes.{HaveNoSizes, IsSizesText}
 use Rattle.command_line.specs.declared.sizes.Sizes.{Sizes}
 use Rattle.command_line.specs.declared.words.CommandLine.{CommandLine}
-use Rattle.command.specs.Commands.{AreAssumed, AreChecked, AreOpened, Deeds, FilesView, HasBrokenOff, IsCause, IsFormulaAt}
-use Rattle.command.specs.Commands.{IsLeftEmpty, IsOpenCause, IsRoundStartCause, IsUntouched, SaysOfRound, SinkChange}
-use Rattle.command.specs.Commands.{SinkTook, Text, WasRead, WasReadIn, WasSavedBy, assumed_at, created_path, report_status}
-use Rattle.command.specs.Commands.{run_params_by, sizes_of}
-use Rattle.command.specs.Faults.{round_error_text, status_of}
-use Rattle.command.specs.Paths.{formula_path, sizes_path, stream_path, stream_paths}
-use Rattle.command.specs.declared.fault.CommandFault.{CommandFault}
-use Rattle.command.specs.declared.fault.CommandFault.TheVariants as faults
-use Rattle.command.specs.declared.files.OpenFault.TheVariants as open_faults
-
--- The files at the paths were opened as these readers, in order. Each reader has all of its file
--- left, if that is known.
-pub record StreamsOpened (its : Deeds) (before : its.State) (paths : List Text)
-    (readers : List its.Reader) (after : its.State) : Type 0 where
-  pub opened : AreOpened its.opens before paths readers after
-  pub left : map its.reading.left readers ≡ map (its.tells before) paths
+use Rattle.run_files.specs.Asked.{Text, assumed_at, created_path, run_params_by, sizes_of}
+use Rattle.run_files.specs.Causes.{IsCause, IsRoundStartCause, IsSizesCause, IsStreamCause}
+use Rattle.run_files.specs.Faults.{round_error_text, status_of}
+use Rattle.run_files.specs.Files.{AreAssumed, AreSized, Effects, FilesView, IsFormulaAt, IsLeftEmpty, StreamsOpened, WasReadIn, WasSavedBy}
+use Rattle.run_files.specs.Paths.{formula_path, sizes_path, stream_path, stream_paths}
+use Rattle.run_files.specs.Saving.{ClosesSink, SavesCheckpoint}
+use Rattle.run_files.specs.declared.fault.CommandFault.{CommandFault}
+use Rattle.command.specs.Commands.{AreChecked, IsUntouched, SaysOfRound, SinkChange, SinkTook, report_status}
 
 -- all streams ended
 abbrev pub HaveEnded : List Report → Type 0
 HaveEnded reports = AllByRecursion (λ report. report.ending ≡ endings.Ended) reports
 
--- An attempt to save a checkpoint to a sink, which was `first` before and `last` after. The streams
--- of the formula with this layout had been checked, with this history and these dropped identities.
--- A successful save wrote a text of a formula over the same variables, whose clauses all follow
--- from this formula; that is the next formula, if one is given. Its clauses are exactly those that
--- the history leaves live, except those that all streams dropped. The result is `Unwritten` exactly
--- if the sink has failed.
-pub record SavesCheckpoint (its : Deeds) (formula : Cnf) (layout : LayoutValue) (history : History)
-    (dropped : List DroppedIdsValue) (result : Result (Option Cnf) SaveFault)
-    (first last : its.Output) : Type 0 where
-  pub checkpoint : IfOk result
-      (WritesCheckpoint formula (its.written first) (its.written last))
-  pub exactly : SavesState its.written result (state formula history) layout (is_wanted dropped)
-      first last
-  pub failed : IsTrue (its.has_failed last) ↔ (result ≡ Err saves.Unwritten)
-
--- How a file was closed after a save with this result. If the save succeeded, the file was kept, or
--- keeping it failed; if the save failed, the file was discarded. `unsaved` is why nothing was
--- saved, if so, and `next` is the formula that was saved, if the save gives it.
-abbrev pub ClosesSink : (its : Deeds) → Result (Option Cnf) SaveFault → its.State → its.Output
-    → Option SaveFault → Option Cnf → its.State → Type 0
-ClosesSink its (Ok made) before last None next after = (next ≡ made) × its.keeps before last after
-ClosesSink its (Ok made) before last (Some fault) next after =
-    (fault ≡ saves.Unwritten) × (next ≡ None) × its.loses before last after
-ClosesSink its (Err fault) before last unsaved next after =
-    (unsaved ≡ Some fault) × (next ≡ None) × its.discards before last after
-
 -- A file was created at the path, saved to and closed. If its contents are known, it was empty at
 -- first.
-pub record LeavesFile (its : Deeds)
+pub record LeavesFile (its : Effects)
     (Saves : Result (Option Cnf) SaveFault → its.Output → its.Output → Type 0) (before : its.State)
     (path : Text) (unsaved : Option SaveFault) (next : Option Cnf)
     (after : its.State) : Type 0 where
@@ -89,22 +47,22 @@ pub record LeavesFile (its : Deeds)
 -- next formula, if there is one. Without a path: nothing. With 'unsatisfiable': a new file,
 -- discarded before anything was written to it. Else: a new file, to which the program tried to save
 -- the checkpoint.
-abbrev pub LeavesBehind : (its : Deeds)
+abbrev pub LeavesAtPath : (its : Effects)
     → (Result (Option Cnf) SaveFault → its.Output → its.Output → Type 0) → Verdict → its.State
     → Option Text → Option SaveFault → Option Cnf → its.State → Type 0
-LeavesBehind its Saves verdict before None unsaved next after =
+LeavesAtPath its Saves verdict before None unsaved next after =
     (unsaved ≡ None) × (next ≡ None) × (after ≡ before)
-LeavesBehind its Saves Unsatisfiable before (Some path) unsaved next after =
+LeavesAtPath its Saves Unsatisfiable before (Some path) unsaved next after =
     (unsaved ≡ None) × (next ≡ None)
     × IsLeftEmpty its.creates its.written its.discards before path after
-LeavesBehind its Saves verdict before (Some path) unsaved next after =
+LeavesAtPath its Saves verdict before (Some path) unsaved next after =
     LeavesFile its Saves before path unsaved next after
 
 -- A round: its number, formula and sizes; the readers of its streams as they were opened, and the
 -- files then; its reports and its verdict; why its checkpoint wasn't saved, if it wasn't; the next
 -- formula, if there is one; and the files at its end. Its streams were checked, and `leaves` says
 -- what became of their clauses.
-pub record Round (its : Deeds) (given : CommandLine) (cube : CubeValue) : Type 0 where
+pub record Round (its : Effects) (given : CommandLine) (cube : CubeValue) : Type 0 where
   pub number : ℕ
   pub formula : Cnf
   pub sizes : Sizes
@@ -118,14 +76,14 @@ pub record Round (its : Deeds) (given : CommandLine) (cube : CubeValue) : Type 0
   pub count : length readers ≡ sizes.streams
   pub checked : AreChecked its.reading given.serial formula (run_params_by given cube formula sizes)
       readers reports verdict
-  pub leaves : LeavesBehind its
+  pub leaves : LeavesAtPath its
       (SavesCheckpoint its formula (run_params_by given cube formula sizes).layout
       checked.ran.run.history checked.dropped)
       verdict opened (created_path given.next number) unsaved next after
 
 -- The run continues after this round: the words ask for rounds in a folder, the verdict is
 -- 'unknown', all streams ended, and the checkpoint, a text of the next formula, was saved.
-pub record CarriesOn {its : Deeds} {given : CommandLine} {cube : CubeValue}
+pub record CarriesOn {its : Effects} {given : CommandLine} {cube : CubeValue}
     (round : Round its given cube) (next : Cnf) : Type 0 where
   pub folder : Text
   pub asked : rounds_of given.next ≡ Some folder
@@ -136,24 +94,16 @@ pub record CarriesOn {its : Deeds} {given : CommandLine} {cube : CubeValue}
 
 -- The run doesn't continue after this round: the words ask for no rounds, the verdict isn't
 -- 'unknown', the checkpoint wasn't saved, or a stream didn't end.
-abbrev pub IsBarred : {its : Deeds} {given : CommandLine} {cube : CubeValue} → Round its given cube
+abbrev pub IsBarred : {its : Effects} {given : CommandLine} {cube : CubeValue}
+    → Round its given cube
     → Type 0
 IsBarred {given = given} round =
     (rounds_of given.next ≡ None) ⊎ ((¬ (round.verdict ≡ Unknown))
     ⊎ (((fault : SaveFault) × (round.unsaved ≡ Some fault)) ⊎ (¬ HaveEnded round.reports)))
 
--- the sizes of the next round: the old ones, if new ones have no file; else those whose text was
--- read of the file
-abbrev pub AreSized : (its : Deeds) → Text → Sizes → its.State → Sizes → its.State → Type 0
-AreSized its path old before new after =
-    (its.lacks before path after × (new ≡ old))
-    ⊎ ((bytes : List ℕ)
-    × WasRead its.opens its.reading.reads (its.tells before) before path bytes after
-    × IsSizesText bytes new)
-
 -- A round follows another: it has the next number and the formula that the other one saved, its
 -- sizes were read, and then its streams were opened.
-pub record ComesNext {its : Deeds} {given : CommandLine} {cube : CubeValue}
+pub record ComesNext {its : Effects} {given : CommandLine} {cube : CubeValue}
     (before round : Round its given cube) : Type 0 where
   pub number : round.number ≡ before.number + 1
   pub goes_on : CarriesOn before round.formula
@@ -165,7 +115,7 @@ pub record ComesNext {its : Deeds} {given : CommandLine} {cube : CubeValue}
 
 -- Round 1, with this formula and from these files: its sizes and its streams are those of the
 -- command line.
-pub record IsFirst {its : Deeds} {given : CommandLine} {cube : CubeValue} (formula : Cnf)
+pub record IsFirst {its : Effects} {given : CommandLine} {cube : CubeValue} (formula : Cnf)
     (first : its.State) (round : Round its given cube) : Type 0 where
   pub number : round.number ≡ 1
   pub formula_is : round.formula ≡ formula
@@ -175,7 +125,7 @@ pub record IsFirst {its : Deeds} {given : CommandLine} {cube : CubeValue} (formu
 -- Rounds, listed from the last one back to round 1. Round 1 has this formula and starts from these
 -- files, and each other round follows the one before it. So the last round's number is the length
 -- of the list.
-abbrev pub AreRounds : {its : Deeds} {given : CommandLine} {cube : CubeValue} → Cnf → its.State
+abbrev pub AreRounds : {its : Effects} {given : CommandLine} {cube : CubeValue} → Cnf → its.State
     → List (Round its given cube) → Type 0
 AreRounds formula first [] = ⊥
 AreRounds formula first (round ∷ []) = IsFirst formula first round
@@ -185,7 +135,8 @@ AreRounds formula first (round ∷ before ∷ more) =
 -- why there is no round after the last one, and the files at the end: the run doesn't continue; or
 -- it would, and the next round has sizes but no file for its stream 1; or the next round's number
 -- would be 2 ^ 64 - 1 or more
-abbrev pub RoundsEnd : {its : Deeds} {given : CommandLine} {cube : CubeValue} → Round its given cube
+abbrev pub RoundsEnd : {its : Effects} {given : CommandLine} {cube : CubeValue}
+    → Round its given cube
     → its.State → Type 0
 RoundsEnd {its} last after =
     (IsBarred last × (after ≡ last.after))
@@ -197,69 +148,10 @@ RoundsEnd {its} last after =
 
 -- Causes.
 
--- The file at the path was opened, and holds no text of sizes: reading it to its end gave at most
--- 64 bytes, which are no such text; or 64 bytes were read, which is longer than any such text. If
--- the file's contents are known, they are these bytes, or begin with them.
-pub record HoldsNoSizes (its : Deeds) (before : its.State) (path : Text)
-    (after : its.State) : Type 0 where
-  pub reader : its.Reader
-  pub opened : its.opens before path reader after
-  pub bytes : List ℕ
-  pub few : length bytes ≤ 64
-  pub holds : (GaveAll its.Reader its.reading.reads reader bytes
-      × ForSome (its.tells before path) (λ all. all ≡ bytes) × HaveNoSizes bytes)
-      ⊎ ((last : its.Reader) × Gave its.Reader its.reading.reads reader bytes last
-      × (length bytes ≡ 64)
-      × ForSome (its.tells before path) (λ all. (rest : List ℕ) × (all ≡ bytes ++ rest)))
-
--- The file at the path was opened, and reading it failed after at most 64 bytes.
-pub record BrokeOff (its : Deeds) (before : its.State) (path : Text)
-    (after : its.State) : Type 0 where
-  pub reader : its.Reader
-  pub opened : its.opens before path reader after
-  pub left : its.reading.left reader ≡ its.tells before path
-  pub broken : HasBrokenOff its.reading reader
-  pub few : length broken.bytes ≤ 64
-
--- memory ran out before, during or after the opening of the file at the path, which may be missing
-abbrev pub IsOutOfMemoryAt : (its : Deeds) → its.State → Text → its.State → Type 0
-IsOutOfMemoryAt its before path after =
-    (after ≡ before)
-    ⊎ (its.fails before path open_faults.Memory after
-    ⊎ ((reader : its.Reader) × its.opens before path reader after))
-
--- why the sizes at a path weren't read: their file couldn't be opened or read, or holds none; or
--- memory ran out
-abbrev pub IsSizesCause : (its : Deeds) → its.State → Text → CommandFault → its.State → Type 0
-IsSizesCause its before path faults.SizesUnread after =
-    its.fails before path open_faults.NotOpened after ⊎ BrokeOff its before path after
-IsSizesCause its before path faults.Sizes after = HoldsNoSizes its before path after
-IsSizesCause its before path faults.Memory after = IsOutOfMemoryAt its before path after
-IsSizesCause its before path fault after = ⊥
-
--- why the file of stream 1 at the path wasn't opened: opening it failed, or memory ran out before
--- or during that
-abbrev pub IsFirstCause : (its : Deeds) → its.State → Text → CommandFault → its.State → Type 0
-IsFirstCause its before path (faults.NotOpened stream) after =
-    (stream ≡ 1) × its.fails before path open_faults.NotOpened after
-IsFirstCause its before path faults.Memory after =
-    (after ≡ before) ⊎ its.fails before path open_faults.Memory after
-IsFirstCause its before path fault after = ⊥
-
--- why not all streams of a round were opened: stream 1 wasn't; or it was, and one of the others
--- wasn't, as in round 1
-abbrev pub IsStreamCause : (its : Deeds) → its.State → Text → ℕ → ℕ → CommandFault → its.State
-    → Type 0
-IsStreamCause its before folder number streams fault after =
-    IsFirstCause its before (stream_path folder number 1) fault after
-    ⊎ ((first : its.Reader) × (next : its.State)
-    × its.opens before (stream_path folder number 1) first next
-    × IsOpenCause its 1 next (drop 1 (stream_paths folder number streams)) fault after)
-
 -- why the round with this number and this formula, after one with the old sizes, has no report: its
 -- sizes weren't read; or they were, and a stream wasn't opened; or all streams were opened, and
 -- weren't checked
-abbrev pub IsRoundCause : (its : Deeds) → CommandLine → CubeValue → Text → ℕ → Sizes → Cnf
+abbrev pub IsRoundCause : (its : Effects) → CommandLine → CubeValue → Text → ℕ → Sizes → Cnf
     → its.State → CommandFault → its.State → Type 0
 IsRoundCause its given cube folder number old formula before fault after =
     IsSizesCause its before (sizes_path folder number) fault after
@@ -272,7 +164,7 @@ IsRoundCause its given cube folder number old formula before fault after =
 
 -- why the round after this one has no report although the run continues, and the files at that
 -- point
-abbrev pub IsNextCause : {its : Deeds} {given : CommandLine} {cube : CubeValue}
+abbrev pub IsNextCause : {its : Effects} {given : CommandLine} {cube : CubeValue}
     → Round its given cube → CommandFault → its.State → Type 0
 IsNextCause {its} {given} {cube} last fault after =
     (next : Cnf) × (on : CarriesOn last next)
@@ -297,7 +189,7 @@ pub record WereRounds (files : FilesView) (given : CommandLine) (cube : CubeValu
   pub is_formula : IsFormulaAt files given.formula.now formula next
   pub later : files.its.State
   pub assumed : AreAssumed (WasReadIn files) formula.vars next (assumed_at given) cube later
-  pub told : files.its.tells later ≡ files.tells
+  pub known : files.its.contents later ≡ files.contents
   pub rounds : AreRounds formula later (last ∷ before)
 
 -- The words give a command line. The program ends with the report of the last round and leaves
@@ -310,7 +202,7 @@ pub record EndsWithReport (files : FilesView) (words : List Text) (after : files
   pub last : Round files.its given cube
   pub before : List (Round files.its given cube)
   pub were : WereRounds files given cube last before
-  pub over : RoundsEnd last after
+  pub finished : RoundsEnd last after
   pub printed : SinkTook out (last_text last.number last.reports last.verdict)
   pub said : SaysOfRound last.number out.failed last.unsaved err
   pub status_is : status ≡ report_status out.failed last.unsaved last.verdict
@@ -355,7 +247,7 @@ ProgramEnds files words after out err status =
 
 -- The round saved, for the next one in the folder, a text of a formula over the same variables,
 -- whose clauses all follow from this formula.
-abbrev pub SavesEntailed : {its : Deeds} {given : CommandLine} {cube : CubeValue} → Text → Cnf
+abbrev pub SavesEntailed : {its : Effects} {given : CommandLine} {cube : CubeValue} → Text → Cnf
     → Round its given cube → Type 0
 SavesEntailed {its} folder formula round =
     (bytes : List ℕ)
@@ -363,7 +255,7 @@ SavesEntailed {its} folder formula round =
     × IsCheckpoint formula bytes
 
 -- each of these rounds did so
-abbrev pub SaveEntailed : {its : Deeds} {given : CommandLine} {cube : CubeValue} → Text → Cnf
+abbrev pub SaveEntailed : {its : Effects} {given : CommandLine} {cube : CubeValue} → Text → Cnf
     → List (Round its given cube) → Type 0
 SaveEntailed folder formula [] = Unit {0}
 SaveEntailed folder formula (round ∷ before) =

@@ -5,16 +5,15 @@ ghost use Rattle.std.specs.Process.{exit_status};
 ghost use Rattle.std.specs.Vec.Iter.{into_iter_items};
 ghost use Rattle.clap.specs.Walk.{texts};
 ghost use Rattle.command_line.specs.CommandLine.{HaveFault};
-ghost use Rattle.command.specs.Arguments.{EndsWithoutArguments, not_utf8, refusal_status, refusal_text};
-ghost use Rattle.command.specs.Arguments.{words_after_name};
+ghost use Rattle.command.specs.Arguments.{EndsWithoutArguments, not_utf8, refusal_status, refusal_text, words_after_name};
 ghost use Rattle.command.specs.Commands.{CheckpointEntailed, CheckpointLeftEmpty, NameUnsatisfiable, NameUnsatisfiableUnder};
-ghost use Rattle.command.specs.Commands.{SinkTook, WasRead, WasSaved, change};
+ghost use Rattle.command.specs.Commands.{SinkTook, change};
+ghost use Rattle.run_files.specs.Files.{WasRead, WasSaved};
 ghost use Rattle.command.specs.Rounds.{ProgramEnds, RoundsEntailed};
 
-use crate::fault::CommandFault;
-use crate::files::{Machine, Viewed};
 use crate::program::{command, say};
 use lrup_text::{Sink, write_all};
+use run_files::{CommandFault, Machine, Viewed, words_of};
 use std::alloc::{AllocError, Global};
 use std::env::Args;
 use std::io;
@@ -45,18 +44,18 @@ pub fn command_with_arguments<
     requires err { E.has_failed err.old ≡ false }
     // If the system gives arguments, every promise of `command` holds for those after the program's
     // name.
-    ensures sound { let read = WasRead F.opens F.Input.Source.reads (F.tells files.old) in
+    ensures sound { let read = WasRead F.opens F.Input.Source.reads (F.contents files.old) in
         exit_status result ≡ 0
         → IsOkAnd arguments (λ given.
         NameUnsatisfiable _ read files.old (words_after_name given)) }
-    ensures sound_under { let read = WasRead F.opens F.Input.Source.reads (F.tells files.old) in
+    ensures sound_under { let read = WasRead F.opens F.Input.Source.reads (F.contents files.old) in
         exit_status result ≡ 8
         → IsOkAnd arguments (λ given.
         NameUnsatisfiableUnder _ read files.old (words_after_name given)) }
     ensures ends { IfOk arguments (λ given. ProgramEnds (⟦<F as Viewed>⟧.view files.old)
         (words_after_name given) files.new (change O.Sink out.old out.new)
         (change E.Sink err.old err.new) (exit_status result)) }
-    ensures saved { let read = WasRead F.opens F.Input.Source.reads (F.tells files.old) in
+    ensures saved { let read = WasRead F.opens F.Input.Source.reads (F.contents files.old) in
         let save = WasSaved F.creates F.Output.Sink.written F.keeps in
         IfOk arguments (λ given. CheckpointEntailed F.opens read save files.old
         (words_after_name given) files.new (exit_status result)) }
@@ -94,20 +93,6 @@ fn after_name(alloc: Global, arguments: Args) -> Result<Vec<String>, AllocError>
     ensures { IfOk result (λ rest. rest.items ≡ drop 1 (into_iter_items arguments)) }
 {
     arguments.skip(1).collect(alloc)
-}
-
-/// The arguments as string slices.
-pub(crate) fn words_of<'a>(
-    alloc: Global,
-    arguments: &'a [String],
-) -> Result<Vec<&'a str>, AllocError>
-    ensures { IfOk result (λ words. texts words.items ≡ map string_bytes arguments.now) }
-{
-    let mut words = Vec::with_capacity(alloc, arguments.len())?;
-    for argument in arguments {
-        words.push_reserved(argument.as_str());
-    }
-    Ok(words)
 }
 
 /// Reports why the system gave no arguments, and returns the status.

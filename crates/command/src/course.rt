@@ -1,13 +1,13 @@
 //! What the rounds of a run share, and what one round hands to the next.
 ghost use Rattle.std.specs.Prelude.{◌≡◌, ◌<◌, ◌≤◌};
 ghost use Rattle.stream_check.specs.StreamParams.{max_tries};
-ghost use Rattle.command.specs.Commands.{options_by};
+ghost use Rattle.run_files.specs.Asked.{options_by};
 
-use crate::fault::CommandFault;
 use checkpoint::SaveFault;
 use command_line::{CommandLine, Sizes};
 use lrup_model::{Cube, Formula};
 use portfolio::{Options, Verdict};
+use run_files::CommandFault;
 use std::time::Instant;
 use stream_check::Report;
 

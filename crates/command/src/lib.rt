@@ -2,19 +2,13 @@
 #![tactic(auto)]
 
 mod arguments;
-mod closing;
 mod course;
-mod fault;
-mod files;
-mod opening;
 mod program;
 mod round;
 mod rounds;
 mod running;
-mod sizing;
 mod watching;
 
 pub use arguments::command_with_arguments;
-pub use files::{Files, Machine, OpenFault, Viewed};
-pub use opening::Asked;
 pub use program::{check_formula, command};
+pub use run_files::{Asked, Files, Machine, OpenFault, Viewed};

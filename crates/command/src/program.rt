@@ -6,20 +6,19 @@ ghost use Rattle.command_line.specs.CommandLine.{HaveFault, IsCommandLineOf};
 ghost use Rattle.command.specs.Commands.{CheckpointEntailed, CheckpointLeftEmpty, IsUnsatisfiableTextWith, NameUnsatisfiable};
 ghost use Rattle.command.specs.Rounds.{ProgramEnds, RoundsEntailed, last_text, round_text};
 ghost use Rattle.lrup_text.specs.Writing.{WritesText};
-ghost use Rattle.command.specs.Commands.{NameUnsatisfiableUnder, SaysOfRound, SinkTook, Text, WasRead, WasReadIn, WasSaved};
-ghost use Rattle.command.specs.Commands.{assumed_at, change, from_first, report_status};
-ghost use Rattle.command.specs.Faults.{error_text, round_error_text, status_of};
+ghost use Rattle.command.specs.Commands.{NameUnsatisfiableUnder, SaysOfRound, SinkTook, change, report_status};
+ghost use Rattle.run_files.specs.Asked.{Text, assumed_at};
+ghost use Rattle.run_files.specs.Files.{WasRead, WasReadIn, WasSaved, from_first};
+ghost use Rattle.run_files.specs.Faults.{error_text, round_error_text, status_of};
 ghost use Rattle.stream_check.specs.StreamParams.{max_tries};
 
 use crate::course::CheckedRound;
-use crate::fault::CommandFault;
-use crate::files::{Machine, Viewed};
-use crate::opening::{Asked, read_asked};
 use crate::rounds::begin_and_check;
 use checkpoint::SaveFault;
 use checkpoint::laws::{entails_itself, entails_onward};
 use lrup_text::{Sink, WriteBuffer, WriteFault};
 use portfolio::{Verdict, write_report};
+use run_files::{Asked, CommandFault, Machine, Viewed, read_asked};
 use std::alloc::Global;
 use std::sync::Wait;
 use std::thread::Threads;
@@ -32,7 +31,7 @@ use std::time::Clock;
 ///    literals, if there is one.
 /// 2. It opens the streams. If they have a layout, and the words have `--checkpoint` or `--rounds`,
 ///    it creates the file for the checkpoint or for the next round's formula.
-/// 3. It checks the streams. With `--watch`, each stream's progress is reported on a watcher.
+/// 3. It checks the streams. With `--watch`, watchers report their progress, and slow openings.
 /// 4. It saves the checkpoint, unless the verdict is 'unsatisfiable'. If that fails, `err` gets the
 ///    cause.
 /// 5. With `--rounds`, the checkpoint of a round is the next round's formula, and the folder holds
@@ -70,13 +69,13 @@ pub fn command<T: Threads + Wait + Sync, C: Clock + Sync, F: Machine, O: Sink, E
 ) -> u8
     requires out { O.has_failed out.old ≡ false }
     requires err { E.has_failed err.old ≡ false }
-    // What a user relies on: with status 0, the bytes read of FORMULA are a text of a formula that
-    // no assignment satisfies.
-    ensures sound { let read = WasRead F.opens F.Input.Source.reads (F.tells files.old) in
+    // What a user relies on: with status 0, the bytes read from FORMULA are a text of a formula
+    // that no assignment satisfies.
+    ensures sound { let read = WasRead F.opens F.Input.Source.reads (F.contents files.old) in
         result ≡ 0 → NameUnsatisfiable _ read files.old (texts words.now) }
     // With status 8, no assignment satisfies both that formula and every literal in the
     // assumptions' file.
-    ensures sound_under { let read = WasRead F.opens F.Input.Source.reads (F.tells files.old) in
+    ensures sound_under { let read = WasRead F.opens F.Input.Source.reads (F.contents files.old) in
         result ≡ 8 → NameUnsatisfiableUnder _ read files.old (texts words.now) }
     // There is either a report, or no report and the message for one cause; and the exit status
     // matches.
@@ -84,7 +83,7 @@ pub fn command<T: Threads + Wait + Sync, C: Clock + Sync, F: Machine, O: Sink, E
         (change O.Sink out.old out.new) (change E.Sink err.old err.new) result }
     // With status 3 or 8, if the words ask for a checkpoint, what was saved there is a text of a
     // formula whose clauses all follow from FORMULA.
-    ensures saved { let read = WasRead F.opens F.Input.Source.reads (F.tells files.old) in
+    ensures saved { let read = WasRead F.opens F.Input.Source.reads (F.contents files.old) in
         let save = WasSaved F.creates F.Output.Sink.written F.keeps in
         CheckpointEntailed F.opens read save files.old (texts words.now) files.new result }
     // If a report was written (status 0, 3, 8 or 9), and the words ask for rounds, each round but
@@ -127,17 +126,17 @@ pub fn check_formula<T: Threads + Wait + Sync, C: Clock + Sync, F: Machine, O: S
 ) -> u8
     requires out { O.has_failed out.old ≡ false }
     requires err { E.has_failed err.old ≡ false }
-    // The words allow no greater number.
+    // The words allow no larger number.
     requires tries { asked.line.tries ≤ max_tries }
     // With status 0, the bytes are a text of a formula that no assignment satisfies.
     ensures sound { result ≡ 0 → IsUnsatisfiableText asked.entry.formula.items }
     // With status 8, no assignment satisfies both that formula and every literal in the
     // assumptions' file, which is opened next.
-    ensures sound_under { let read = WasRead F.opens F.Input.Source.reads (F.tells files.old) in
+    ensures sound_under { let read = WasRead F.opens F.Input.Source.reads (F.contents files.old) in
         result ≡ 8 → IsUnsatisfiableTextWith read asked.entry.formula.items files.old
         (assumed_at asked.entry.line) }
-    // If words give this command line, and the bytes were read of FORMULA by the first opening, of
-    // files that were `first`, the program ends as `ProgramEnds` says for these words and files:
+    // If words give this command line, and the bytes were read from FORMULA by the first opening,
+    // of files that were `first`, the program ends as `ProgramEnds` says for these words and files:
     // with a report, or without one and with the cause; and the output and the status match.
     ensures ends { (words : List Text) (first : F) →
         let view = from_first (⟦<F as Viewed>⟧.view files.old) first in

@@ -4,20 +4,19 @@ ghost use Rattle.std.specs.Cow.{cow_str_bytes};
 ghost use Rattle.std.specs.List.{AllByRecursion};
 ghost use Rattle.std.specs.Option.{ForSome};
 ghost use Rattle.command_line.specs.CommandLine.{rounds_of};
-ghost use Rattle.command.specs.Commands.{HasNoFault, IsRoundStartCause, created_path, options_by, path_of, run_params_by};
-ghost use Rattle.command.specs.Paths.{formula_path};
+ghost use Rattle.run_files.specs.Causes.{HasNoFault, IsRoundStartCause};
+ghost use Rattle.run_files.specs.Asked.{created_path, options_by, path_of, run_params_by};
+ghost use Rattle.run_files.specs.Paths.{formula_path};
 ghost use Rattle.command.specs.Rounds.{HaveEnded};
 ghost use Rattle.command.specs.internal.RoundProgress.{WasFound};
-ghost use Rattle.command.specs.internal.Saving.{CreatesCheckpoint};
+ghost use Rattle.run_files.specs.Saving.{CreatesCheckpoint};
 
-use crate::closing::{close_checkpoint, create_checkpoint, discard_it};
 use crate::course::{CheckedRound, Course, OpenRound, RoundResult};
-use crate::fault::CommandFault;
-use crate::files::{Machine, Viewed};
 use crate::running::{EndedRun, run_streams};
 use crate::watching::now_if;
 use command_line::Next;
 use portfolio::{Options, Verdict};
+use run_files::{CommandFault, Machine, Viewed, close_checkpoint, create_checkpoint, discard_it};
 use std::alloc::{AllocError, Global};
 use std::borrow::CowStr;
 use std::sync::Wait;
@@ -25,8 +24,9 @@ use std::thread::Threads;
 use std::time::Clock;
 use stream_check::{Ending, Report};
 
-/// Checks a round whose streams are open, and saves their clauses if the words ask for that. Streams
-/// that have no layout are refused before the file is created that the clauses are saved to.
+/// Checks a round whose streams are open, and saves their clauses if the words ask for that.
+/// Streams that have no layout are refused before the file is created that the clauses are saved
+/// to.
 pub(crate) fn check_round<T: Threads + Wait + Sync, C: Clock + Sync, F: Machine>(
     threads: &T,
     clock: &C,
@@ -39,12 +39,12 @@ pub(crate) fn check_round<T: Threads + Wait + Sync, C: Clock + Sync, F: Machine>
         round.readers.items }
     requires count { length round.readers.items ≡ round.sizes.streams }
     requires number { round.number < u64.MAX }
-    ensures found { IfOk result (λ found. WasFound ⟦<F as Viewed>⟧.deeds course.now.line.now
+    ensures found { IfOk result (λ found. WasFound ⟦<F as Viewed>⟧.effects course.now.line.now
         course.now.cube.now round.formula round.readers.items files.old found.last found.next
         files.new) }
     ensures number { IfOk result (λ found. found.last.number ≡ round.number) }
     ensures sizes { IfOk result (λ found. found.last.sizes ≡ round.sizes) }
-    ensures cause { IfErr result (λ fault. IsRoundStartCause ⟦<F as Viewed>⟧.deeds
+    ensures cause { IfErr result (λ fault. IsRoundStartCause ⟦<F as Viewed>⟧.effects
         course.now.line.now course.now.cube.now round.number round.formula round.sizes
         round.readers.items files.old fault files.new) }
 {
@@ -56,8 +56,8 @@ pub(crate) fn check_round<T: Threads + Wait + Sync, C: Clock + Sync, F: Machine>
 }
 
 /// Checks the streams of a round, which have a layout. Then it closes the round's file, if there is
-/// one: it saves the clauses that the streams left, unless the verdict is 'unsatisfiable'. If the run
-/// continues, it frees the round's formula, makes the next one, and returns it.
+/// one: it saves the clauses that the streams left, unless the verdict is 'unsatisfiable'. If the
+/// run continues, it frees the round's formula, makes the next one, and returns it.
 fn run_round<T: Threads + Wait + Sync, C: Clock + Sync, F: Machine>(
     threads: &T,
     clock: &C,
@@ -75,14 +75,14 @@ fn run_round<T: Threads + Wait + Sync, C: Clock + Sync, F: Machine>(
     requires output { ForSome output (λ sink. F.Output.Sink.has_failed sink ≡ false) }
     requires layout { HasNoFault
         (run_params_by course.now.line.now course.now.cube.now round.formula round.sizes).layout }
-    ensures found { let its = ⟦<F as Viewed>⟧.deeds in
+    ensures found { let its = ⟦<F as Viewed>⟧.effects in
         let path = created_path course.now.line.now.next round.number in
         (before : F) → CreatesCheckpoint its before path output files.old
         → IfOk result (λ found. WasFound its course.now.line.now course.now.cube.now round.formula
         round.readers.items before found.last found.next files.new) }
     ensures number { IfOk result (λ found. found.last.number ≡ round.number) }
     ensures sizes { IfOk result (λ found. found.last.sizes ≡ round.sizes) }
-    ensures cause { let its = ⟦<F as Viewed>⟧.deeds in
+    ensures cause { let its = ⟦<F as Viewed>⟧.effects in
         let path = created_path course.now.line.now.next round.number in
         (before : F) → CreatesCheckpoint its before path output files.old
         → IfErr result (λ fault. IsRoundStartCause its course.now.line.now course.now.cube.now

@@ -2,17 +2,16 @@
 ghost use Rattle.std.specs.Prelude.{◌≡◌, true, false, IfErr, IfOk, length, vec_len};
 ghost use Rattle.std.specs.List.{AllByRecursion};
 ghost use Rattle.run_outcome.specs.Saving.{CanBeSaved};
-ghost use Rattle.command.specs.internal.Running.{IsRunCause, StandsBehind};
+ghost use Rattle.command.specs.internal.Running.{IsRunCause, IsCheckResult};
 ghost use Rattle.run_outcome.specs.Outcomes.{run_params_of};
 ghost use Rattle.stream_check.specs.Readings.{readers_view};
 
 use crate::course::Course;
-use crate::fault::CommandFault;
-use crate::files::Machine;
 use lrup_model::Formula;
 use portfolio::{
     Clauses, Options, Outcome, Pause, SerialOutcome, TurnWatch, Verdict, Watch, run, run_serial,
 };
+use run_files::{CommandFault, Machine};
 use std::alloc::{AllocError, Global};
 use std::sync::Wait;
 use std::thread::Threads;
@@ -41,9 +40,9 @@ pub(crate) fn run_streams<T: Threads + Wait + Sync, C: Clock + Sync, F: Machine>
     readers: Vec<F::Input>,
 ) -> Result<EndedRun, CommandFault>
     requires running { AllByRecursion (λ r. F.Input.Source.has_failed r ≡ false) readers.items }
-    ensures stands { let run_params = run_params_of options course.now.cube.now
+    ensures result_is { let run_params = run_params_of options course.now.cube.now
         formula.now (length readers.items) in
-        IfOk result (λ run. StandsBehind (readers_view F.Input.Source) course.now.line.now.serial
+        IfOk result (λ run. IsCheckResult (readers_view F.Input.Source) course.now.line.now.serial
         formula.now run_params readers.items run.reports.items run.verdict run.clauses
         run.dropped.items) }
     ensures ready { IfOk result (λ run. CanBeSaved run.clauses) }
@@ -53,7 +52,7 @@ pub(crate) fn run_streams<T: Threads + Wait + Sync, C: Clock + Sync, F: Machine>
         formula.now run_params readers.items) }
 {
     if course.line.serial {
-        run_by_turns(
+        run_on_one_thread(
             threads, clock, alloc, course, options, formula, report_on, readers,
         )
     } else {
@@ -64,7 +63,7 @@ pub(crate) fn run_streams<T: Threads + Wait + Sync, C: Clock + Sync, F: Machine>
 }
 
 /// Checks the streams round-robin on this thread.
-fn run_by_turns<W: Wait, C: Clock + Sync, F: Machine>(
+fn run_on_one_thread<W: Wait, C: Clock + Sync, F: Machine>(
     wait: &W,
     clock: &C,
     alloc: Global,
@@ -75,9 +74,9 @@ fn run_by_turns<W: Wait, C: Clock + Sync, F: Machine>(
     readers: Vec<F::Input>,
 ) -> Result<EndedRun, CommandFault>
     requires running { AllByRecursion (λ r. F.Input.Source.has_failed r ≡ false) readers.items }
-    ensures stands { let run_params = run_params_of options course.now.cube.now
+    ensures result_is { let run_params = run_params_of options course.now.cube.now
         formula.now (length readers.items) in
-        IfOk result (λ run. StandsBehind (readers_view F.Input.Source) true formula.now
+        IfOk result (λ run. IsCheckResult (readers_view F.Input.Source) true formula.now
         run_params readers.items run.reports.items run.verdict run.clauses run.dropped.items) }
     ensures ready { IfOk result (λ run. CanBeSaved run.clauses) }
     ensures cause { let run_params = run_params_of options course.now.cube.now
@@ -114,9 +113,9 @@ fn run_in_threads<T: Threads + Wait + Sync, C: Clock + Sync, F: Machine>(
     readers: Vec<F::Input>,
 ) -> Result<EndedRun, CommandFault>
     requires running { AllByRecursion (λ r. F.Input.Source.has_failed r ≡ false) readers.items }
-    ensures stands { let run_params = run_params_of options course.now.cube.now
+    ensures result_is { let run_params = run_params_of options course.now.cube.now
         formula.now (length readers.items) in
-        IfOk result (λ run. StandsBehind (readers_view F.Input.Source) false formula.now
+        IfOk result (λ run. IsCheckResult (readers_view F.Input.Source) false formula.now
         run_params readers.items run.reports.items run.verdict run.clauses run.dropped.items) }
     ensures ready { IfOk result (λ run. CanBeSaved run.clauses) }
     ensures cause { let run_params = run_params_of options course.now.cube.now
@@ -150,8 +149,8 @@ fn run_in_threads<T: Threads + Wait + Sync, C: Clock + Sync, F: Machine>(
     })
 }
 
-/// A gate for each of `count` streams that are checked in threads. If `report_on` is given, each gate
-/// reports on a watcher of its own.
+/// A gate for each of `count` streams that are checked in threads. If `report_on` is given, each
+/// gate reports on a watcher of its own.
 fn thread_gates<'a, C: Clock + Sync, F: Machine>(
     alloc: Global,
     clock: &'a C,

@@ -2,9 +2,9 @@
 ghost use Rattle.std.specs.Prelude.{◌≡◌, IfOk, string_bytes};
 ghost use Rattle.command.specs.internal.Watching.{begin_line, paused_line};
 
-use crate::files::Machine;
 use lrup_model::Formula;
 use lrup_text::write_all;
+use run_files::Machine;
 use std::alloc::{AllocError, Global};
 use std::time::{Clock, Instant};
 

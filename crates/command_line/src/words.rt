@@ -24,7 +24,7 @@ pub struct CommandLine<'a> {
     pub room: u64,
     /// The path of the assumed literals, if any.
     pub assume: Option<&'a str>,
-    /// What the clauses that are live at the end are saved for.
+    /// For which run, if any, the clauses that are live at the end are saved.
     pub next: Next<'a>,
     /// Whether one thread checks all streams, a line of each in turn.
     pub serial: bool,
@@ -36,7 +36,7 @@ pub struct CommandLine<'a> {
     pub streams: Paths<'a>,
 }
 
-/// What the clauses that are live at the end are saved for.
+/// For which run, if any, the clauses that are live at the end are saved.
 #[derive(Clone, Copy, Debug, PartialEq, Eq)]
 pub enum Next<'a> {
     /// Nothing: they aren't saved.

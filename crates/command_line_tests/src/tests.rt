@@ -1,4 +1,4 @@
-//! Command lines, and the numbers, words and faults that they have by the table of options.
+//! Command lines, and the numbers, words and faults that they should give.
 use command_line::{Next, UsageText, WordsFault, read_words};
 use std::alloc::Global;
 use std::fmt;
@@ -8,7 +8,7 @@ use std::test::Fail;
 mod asked;
 mod sizes;
 
-/// Stops the test where two values differ: an assertion that is proved once for all tests.
+/// Stops the test if two values differ. As a function the assertion is proved only once.
 fn same<T: PartialEq + fmt::Debug + Drop>(rt: &impl Abort, value: T, wanted: T) {
     assert_eq!(rt; value, wanted);
 }
@@ -44,13 +44,13 @@ const DEFAULTS: Given<'static> = Given {
     streams: &["s"],
 };
 
-/// The words of a text, which are parted by spaces.
+/// The words of a text, which are separated by spaces.
 fn words_in(alloc: Global, text: &str) -> Result<Vec<&str>, Fail> {
     let words = text.split(' ').collect(alloc)?;
     Ok(words)
 }
 
-/// The words of this text give this.
+/// Checks what the words of this text give.
 fn gives(rt: &(impl Abort + AllocGlobal), text: &str, wanted: Given) -> Result<(), Fail> {
     let words = words_in(rt.alloc(), text)?;
     let line = read_words(rt.alloc(), &words)?;
@@ -69,7 +69,7 @@ fn gives(rt: &(impl Abort + AllocGlobal), text: &str, wanted: Given) -> Result<(
     Ok(())
 }
 
-/// What is said of the usage fault that the words have.
+/// The text of the words' usage fault.
 fn usage_of(alloc: Global, words: &[&str]) -> Result<UsageText, Fail> {
     match read_words(alloc, words) {
         Err(WordsFault::Usage(text)) => Ok(text),
@@ -77,7 +77,7 @@ fn usage_of(alloc: Global, words: &[&str]) -> Result<UsageText, Fail> {
     }
 }
 
-/// The words have a usage fault, whose text has this part.
+/// Checks that the words have a usage fault whose text contains this part.
 fn has_fault(rt: &(impl Abort + AllocGlobal), words: &[&str], part: &str) -> Result<(), Fail> {
     let usage = usage_of(rt.alloc(), words)?;
     let text = usage.as_str();
@@ -121,7 +121,7 @@ fn each_option_has_its_own_number(rt: HostRuntime) -> Result<(), Fail> {
     Ok(())
 }
 
-/// The words, and whether there is one thread and whether progress is reported.
+/// The words, whether they ask for one thread, and whether they ask for progress reports.
 static FLAGS: [(&str, bool, bool); 9] = [
     ("--serial f s", true, false),
     ("f --serial s", true, false),
@@ -134,9 +134,9 @@ static FLAGS: [(&str, bool, bool); 9] = [
     ("f -- s", false, false),
 ];
 
-/// Each flag is its own, and may stand anywhere.
+/// Flags are independent of each other, and may be anywhere.
 #[test]
-fn flags_stand_beside_each_other(rt: HostRuntime) -> Result<(), Fail> {
+fn flags_are_beside_each_other(rt: HostRuntime) -> Result<(), Fail> {
     for &(words, serial, watch) in &FLAGS {
         let wanted = Given {
             serial,
@@ -200,7 +200,7 @@ static PATHS: [(&str, &str, &[&str]); 9] = [
     ("- -- -", "-", &["-"]),
 ];
 
-/// In their order; one may begin with a hyphen after two hyphens.
+/// Paths keep their order; after `--` one may begin with a hyphen.
 #[test]
 fn formula_and_streams_have_paths(rt: HostRuntime) -> Result<(), Fail> {
     for &(words, formula, streams) in &PATHS {
@@ -276,13 +276,13 @@ fn words_that_are_refused(rt: HostRuntime) -> Result<(), Fail> {
     Ok(())
 }
 
-/// Words that ask for a checkpoint and for rounds.
+/// Words that ask for both a checkpoint and rounds.
 static BOTH: [&[&str]; 2] = [
     &["--rounds", "d", "f", "s", "--checkpoint", "c"],
     &["--checkpoint=c", "--rounds=c", "f", "s"],
 ];
 
-/// It is a fault, which has a text of its own.
+/// That is a fault with a text of its own.
 #[test]
 fn a_checkpoint_excludes_rounds(rt: HostRuntime) -> Result<(), Fail> {
     for &words in &BOTH {
@@ -331,7 +331,7 @@ fn help_says_what_each_option_is(rt: HostRuntime) -> Result<(), Fail> {
 /// Words that ask for the version.
 static VERSION: [&[&str]; 3] = [&["--version"], &["-V"], &["f", "s", "--version"]];
 
-/// It is one line. Its number is compared with the file VERSION elsewhere: by `make pages`, and by `make examples`.
+/// `make pages` and `make examples` compare its number with the file VERSION.
 #[test]
 fn the_version_is_one_line(rt: HostRuntime) -> Result<(), Fail> {
     for &words in &VERSION {

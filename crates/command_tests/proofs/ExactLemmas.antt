@@ -18,23 +18,25 @@ use Rattle.command_line.specs.CommandLine.{AskToSave, IsCommandLineOf}
 use Rattle.command_line.specs.lemmas.NextLemmas.{never_both}
 use Rattle.command_line.specs.declared.sizes.Sizes.{Sizes}
 use Rattle.command_line.specs.declared.words.CommandLine.{CommandLine}
-use Rattle.command.specs.Commands.{AreAssumed, AreOpened, CheckpointEntailed, CheckpointLeftEmpty, ComesLast, Deeds}
-use Rattle.command.specs.Commands.{FilesView, IsAssumeCause, SinkChange, Text}
-use Rattle.command.specs.Commands.{WasReadIn, WasSaved, assumed_at, report_status, run_params_by}
-use Rattle.command.specs.Faults.{status_of}
-use Rattle.command.specs.Paths.{formula_path}
-use Rattle.command.specs.Rounds.{AreRounds, AreSized, ClosesSink, IsCauseIn, LeavesBehind, LeavesFile, ProgramEnds, Round, RoundsEnd}
-use Rattle.command.specs.Rounds.{RoundsEntailed, SavesCheckpoint, WereRounds}
+use Rattle.run_files.specs.Files.{AreAssumed, AreOpened, AreSized, Effects, FilesView, WasReadIn, WasSaved}
+use Rattle.command.specs.Commands.{CheckpointEntailed, CheckpointLeftEmpty, ComesLast, SinkChange, report_status}
+use Rattle.run_files.specs.Causes.{IsAssumeCause}
+use Rattle.run_files.specs.Asked.{Text, assumed_at, run_params_by}
+use Rattle.run_files.specs.Faults.{status_of}
+use Rattle.run_files.specs.Paths.{formula_path}
+use Rattle.command.specs.Rounds.{AreRounds, IsCauseIn, LeavesAtPath, LeavesFile, ProgramEnds, Round, RoundsEnd}
+use Rattle.run_files.specs.Saving.{ClosesSink, SavesCheckpoint}
+use Rattle.command.specs.Rounds.{RoundsEntailed, WereRounds}
 use Rattle.command.specs.lemmas.OneRound.{creates_checkpoint, is_over, were_one}
 use Rattle.command.specs.lemmas.SavedLemmas.{carried}
-use Rattle.command.specs.declared.fault.CommandFault.{CommandFault}
-use Rattle.command.specs.declared.fault.CommandFault.TheVariants as faults
+use Rattle.run_files.specs.declared.fault.CommandFault.{CommandFault}
+use Rattle.run_files.specs.declared.fault.CommandFault.TheVariants as faults
 use Rattle.command_tests.specs.ExactFiles.{ExactValue, HasNoFile, FindsText, ClosesFile, IsCreated, IsEmptied, IsKept, IsKeptInRounds}
 use Rattle.command_tests.specs.ExactFiles.{RefusesNew, RefusesOpening, IsUnsure, BeginsCheckpoint, FileLies, text_at, text_or_none}
 use Rattle.command_tests.specs.declared.exact_files.Closing.{Closing}
 use Rattle.command_tests.specs.declared.exact_files.Closing.TheVariants as closings
 
--- Which status is 9.
+-- When the status is 9.
 
 nine_is : (fault : CommandFault) → status_of fault ≡ 9 → (why : SaveFault) × (fault ≡ faults.NotSaved why)
 nine_is (faults.Usage text) is = absurd (let no : Path ℕ 2 9 = is in cc)
@@ -58,10 +60,10 @@ nine_is faults.SizesUnread is = absurd (let no : Path ℕ 5 9 = is in cc)
 nine_is faults.Sizes is = absurd (let no : Path ℕ 2 9 = is in cc)
 
 -- what a report with this status left
-left_unsaved : (its : Deeds) (Saves : Result (Option Cnf) SaveFault → its.Output → its.Output → Type 0)
+left_unsaved : (its : Effects) (Saves : Result (Option Cnf) SaveFault → its.Output → its.Output → Type 0)
     (failed : Bool) (unsaved : Option SaveFault) (verdict : Verdict) (path : Text) (before : its.State) (next : Option Cnf)
     (after : its.State)
-    → report_status failed unsaved verdict ≡ 9 → LeavesBehind its Saves verdict before (Some path) unsaved next after
+    → report_status failed unsaved verdict ≡ 9 → LeavesAtPath its Saves verdict before (Some path) unsaved next after
     → (why : SaveFault) × LeavesFile its Saves before path (Some why) next after
 left_unsaved its Saves true unsaved verdict path before next after is leaves = absurd (let no : Path ℕ 7 9 = is in cc)
 left_unsaved its Saves false None Unsatisfiable path before next after is leaves = absurd (let no : Path ℕ 0 9 = is in cc)
@@ -73,14 +75,14 @@ left_unsaved its Saves false (Some why) UnsatisfiableUnder path before next afte
 left_unsaved its Saves false (Some why) Unknown path before next after is leaves = (why, leaves)
 
 -- what a round saves
-abbrev SavesOf : {its : Deeds} {given : CommandLine} {cube : CubeValue} → Round its given cube → Result (Option Cnf) SaveFault
+abbrev SavesOf : {its : Effects} {given : CommandLine} {cube : CubeValue} → Round its given cube → Result (Option Cnf) SaveFault
     → its.Output → its.Output → Type 0
 SavesOf {its} {given} {cube} round =
     SavesCheckpoint its round.formula (run_params_by given cube round.formula round.sizes).layout round.checked.ran.run.history
     round.checked.dropped
 
--- With status 9, if the words ask for a checkpoint at the path, there is a report of one round, and what was saved to a file there isn't
--- saved.
+-- With status 9, if the words ask for a checkpoint at the path, there is a report of one round, and
+-- saving to the file there failed.
 pub record NinthEnd (files : FilesView) (words : List Text) (path : Text) (after : files.its.State) : Type 0 where
   pub given : CommandLine
   pub command_line : IsCommandLineOf words given
@@ -120,7 +122,7 @@ module _ (files : FilesView) (words : List Text) where
       let round = report.last in
       let asked = report.command_line.said.checkpoint ∙ ask.path_is in
       let once = never_both report.given.next path asked in
-      let leaves = subst (λ (o : Option Text). LeavesBehind files.its (SavesOf round) round.verdict round.opened o round.unsaved round.next
+      let leaves = subst (λ (o : Option Text). LeavesAtPath files.its (SavesOf round) round.verdict round.opened o round.unsaved round.next
       round.after) (creates_checkpoint report.given.next path round.number asked) round.leaves in
       let left = left_unsaved files.its (SavesOf round) out.failed round.unsaved round.verdict path round.opened round.next round.after
       (sym report.status_is ∙ nine) leaves in
@@ -132,21 +134,22 @@ module _ (files : FilesView) (words : List Text) where
         were = were_one once files report.cube round report.before report.were;
         why = left.0;
         file = subst (λ (s : files.its.State). LeavesFile files.its (SavesOf round) round.opened path (Some left.0) round.next s)
-            (sym (is_over once round after report.over)) left.1;
+            (sym (is_over once round after report.finished)) left.1;
       }
   ninth_end after out err status path ask nine (inr fault) =
       let is = nine_is fault.fault (sym fault.status_is ∙ nine) in
       absurd (never_unsaved fault.number is.0 after
       (subst (λ (f : CommandFault). IsCauseIn files words fault.number f after) is.1 fault.cause))
 
--- Files of which contracts know everything: their readers have these bytes left, and their new files these.
+-- Files of which contracts know everything: their readers have these bytes left, and their new
+-- files these.
 module _ {R W : Type 0} (left : R → List ℕ) (content : W → List ℕ) (reading : SourceView R) (has_failed : W → Bool) where
-  abbrev exact_deeds : Deeds
-  exact_deeds = record {
+  abbrev exact_effects : Effects
+  exact_effects = record {
     State = ExactValue;
     Reader = R;
     Output = W;
-    tells = λ files path. Some (text_or_none (text_at files path));
+    contents = λ files path. Some (text_or_none (text_at files path));
     opens = λ before path reader after. FindsText before path (left reader) after;
     refuses = λ before path fault after. RefusesOpening before path fault after;
     lacks = λ before path after. HasNoFile before path after;
@@ -162,14 +165,14 @@ module _ {R W : Type 0} (left : R → List ℕ) (content : W → List ℕ) (read
   }
 
   abbrev exact_view : ExactValue → FilesView
-  exact_view first = record { its = exact_deeds; first = first; tells = λ path. Some (text_or_none (text_at first path)) }
+  exact_view first = record { its = exact_effects; first = first; contents = λ path. Some (text_or_none (text_at first path)) }
 
-  -- what was read of a path is its text
+  -- what was read from a path is its text
   was_read : (first : ExactValue) (path bytes : List ℕ) (after : ExactValue)
       → WasReadIn (exact_view first) first path bytes after → FindsText first path bytes after
   was_read first path bytes after read =
       let found = read.opened in
-      let same : left read.reader ≡ bytes = sym (ap text_or_none found.1) ∙ read.told (text_or_none (text_at first path)) refl in
+      let same : left read.reader ≡ bytes = sym (ap text_or_none found.1) ∙ read.known (text_or_none (text_at first path)) refl in
       (found.0, found.1 ∙ ap (λ (text : List ℕ). Some text) same)
 
   -- openings change nothing
@@ -180,7 +183,7 @@ module _ {R W : Type 0} (left : R → List ℕ) (content : W → List ℕ) (read
   assumed_stays first vars before (Some path) cube after assumed = assumed.1.opened.0
 
   opened_stays : (before : ExactValue) (paths : List Text) (readers : List R) (after : ExactValue)
-      → AreOpened exact_deeds.opens before paths readers after → after ≡ before
+      → AreOpened exact_effects.opens before paths readers after → after ≡ before
   opened_stays before [] [] after opened = opened
   opened_stays before (path ∷ paths) (reader ∷ readers) after opened =
       opened_stays opened.0 paths readers after opened.2 ∙ opened.1.0
@@ -199,7 +202,7 @@ module _ {R W : Type 0} (left : R → List ℕ) (content : W → List ℕ) (read
       (wrote ∙ ap (λ (l : List ℕ). l ++ bytes) created.1)
 
   saved_at : (before : ExactValue) (path bytes : List ℕ) (after : ExactValue)
-      → WasSaved exact_deeds.creates exact_deeds.written exact_deeds.keeps before path bytes after
+      → WasSaved exact_effects.creates exact_effects.written exact_effects.keeps before path bytes after
       → after ≡ record before { path = path; bytes = bytes; closing = closings.Kept }
   saved_at before path bytes after saved =
       closed_at closings.Kept before saved.next path saved.first saved.last bytes after saved.created saved.wrote saved.kept.0
@@ -222,9 +225,9 @@ module _ {R W : Type 0} (left : R → List ℕ) (content : W → List ℕ) (read
     closed = closed ∙ ap (λ (files : ExactValue). record files { path = path; bytes = bytes; closing = closing }) stays;
   }
 
-  -- so of what was done last, after the streams were opened
+  -- the same, if the file was created after the streams were opened
   last_lies : (Holds : Cnf → List ℕ → Type 0) (words : List Text) (first : ExactValue) (Came : Cnf → ExactValue → ExactValue → Type 0)
-      (after : ExactValue) (last : ComesLast exact_deeds.opens (WasReadIn (exact_view first)) Came first words after)
+      (after : ExactValue) (last : ComesLast exact_effects.opens (WasReadIn (exact_view first)) Came first words after)
       (path bytes : List ℕ) (closing : Closing) → Holds last.formula bytes
       → after ≡ record last.before { path = path; bytes = bytes; closing = closing } → FileLies Holds words first path closing after
   last_lies Holds words first Came after last path bytes closing holds closed =
@@ -234,8 +237,8 @@ module _ {R W : Type 0} (left : R → List ℕ) (content : W → List ℕ) (read
       last.read last.is_text holds stays closed
 
   pub exactly_kept : (words : List Text) (first after : ExactValue) (status : ℕ)
-      → CheckpointEntailed exact_deeds.opens (WasReadIn (exact_view first))
-      (WasSaved exact_deeds.creates exact_deeds.written exact_deeds.keeps) first words after status
+      → CheckpointEntailed exact_effects.opens (WasReadIn (exact_view first))
+      (WasSaved exact_effects.creates exact_effects.written exact_effects.keeps) first words after status
       → IsKept words first after status
   exactly_kept words first after status entailed path ask is =
       let last = entailed path ask is in
@@ -252,7 +255,7 @@ module _ {R W : Type 0} (left : R → List ℕ) (content : W → List ℕ) (read
       (closed_at closings.Discarded last.before left_empty.next path left_empty.output left_empty.output [] after created
       (sym (append-nil (content left_empty.output))) left_empty.discarded)
 
-  -- what went to a file that isn't saved is a beginning of the text
+  -- what was written by a failed save is a prefix of the text
   begun_by : (fault : SaveFault) (vars : ℕ) (entries : List Entry) (before after : List ℕ)
       → Saves (Err fault) vars entries (Some before) (Some after)
       → (bytes : List ℕ) × (after ≡ before ++ bytes) × ((more : List Entry) × (rest : List ℕ) × (formula_text vars more ≡ bytes ++ rest))
@@ -260,10 +263,10 @@ module _ {R W : Type 0} (left : R → List ℕ) (content : W → List ℕ) (read
   begun_by saves.TooLarge vars entries before after so = ([], so.1, (entries, formula_text vars entries, refl))
   begun_by saves.Unwritten vars entries before after so = (so.0, so.3, (entries, so.1, so.2))
 
-  -- how a file is closed that isn't saved
+  -- how the file is closed after a failed save
   module _ (words : List Text) (first : ExactValue) (path : List ℕ) (after : ExactValue)
       (ninth : NinthEnd (exact_view first) words path after) where
-    abbrev round : Round exact_deeds ninth.given ninth.cube
+    abbrev round : Round exact_effects ninth.given ninth.cube
     round = ninth.round
 
     stays : round.opened ≡ first
@@ -291,7 +294,7 @@ module _ {R W : Type 0} (left : R → List ℕ) (content : W → List ℕ) (read
 
     unsure_by : (from to : W) (opened : ExactValue) (result : Result (Option Cnf) SaveFault)
         → IsCreated round.opened path (content from) opened → SavesOf round result from to
-        → ClosesSink exact_deeds result opened to (Some ninth.why) round.next after
+        → ClosesSink exact_effects result opened to (Some ninth.why) round.next after
         → (FileLies IsCheckpoint words first path closings.Lost after × (first.is_lossy ≡ true))
         ⊎ FileLies BeginsCheckpoint words first path closings.Discarded after
     unsure_by from to opened (Ok done) created saving closed =
@@ -321,15 +324,15 @@ module _ {R W : Type 0} (left : R → List ℕ) (content : W → List ℕ) (read
   abbrev with_new : List ℕ → List ℕ → ExactValue → ExactValue
   with_new path bytes files = record files { path = path; bytes = bytes; closing = closings.Kept }
 
-  sized_stays : (path : Text) (old new : Sizes) (before after : ExactValue) → AreSized exact_deeds path old before new after
+  sized_stays : (path : Text) (old new : Sizes) (before after : ExactValue) → AreSized exact_effects path old before new after
       → after ≡ before
   sized_stays path old new before after (inl (lacks, same)) = lacks.0
   sized_stays path old new before after (inr (bytes, read, is)) = read.opened.0
 
   module _ (given : CommandLine) (cube : CubeValue) where
-    -- what is there from the beginning stays in all rounds
-    rounds_stay : (formula : Cnf) (first : ExactValue) (round : Round exact_deeds given cube)
-        (before : List (Round exact_deeds given cube)) (path bytes : List ℕ) → AreRounds formula first (round ∷ before)
+    -- the initial files stay the same in all rounds
+    rounds_stay : (formula : Cnf) (first : ExactValue) (round : Round exact_effects given cube)
+        (before : List (Round exact_effects given cube)) (path bytes : List ℕ) → AreRounds formula first (round ∷ before)
         → with_new path bytes round.opened ≡ with_new path bytes first
     rounds_stay formula first round [] path bytes rounds =
         ap (with_new path bytes) (opened_stays first given.streams round.readers round.opened rounds.opened.opened)
@@ -342,10 +345,10 @@ module _ {R W : Type 0} (left : R → List ℕ) (content : W → List ℕ) (read
         ∙ saved_at last.opened _ saved.bytes last.after saved.saved)
         ∙ rounds_stay formula first last before path bytes rounds.1
 
-    over_stays : (last : Round exact_deeds given cube) (after : ExactValue) → RoundsEnd last after → after ≡ last.after
-    over_stays last after (inl (barred, same)) = same
-    over_stays last after (inr (next, on, inl alone)) = alone.3.0 ∙ sized_stays _ last.sizes alone.0 last.after alone.1 alone.2
-    over_stays last after (inr (next, on, inr (high, same))) = same
+    finished_stays : (last : Round exact_effects given cube) (after : ExactValue) → RoundsEnd last after → after ≡ last.after
+    finished_stays last after (inl (barred, same)) = same
+    finished_stays last after (inr (next, on, inl alone)) = alone.3.0 ∙ sized_stays _ last.sizes alone.0 last.after alone.1 alone.2
+    finished_stays last after (inr (next, on, inr (high, same))) = same
 
   pub exactly_in_rounds : (words : List Text) (first after : ExactValue) (out err : SinkChange) (status : ℕ)
       → RoundsEntailed (exact_view first) words after out err status → IsKeptInRounds words first after status
@@ -360,7 +363,7 @@ module _ {R W : Type 0} (left : R → List ℕ) (content : W → List ℕ) (read
       let stays : were.later ≡ first =
       assumed_stays first were.formula.vars were.next (assumed_at ending.given) ending.cube were.later were.assumed ∙ read.1.opened.0 in
       let closed : after ≡ with_new path saved.0 were.later =
-      over_stays ending.given ending.cube last after ending.over
+      finished_stays ending.given ending.cube last after ending.finished
       ∙ saved_at last.opened path saved.0 last.after saved.1
       ∙ rounds_stay ending.given ending.cube were.formula were.later last ending.before path saved.0 were.rounds in (
         last.number + 1,

@@ -1,4 +1,5 @@
--- Files in memory, of which contracts know everything: a formula and a stream from the beginning, and the file that was created last.
+-- Files in memory, of which contracts know everything: a formula and a stream, and the file that
+-- was created last.
 use Rattle.std.specs.Prelude.{◌≡◌, ◌≢◌, ◌++◌, ◌⊎◌, ℕ, Bool, true, List, [], Option, None, Some, if◌then◌else◌, length, nat_eq}
 use Rattle.lrup_model.specs.Formula.{Cnf}
 use Rattle.dimacs.specs.FormulaText.{IsFormulaText}
@@ -7,13 +8,14 @@ use Rattle.checkpoint.specs.Live.{Entry}
 use Rattle.checkpoint.specs.Printing.{formula_text}
 use Rattle.command_line.specs.CommandLine.{AskForRounds, AskToSave, IsCommandLineOf}
 use Rattle.command_line.specs.declared.words.CommandLine.{CommandLine}
-use Rattle.command.specs.Paths.{formula_path}
-use Rattle.command.specs.declared.files.OpenFault.{OpenFault}
-use Rattle.command.specs.declared.files.OpenFault.TheVariants as open_faults
+use Rattle.run_files.specs.Paths.{formula_path}
+use Rattle.run_files.specs.declared.files.OpenFault.{OpenFault}
+use Rattle.run_files.specs.declared.files.OpenFault.TheVariants as open_faults
 use Rattle.command_tests.specs.declared.exact_files.Closing.{Closing}
 use Rattle.command_tests.specs.declared.exact_files.Closing.TheVariants as closings
 
--- what is there; of the file that was created last its path, its bytes, and how it was closed
+-- the texts of the formula and of the stream; whether keeping a file fails; and the path, the bytes
+-- and the closing of the file that was created last
 pub record ExactValue : Type 0 where
   pub formula : List ℕ
   pub stream : List ℕ
@@ -22,12 +24,12 @@ pub record ExactValue : Type 0 where
   pub bytes : List ℕ
   pub closing : Closing
 
--- what is there from the beginning: the formula at each path of one byte, the stream at each of two
+-- the initial files: the formula at each path of one byte, the stream at each path of two
 abbrev pub text_at : ExactValue → List ℕ → Option (List ℕ)
 text_at files path = if nat_eq (length path) 1 then Some files.formula
     else (if nat_eq (length path) 2 then Some files.stream else None)
 
--- the bytes that are told of a path: none of one that has no file
+-- the known bytes at a path: none if it has no file
 abbrev pub text_or_none : Option (List ℕ) → List ℕ
 text_or_none None = []
 text_or_none (Some text) = text
@@ -40,7 +42,7 @@ FindsText before path text after = (after ≡ before) × (text_at before path �
 abbrev pub HasNoFile : ExactValue → List ℕ → ExactValue → Type 0
 HasNoFile before path after = (after ≡ before) × (text_at before path ≡ None)
 
--- an opening is refused just if there is no file
+-- an opening is refused if there is no file, and nothing changes
 abbrev pub RefusesOpening : ExactValue → List ℕ → OpenFault → ExactValue → Type 0
 RefusesOpening before path fault after =
     (fault ≡ open_faults.NotOpened) × HasNoFile before path after
@@ -50,18 +52,20 @@ abbrev pub IsCreated : ExactValue → List ℕ → List ℕ → ExactValue → T
 IsCreated before path bytes after = (text_at before path ≡ None) × (bytes ≡ [])
     × (after ≡ record before { path = path; bytes = []; closing = closings.Open })
 
--- none is: there is a file, or no memory for the path, and nothing changes
+-- creating a file is refused, since there is one or there is no memory for the path, and nothing
+-- changes
 abbrev pub RefusesNew : ExactValue → List ℕ → OpenFault → ExactValue → Type 0
 RefusesNew before path fault after = (after ≡ before)
     × ((fault ≡ open_faults.Memory)
     ⊎ ((fault ≡ open_faults.NotOpened) × (text_at before path ≢ None)))
 
--- the file that was created last is closed, in this way, with these bytes
+-- the file that was created last is closed in this way, with these bytes
 abbrev pub ClosesFile : Closing → ExactValue → List ℕ → ExactValue → Type 0
 ClosesFile closing before bytes after =
     after ≡ record before { bytes = bytes; closing = closing }
 
--- A file lies at the path, closed in this way, whose bytes hold this of the formula whose text is at FORMULA. Nothing else has changed.
+-- The path has a file that was closed in this way. `Holds` is true of its bytes and the formula
+-- whose text is at FORMULA. Nothing else has changed.
 pub record FileLies (Holds : Cnf → List ℕ → Type 0) (words : List (List ℕ)) (before : ExactValue)
     (path : List ℕ) (closing : Closing) (after : ExactValue) : Type 0 where
   pub given : CommandLine
@@ -75,30 +79,33 @@ pub record FileLies (Holds : Cnf → List ℕ → Type 0) (words : List (List �
   pub closed : after
       ≡ record before { path = path; bytes = bytes; closing = closing }
 
--- With status 3 or 8, if the words ask for a checkpoint, it lies at its path, and was kept.
+-- With status 3 or 8, if the words ask for a checkpoint, it is at its path, and was kept.
 abbrev pub IsKept : List (List ℕ) → ExactValue → ExactValue → ℕ → Type 0
 IsKept words before after status = (path : List ℕ) → AskToSave words path
     → (status ≡ 3) ⊎ (status ≡ 8)
     → FileLies IsCheckpoint words before path closings.Kept after
 
--- With status 0 an empty file lies there, which was discarded.
+-- With status 0 there is an empty file, which was discarded.
 abbrev pub IsEmptied : List (List ℕ) → ExactValue → ExactValue → ℕ → Type 0
 IsEmptied words before after status = (path : List ℕ) → AskToSave words path → status ≡ 0
     → FileLies (λ formula bytes. bytes ≡ []) words before path closings.Discarded after
 
--- the bytes are a beginning of a text that is printed of some clauses, whose header has the formula's number of variables
+-- the bytes are a prefix of the printed text of some clauses, with the formula's number of
+-- variables
 abbrev pub BeginsCheckpoint : Cnf → List ℕ → Type 0
 BeginsCheckpoint formula bytes =
     (entries : List Entry) × (rest : List ℕ)
     × (formula_text formula.vars entries ≡ bytes ++ rest)
 
--- With status 9 a file lies there that isn't sure: a whole checkpoint that didn't get to the disk, or what was written until a fault.
+-- With status 9 the file there can't be relied on: it is a whole checkpoint that couldn't be kept,
+-- or a prefix of one.
 abbrev pub IsUnsure : List (List ℕ) → ExactValue → ExactValue → ℕ → Type 0
 IsUnsure words before after status = (path : List ℕ) → AskToSave words path → status ≡ 9
     → (FileLies IsCheckpoint words before path closings.Lost after × (before.is_lossy ≡ true))
     ⊎ FileLies BeginsCheckpoint words before path closings.Discarded after
 
--- With status 3 or 8, if the words ask for rounds, the last file is the formula of a round, which follows from FORMULA's, and was kept.
+-- With status 3 or 8, if the words ask for rounds, the last file is a checkpoint of FORMULA's
+-- formula, at the path of some round's formula, and was kept.
 abbrev pub IsKeptInRounds : List (List ℕ) → ExactValue → ExactValue → ℕ → Type 0
 IsKeptInRounds words before after status = (folder : List ℕ) → AskForRounds words folder
     → (status ≡ 3) ⊎ (status ≡ 8)

@@ -1,5 +1,6 @@
-//! Files in memory that say exactly what each call does to them, and what follows for such files from the clauses of `command`: what lies
-//! at the path of a checkpoint after the statuses 0, 3, 8 and 9, and which file a round kept last after 3 and 8.
+//! Files in memory whose contracts say exactly what each call does to them, and what follows for
+//! such files from the clauses of `command`: what is at the path of a checkpoint after the statuses
+//! 0, 3, 8 and 9, and which file a round kept last after 3 and 8.
 ghost use Rattle.std.specs.Prelude.{◌≡◌, ℕ, Some, option_map, string_bytes, true, false};
 ghost use Rattle.clap.specs.Walk.{texts};
 ghost use Rattle.command_tests.specs.ExactFiles.{ExactValue, text_at, text_or_none, FindsText, HasNoFile, RefusesOpening, IsCreated, RefusesNew, ClosesFile};
@@ -21,20 +22,21 @@ pub enum Closing {
     /// It wasn't.
     Open,
     Kept,
-    /// It was to be kept, which failed.
+    /// Keeping it failed.
     Lost,
     Discarded,
 }
 
-/// A formula at each path of one byte, a stream at each of two, and the file that was created last.
+/// Each path of one byte has the formula, each of two bytes the stream; and the file that was
+/// created last.
 #[derive(Drop)]
 pub struct ExactFiles<'a> {
     alloc: Global,
     formula: &'a str,
     stream: &'a str,
-    /// Whether no file gets to the disk.
+    /// Whether keeping a file always fails.
     is_lossy: bool,
-    /// The write of a new file that fails, from 1 on; 0 for none.
+    /// The number of the write to a new file that fails, counted from 1; 0 if none fails.
     fails_at: usize,
     path: String,
     bytes: Vec<u8>,
@@ -51,7 +53,8 @@ impl<'a> Model for ExactFiles<'a> {
 }
 
 impl<'a> ExactFiles<'a> {
-    /// The two texts, and no new file. The write of a new one with this number fails, from 1 on; 0 for none.
+    /// Files of these two texts, before any file is created. Write number `fails_at` to a new file
+    /// fails; if that is 0, none does.
     pub fn new(
         alloc: Global,
         formula: &'a str,
@@ -100,7 +103,7 @@ impl<'a> ExactFiles<'a> {
 impl<'a> Files for ExactFiles<'a> {
     type Input = Pieces<'a>;
 
-    ghost tells = { λ files path. Some (text_or_none (text_at files path)) };
+    ghost contents = { λ files path. Some (text_or_none (text_at files path)) };
 
     ghost opens = { λ before path input after. FindsText before path input.left.now after };
 
@@ -175,7 +178,8 @@ impl<'a> Machine for ExactFiles<'a> {
     }
 }
 
-/// Runs the program over these files. What lies at the path then, follows from the clauses of `command` alone.
+/// Runs the program over these files. What is then at the path follows from the clauses of
+/// `command` alone.
 pub fn run_exactly<T: Threads + Wait + Sync + Clock>(
     threads: &T,
     alloc: Global,

@@ -31,7 +31,7 @@ trait Host: Threads + Wait + Sync + Clock + Abort + AllocGlobal {}
 
 impl<T: Threads + Wait + Sync + Clock + Abort + AllocGlobal> Host for T {}
 
-/// Stops the test where two values differ: an assertion that is proved once for all tests.
+/// Stops the test if two values differ. As a function the assertion is proved only once.
 fn same<T: PartialEq + fmt::Debug + Drop>(rt: &impl Abort, value: T, wanted: T) {
     assert_eq!(rt; value, wanted);
 }
@@ -48,7 +48,7 @@ const DROPS: &str = "5 2 0 1 2 0\n7 d 1 0\n";
 
 /// The four clauses and the unit clause: each is at the place of its identity.
 const ALL: &str = "p cnf 2 5\n1 2 0\n-1 2 0\n1 -2 0\n-1 -2 0\n2 0\n";
-/// These without the first.
+/// The same without the first clause.
 const LESS: &str = "p cnf 2 4
 c id 2
 -1 2 0
@@ -68,10 +68,10 @@ const TWO_ADDED: &str = "2 added, 0 deleted, ended";
 
 const MISSPELLED: &str = "0 added, 0 deleted, bad line 1 (spelling)";
 
-/// Each run is tried with two threads for each stream, and on one thread.
+/// Each run is tried with two threads per stream, and on one thread.
 static WAYS: [&str; 2] = ["--tries=1000000", "--serial"];
 
-/// The report that has this of the streams, and goes with this status: 0, 3 or 8.
+/// The report with these lines of the streams, for a status of 0, 3 or 8.
 fn report(alloc: Global, said: &[&str], status: u8) -> Result<String, Fail> {
     let mut text = String::new(alloc);
     for (stream, said) in (1..=64u64).zip(said) {
@@ -85,7 +85,7 @@ fn report(alloc: Global, said: &[&str], status: u8) -> Result<String, Fail> {
     Ok(text)
 }
 
-/// The words of a text, which are parted by spaces, after this one.
+/// The given word, and then the words of a text, which are separated by spaces.
 fn words_after<'a>(alloc: Global, first: &'a str, text: &'a str) -> Result<Vec<&'a str>, Fail> {
     let words = iter::once(first).chain(text.split(' ')).collect(alloc)?;
     Ok(words)
@@ -94,10 +94,11 @@ fn words_after<'a>(alloc: Global, first: &'a str, text: &'a str) -> Result<Vec<&
 /// The status, standard output and standard error.
 type Ends<'a> = (u8, &'a str, &'a str);
 
-/// What was done to the files, the bytes that were kept, and how many bytes went to files that weren't.
+/// What was done to the files, the bytes of the kept files, and how many bytes went to files that
+/// weren't kept.
 type Left<'a> = (&'a str, &'a str, usize);
 
-/// What a run came to.
+/// The results of a run.
 #[derive(Drop)]
 struct Ran<'a> {
     status: u8,
@@ -121,7 +122,7 @@ fn text_of(bytes: &[u8]) -> &str {
     str::from_utf8(bytes).unwrap_or("no text")
 }
 
-/// Runs the program with these words, by this clock.
+/// Runs the program with these words and this clock.
 fn run<'a, C: Clock + Sync>(
     rt: &impl Host,
     clock: &C,
@@ -140,7 +141,8 @@ fn run<'a, C: Clock + Sync>(
     }
 }
 
-/// The run of these words has the report of this, and this status, with two threads for each stream and on one thread.
+/// Checks that a run of these words prints this report and ends with this status, with two threads
+/// per stream and on one thread.
 fn assert_reports(
     rt: &impl Host,
     words: &str,
@@ -158,7 +160,7 @@ fn assert_reports(
     Ok(())
 }
 
-/// It ends so, and leaves this.
+/// Checks how a run of these words ends, and what it does to the files.
 fn assert_leaves(
     rt: &impl Host,
     words: &str,
@@ -175,8 +177,8 @@ fn assert_leaves(
     Ok(())
 }
 
-/// Where a write of its report fails, the first, the second .. or the last, a beginning of the report goes out, and this is said. At
-/// each write seven bytes go out at most.
+/// Lets each write of the report fail in turn: a prefix of the report goes out, and standard error
+/// gets this message. A write takes at most seven bytes.
 fn assert_unwritten(
     rt: &impl Host,
     words: &str,
@@ -196,7 +198,8 @@ fn assert_unwritten(
     Ok(())
 }
 
-/// The run ends without a report, with this line and status, after this was done to the files.
+/// Checks that the run ends without a report, with this message and status, after this was done to
+/// the files.
 fn assert_refused(
     rt: &impl Host,
     words: &str,

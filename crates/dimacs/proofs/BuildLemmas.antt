@@ -12,7 +12,7 @@ use Rattle.lrup_model.specs.lemmas.DistinctLemmas.{distinct-push_same, distinct-
 use Rattle.lrup_model.specs.lemmas.ListLemmas.{All-push}
 use Rattle.lrup_model.specs.lemmas.ClauseLemmas.{All-from_Has, All-Has}
 use Rattle.dimacs.specs.FormulaTokens.{IsWritten, TokensSpell, IsSetOf, AreSetsOf, AreClauses, ended}
-use Rattle.dimacs.specs.FormulaFault.{StandsAt, HasBadNumber, HasLargeVariable, HasMoreClauses, HasLongClause, EndsOpen, EndsEarly}
+use Rattle.dimacs.specs.FormulaFault.{OccursAt, HasBadNumber, HasLargeVariable, HasMoreClauses, HasLongClause, EndsOpen, EndsEarly}
 use Rattle.dimacs.specs.internal.Places.{IsBuilt, AddsLiteral, AddsClause}
 use Rattle.dimacs.specs.declared.body.Builder.{Builder}
 use Rattle.dimacs.specs.declared.header.Header.{Header}
@@ -226,9 +226,9 @@ ends_early {b = b} h none no_literal some = record {
   fault = omega (arith, h.left_is, length-sets h.built.closed b.formula.clauses h.built.sets);
 }
 
-stands : {header : Header} {all left later : List Token} {b : Builder} {t : Token} → (h : Reads header all left b) → left ≡ t ∷ later
-    → StandsAt t header.vars header.clauses all h.built.closed h.built.begun
-stands {later = later} h next = record {
+occurs : {header : Header} {all left later : List Token} {b : Builder} {t : Token} → (h : Reads header all left b) → left ≡ t ∷ later
+    → OccursAt t header.vars header.clauses all h.built.closed h.built.begun
+occurs {later = later} h next = record {
   before = h.before;
   after = later;
   whole = h.split ∙ ap (λ (x : List Token). h.before ++ x) next;
@@ -241,7 +241,7 @@ bad_number {t = t} h next none = record {
   text = t.text;
   closed = h.built.closed;
   begun = h.built.begun;
-  place = stands h next;
+  place = occurs h next;
   fault = none;
 }
 
@@ -252,7 +252,7 @@ large_variable {t = t} {z = z} h next is large = record {
   number = z;
   closed = h.built.closed;
   begun = h.built.begun;
-  place = stands h next;
+  place = occurs h next;
   spelled = is;
   fault = large;
 }
@@ -265,11 +265,11 @@ more_clauses {header = header} {all = all} {b = b} {t = t} {z = z} h next is wit
     let full : length built.closed ≡ header.clauses = omega (arith, h.left_is, length-sets built.closed b.formula.clauses built.sets) in
     let no_more : length built.begun ≡ 0 =
     ⊎_elim (λ e. e) (λ some. absurd (omega (arith, built.read.begun_count some, full))) (eq-zero-or-pos (length built.begun)) in
-    let at : List ℤ → Type 0 = λ x. StandsAt t header.vars header.clauses all built.closed x in record {
+    let at : List ℤ → Type 0 = λ x. OccursAt t header.vars header.clauses all built.closed x in record {
       text = t.text;
       number = z;
       closed = built.closed;
-      place = subst at (nil_from_length built.begun no_more) (stands h next);
+      place = subst at (nil_from_length built.begun no_more) (occurs h next);
       spelled = is;
       within = within;
       fault = full;
@@ -283,7 +283,7 @@ long_clause {t = t} {l = l} h next is literal long = record {
   number = l;
   closed = h.built.closed;
   begun = h.built.begun;
-  place = stands h next;
+  place = occurs h next;
   spelled = is;
   within = literal;
   fault = omega (arith, h.built.written_is, h.built.read.begun_within.size);

@@ -11,7 +11,7 @@ use Rattle.dimacs.specs.declared.fault.DimacsFault.TheVariants.{Limit, Memory}
 use Rattle.dimacs.specs.Lines.{Line, Token, lines_of, all_tokens}
 use Rattle.dimacs.specs.Numerals.{number_of}
 use Rattle.dimacs.specs.FormulaTokens.{IsHeader, InBodyOf, IsWritten, TokensSpell, AreClauses, ended}
-use Rattle.dimacs.specs.FormulaFault.{BeginsHeader, StandsAt, IsBodyFault, IsHeaderFault, IsFormulaFault}
+use Rattle.dimacs.specs.FormulaFault.{BeginsHeader, OccursAt, IsBodyFault, IsHeaderFault, IsFormulaFault}
 use Rattle.dimacs.proofs.TallyLemmas.{tally, tally_on, Tally, tally-append, further_by_one, longer_by_one, tally_read, numbers}
 use Rattle.dimacs.specs.FormulaText.{IsFormulaText}
 use Rattle.dimacs.proofs.TextLemmas.{body_of_text}
@@ -119,7 +119,7 @@ fine vars count all closed' begun' t before after closed begun whole split read 
     }
 
 pub fine_at : (vars count : ℕ) (all : List Token) (closed' : List (List ℤ)) (begun' : List ℤ) (t : Token) (closed : List (List ℤ))
-    (begun : List ℤ) → TokensSpell vars count all closed' begun' → StandsAt t vars count all closed begun → IsFine vars count t closed begun
+    (begun : List ℤ) → TokensSpell vars count all closed' begun' → OccursAt t vars count all closed begun → IsFine vars count t closed begun
 fine_at vars count all closed' begun' t closed begun whole place =
     fine vars count all closed' begun' t place.before place.after closed begun whole place.whole place.read
 

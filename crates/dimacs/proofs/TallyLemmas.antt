@@ -1,4 +1,5 @@
--- How many clauses and literals a list of numbers spells, counted from the left; the two laws compare these counts.
+-- How many clauses and literals a list of numbers spells, counted from the left; the two laws
+-- compare these counts.
 use Rattle.std.proofs.Common.{◌≡◌, ◌⊎◌, ◌+◌, ◌<◌, ◌≤◌, ℕ, ℤ, pos, negsuc, nat_abs, List, [], ◌∷◌, ◌++◌, flat_map, length, max, zero, suc}
 use Rattle.std.proofs.Common.{refl, ap, ◌∙◌, inl, inr, ⊎_elim, arith}
 use Rattle.std.specs.List.{AllByRecursion}
@@ -8,7 +9,8 @@ use Rattle.lrup_model.specs.Formula.{max_clause_literals}
 use Rattle.dimacs.specs.Lines.{Token}
 use Rattle.dimacs.specs.FormulaTokens.{IsWritten, TokensSpell, ended}
 
--- clauses that ended, literals of the clause begun, and the largest number of literals of any clause
+-- clauses that ended, literals of the clause begun, and the largest number of literals of any
+-- clause
 pub record Tally : Type 0 where
   pub ended_clauses : ℕ
   pub begun : ℕ

@@ -23,8 +23,8 @@ use Rattle.dimacs.proofs.TokenLemmas.{negative}
 
 -- ## numbers
 
-tells : IsDigitsTest (λ ds. all_digits ds ≡ true)
-tells = record {
+says : IsDigitsTest (λ ds. all_digits ds ≡ true)
+says = record {
   empty = refl;
   parts = λ c cs e. let k = and_parts (is_digit c) (all_digits cs) e in let m = and_parts (leb 48 c) (leb c 57) k.0 in
       ((leb-true 48 c m.0, leb-true c 57 m.1), k.1);
@@ -35,7 +35,7 @@ folds : FoldsDigits value_after
 folds = record { empty = λ n. refl; more = λ n c cs k. ap (λ (m : ℕ). value_after (m + (c - 48)) cs) (omega arith) }
 
 own : IsNumeralModel (λ ds. all_digits ds ≡ true) value
-own = numerals_by_fold (λ ds. all_digits ds ≡ true) tells value_after folds
+own = numerals_by_fold (λ ds. all_digits ds ≡ true) says value_after folds
 
 -- digits, the first of which isn't 0
 numeral_from : (ds : List ℕ) → 48 < get_or ds 0 0 → all_digits ds ≡ true → (is_zero ds ≡ false) × (is_numeral ds ≡ true)

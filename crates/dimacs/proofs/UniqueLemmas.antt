@@ -10,7 +10,7 @@ use Rattle.dimacs.specs.declared.fault.DimacsFault.TheVariants.{Limit, Memory}
 use Rattle.dimacs.specs.Lines.{Line, Token, lines_of, all_tokens}
 use Rattle.dimacs.specs.Numerals.{number_of}
 use Rattle.dimacs.specs.FormulaTokens.{InBodyOf, TokensSpell}
-use Rattle.dimacs.specs.FormulaFault.{HasNoHeader, HasBadHeader, HasLargeHeader, StandsAt, IsBodyFault, IsHeaderFault, IsFormulaFault}
+use Rattle.dimacs.specs.FormulaFault.{HasNoHeader, HasBadHeader, HasLargeHeader, OccursAt, IsBodyFault, IsHeaderFault, IsFormulaFault}
 use Rattle.dimacs.proofs.LawLemmas.{IsFine, fine, fine_at, one_reading, one_header, begins, no_header_fault}
 
 -- ## which fault a token has
@@ -56,7 +56,7 @@ record AtToken (fault : DimacsFault) (vars count : ℕ) (all : List Token) : Typ
   token : Token
   closed : List (List ℤ)
   begun : List ℤ
-  place : StandsAt token vars count all closed begun
+  place : OccursAt token vars count all closed begun
   is : IsTokenFault fault vars count token (length closed) (length begun)
 
 record AtEnd (fault : DimacsFault) (vars count : ℕ) (all : List Token) : Type 0 where

@@ -37,7 +37,7 @@ HasLargeHeader (header ∷ lines) = SaysTooMuch header.tokens
 
 -- The tokens before this one have no fault, and spell the clauses of `closed` and, without its 0,
 -- `begun`.
-pub record StandsAt (token : Token) (vars count : ℕ) (tokens : List Token) (closed : List (List ℤ))
+pub record OccursAt (token : Token) (vars count : ℕ) (tokens : List Token) (closed : List (List ℤ))
     (begun : List ℤ) : Type 0 where
   pub before : List Token
   pub after : List Token
@@ -48,7 +48,7 @@ pub record HasBadNumber (line vars count : ℕ) (tokens : List Token) : Type 0 w
   pub text : List ℕ
   pub closed : List (List ℤ)
   pub begun : List ℤ
-  pub place : StandsAt (record { line = line; text = text }) vars count tokens closed begun
+  pub place : OccursAt (record { line = line; text = text }) vars count tokens closed begun
   pub fault : number_of text ≡ None
 
 pub record HasLargeVariable (line vars count : ℕ) (tokens : List Token) : Type 0 where
@@ -56,7 +56,7 @@ pub record HasLargeVariable (line vars count : ℕ) (tokens : List Token) : Type
   pub number : ℤ
   pub closed : List (List ℤ)
   pub begun : List ℤ
-  pub place : StandsAt (record { line = line; text = text }) vars count tokens closed begun
+  pub place : OccursAt (record { line = line; text = text }) vars count tokens closed begun
   pub spelled : number_of text ≡ Some number
   pub fault : vars < nat_abs number
 
@@ -65,7 +65,7 @@ pub record HasMoreClauses (line vars count : ℕ) (tokens : List Token) : Type 0
   pub text : List ℕ
   pub number : ℤ
   pub closed : List (List ℤ)
-  pub place : StandsAt (record { line = line; text = text }) vars count tokens closed []
+  pub place : OccursAt (record { line = line; text = text }) vars count tokens closed []
   pub spelled : number_of text ≡ Some number
   pub within : nat_abs number ≤ vars
   pub fault : length closed ≡ count
@@ -76,7 +76,7 @@ pub record HasLongClause (vars count : ℕ) (tokens : List Token) : Type 0 where
   pub number : ℤ
   pub closed : List (List ℤ)
   pub begun : List ℤ
-  pub place : StandsAt token vars count tokens closed begun
+  pub place : OccursAt token vars count tokens closed begun
   pub spelled : number_of token.text ≡ Some number
   pub within : IsLiteral vars number
   pub fault : length begun ≡ max_clause_literals

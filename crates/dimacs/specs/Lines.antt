@@ -11,7 +11,7 @@ ends_line byte = byte == 10
 abbrev pub is_separator : ℕ → Bool
 is_separator byte = byte == 32 || byte == 9 || byte == 13 || byte == 10
 
--- a list without an element
+-- an empty list
 abbrev pub is_empty : {X : Type 0} → List X → Bool
 is_empty [] = true
 is_empty (x ∷ xs) = false

@@ -1,4 +1,4 @@
-//! Worked texts, and what they are refused for.
+//! Worked texts: what is read, and why texts are refused.
 use dimacs::{DimacsFault, parse};
 use lrup_model::{Formula, Lit};
 use std::alloc::{AllocError, Global};
@@ -8,7 +8,7 @@ use std::test::Fail;
 
 mod texts;
 
-/// The literals of a clause, and 0.
+/// Appends the literals of a clause, and 0.
 fn push_clause(text: &mut String, clause: &[Lit]) -> Result<(), AllocError> {
     for l in clause {
         write!(text, " {l}")?;
@@ -16,7 +16,7 @@ fn push_clause(text: &mut String, clause: &[Lit]) -> Result<(), AllocError> {
     write!(text, " 0")
 }
 
-/// The formula's numbers and clauses.
+/// The formula's variables, number of clauses, and clauses, as text.
 fn formula_shown(alloc: Global, formula: &Formula) -> Result<String, AllocError> {
     let vars = formula.vars();
     let clauses = formula.len();
@@ -27,7 +27,7 @@ fn formula_shown(alloc: Global, formula: &Formula) -> Result<String, AllocError>
     Ok(text)
 }
 
-/// The same of the text's formula, or the fault's text.
+/// The same for the formula of a text, or the fault's text.
 fn shown(alloc: Global, bytes: &[u8]) -> Result<String, AllocError> {
     match parse(alloc, bytes) {
         Ok(formula) => formula_shown(alloc, &formula),
@@ -81,7 +81,7 @@ static REFUSED: [(&str, &str); 30] = [
     ("p cnf 1 1\n\rc x\n1 0\n", "bad number in line 2"),
 ];
 
-/// Texts that are read, and what of them.
+/// Texts that are read, and their formulas.
 static READ: [(&str, &str); 6] = [
     ("p cnf 1 1\n1\nc x\n0\n", "1 1: 1 0"),
     ("p cnf 1 1\n-1 -1 0\n", "1 1: -1 0"),
@@ -108,13 +108,13 @@ fn rows(rt: HostRuntime) -> Result<(), Fail> {
     Ok(())
 }
 
-/// A header, and then a text as often as this.
+/// A header, and then a text `count` times.
 fn repeated(alloc: Global, header: &str, text: &str, count: usize) -> Result<String, AllocError> {
     let texts = text.repeat(alloc, count)?;
     format!(in alloc; "{header}{texts}")
 }
 
-/// A header, a text and how often it comes, and why that is refused.
+/// A header, a text and how often it is repeated, and why that is refused.
 static LONG: [(&str, &str, usize, &str); 3] = [
     ("p cnf 1 1\n", "1\n", 1_048_575, "open clause"),
     ("p cnf 1 1\n", "1\n", 1_048_576, "limit"),
@@ -145,7 +145,7 @@ fn largest_counts(rt: HostRuntime) -> Result<(), Fail> {
     Ok(())
 }
 
-/// A clause of as many literals as there may be, one of each variable.
+/// A clause with the largest number of literals, one of each variable.
 fn largest_clause(alloc: Global) -> Result<String, AllocError> {
     let mut text = String::from_str(alloc, "p cnf 1048575 1\n")?;
     for variable in 1..=1_048_575 {
@@ -155,15 +155,15 @@ fn largest_clause(alloc: Global) -> Result<String, AllocError> {
     Ok(text)
 }
 
-/// Has the text's formula so many literals?
+/// Checks how many literals the text's formula has.
 fn check_literals(rt: &(impl Abort + AllocGlobal), text: &str, wanted: usize) -> Result<(), Fail> {
     let formula = parse(rt.alloc(), text.as_bytes())?;
     assert_eq!(rt; formula.literals(), wanted);
     Ok(())
 }
 
-/// Were repeats sought in the whole clause, or all marks taken away after each, these would take
-/// minutes.
+/// If `parse` searched the whole clause for repeats, or cleared all marks after each clause, these
+/// would take minutes.
 #[test]
 fn long_clauses_take_linear_time(rt: HostRuntime) -> Result<(), Fail> {
     let largest = largest_clause(rt.alloc())?;
@@ -180,7 +180,7 @@ fn memory_text(rt: HostRuntime) -> Result<(), Fail> {
     Ok(())
 }
 
-/// The gate refuses each allocation of this test in turn; the second attempt then has memory.
+/// The gate refuses each allocation of this test in turn; the second attempt then succeeds.
 #[test]
 fn a_refused_text_can_be_parsed_again(rt: HostRuntime) -> Result<(), Fail> {
     let text = b"p cnf 9 3\n1 -2 0\n1 2 3 4 5 6 7 8 9 -1 -2 -3 0\n9 0\n";

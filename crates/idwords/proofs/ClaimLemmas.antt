@@ -26,7 +26,7 @@ use Rattle.idwords.specs.internal.Rule.{thread_stream, Keeps}
 use Rattle.idwords.specs.RowCalls.{Calls}
 use Rattle.idwords.specs.internal.Steps.{Claims}
 use Rattle.idwords.proofs.SpellingLemmas.{words_spent-own, spelt, spells_absent, stored-append_none, stored_one, stored_beside}
-use Rattle.idwords.proofs.RuleLemmas.{OwnKeeps, advanced, event_top, stands_at, Serves, advance}
+use Rattle.idwords.proofs.RuleLemmas.{OwnKeeps, advanced, event_top, agrees_at, Serves, advance}
 use Rattle.idwords.proofs.StepLemmas.{OwnStep}
 use Rattle.idwords.proofs.LookLemmas.{IsPlain, plain_step}
 use Rattle.idwords.proofs.OwnLemmas.{absent_word, own_slot, own_identity, count-write, first-write, here-write, slots-write, texts-write}
@@ -36,7 +36,8 @@ module _ (v : ThreadState) (seat id new : ℕ) (owns : Owns v.view.caller.layout
     (clause : IsPublishable v.view.caller.formula v.draft)
     (is : new ≡ identity_word 1 (length v.draft) v.top) (more : History) (words : List ℕ) (views : List (List ThreadState))
     (kept : OwnKeeps v more words views) (here : get_elem? views seat ≡ some (v ∷ [])) where
-  -- the row fits a history after this word is written at the identity, and the publish has its reply
+  -- the row fits a history after this word is written at the identity, and the publish has its
+  -- reply
   abbrev Claimed : ℕ → Type 0
   Claimed word = (w : ThreadState) × (log : History)
       × Keeps v.view.caller.formula v.view.caller.layout log (slice_set words id word) (set views seat (w ∷ []))
@@ -51,18 +52,18 @@ module _ (v : ThreadState) (seat id new : ℕ) (owns : Owns v.view.caller.layout
       let e : Event = events.publish s id v.draft publishing.Done in
       let x : Spelling = spelling id (top_after p s log) v.draft in
       let xs : List Spelling = spelling_of f p log in
-      let stands = stands_at v more words views seat kept here in
+      let agrees = agrees_at v more words views seat kept here in
       let identity = own_identity v more words views seat kept here id owns in
       let all : IsSpelt f log xs = spelt f p log kept.legal.events in
       let vacant : state f log id ≡ absent =
       absent_word (state f log id) (stored_in xs id) (all.slots id) (sym (kept.slots id identity) ∙ nil) in
       let none : stored_in xs id ≡ None = spells_absent (state f log id) (stored_in xs id) vacant (all.slots id) in
-      let spent_all = words_spent-own log v.view.mine s stands.mine in
-      let place : v.top ≡ top_after p s log = omega (arith, stands.top) in
+      let spent_all = words_spent-own log v.view.mine s agrees.mine in
+      let place : v.top ≡ top_after p s log = omega (arith, agrees.top) in
       let ws : List ℕ = slice_set words id new in
       let new_text : stored_in (xs ++ x ∷ []) id ≡ Some x.stored = stored-append_none xs (x ∷ []) id none ∙ stored_one x id refl in
       let new_lies : LiesAt ws x.stored.start x.stored.literals =
-      subst (λ (n : ℕ). LiesAt ws n v.draft) place (drafts-write f p log words views id new kept identity v stands) in
+      subst (λ (n : ℕ). LiesAt ws n v.draft) place (drafts-write f p log words views id new kept identity v agrees) in
       let serves : Serves f p log words e ws = record {
         count = count-write f p log words views id new kept identity;
         first = first-write f p log words views id new kept identity;
@@ -88,8 +89,8 @@ module _ (v : ThreadState) (seat id new : ℕ) (owns : Owns v.view.caller.layout
         others = λ q other there. drafts-write f p log words views id new kept identity q there;
       } in
       let top : top_after p s (v.view.mine ++ e ∷ []) ≡ v.top + words_for (length v.draft) =
-      omega (arith, event_top p s v.view.mine e refl, stands.top) in
-      let done = advance v more words ws views seat e [] kept here refl vacant (owns, clause) (omega (arith, stands.room)) serves tt in
+      omega (arith, event_top p s v.view.mine e refl, agrees.top) in
+      let done = advance v more words ws views seat e [] kept here refl vacant (owns, clause) (omega (arith, agrees.room)) serves tt in
       let w : ThreadState = advanced v more e [] in
       let slot = own_slot v more words views seat kept here id owns in (
         w,

@@ -1,4 +1,5 @@
--- Lemmas about a step that changes no word: a fetch, and every other event that doesn't change the map.
+-- Lemmas about a step that changes no word: a fetch, and every other event that doesn't change the
+-- map.
 use Rattle.std.proofs.Common.{◌≡◌, ℕ, ◌<◌, ◌≤◌, cond, eqb, List, [], ◌∷◌, ◌++◌, length, set, slice_index, slice_set, Option, None, Some}
 use Rattle.std.proofs.Common.{refl, sym, ap, subst, ◌∙◌, arith, append-nil, eq-eqb, ne_eqb}
 use mathlib.Core.Option.{some}
@@ -23,7 +24,7 @@ use Rattle.idwords.specs.RowCalls.{Calls}
 use Rattle.idwords.specs.internal.Steps.{Looks}
 use Rattle.idwords.proofs.SpellingLemmas.{spelling-snoc, spelt, short}
 use Rattle.idwords.proofs.WordLemmas.{IsShort, shows_slot, state-identity_word}
-use Rattle.idwords.proofs.RuleLemmas.{OwnKeeps, advanced, event_top, stands_at, Serves, advance}
+use Rattle.idwords.proofs.RuleLemmas.{OwnKeeps, advanced, event_top, agrees_at, Serves, advance}
 use Rattle.idwords.proofs.StepLemmas.{OwnStep}
 
 -- An event that doesn't change the map
@@ -50,9 +51,9 @@ module _ (v : ThreadState) (more : History) (words : List ℕ) (views : List (Li
       let p = v.view.caller.layout in
       let s = thread_stream v in
       let log = v.view.seen ++ more in
-      let stands = stands_at v more words views id kept here in
+      let agrees = agrees_at v more words views id kept here in
       let same = plain_spelling f p log e plain in
-      let top : top_after p s (v.view.mine ++ e ∷ []) ≡ v.top = omega (arith, event_top p s v.view.mine e mine, plain.size, stands.top) in
+      let top : top_after p s (v.view.mine ++ e ∷ []) ≡ v.top = omega (arith, event_top p s v.view.mine e mine, plain.size, agrees.top) in
       let serves : Serves f p log words e words = record {
         count = kept.count;
         first = kept.first;
@@ -61,7 +62,7 @@ module _ (v : ThreadState) (more : History) (words : List ℕ) (views : List (Li
         texts = λ j text there. kept.texts j text (ap (λ (xs : List Spelling). stored_in xs j) (sym same) ∙ there);
         others = λ q other there. there.draft;
       } in
-      let done = advance v more words words views id e draft kept here mine answers allowed (omega (arith, plain.size, stands.room)) serves
+      let done = advance v more words words views id e draft kept here mine answers allowed (omega (arith, plain.size, agrees.room)) serves
       (subst (λ (place : ℕ). LiesAt words place draft) (sym top) lies) in
       (done.0, done.1, top)
 
@@ -129,20 +130,20 @@ looks v seat id identity more words views kept here small =
     let slot : Slot = state f log id in
     let e : Event = events.fetch (thread_stream v) id (slot_reply slot) in
     let plain : IsPlain f p log e = record { state = λ j. refl; spelling = refl; size = refl } in
-    let stands = stands_at v more words views seat kept here in
+    let agrees = agrees_at v more words views seat kept here in
     let done = plain_step v more words views seat e v.draft kept here refl
-    (slot_answers (state f log) (thread_stream v) id slot refl) identity plain stands.draft (omega arith) in
+    (slot_answers (state f log) (thread_stream v) id slot refl) identity plain agrees.draft (omega arith) in
     let same : slice_set words id (slice_index words id) ≡ words = set-get_or words id 0 in
     let there : spelling_of f p (log ++ e ∷ []) ≡ spelling_of f p log = spelling-snoc f p log e ∙ append-nil (spelling_of f p log) in
-    let told = shown f p log words views id kept identity in
+    let known = shown f p log words views id kept identity in
     let w : ThreadState = advanced v more e v.draft in (
       w,
       log ++ e ∷ [],
       subst (λ (ws : List ℕ). Keeps f p (log ++ e ∷ []) ws (set views seat (w ∷ []))) (sym same) done.0,
       record {
-        shows = subst (λ (xs : List Spelling). ShowsStored (stored_in xs id) (slice_index words id)) (sym there) told.0;
+        shows = subst (λ (xs : List Spelling). ShowsStored (stored_in xs id) (slice_index words id)) (sym there) known.0;
         calls = subst (λ (r : Reply). Calls v.view w.view (events.fetch (thread_stream v) id r))
-            (sym (ap (λ (xs : List Spelling). reply_in (stored_in xs id) (slice_index words id)) there ∙ told.1)) done.1;
+            (sym (ap (λ (xs : List Spelling). reply_in (stored_in xs id) (slice_index words id)) there ∙ known.1)) done.1;
         top = done.2;
         draft = refl;
       },

@@ -1,4 +1,5 @@
--- Lemmas about a meeting: thread states move between tokens, and of two thread states each sees the longer history.
+-- Lemmas about a meeting: thread states move between tokens, and of two thread states each sees the
+-- longer history.
 use Rattle.std.proofs.Common.{◌≡◌, ◌⊎◌, ℕ, ◌+◌, ◌≤◌, List, [], ◌∷◌, ◌++◌, length, set, slice_index, refl, sym, ap, subst, ◌∙◌, inl, inr}
 use Rattle.std.proofs.Common.{arith, ap₂, cond, eqb, append-nil, append_assoc, length-append}
 use Rattle.std.specs.List.{AllByRecursion}
@@ -19,7 +20,7 @@ use Rattle.lrup_model.specs.lemmas.HistoryLemmas.{IsLegal-front}
 use Rattle.lrup_model.specs.lemmas.ListLemmas.{All-front}
 use Rattle.idwords.specs.Spelling.{spelling_of, LieWithin}
 use Rattle.idwords.specs.Seats.{ThreadState}
-use Rattle.idwords.specs.internal.Rule.{thread_stream, AllThreads, count_in, times, Keeps, HoldsRowInvariant, Stands}
+use Rattle.idwords.specs.internal.Rule.{thread_stream, AllThreads, count_in, times, Keeps, HoldsRowInvariant, Agrees}
 use Rattle.idwords.specs.internal.Steps.{SyncThreads, Joined}
 use Rattle.idwords.specs.internal.Seating.{first_thread, first_only, others}
 use Rattle.idwords.proofs.SpellingLemmas.{lies_within, keeps_spelt, spelt}
@@ -40,10 +41,11 @@ count-append : (s : ℕ) (vs ws : List ThreadState) → count_in s (vs ++ ws) �
 count-append s [] ws = omega arith
 count-append s (v ∷ vs) ws = let rest = count-append s vs ws in omega arith
 
--- the row still fits the history if tokens have other thread states, each of which agrees with it, and no stream has more than before
+-- the row still fits the history if tokens have other thread states, each of which agrees with it,
+-- and no stream has more than before
 with_views : (f : Cnf) (p : LayoutValue) (log : History) (words : List ℕ) (views views' : List (List ThreadState))
     → Keeps f p log words views
-    → AllThreads (Stands f p log words) views' → ((s : ℕ) → times s views' ≤ times s views) → Keeps f p log words views'
+    → AllThreads (Agrees f p log words) views' → ((s : ℕ) → times s views' ≤ times s views) → Keeps f p log words views'
 with_views f p log words views views' kept threads once = record {
   plan = kept.plan;
   legal = kept.legal;
@@ -56,11 +58,11 @@ with_views f p log words views views' kept threads once = record {
 }
 
 module _ {S : Type 0} where
-  -- a token's thread states are split, and a new token has the front
+  -- a token's thread states are split, and a new token gets the first part
   pub splits_front : (f : Cnf) (p : LayoutValue) (id : ℕ) (front back : List ThreadState)
       → Splits {S = S} (HoldsRowInvariant f p) id (front ++ back) back front
   splits_front f p id front back s kept here =
-      let P : ThreadState → Type 0 = Stands f p kept.0 s.words in
+      let P : ThreadState → Type 0 = Agrees f p kept.0 s.words in
       let all = all_at P s.views id (front ++ back) here kept.1.threads in (
         kept.0,
         with_views f p kept.0 s.words s.views (set s.views id back ++ front ∷ []) kept.1
@@ -74,7 +76,7 @@ module _ {S : Type 0} where
   pub splits_back : (f : Cnf) (p : LayoutValue) (id : ℕ) (front back : List ThreadState)
       → Splits {S = S} (HoldsRowInvariant f p) id (front ++ back) front back
   splits_back f p id front back s kept here =
-      let P : ThreadState → Type 0 = Stands f p kept.0 s.words in
+      let P : ThreadState → Type 0 = Agrees f p kept.0 s.words in
       let all = all_at P s.views id (front ++ back) here kept.1.threads in (
         kept.0,
         with_views f p kept.0 s.words s.views (set s.views id front ++ back ∷ []) kept.1
@@ -92,7 +94,7 @@ module _ {S : Type 0} where
   pub joins : (f : Cnf) (p : LayoutValue) (id : ℕ) (vs : List ThreadState) (other : ℕ) (ws : List ThreadState)
       → Joins {S = S} (HoldsRowInvariant f p) id vs other ws (vs ++ ws) []
   joins f p id vs other ws s kept here apart there =
-      let P : ThreadState → Type 0 = Stands f p kept.0 s.words in
+      let P : ThreadState → Type 0 = Agrees f p kept.0 s.words in
       let there' : get_elem? s.views other ≡ some ws = sym (set_else s.views id other (vs ++ ws) apart) ∙ there in
       let all = all-both P vs ws (all_at P s.views id vs here kept.1.threads) (all_at P s.views other ws there' kept.1.threads) in (
         kept.0,
@@ -144,7 +146,7 @@ own_all seen rest more mine s here all =
 
 -- it agrees with the log, and has made no call
 pub record Learns (f : Cnf) (p : LayoutValue) (log : History) (words : List ℕ) (v w : ThreadState) (h : History) : Type 0 where
-  pub stands : Stands f p log words w
+  pub agrees : Agrees f p log words w
   pub moves : PassMoves v.view w.view []
   pub fair : IsFair w.view
   pub within : LieWithin (row_words w.view.caller.layout) w.view.spelt
@@ -154,9 +156,9 @@ pub record Learns (f : Cnf) (p : LayoutValue) (log : History) (words : List ℕ)
 
 learns_own : (v : ThreadState) (rest more : History) (words : List ℕ) (views : List (List ThreadState))
     → Keeps v.view.caller.formula v.view.caller.layout (v.view.seen ++ (rest ++ more)) words views
-    → Stands v.view.caller.formula v.view.caller.layout (v.view.seen ++ (rest ++ more)) words v
+    → Agrees v.view.caller.formula v.view.caller.layout (v.view.seen ++ (rest ++ more)) words v
     → Learns v.view.caller.formula v.view.caller.layout (v.view.seen ++ (rest ++ more)) words v (informed v rest) (v.view.seen ++ rest)
-learns_own v rest more words views kept stands =
+learns_own v rest more words views kept agrees =
     let f = v.view.caller.formula in
     let p = v.view.caller.layout in
     let s = thread_stream v in
@@ -164,24 +166,24 @@ learns_own v rest more words views kept stands =
     let cut : v.view.seen ++ rest ++ more ≡ all = append_assoc v.view.seen rest more in
     let legal : IsLegal f p (v.view.seen ++ rest) =
     IsLegal-front f p (v.view.seen ++ rest) more (subst (λ (h : History). IsLegal f p h) (sym cut) kept.legal) in
-    let mine : own (v.view.seen ++ rest) s ≡ v.view.mine = own_all v.view.seen rest more v.view.mine s stands.seen stands.mine in
+    let mine : own (v.view.seen ++ rest) s ≡ v.view.mine = own_all v.view.seen rest more v.view.mine s agrees.seen agrees.mine in
     let keeps_on : KeepsSpelt (stored_in v.view.spelt) (stored_in (spelling_of f p (v.view.seen ++ rest))) = λ j text there.
-    keeps_spelt f p v.view.seen rest j text (ap (λ (xs : List Spelling). stored_in xs j) (sym stands.spelt) ∙ there) in
+    keeps_spelt f p v.view.seen rest j text (ap (λ (xs : List Spelling). stored_in xs j) (sym agrees.spelt) ∙ there) in
     let step =
-    moves_learn v.view rest (spelling_of f p (v.view.seen ++ rest)) (fair_thread v (rest ++ more) words kept.plan kept.legal stands)
-    (between v.view.seen rest v.view.mine s stands.seen mine) legal (spelt f p (v.view.seen ++ rest) legal.events) keeps_on in
+    moves_learn v.view rest (spelling_of f p (v.view.seen ++ rest)) (fair_thread v (rest ++ more) words kept.plan kept.legal agrees)
+    (between v.view.seen rest v.view.mine s agrees.seen mine) legal (spelt f p (v.view.seen ++ rest) legal.events) keeps_on in
     record {
-      stands = record {
+      agrees = record {
         formula = refl;
         layout = refl;
-        stream = stands.stream;
+        stream = agrees.stream;
         begins = (more, sym cut);
         seen = mine;
-        mine = stands.mine;
+        mine = agrees.mine;
         spelt = refl;
-        top = stands.top;
-        room = stands.room;
-        draft = stands.draft;
+        top = agrees.top;
+        room = agrees.room;
+        draft = agrees.draft;
       };
       moves = step.0;
       fair = step.1;
@@ -193,35 +195,35 @@ learns_own v rest more words views kept stands =
 
 learns_cut : (f : Cnf) (p : LayoutValue) (log : History) (words : List ℕ) (views : List (List ThreadState)) (v : ThreadState)
     (h more rest : History)
-    → Keeps f p log words views → Stands f p log words v
+    → Keeps f p log words views → Agrees f p log words v
     → v.view.seen ++ (rest ++ more) ≡ log → v.view.seen ++ rest ≡ h
     → (w : ThreadState) × (thread_stream w ≡ thread_stream v) × Learns f p log words v w h
-learns_cut f p log words views v h more rest kept stands cut same =
+learns_cut f p log words views v h more rest kept agrees cut same =
     let g = v.view.caller.formula in
     let q = v.view.caller.layout in
-    let kept_formula : Keeps g p log words views = subst (λ (x : Cnf). Keeps x p log words views) (sym stands.formula) kept in
-    let kept_layout : Keeps g q log words views = subst (λ (x : LayoutValue). Keeps g x log words views) (sym stands.layout) kept_formula in
+    let kept_formula : Keeps g p log words views = subst (λ (x : Cnf). Keeps x p log words views) (sym agrees.formula) kept in
+    let kept_layout : Keeps g q log words views = subst (λ (x : LayoutValue). Keeps g x log words views) (sym agrees.layout) kept_formula in
     let kept_log : Keeps g q (v.view.seen ++ (rest ++ more)) words views =
     subst (λ (x : History). Keeps g q x words views) (sym cut) kept_layout in
-    let st_formula : Stands g p log words v = subst (λ (x : Cnf). Stands x p log words v) (sym stands.formula) stands in
-    let st_layout : Stands g q log words v = subst (λ (x : LayoutValue). Stands g x log words v) (sym stands.layout) st_formula in
-    let st_log : Stands g q (v.view.seen ++ (rest ++ more)) words v = subst (λ (x : History). Stands g q x words v) (sym cut) st_layout in
+    let st_formula : Agrees g p log words v = subst (λ (x : Cnf). Agrees x p log words v) (sym agrees.formula) agrees in
+    let st_layout : Agrees g q log words v = subst (λ (x : LayoutValue). Agrees g x log words v) (sym agrees.layout) st_formula in
+    let st_log : Agrees g q (v.view.seen ++ (rest ++ more)) words v = subst (λ (x : History). Agrees g q x words v) (sym cut) st_layout in
     let own = learns_own v rest more words views kept_log st_log in
     let w : ThreadState = informed v rest in
     let at_log : Learns g q log words v w (v.view.seen ++ rest) =
     subst (λ (x : History). Learns g q x words v w (v.view.seen ++ rest)) cut own in
     let at_h : Learns g q log words v w h = subst (λ (x : History). Learns g q log words v w x) same at_log in
-    let at_layout : Learns g p log words v w h = subst (λ (x : LayoutValue). Learns g x log words v w h) stands.layout at_h in
-    (w, refl, subst (λ (x : Cnf). Learns x p log words v w h) stands.formula at_layout)
+    let at_layout : Learns g p log words v w h = subst (λ (x : LayoutValue). Learns g x log words v w h) agrees.layout at_h in
+    (w, refl, subst (λ (x : Cnf). Learns x p log words v w h) agrees.formula at_layout)
 
 -- a thread state learns a history that begins with what it has seen and is a prefix of the log
 learns : (f : Cnf) (p : LayoutValue) (log : History) (words : List ℕ) (views : List (List ThreadState)) (v : ThreadState) (h more : History)
-    → Keeps f p log words views → Stands f p log words v
+    → Keeps f p log words views → Agrees f p log words v
     → log ≡ h ++ more → Begins v.view.seen h → (w : ThreadState) × (thread_stream w ≡ thread_stream v) × Learns f p log words v w h
-learns f p log words views v h more kept stands whole begins =
+learns f p log words views v h more kept agrees whole begins =
     let rest : History = begins.0 in
     let cut : log ≡ v.view.seen ++ (rest ++ more) = whole ∙ ap (λ (g : History). g ++ more) begins.1 ∙ append_assoc v.view.seen rest more in
-    learns_cut f p log words views v h more rest kept stands (sym cut) (sym begins.1)
+    learns_cut f p log words views v h more rest kept agrees (sym cut) (sym begins.1)
 
 -- Two thread states of one token
 
@@ -238,24 +240,24 @@ begins_both g h longer shorter =
     sym (longer.1 ∙ ap (λ (x : History). g ++ x) none ∙ append-nil g)
 
 module _ (f : Cnf) (p : LayoutValue) (log : History) (words : List ℕ) (views : List (List ThreadState)) (v v' : ThreadState)
-    (kept : Keeps f p log words views) (stands : Stands f p log words v)
-    (stands' : Stands f p log words v') where
+    (kept : Keeps f p log words views) (agrees : Agrees f p log words v)
+    (stands' : Agrees f p log words v') where
   abbrev Pair : Type 0
-  Pair = (w w' : ThreadState) × (thread_stream w ≡ thread_stream v) × (thread_stream w' ≡ thread_stream v') × Stands f p log words w
-      × Stands f p log words w' × SyncThreads v v' w w'
+  Pair = (w w' : ThreadState) × (thread_stream w ≡ thread_stream v) × (thread_stream w' ≡ thread_stream v') × Agrees f p log words w
+      × Agrees f p log words w' × SyncThreads v v' w w'
 
   met_at : (h more : History) → log ≡ h ++ more → Begins v.view.seen h → Begins v'.view.seen h
       → ((rest : History) → v.view.seen ≡ v'.view.seen ++ rest → h ≡ v.view.seen)
       → ((rest : History) → v'.view.seen ≡ v.view.seen ++ rest → h ≡ v'.view.seen) → Pair
   met_at h more whole begins begins' longer longer' =
-      let a = learns f p log words views v h more kept stands whole begins in
+      let a = learns f p log words views v h more kept agrees whole begins in
       let b = learns f p log words views v' h more kept stands' whole begins' in (
         a.0,
         b.0,
         a.1,
         b.1,
-        a.2.stands,
-        b.2.stands,
+        a.2.agrees,
+        b.2.agrees,
         record {
           meets = record {
             one = b.2.seen ∙ sym a.2.seen;
@@ -277,10 +279,10 @@ module _ (f : Cnf) (p : LayoutValue) (log : History) (words : List ℕ) (views :
 
   met : Pair
   met =
-      elim (comparable v.view.seen v'.view.seen stands.begins.0 stands'.begins.0 (sym stands.begins.1 ∙ stands'.begins.1)) [
+      elim (comparable v.view.seen v'.view.seen agrees.begins.0 stands'.begins.0 (sym agrees.begins.1 ∙ stands'.begins.1)) [
         | inl longer ↦ met_at v'.view.seen stands'.begins.0 stands'.begins.1 longer ([], sym (append-nil v'.view.seen))
             (λ rest is. sym (begins_both v.view.seen v'.view.seen longer (rest, is))) (λ rest is. refl)
-        | inr shorter ↦ met_at v.view.seen stands.begins.0 stands.begins.1 ([], sym (append-nil v.view.seen)) shorter
+        | inr shorter ↦ met_at v.view.seen agrees.begins.0 agrees.begins.1 ([], sym (append-nil v.view.seen)) shorter
             (λ rest is. refl) (λ rest is. begins_both v.view.seen v'.view.seen (rest, is) shorter)
       ]
 
@@ -292,7 +294,7 @@ module _ {S : Type 0} where
       → ((n : ℕ) (w w' : ThreadState) → SyncThreads v v' w w' → then n (w ∷ w' ∷ [], []))
       → Allows {S = S} (HoldsRowInvariant f p) slots id (v ∷ v' ∷ [], []) i (λ n. n) then
   meets f p slots id v v' i then tell s kept homes here small =
-      let P : ThreadState → Type 0 = Stands f p kept.0 s.words in
+      let P : ThreadState → Type 0 = Agrees f p kept.0 s.words in
       let all = all_at P s.views id (v ∷ v' ∷ []) here kept.1.threads in
       let pair = met f p kept.0 s.words s.views v v' kept.1 all.0 all.1.0 in
       let w : ThreadState = pair.0 in
@@ -348,8 +350,8 @@ module _ {S : Type 0} where
       → left ≡ (first_only met.0, met.1) → right ≡ (others met.0, [])
       → SyncThreads v v' (first_thread left.0) (first_thread right.0) × (left ≡ (first_thread left.0 ∷ [], []))
       × (right ≡ (first_thread right.0 ∷ [], []))
-  parted step me met left right v v' n both told gives keeps_on =
-      let all = told v v' (ap (λ (m : Me S (List ThreadState)). m.0) both) in
+  parted step me met left right v v' n both known gives keeps_on =
+      let all = known v v' (ap (λ (m : Me S (List ThreadState)). m.0) both) in
       let w : ThreadState = all.0 in
       let w' : ThreadState = all.1 in
       let none : met.1 ≡ [] = all.3 ∙ ap (λ (m : Me S (List ThreadState)). m.1) both in

@@ -18,11 +18,11 @@ use Rattle.lrup_model.specs.State.{Slot, absent, live, opening}
 use Rattle.lrup_model.specs.CallerView.{StoredClause}
 use Rattle.lrup_model.specs.Pass.{stored_in, IsFair}
 use Rattle.lrup_model.specs.lemmas.HistoryLemmas.{opening-formula, opening-above}
-use Rattle.idwords.specs.internal.RowWords.{identity_word, stored_word, word_of, packed, StandAt, LiesAt}
+use Rattle.idwords.specs.internal.RowWords.{identity_word, stored_word, word_of, packed, OccurAt, LiesAt}
 use Rattle.idwords.specs.Words.{words_for}
 use Rattle.idwords.specs.Spelling.{clauses_spelling, first_place}
 use Rattle.idwords.specs.Seats.{ThreadState, opening_thread}
-use Rattle.idwords.specs.internal.Rule.{Stands, IsPlan, HoldsRowInvariant, opening_threads, count_in}
+use Rattle.idwords.specs.internal.Rule.{Agrees, IsPlan, HoldsRowInvariant, opening_threads, count_in}
 use Rattle.idwords.proofs.SpellingLemmas.{either_kept, spelt}
 use Rattle.idwords.proofs.WordLemmas.{length-packed}
 use Rattle.idwords.specs.internal.Opening.{clause_words, literal_words, opening_words}
@@ -171,12 +171,12 @@ vacant_at n k back within = get_or_append_left (replicate n 0) back 0 k (omega (
     ∙ get_or-replicate n k 0 0 within
 
 -- the row has words from a place on, if it has them after a front of that length
-stand_front : (pre back ws : List ℕ) (place : ℕ) → length pre ≡ place → StandAt (pre ++ (ws ++ back)) place ws
-stand_front pre back [] place len = tt
-stand_front pre back (w ∷ ws) place len = (
+agree_front : (pre back ws : List ℕ) (place : ℕ) → length pre ≡ place → OccurAt (pre ++ (ws ++ back)) place ws
+agree_front pre back [] place len = tt
+agree_front pre back (w ∷ ws) place len = (
   get_or_at pre w (ws ++ back) 0 place len,
-  subst (λ (vs : List ℕ). StandAt vs (place + 1) ws) (append_assoc pre (w ∷ []) (ws ++ back))
-      (stand_front (pre ++ w ∷ []) back ws (place + 1) (omega (arith, length-append pre (w ∷ [])))),
+  subst (λ (vs : List ℕ). OccurAt vs (place + 1) ws) (append_assoc pre (w ∷ []) (ws ++ back))
+      (agree_front (pre ++ w ∷ []) back ws (place + 1) (omega (arith, length-append pre (w ∷ [])))),
 )
 
 lies_clauses : (pre back : List ℕ) (id start : ℕ) (cs : List Clause) (j : ℕ) (stored : StoredClause) → length pre ≡ start
@@ -191,7 +191,7 @@ lies_clauses pre back id start (c ∷ cs) j stored len here =
       literals = c;
     }) (stored_in (clauses_spelling (id + 1) (start + words_for (length c)) cs) j) stored here) [
       | inl same ↦ subst (λ (k : StoredClause). LiesAt (pre ++ (packed c ++ literal_words cs ++ back)) k.start k.literals) same
-          (subst (λ (ws : List ℕ). LiesAt ws start c) whole (stand_front pre tail (packed c) start len))
+          (subst (λ (ws : List ℕ). LiesAt ws start c) whole (agree_front pre tail (packed c) start len))
       | inr later ↦ subst (λ (ws : List ℕ). LiesAt ws stored.start stored.literals) (append_assoc pre (packed c) tail ∙ whole)
           (lies_clauses (pre ++ packed c) back (id + 1) (start + words_for (length c)) cs j stored
           (omega (arith, length-append pre (packed c), length-packed c)) later)
@@ -247,8 +247,8 @@ opening_text f p j stored fits here =
 
 -- The thread states
 
-opening_stands : (f : Cnf) (p : LayoutValue) (words : List ℕ) (s : ℕ) → IsStream p s → Stands f p [] words (opening_thread f p s)
-opening_stands f p words s stream = record {
+opening_agrees : (f : Cnf) (p : LayoutValue) (words : List ℕ) (s : ℕ) → IsStream p s → Agrees f p [] words (opening_thread f p s)
+opening_agrees f p words s stream = record {
   formula = refl;
   layout = refl;
   stream = stream;
@@ -261,11 +261,11 @@ opening_stands f p words s stream = record {
   draft = tt;
 }
 
-all_stand : (f : Cnf) (p : LayoutValue) (words : List ℕ) (s count : ℕ) → 0 < s → s + count ≤ p.streams + 1
-    → AllByRecursion (Stands f p [] words) (opening_threads f p s count)
-all_stand f p words s zero positive within = tt
-all_stand f p words s (suc count) positive within =
-    (opening_stands f p words s (positive, omega arith), all_stand f p words (s + 1) count (omega arith) (omega arith))
+all_agree : (f : Cnf) (p : LayoutValue) (words : List ℕ) (s count : ℕ) → 0 < s → s + count ≤ p.streams + 1
+    → AllByRecursion (Agrees f p [] words) (opening_threads f p s count)
+all_agree f p words s zero positive within = tt
+all_agree f p words s (suc count) positive within =
+    (opening_agrees f p words s (positive, omega arith), all_agree f p words (s + 1) count (omega arith) (omega arith))
 
 counted_below : (f : Cnf) (p : LayoutValue) (s count t : ℕ) → t < s → count_in t (opening_threads f p s count) ≡ 0
 counted_below f p s zero t below = refl
@@ -302,7 +302,7 @@ opens f p homes cnf layout fits =
         first = refl;
         slots = λ id identity. opening_slot f p id fits identity ∙ ap (λ ys. word_of (opening f id) (stored_in ys id)) (sym same);
         texts = λ id stored there. opening_text f p id stored fits (ap (λ ys. stored_in ys id) (sym same) ∙ there);
-        threads = (all_stand f p (opening_words f p) 1 p.streams (omega arith) (omega arith), tt);
+        threads = (all_agree f p (opening_words f p) 1 p.streams (omega arith) (omega arith), tt);
         once = λ s. omega (arith, counted_once f p 1 p.streams s);
       },
     )

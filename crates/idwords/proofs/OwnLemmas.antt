@@ -1,4 +1,5 @@
--- Lemmas about a stream's own identities: what is stored there follows from its own calls, and only its own steps change it.
+-- Lemmas about a stream's own identities: what is stored there follows from its own calls, and only
+-- its own steps change it.
 use Rattle.std.proofs.Common.{◌≡◌, ◌≢◌, ℕ, ◌+◌, ◌<◌, List, [], ◌∷◌, ◌++◌, length, slice_index, slice_set, Option, None, Some, refl, sym, ap}
 use Rattle.std.proofs.Common.{ap₂, ◌∙◌, inl, inr, arith, length-set, get_or-set_same, get_or-set_other}
 use mathlib.Core.Option.{some}
@@ -16,10 +17,10 @@ use Rattle.idwords.specs.Words.{word_state}
 use Rattle.idwords.specs.internal.RowWords.{word_of, LiesAt}
 use Rattle.idwords.specs.Spelling.{spelling_of}
 use Rattle.idwords.specs.Seats.{ThreadState}
-use Rattle.idwords.specs.internal.Rule.{thread_stream, Keeps, Stands}
+use Rattle.idwords.specs.internal.Rule.{thread_stream, Keeps, Agrees}
 use Rattle.idwords.proofs.SpellingLemmas.{IsLodged, lodged, own_stored}
 use Rattle.idwords.proofs.WordLemmas.{lies-set, state-identity_word}
-use Rattle.idwords.proofs.RuleLemmas.{OwnKeeps, stands_at}
+use Rattle.idwords.proofs.RuleLemmas.{OwnKeeps, agrees_at}
 
 -- What a word shows of its slot
 
@@ -60,7 +61,7 @@ module _ (v : ThreadState) (more : History) (words : List ℕ) (views : List (Li
   own_slot id owns =
       let f = v.view.caller.formula in
       run-own f v.view.caller.layout (opening f) (opening f) (v.view.seen ++ more) (thread_stream v) id kept.legal.events owns refl
-      ∙ ap (λ (h : History). state f h id) (stands_at v more words views seat kept here).mine
+      ∙ ap (λ (h : History). state f h id) (agrees_at v more words views seat kept here).mine
 
   seen_slot : (id : ℕ) → Owns v.view.caller.layout (thread_stream v) id
       → state v.view.caller.formula v.view.seen id ≡ state v.view.caller.formula v.view.mine id
@@ -69,7 +70,7 @@ module _ (v : ThreadState) (more : History) (words : List ℕ) (views : List (Li
       let p = v.view.caller.layout in
       run-own f p (opening f) (opening f) v.view.seen (thread_stream v) id
       (legal-front f p (opening f) v.view.seen more kept.legal.events) owns refl
-      ∙ ap (λ (h : History). state f h id) (stands_at v more words views seat kept here).seen
+      ∙ ap (λ (h : History). state f h id) (agrees_at v more words views seat kept here).seen
 
   -- and so is what is stored for it
   pub own_text : (id : ℕ) → Owns v.view.caller.layout (thread_stream v) id
@@ -78,7 +79,7 @@ module _ (v : ThreadState) (more : History) (words : List ℕ) (views : List (Li
       let f = v.view.caller.formula in
       let p = v.view.caller.layout in
       own_stored f p v.view.seen more id kept.legal.events (own_slot id owns ∙ sym (seen_slot id owns))
-      ∙ ap (λ (xs : List Spelling). stored_in xs id) (sym (stands_at v more words views seat kept here).spelt)
+      ∙ ap (λ (xs : List Spelling). stored_in xs id) (sym (agrees_at v more words views seat kept here).spelt)
 
   pub own_identity : (id : ℕ) → Owns v.view.caller.layout (thread_stream v) id → IsIdentity v.view.caller.layout id
   own_identity id owns =
@@ -123,5 +124,5 @@ module _ (f : Cnf) (p : LayoutValue) (log : History) (words : List ℕ) (views :
       (above_lodged text (lodged f p log j text (omega (arith, kept.plan.layout.some_stream)) kept.plan.fits kept.legal.events there))
       (kept.texts j text there)
 
-  pub drafts-write : (q : ThreadState) → Stands f p log words q → LiesAt (slice_set words id new) q.top q.draft
-  drafts-write q stands = literals-write q.top q.draft (omega (arith, stands.top)) stands.draft
+  pub drafts-write : (q : ThreadState) → Agrees f p log words q → LiesAt (slice_set words id new) q.top q.draft
+  drafts-write q agrees = literals-write q.top q.draft (omega (arith, agrees.top)) agrees.draft

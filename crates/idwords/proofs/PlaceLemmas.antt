@@ -1,4 +1,5 @@
--- Lemmas about places: a stream writes into words that no other stream, the formula or the identities use; and steps on literals.
+-- Lemmas about places: a stream writes into words that no other stream, the formula or the
+-- identities use; and steps on literals.
 use Rattle.std.proofs.Common.{◌≡◌, ◌≢◌, ℕ, ℤ, ◌+◌, ◌-◌, ◌*◌, ◌/◌, ◌%◌, ◌<◌, ◌≤◌, ◌⊎◌, List, [], ◌∷◌, ◌++◌, Option, length, set, slice_index}
 use Rattle.std.proofs.Common.{slice_set, refl, sym, ap, subst, ◌∙◌, inl, inr, arith, length-append, length-set, get_or-set_same}
 use Rattle.std.proofs.Common.{get_or-set_other}
@@ -19,12 +20,12 @@ use Rattle.idwords.specs.Words.{words_for, pair_of, half_of}
 use Rattle.idwords.specs.internal.RowWords.{literal_word}
 use Rattle.idwords.specs.Spelling.{first_place, words_spent, top_after}
 use Rattle.idwords.specs.Seats.{ThreadState}
-use Rattle.idwords.specs.internal.Rule.{thread_stream, Keeps, Stands}
+use Rattle.idwords.specs.internal.Rule.{thread_stream, Keeps, Agrees}
 use Rattle.idwords.specs.internal.Steps.{Reads, Writes}
 use Rattle.idwords.proofs.SpellingLemmas.{words_spent-own, words_within, IsLodged, lodged, keeps_spelt}
 use Rattle.idwords.proofs.WordLemmas.{HasCode, some_literals, lies_get, lies-pair, lies-set, word_injective}
 use Rattle.idwords.proofs.ViewLemmas.{moved, times-same}
-use Rattle.idwords.proofs.RuleLemmas.{stands_at, stands_words, fair_thread}
+use Rattle.idwords.proofs.RuleLemmas.{agrees_at, agrees_words, fair_thread}
 use Rattle.idwords.proofs.StepLemmas.{OwnStep}
 
 -- Rooms are disjoint
@@ -79,7 +80,7 @@ reads v seat place more words views kept here small =
     let f = v.view.caller.formula in
     let p = v.view.caller.layout in
     let log = v.view.seen ++ more in
-    let stands = stands_at v more words views seat kept here in
+    let agrees = agrees_at v more words views seat kept here in
     let same_words : slice_set words place (slice_index words place) ≡ words = set-get_or words place 0 in
     let same_views : set views seat (v ∷ []) ≡ views = set_again views seat (v ∷ []) here in (
       v,
@@ -89,11 +90,11 @@ reads v seat place more words views kept here small =
       record {
         same = refl;
         text = λ id k text l there at here_is.
-            let derived = (fair_follows v.view (fair_thread v more words kept.plan kept.legal stands)).each id text there in
+            let derived = (fair_follows v.view (fair_thread v more words kept.plan kept.legal agrees)).each id text there in
             ap (λ (n : ℕ). half_of (k % 2) (slice_index words n)) here_is
             ∙ lies_get f.vars words text.start text.literals k l kept.plan.formula.vars derived.0.literals
             (kept.texts id text
-            (keeps_spelt f p v.view.seen more id text (ap (λ (xs : List Spelling). stored_in xs id) (sym stands.spelt) ∙ there))) at;
+            (keeps_spelt f p v.view.seen more id text (ap (λ (xs : List Spelling). stored_in xs id) (sym agrees.spelt) ∙ there))) at;
       },
     )
 
@@ -112,33 +113,33 @@ written v seat l m even room first second more words views kept here small =
     let place : ℕ = v.top + length v.draft / 2 in
     let some = some_literals l m in
     let longer : length (v.draft ++ pair_of l m) ≡ length v.draft + length (pair_of l m) = length-append v.draft (pair_of l m) in
-    let stands = stands_at v more words views seat kept here in
-    let all : words_spent s v.view.mine ≡ words_spent s log = words_spent-own log v.view.mine s stands.mine in
+    let agrees = agrees_at v more words views seat kept here in
+    let all : words_spent s v.view.mine ≡ words_spent s log = words_spent-own log v.view.mine s agrees.mine in
     let few : words_spent s v.view.mine ≤ spent s v.view.mine = words_within s v.view.mine in
-    let top : v.top ≡ top_after p s v.view.mine = stands.top in
+    let top : v.top ≡ top_after p s v.view.mine = agrees.top in
     let new : List ℕ = slice_set words place word in
     let above : last_identity p < place = omega arith in
     let below : place < first_place p s + p.room = omega arith in
-    let within : place < length words = within_row p s place (length words) stands.stream kept.count below in
+    let within : place < length words = within_row p s place (length words) agrees.stream kept.count below in
     let w : ThreadState = record v { draft = v.draft ++ pair_of l m } in
-    let elsewhere : (q : ThreadState) → thread_stream q ≢ s → Stands f p log words q → Stands f p log new q = λ q other there.
-    stands_words f p log words new q there
+    let elsewhere : (q : ThreadState) → thread_stream q ≢ s → Agrees f p log words q → Agrees f p log new q = λ q other there.
+    agrees_words f p log words new q there
     (lies-set words q.top q.draft place word there.draft
-    (outside_room p s (thread_stream q) place q.top (q.top + words_for (length q.draft)) stands.stream there.stream other
+    (outside_room p s (thread_stream q) place q.top (q.top + words_for (length q.draft)) agrees.stream there.stream other
     (omega arith) below
     (omega (arith, there.top))
     (omega (arith, there.top, there.room, words_within (thread_stream q) q.view.mine)))) in
-    let mine : Stands f p log new w = record {
-      formula = stands.formula;
-      layout = stands.layout;
-      stream = stands.stream;
-      begins = stands.begins;
-      seen = stands.seen;
-      mine = stands.mine;
-      spelt = stands.spelt;
-      top = stands.top;
+    let mine : Agrees f p log new w = record {
+      formula = agrees.formula;
+      layout = agrees.layout;
+      stream = agrees.stream;
+      begins = agrees.begins;
+      seen = agrees.seen;
+      mine = agrees.mine;
+      spelt = agrees.spelt;
+      top = agrees.top;
       room = room;
-      draft = lies-pair new v.top v.draft l m even (lies-set words v.top v.draft place word stands.draft (inr (omega arith)))
+      draft = lies-pair new v.top v.draft l m even (lies-set words v.top v.draft place word agrees.draft (inr (omega arith)))
           (get_or-set_same words place word 0 within);
     } in (
       w,
@@ -150,9 +151,9 @@ written v seat l m even room first second more words views kept here small =
         first = get_or-set_other words place 0 word 0 (λ same. omega arith) ∙ kept.first;
         slots = λ id identity. get_or-set_other words place id word 0 (λ same. omega (arith, identity.1)) ∙ kept.slots id identity;
         texts = λ id text there. lies-set words text.start text.literals place word (kept.texts id text there)
-            (outside_text f p log kept.legal s place text stands.stream (omega arith) below
+            (outside_text f p log kept.legal s place text agrees.stream (omega arith) below
             (lodged f p log id text (omega (arith, kept.plan.layout.some_stream)) kept.plan.fits kept.legal.events there));
-        threads = moved (Stands f p log words) (Stands f p log new) views seat v w here (kept.once s) kept.threads elsewhere mine;
+        threads = moved (Agrees f p log words) (Agrees f p log new) views seat v w here (kept.once s) kept.threads elsewhere mine;
         once = times-same views seat v w here refl kept.once;
       },
       λ k n code code' same. ap (λ (d : Clause). record v { draft = v.draft ++ d }) (word_injective l k m n first code second code' same),

@@ -20,7 +20,7 @@ use Rattle.idwords.specs.Seats.{ThreadState}
 use Rattle.idwords.specs.internal.Rule.{thread_stream, Keeps}
 use Rattle.idwords.specs.internal.Steps.{Finds, Retires}
 use Rattle.idwords.proofs.SpellingLemmas.{spelt}
-use Rattle.idwords.proofs.RuleLemmas.{advanced, event_top, stands_at, Serves, advance}
+use Rattle.idwords.proofs.RuleLemmas.{advanced, event_top, agrees_at, Serves, advance}
 use Rattle.idwords.proofs.StepLemmas.{OwnStep}
 use Rattle.idwords.proofs.LookLemmas.{IsPlain, plain_step}
 use Rattle.idwords.proofs.OwnLemmas.{live_word, other_word, retired_word, own_slot, own_identity, own_word, count-write, first-write}
@@ -35,7 +35,7 @@ finds v seat id owns more words views kept here small =
     let log = v.view.seen ++ more in
     let word = own_word v more words views seat kept here id owns in
     let slot = own_slot v more words views seat kept here id owns in
-    let stands = stands_at v more words views seat kept here in
+    let agrees = agrees_at v more words views seat kept here in
     let same_words : slice_set words id (slice_index words id) ≡ words = set-get_or words id 0 in
     let all : IsSpelt f log (spelling_of f p log) = spelt f p log kept.legal.events in
     let log_word = kept.slots id (own_identity v more words views seat kept here id owns) in
@@ -54,7 +54,7 @@ finds v seat id owns more words views kept here small =
           other_word (state f log id) (stored_in (spelling_of f p log) id) (all.slots id)
           (subst (λ (n : ℕ). word_state n ≢ 1) log_word other) in
           let plain : IsPlain f p log e = record { state = λ j. refl; spelling = refl; size = refl } in
-          let done = plain_step v more words views seat e v.draft kept here refl none owns plain stands.draft (omega arith) in
+          let done = plain_step v more words views seat e v.draft kept here refl none owns plain agrees.draft (omega arith) in
           let w : ThreadState = advanced v more e v.draft in (
             w,
             log ++ e ∷ [],
@@ -85,7 +85,7 @@ retires v seat id old owns is one more words views kept here small =
     let identity = own_identity v more words views seat kept here id owns in
     let found : slice_index words id ≡ old = own_word v more words views seat kept here id owns ∙ sym is in
     let slot = own_slot v more words views seat kept here id owns in
-    let stands = stands_at v more words views seat kept here in
+    let agrees = agrees_at v more words views seat kept here in
     let all : IsSpelt f log (spelling_of f p log) = spelt f p log kept.legal.events in
     let o : Option StoredClause = stored_in (spelling_of f p log) id in
     let log_word : old ≡ word_of (state f log id) o = sym found ∙ kept.slots id identity in
@@ -112,9 +112,9 @@ retires v seat id old owns is one more words views kept here small =
           (ap (λ (xs : List Spelling). stored_in xs j) (sym same) ∙ there);
       others = λ q other there. drafts-write f p log words views id (old + 1) kept identity q there;
     } in
-    let top : top_after p s (v.view.mine ++ e ∷ []) ≡ v.top = omega (arith, event_top p s v.view.mine e refl, stands.top) in
-    let done = advance v more words new views seat e v.draft kept here refl alive owns (omega (arith, stands.room)) serves
-    (subst (λ (place : ℕ). LiesAt new place v.draft) (sym top) (drafts-write f p log words views id (old + 1) kept identity v stands)) in
+    let top : top_after p s (v.view.mine ++ e ∷ []) ≡ v.top = omega (arith, event_top p s v.view.mine e refl, agrees.top) in
+    let done = advance v more words new views seat e v.draft kept here refl alive owns (omega (arith, agrees.room)) serves
+    (subst (λ (place : ℕ). LiesAt new place v.draft) (sym top) (drafts-write f p log words views id (old + 1) kept identity v agrees)) in
     let w : ThreadState = advanced v more e v.draft in
     let hit : either (eqb (slice_index words id) old) (old + 1) (slice_index words id) ≡ old + 1 =
     ap (λ b. either b (old + 1) (slice_index words id)) (eq-eqb (slice_index words id) old found) in (

@@ -19,7 +19,7 @@ use Rattle.lrup_model.specs.lemmas.HistoryLemmas.{IsLegal-front, own-mine, own-o
 use Rattle.idwords.specs.internal.RowWords.{word_of, LiesAt}
 use Rattle.idwords.specs.Spelling.{words_taken, words_spent, top_after, event_spelling, spelling_of}
 use Rattle.idwords.specs.Seats.{ThreadState}
-use Rattle.idwords.specs.internal.Rule.{thread_stream, Stands, Keeps, IsPlan}
+use Rattle.idwords.specs.internal.Rule.{thread_stream, Agrees, Keeps, IsPlan}
 use Rattle.idwords.specs.RowCalls.{Calls}
 use Rattle.idwords.proofs.SpellingLemmas.{words_spent-append, words_spent_one, lies_within, spelling-snoc, keeps_spelt, spelt}
 use Rattle.idwords.proofs.ViewLemmas.{all_at, moved, times-same}
@@ -67,24 +67,24 @@ advanced v more e draft = record {
   draft = draft;
 }
 
-pub stands_at : (v : ThreadState) (more : History) (words : List ℕ) (views : List (List ThreadState)) (id : ℕ) → OwnKeeps v more words views
-    → get_elem? views id ≡ some (v ∷ []) → Stands v.view.caller.formula v.view.caller.layout (v.view.seen ++ more) words v
-stands_at v more words views id keeps here =
-    (all_at (Stands v.view.caller.formula v.view.caller.layout (v.view.seen ++ more) words) views id (v ∷ []) here keeps.threads).0
+pub agrees_at : (v : ThreadState) (more : History) (words : List ℕ) (views : List (List ThreadState)) (id : ℕ) → OwnKeeps v more words views
+    → get_elem? views id ≡ some (v ∷ []) → Agrees v.view.caller.formula v.view.caller.layout (v.view.seen ++ more) words v
+agrees_at v more words views id keeps here =
+    (all_at (Agrees v.view.caller.formula v.view.caller.layout (v.view.seen ++ more) words) views id (v ∷ []) here keeps.threads).0
 
 -- a thread state that agrees with the log is fair
 pub fair_thread : (v : ThreadState) (more : History) (words : List ℕ) (plan : IsPlan v.view.caller.formula v.view.caller.layout)
     → IsLegal v.view.caller.formula v.view.caller.layout (v.view.seen ++ more)
-    → Stands v.view.caller.formula v.view.caller.layout (v.view.seen ++ more) words v → IsFair v.view
-fair_thread v more words plan legal stands =
+    → Agrees v.view.caller.formula v.view.caller.layout (v.view.seen ++ more) words v → IsFair v.view
+fair_thread v more words plan legal agrees =
     let f = v.view.caller.formula in
     let p = v.view.caller.layout in
     let front : IsLegal f p v.view.seen = IsLegal-front f p v.view.seen more legal in
     record {
-      caller = record { formula = plan.formula; layout = plan.layout; fits = plan.fits; stream = stands.stream };
+      caller = record { formula = plan.formula; layout = plan.layout; fits = plan.fits; stream = agrees.stream };
       legal = front;
-      mine = stands.seen;
-      spelt = subst (λ (xs : List Spelling). IsSpelt f v.view.seen xs) (sym stands.spelt) (spelt f p v.view.seen front.events);
+      mine = agrees.seen;
+      spelt = subst (λ (xs : List Spelling). IsSpelt f v.view.seen xs) (sym agrees.spelt) (spelt f p v.view.seen front.events);
     }
 
 -- One more event
@@ -113,36 +113,36 @@ legal_next f p log e legal answers allowed room = record {
 }
 
 -- a thread state agrees with other words too, if they have its draft
-pub stands_words : (f : Cnf) (p : LayoutValue) (log : History) (words words' : List ℕ) (q : ThreadState) → Stands f p log words q
-    → LiesAt words' q.top q.draft → Stands f p log words' q
-stands_words f p log words words' q stands lies = record {
-  formula = stands.formula;
-  layout = stands.layout;
-  stream = stands.stream;
-  begins = stands.begins;
-  seen = stands.seen;
-  mine = stands.mine;
-  spelt = stands.spelt;
-  top = stands.top;
-  room = stands.room;
+pub agrees_words : (f : Cnf) (p : LayoutValue) (log : History) (words words' : List ℕ) (q : ThreadState) → Agrees f p log words q
+    → LiesAt words' q.top q.draft → Agrees f p log words' q
+agrees_words f p log words words' q agrees lies = record {
+  formula = agrees.formula;
+  layout = agrees.layout;
+  stream = agrees.stream;
+  begins = agrees.begins;
+  seen = agrees.seen;
+  mine = agrees.mine;
+  spelt = agrees.spelt;
+  top = agrees.top;
+  room = agrees.room;
   draft = lies;
 }
 
 -- another stream's thread state agrees with the log after the event
-stands_on : (f : Cnf) (p : LayoutValue) (log : History) (words words' : List ℕ) (e : Event) (q : ThreadState)
+agrees_at_once : (f : Cnf) (p : LayoutValue) (log : History) (words words' : List ℕ) (e : Event) (q : ThreadState)
     → (stream_of e ≡ thread_stream q → ⊥)
-    → Stands f p log words q → LiesAt words' q.top q.draft → Stands f p (log ++ e ∷ []) words' q
-stands_on f p log words words' e q other stands lies = record {
-  formula = stands.formula;
-  layout = stands.layout;
-  stream = stands.stream;
+    → Agrees f p log words q → LiesAt words' q.top q.draft → Agrees f p (log ++ e ∷ []) words' q
+agrees_at_once f p log words words' e q other agrees lies = record {
+  formula = agrees.formula;
+  layout = agrees.layout;
+  stream = agrees.stream;
   begins =
-      (stands.begins.0 ++ e ∷ [], ap (λ (h : History). h ++ e ∷ []) stands.begins.1 ∙ append_assoc q.view.seen stands.begins.0 (e ∷ []));
-  seen = stands.seen;
-  mine = own_past log e (thread_stream q) other ∙ stands.mine;
-  spelt = stands.spelt;
-  top = stands.top;
-  room = stands.room;
+      (agrees.begins.0 ++ e ∷ [], ap (λ (h : History). h ++ e ∷ []) agrees.begins.1 ∙ append_assoc q.view.seen agrees.begins.0 (e ∷ []));
+  seen = agrees.seen;
+  mine = own_past log e (thread_stream q) other ∙ agrees.mine;
+  spelt = agrees.spelt;
+  top = agrees.top;
+  room = agrees.room;
   draft = lies;
 }
 
@@ -157,7 +157,8 @@ event_top p s mine e is =
     let one : words_spent s (e ∷ []) ≡ words_taken e = words_spent_one s e is in
     omega arith
 
--- The words fit the log with this event: they show each identity, and have the literals of each clause and the drafts of other streams.
+-- The words fit the log with this event: they show each identity, and have the literals of each
+-- clause and the drafts of other streams.
 pub record Serves (f : Cnf) (p : LayoutValue) (log : History) (words : List ℕ) (e : Event) (words' : List ℕ) : Type 0 where
   pub count : length words' ≡ row_words p
   pub first : slice_index words' 0 ≡ 0
@@ -165,7 +166,7 @@ pub record Serves (f : Cnf) (p : LayoutValue) (log : History) (words : List ℕ)
       → slice_index words' id ≡ word_of (after (state f log) e id) (stored_in (spelling_of f p log ++ event_spelling p log e) id)
   pub texts : (id : ℕ) (stored : StoredClause) → stored_in (spelling_of f p log ++ event_spelling p log e) id ≡ Some stored
       → LiesAt words' stored.start stored.literals
-  pub others : (q : ThreadState) → thread_stream q ≢ stream_of e → Stands f p log words q → LiesAt words' q.top q.draft
+  pub others : (q : ThreadState) → thread_stream q ≢ stream_of e → Agrees f p log words q → LiesAt words' q.top q.draft
 
 module _ (v : ThreadState) (more : History) (words words' : List ℕ) (views : List (List ThreadState)) (id : ℕ) (e : Event)
     (draft : Clause) where
@@ -183,25 +184,25 @@ module _ (v : ThreadState) (more : History) (words words' : List ℕ) (views : L
       let p = v.view.caller.layout in
       let s = thread_stream v in
       let log = v.view.seen ++ more in
-      let stands = stands_at v more words views id keeps here in
-      let spent_here : spent s v.view.mine ≡ spent s log = spent_log log v.view.mine s stands.mine in
+      let agrees = agrees_at v more words views id keeps here in
+      let spent_here : spent s v.view.mine ≡ spent s log = spent_log log v.view.mine s agrees.mine in
       let spent_there : spent (stream_of e) log ≡ spent s log = ap (λ (t : ℕ). spent t log) mine in
       let legal : IsLegal f p (log ++ e ∷ []) = legal_next f p log e keeps.legal answers allowed (omega arith) in
       let all_mine : own (log ++ e ∷ []) s ≡ v.view.mine ++ e ∷ [] = own_next log e s mine
-      ∙ ap (λ (h : History). h ++ e ∷ []) stands.mine in
+      ∙ ap (λ (h : History). h ++ e ∷ []) agrees.mine in
       let spelling_there : spelling_of f p (log ++ e ∷ []) ≡ spelling_of f p log ++ event_spelling p log e = spelling-snoc f p log e in
       let spent_next : spent s (v.view.mine ++ e ∷ []) ≡ spent s v.view.mine + spent s (e ∷ []) = spent-append s v.view.mine (e ∷ []) in
       let spent_event : spent s (e ∷ []) ≡ size_of e = spent_one s e mine in
       let keeps_on : KeepsSpelt (stored_in v.view.spelt) (stored_in (spelling_of f p (log ++ e ∷ []))) = λ j stored there.
       ap (λ (h : History). stored_in (spelling_of f p h) j) (append_assoc v.view.seen more (e ∷ []))
-      ∙ keeps_spelt f p v.view.seen (more ++ e ∷ []) j stored (ap (λ (xs : List Spelling). stored_in xs j) (sym stands.spelt) ∙ there) in
-      let step = moves_step v.view more e (spelling_of f p (log ++ e ∷ [])) (fair_thread v more words keeps.plan keeps.legal stands)
-      (between v.view.seen more v.view.mine s stands.seen stands.mine) mine legal (spelt f p (log ++ e ∷ []) legal.events) keeps_on in
+      ∙ keeps_spelt f p v.view.seen (more ++ e ∷ []) j stored (ap (λ (xs : List Spelling). stored_in xs j) (sym agrees.spelt) ∙ there) in
+      let step = moves_step v.view more e (spelling_of f p (log ++ e ∷ [])) (fair_thread v more words keeps.plan keeps.legal agrees)
+      (between v.view.seen more v.view.mine s agrees.seen agrees.mine) mine legal (spelt f p (log ++ e ∷ []) legal.events) keeps_on in
       let w : ThreadState = advanced v more e draft in
-      let new : Stands f p (log ++ e ∷ []) words' w = record {
+      let new : Agrees f p (log ++ e ∷ []) words' w = record {
         formula = refl;
         layout = refl;
-        stream = stands.stream;
+        stream = agrees.stream;
         begins = ([], sym (append-nil (log ++ e ∷ [])));
         seen = all_mine;
         mine = all_mine;
@@ -218,8 +219,8 @@ module _ (v : ThreadState) (more : History) (words words' : List ℕ) (views : L
           slots = λ j identity. serves.slots j identity
               ∙ ap₂ (λ (slot : Slot) (xs : List Spelling). word_of slot (stored_in xs j)) (sym (state_next f log e j)) (sym spelling_there);
           texts = λ j stored there. serves.texts j stored (ap (λ (xs : List Spelling). stored_in xs j) (sym spelling_there) ∙ there);
-          threads = moved (Stands f p log words) (Stands f p (log ++ e ∷ []) words') views id v w here (keeps.once s) keeps.threads
-              (λ q other there. stands_on f p log words words' e q (λ same. other (sym same ∙ mine)) there
+          threads = moved (Agrees f p log words) (Agrees f p (log ++ e ∷ []) words') views id v w here (keeps.once s) keeps.threads
+              (λ q other there. agrees_at_once f p log words words' e q (λ same. other (sym same ∙ mine)) there
               (serves.others q (λ same. other (same ∙ mine)) there)) new;
           once = times-same views id v w here refl keeps.once;
         },

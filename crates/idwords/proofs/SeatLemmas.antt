@@ -32,32 +32,33 @@ words_of table row me top drafted room seated same = ap (λ (t : TableId). t.wor
 
 module _ {S : Type 0} where
   -- from the token's one thread state
-  pub asks_thread : (f : Cnf) (p : LayoutValue) (slots id i : ℕ) (g : ℕ → ℕ) (told : ThreadState → ℕ → ThreadState → Type 0)
+  pub asks_thread : (f : Cnf) (p : LayoutValue) (slots id i : ℕ) (g : ℕ → ℕ) (known : ThreadState → ℕ → ThreadState → Type 0)
       (then : Me S (List ThreadState) → ℕ → Me S (List ThreadState) → Type 0)
       (table row : TableId) (me : Me S (List ThreadState)) (v : ThreadState)
-      → me ≡ (v ∷ [], []) → table ≡ row → i < row.words → OwnStep v id i g (told v)
-      → ((u : ThreadState) (n : ℕ) (w : ThreadState) → told u n w → then (u ∷ [], []) n (w ∷ [], []))
+      → me ≡ (v ∷ [], []) → table ≡ row → i < row.words → OwnStep v id i g (known v)
+      → ((u : ThreadState) (n : ℕ) (w : ThreadState) → known u n w → then (u ∷ [], []) n (w ∷ [], []))
       → (table ≡ row) × (i < row.words) × Allows {S = S} (HoldsRowInvariant f p) slots id me i g (then me)
-  asks_thread f p slots id i g told then table row me v one same within own tell = (
+  asks_thread f p slots id i g known then table row me v one same within own tell = (
     same,
     within,
     subst (λ (m : Me S (List ThreadState)). Allows {S = S} (HoldsRowInvariant f p) slots id m i g (then m)) (sym one)
-        (allows f p slots id v i g (told v) (then (v ∷ [], [])) own (tell v)),
+        (allows f p slots id v i g (known v) (then (v ∷ [], [])) own (tell v)),
   )
 
-  pub asks : (f : Cnf) (p : LayoutValue) (slots id i : ℕ) (g : ℕ → ℕ) (told : ThreadState → ℕ → ThreadState → Type 0)
+  pub asks : (f : Cnf) (p : LayoutValue) (slots id i : ℕ) (g : ℕ → ℕ) (known : ThreadState → ℕ → ThreadState → Type 0)
       (then : Me S (List ThreadState) → ℕ → Me S (List ThreadState) → Type 0)
       (table row : TableId) (me : Me S (List ThreadState)) (seat : SeatValue) (top drafted room : ℕ)
       → IsSeated table me top drafted room → seat_value table (first_thread me.0) ≡ seat → seat.table ≡ row
-      → i < row_words seat.view.caller.layout → OwnStep (thread_of seat) id i g (told (thread_of seat))
-      → ((v : ThreadState) (n : ℕ) (w : ThreadState) → told v n w → then (v ∷ [], []) n (w ∷ [], []))
+      → i < row_words seat.view.caller.layout → OwnStep (thread_of seat) id i g (known (thread_of seat))
+      → ((v : ThreadState) (n : ℕ) (w : ThreadState) → known v n w → then (v ∷ [], []) n (w ∷ [], []))
       → (table ≡ row) × (i < row.words) × Allows {S = S} (HoldsRowInvariant f p) slots id me i g (then me)
-  asks f p slots id i g told then table row me seat top drafted room seated view same within own tell =
+  asks f p slots id i g known then table row me seat top drafted room seated view same within own tell =
       let here : first_thread me.0 ≡ thread_of seat = ap thread_of view in
       let tables : table ≡ row = ap (λ (s : SeatValue). s.table) view ∙ same in
       let words : row.words ≡ row_words seat.view.caller.layout = words_of table row me top drafted room seated tables
       ∙ ap (λ (u : ThreadState). row_words u.view.caller.layout) here in
-      asks_thread f p slots id i g told then table row me (thread_of seat) (seated.one ∙ ap (λ (u : ThreadState). (u ∷ [], [])) here) tables
+      asks_thread f p slots id i g known then table row me (thread_of seat)
+      (seated.one ∙ ap (λ (u : ThreadState). (u ∷ [], [])) here) tables
       (omega arith) own tell
 
 -- A seat after a step
@@ -104,7 +105,7 @@ module _ {S : Type 0} where
         within = seated.within;
       })
 
-  -- after a call that takes nothing of the stream's room
+  -- after a call that takes nothing from the stream's room
   pub seated_call : (table table' : TableId) (me me' : Me S (List ThreadState)) (top drafted room : ℕ) (w : ThreadState) (e : Event)
       → IsSeated table me top drafted room → table' ≡ table
       → me'.0 ≡ w ∷ [] → me'.1 ≡ me.1 → Calls (first_thread me.0).view w.view e → stream_of e ≡ thread_stream (first_thread me.0)
@@ -139,11 +140,11 @@ module _ {S : Type 0} where
   pub seated_claim : (table table' : TableId) (me me' : Me S (List ThreadState)) (top drafted room found id : ℕ) (one : Step S)
       → IsSeated table me top drafted room → table' ≡ table → Changes Claims one me found me'
       → (found ≡ 0 → IsSeated table' me' (top + words_for drafted) 0 (room - drafted)) × (found ≢ 0 → IsSeated table' me' top 0 room)
-  seated_claim table table' me me' top drafted room found id one seated same told =
+  seated_claim table table' me me' top drafted room found id one seated same known =
       let v : ThreadState = first_thread me.0 in
       let s = thread_stream v in
       let p = v.view.caller.layout in
-      let all = told v (ap (λ (m : Me S (List ThreadState)). m.0) seated.one) in
+      let all = known v (ap (λ (m : Me S (List ThreadState)). m.0) seated.one) in
       let w : ThreadState = all.0 in
       let claim : Claims one.word v found w = all.3 in
       let none : me'.1 ≡ [] = all.2 ∙ ap (λ (m : Me S (List ThreadState)). m.1) seated.one in

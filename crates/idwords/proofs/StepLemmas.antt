@@ -1,4 +1,5 @@
--- Lemmas about steps: from what a step does to a thread state with its own formula and layout to what the row requires of it.
+-- Lemmas about steps: from what a step does to a thread state with its own formula and layout to
+-- what the row requires of it.
 use Rattle.std.proofs.Common.{◌≡◌, ℕ, ◌<◌, List, [], ◌∷◌, set, slice_index, slice_set, refl, sym, subst}
 use mathlib.Core.Option.{some}
 use lib.ListN.{get_elem?}
@@ -7,13 +8,14 @@ use Rattle.lrup_model.specs.Formula.{Cnf}
 use Rattle.lrup_model.specs.Layout.{LayoutValue}
 use Rattle.lrup_model.specs.Event.{History}
 use Rattle.idwords.specs.Seats.{ThreadState}
-use Rattle.idwords.specs.internal.Rule.{Stands, Keeps, HoldsRowInvariant}
+use Rattle.idwords.specs.internal.Rule.{Agrees, Keeps, HoldsRowInvariant}
 use Rattle.idwords.specs.internal.Steps.{Changes, Writes, Stores}
 use Rattle.idwords.proofs.RuleLemmas.{OwnKeeps}
 use Rattle.idwords.proofs.ViewLemmas.{all_at}
 
--- In every row with this thread state as the only one of token id, that fits a log beginning with what the thread state has seen: after the
--- step on word i there is a new thread state with which the row fits a log, and of which `then` is true.
+-- In every row with this thread state as the only one of token id, that fits a log beginning with
+-- what the thread state has seen: after the step on word i there is a new thread state with which
+-- the row fits a log, and of which `then` is true.
 abbrev pub OwnStep : ThreadState → ℕ → ℕ → (ℕ → ℕ) → (ℕ → ThreadState → Type 0) → Type 0
 OwnStep v id i f then =
     (more : History) (words : List ℕ) (views : List (List ThreadState)) → OwnKeeps v more words views → get_elem? views id ≡ some (v ∷ [])
@@ -23,13 +25,13 @@ OwnStep v id i f then =
 
 to_own : (f : Cnf) (p : LayoutValue) (log : History) (words : List ℕ) (views : List (List ThreadState)) (v : ThreadState)
     → Keeps f p log words views
-    → (stands : Stands f p log words v) → OwnKeeps v stands.begins.0 words views
-to_own f p log words views v kept stands =
+    → (agrees : Agrees f p log words v) → OwnKeeps v agrees.begins.0 words views
+to_own f p log words views v kept agrees =
     let by_formula : Keeps v.view.caller.formula p log words views =
-    subst (λ (g : Cnf). Keeps g p log words views) (sym stands.formula) kept in
+    subst (λ (g : Cnf). Keeps g p log words views) (sym agrees.formula) kept in
     let by_layout : Keeps v.view.caller.formula v.view.caller.layout log words views =
-    subst (λ (q : LayoutValue). Keeps v.view.caller.formula q log words views) (sym stands.layout) by_formula in
-    subst (λ (h : History). Keeps v.view.caller.formula v.view.caller.layout h words views) stands.begins.1 by_layout
+    subst (λ (q : LayoutValue). Keeps v.view.caller.formula q log words views) (sym agrees.layout) by_formula in
+    subst (λ (h : History). Keeps v.view.caller.formula v.view.caller.layout h words views) agrees.begins.1 by_layout
 
 from_own : (f : Cnf) (p : LayoutValue) (g : Cnf) (q : LayoutValue) (log : History) (words : List ℕ)
     (views : List (List ThreadState)) → g ≡ f
@@ -41,20 +43,20 @@ head_of : (v u : ThreadState) → v ∷ [] ≡ u ∷ [] → v ≡ u
 head_of v u same = cc
 
 module _ {S : Type 0} where
-  pub allows : (f : Cnf) (p : LayoutValue) (slots id : ℕ) (v : ThreadState) (i : ℕ) (g : ℕ → ℕ) (told : ℕ → ThreadState → Type 0)
+  pub allows : (f : Cnf) (p : LayoutValue) (slots id : ℕ) (v : ThreadState) (i : ℕ) (g : ℕ → ℕ) (known : ℕ → ThreadState → Type 0)
       (then : ℕ → Me S (List ThreadState) → Type 0)
-      → OwnStep v id i g told → ((n : ℕ) (w : ThreadState) → told n w → then n (w ∷ [], []))
+      → OwnStep v id i g known → ((n : ℕ) (w : ThreadState) → known n w → then n (w ∷ [], []))
       → Allows {S = S} (HoldsRowInvariant f p) slots id (v ∷ [], []) i g then
-  allows f p slots id v i g told then own tell s kept homes here small =
-      let stands : Stands f p kept.0 s.words v = (all_at (Stands f p kept.0 s.words) s.views id (v ∷ []) here kept.1.threads).0 in
-      let done = own stands.begins.0 s.words s.views (to_own f p kept.0 s.words s.views v kept.1 stands) here small in (
+  allows f p slots id v i g known then own tell s kept homes here small =
+      let agrees : Agrees f p kept.0 s.words v = (all_at (Agrees f p kept.0 s.words) s.views id (v ∷ []) here kept.1.threads).0 in
+      let done = own agrees.begins.0 s.words s.views (to_own f p kept.0 s.words s.views v kept.1 agrees) here small in (
         done.0 ∷ [],
         keeps,
         tt,
         (
           done.1,
           from_own f p v.view.caller.formula v.view.caller.layout done.1 (slice_set s.words i (g (slice_index s.words i)))
-              (set s.views id (done.0 ∷ [])) stands.formula stands.layout done.2,
+              (set s.views id (done.0 ∷ [])) agrees.formula agrees.layout done.2,
         ),
         tell (slice_index s.words i) done.0 done.3,
       )
@@ -63,9 +65,9 @@ module _ {S : Type 0} where
   pub changes : (R : ℕ → ThreadState → ℕ → ThreadState → Type 0) (step : Step S) (v : ThreadState) (n : ℕ) (w : ThreadState)
       → R step.word v n w
       → Changes R step (v ∷ [], []) n (w ∷ [], [])
-  changes R step v n w told u same =
-      let one : v ≡ u = head_of v u same in (w, refl, refl, subst (λ (x : ThreadState). R step.word x n w) one told)
+  changes R step v n w known u same =
+      let one : v ≡ u = head_of v u same in (w, refl, refl, subst (λ (x : ThreadState). R step.word x n w) one known)
 
   pub stores : (step : Step S) (v : ThreadState) (n : ℕ) (w : ThreadState) → Writes step.first v w → Stores step (v ∷ [], []) n (w ∷ [], [])
-  stores step v n w told u same =
-      let one : v ≡ u = head_of v u same in (w, refl, refl, subst (λ (x : ThreadState). Writes step.first x w) one told)
+  stores step v n w known u same =
+      let one : v ≡ u = head_of v u same in (w, refl, refl, subst (λ (x : ThreadState). Writes step.first x w) one known)

@@ -13,7 +13,7 @@ use Rattle.lrup_model.specs.CallerView.{StoredClause}
 use Rattle.lrup_model.specs.Pass.{Spells}
 use Rattle.lrup_model.specs.Literal.{IsLiteral, IsCode, code_of, max_variable}
 use Rattle.lrup_model.specs.lemmas.CodeLemmas.{IsCode-code_of, code_of-injective}
-use Rattle.idwords.specs.internal.RowWords.{identity_word, word_of, literal_word, packed, StandAt, LiesAt}
+use Rattle.idwords.specs.internal.RowWords.{identity_word, word_of, literal_word, packed, OccurAt, LiesAt}
 use Rattle.idwords.specs.Words.{word_state, length_of, start_of, words_for, pair_of, half_of, ShowsStored}
 
 -- The fields of a word
@@ -53,8 +53,8 @@ shows_slot (retired c) (Some stored) spells short = shows_word 2 stored (omega a
 -- Words in the row
 
 -- words are still at their place after a write elsewhere
-stand-set : (words : List ℕ) (place : ℕ) (ws : List ℕ) (at n : ℕ) → StandAt words place ws → (at < place) ⊎ (place + length ws ≤ at)
-    → StandAt (slice_set words at n) place ws
+stand-set : (words : List ℕ) (place : ℕ) (ws : List ℕ) (at n : ℕ) → OccurAt words place ws → (at < place) ⊎ (place + length ws ≤ at)
+    → OccurAt (slice_set words at n) place ws
 stand-set words place [] at n stand apart = tt
 stand-set words place (w ∷ ws) at n stand apart =
     let other : place ≢ at = λ same. elim apart [ inl below ↦ omega arith | inr above ↦ omega arith ] in

@@ -166,7 +166,7 @@ impl Row {
     }
 
     /// Publishes the draft under an identity that the stream owns: one compare-exchange of its
-    /// word, from vacant to live. Afterwards the draft is empty, also if the reply is `Taken`.
+    /// word, from vacant to live. Afterwards the draft is empty, even if the reply is `Taken`.
     pub fn claim(&self, seat: &mut Seat, id: u64) -> Published
         requires row { seat.old.table ≡ self.now }
         requires owns { Owns seat.old.view.caller.layout seat.old.view.caller.stream id }

@@ -14,12 +14,12 @@ use std::process::Abort;
 use std::test::Fail;
 use test_support::{four_clauses, lit};
 
-/// Stops the test where two values differ: an assertion that is proved once for all tests.
+/// Stops the test if two values differ. As a function the assertion is proved only once.
 fn same<T: PartialEq + fmt::Debug + Drop>(rt: &impl Abort, value: T, wanted: T) {
     assert_eq!(rt; value, wanted);
 }
 
-/// Stops the test where this doesn't hold.
+/// Stops the test if this doesn't hold.
 fn holds(rt: &impl Abort, fact: bool)
     ensures { IsTrue fact }
 {
@@ -41,7 +41,7 @@ fn open_one(
     Ok((row, seat))
 }
 
-/// The same of the worked formula.
+/// The same for the worked formula.
 fn open_worked(rt: &(impl Abort + AllocGlobal), layout: &Layout) -> Result<(Row, Seat), AllocError>
     requires { layout.now.streams ≡ 1 }
     ensures { IfOk result (λ opened. IsSeatAt four opened.0 layout.now 1 opened.1) }
@@ -69,7 +69,7 @@ fn open_two(
     Ok((row, first, second))
 }
 
-/// The same of the worked formula.
+/// The same for the worked formula.
 fn open_worked_two(
     rt: &(impl Abort + AllocGlobal),
     layout: &Layout,
@@ -83,7 +83,7 @@ fn open_worked_two(
     open_two(rt, &formula, layout)
 }
 
-/// Has the row these words?
+/// Whether the row has these words.
 fn has_words(row: &Row, layout: &Layout, seat: &mut Seat, words: &[u64]) -> bool
     requires row { seat.old.table ≡ row.now }
     requires layout { seat.old.view.caller.layout ≡ layout.now }
@@ -100,7 +100,7 @@ fn has_words(row: &Row, layout: &Layout, seat: &mut Seat, words: &[u64]) -> bool
     true
 }
 
-/// What the word of an identity is.
+/// The word of an identity; `None` if the number isn't one.
 fn look(row: &Row, layout: &Layout, seat: &mut Seat, stream: u64, id: u64) -> Option<u64>
     requires { IsSeatAt four row.now layout.now stream seat.old }
     ensures { IsSeatAt four row.now layout.now stream seat.new }
@@ -173,7 +173,7 @@ static OPENED: [u64; 16] = [
     0, 0, 0, 0,
 ];
 
-/// That row as it is opened, after a publish, and after that clause was retired.
+/// Checks that row after opening, after a publish, and after that clause was retired.
 fn check_words(rt: &impl Abort, row: &Row, layout: &Layout, seat: &mut Seat)
     requires { IsSeatAt four row.now layout.now 1 seat.old }
 {
@@ -237,12 +237,12 @@ fn uneven_clauses(alloc: Global) -> Result<Formula, AllocError> {
     Ok(formula)
 }
 
-/// The words of their row.
+/// The words of these clauses' row.
 static UNEVEN: [u64; 11] = [
     0, 20971533, 29360129, 29360137, 0, PAIR_1_2, 6, PAIR_N1_N2, 0, 0, 0,
 ];
 
-/// Their row, and its seat.
+/// The row of these clauses, and its seat.
 fn open_uneven(rt: &(impl Abort + AllocGlobal), layout: &Layout) -> Result<(Row, Seat), AllocError>
     requires { layout.now.streams ≡ 1 }
     ensures { IfOk result (λ opened. (opened.1.table ≡ opened.0)
@@ -253,7 +253,7 @@ fn open_uneven(rt: &(impl Abort + AllocGlobal), layout: &Layout) -> Result<(Row,
     open_one(rt, &formula, layout)
 }
 
-/// The row of a formula with an odd clause and an empty one, as it is opened.
+/// The row of a formula with clauses of odd length and an empty one, after opening.
 #[test]
 fn a_formulas_clause_begins_in_a_word_of_its_own(rt: HostRuntime) -> Result<(), Fail> {
     let layout = Layout::new(3, 3, 5, 1, 1, 1)?;
@@ -262,14 +262,14 @@ fn a_formulas_clause_begins_in_a_word_of_its_own(rt: HostRuntime) -> Result<(), 
     Ok(())
 }
 
-/// Can a row be opened?
+/// Whether a row can be opened.
 fn opens(alloc: Global, formula: &Formula, layout: &Layout) -> bool
     requires { Fits layout.now formula.now }
 {
     Row::open(alloc, formula, layout).is_ok()
 }
 
-/// Where memory is refused it says so, and may be called again.
+/// If memory is refused, `open` returns an error, and may be called again.
 #[test]
 fn an_open_may_be_refused(rt: HostRuntime) -> Result<(), Fail> {
     let layout = Layout::new(2, 4, 8, 2, 2, 1)?;
@@ -282,7 +282,7 @@ fn an_open_may_be_refused(rt: HostRuntime) -> Result<(), Fail> {
     Ok(())
 }
 
-/// The second stream publishes what it has identities and room for.
+/// The second stream publishes as much as its identities and room allow.
 fn spend_all(rt: &impl Abort, row: &Row, layout: &Layout, seat: &mut Seat)
     requires { IsSeatAt four row.now layout.now 2 seat.old }
     ensures { IsSeatAt four row.now layout.now 2 seat.new }
@@ -297,7 +297,7 @@ fn spend_all(rt: &impl Abort, row: &Row, layout: &Layout, seat: &mut Seat)
     same(rt, seat.room(), 0);
 }
 
-/// It retires a clause, and can do neither again.
+/// The second stream retires a clause, and can neither retire nor publish there again.
 fn retire_six(rt: &impl Abort, row: &Row, layout: &Layout, seat: &mut Seat)
     requires { IsSeatAt four row.now layout.now 2 seat.old }
 {
@@ -319,7 +319,7 @@ fn two_streams_take_turns(rt: HostRuntime) -> Result<(), Fail> {
     Ok(())
 }
 
-/// The first literal of an identity's clause, where it is live.
+/// The first literal of an identity's clause, if it is live.
 fn first_literal(row: &Row, layout: &Layout, seat: &mut Seat, stream: u64, id: u64) -> Option<i64>
     requires { IsSeatAt four row.now layout.now stream seat.old }
     ensures { IsSeatAt four row.now layout.now stream seat.new }
@@ -349,7 +349,8 @@ fn publish_both(rt: &impl Abort, row: &Row, layout: &Layout, first: &mut Seat, s
     same(rt, (one, other), (done, done));
 }
 
-/// Once they met, each sees what the other did, and then that the second one's is retired.
+/// Once the streams have met, each sees what the other did; then the first sees that the second
+/// one's clause is retired.
 fn meet_and_look(rt: &impl Abort, row: &Row, layout: &Layout, first: &mut Seat, second: &mut Seat)
     requires first { IsSeatAt four row.now layout.now 1 first.old }
     requires second { IsSeatAt four row.now layout.now 2 second.old }
@@ -363,7 +364,8 @@ fn meet_and_look(rt: &impl Abort, row: &Row, layout: &Layout, first: &mut Seat, 
     row.meet(first, second);
 }
 
-/// The first stream then finds a retired clause of one literal, and the formula's first clause.
+/// Afterwards the first stream finds a retired clause of one literal, and the formula's first
+/// clause.
 fn look_later(rt: &impl Abort, row: &Row, layout: &Layout, first: &mut Seat)
     requires { IsSeatAt four row.now layout.now 1 first.old }
 {
@@ -376,7 +378,7 @@ fn look_later(rt: &impl Abort, row: &Row, layout: &Layout, first: &mut Seat)
     same(rt, found, Some(25165833 + 4194304));
 }
 
-/// Once they met, each sees what the other did.
+/// Once two streams have met, each sees what the other did.
 #[test]
 fn two_streams_use_one_row(rt: HostRuntime) -> Result<(), Fail> {
     let layout = Layout::new(2, 4, 8, 2, 1, 1)?;

@@ -124,8 +124,8 @@ slot_past from [] n i le = ap slot_of (none_there n i)
 slot_past from (c ∷ cs) n zero le = absurd (omega (arith, le))
 slot_past from (c ∷ cs) n (suc i) le = slot_past (from + length c) cs n i (omega (arith, le))
 
-clause_behind : (f : Cnf) (i : ℕ) → clause_at f (suc i) ≡ get_or f.clauses i []
-clause_behind f i =
+clause_after : (f : Cnf) (i : ℕ) → clause_at f (suc i) ≡ get_or f.clauses i []
+clause_after f i =
     let place : suc i - 1 ≡ i = omega arith in
     ap (λ n. get_or f.clauses n []) place
 
@@ -135,7 +135,7 @@ opened_slot : (f : Cnf) (n id : ℕ)
 opened_slot f n zero = refl
 opened_slot f n (suc i) =
     elim (cases_lt i (length f.clauses)) [
-      | inl lt ↦ slot_here 0 f.clauses n i lt ∙ ap slots.live (sym (clause_behind f i))
+      | inl lt ↦ slot_here 0 f.clauses n i lt ∙ ap slots.live (sym (clause_after f i))
           ∙ sym (opening-formula f (suc i) (omega arith) (omega (arith, lt)))
       | inr le ↦ slot_past 0 f.clauses n i le ∙ sym (opening-above f (suc i) (omega (arith, le)))
     ]

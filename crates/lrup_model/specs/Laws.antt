@@ -17,8 +17,8 @@ use Rattle.lrup_model.specs.Pass.{View, PassMoves, pass_caller_view}
 
 -- Entailment
 
--- if hints show a clause, and all hinted clauses are over a formula's variables and follow from the
--- formula, then the clause follows from it
+-- if hints derive a clause, and all hinted clauses are over a formula's variables and follow from
+-- the formula, then the clause follows from it
 abbrev pub PropagationSound : Type 0
 PropagationSound = (formula : Cnf) (clause : Clause) (hinted : List Clause)
     → AllByRecursion (IsDerived formula) hinted → Accepts clause hinted → Follows formula clause

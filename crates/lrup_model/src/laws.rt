@@ -1,7 +1,7 @@
 //! Laws of the definitions. Each function does nothing: its contract is the law.
 ghost use Rattle.lrup_model.specs.Laws.{PropagationSound, WithinRefutes, ClausesFollow, OwnCallsDecide, EntriesAdvance, KnownStays, PassSteps};
 
-/// If hints show a clause, and all hinted clauses follow from a formula, then the clause follows
+/// If hints derive a clause, and all hinted clauses follow from a formula, then the clause follows
 /// from it.
 pub fn propagation_sound()
     ensures { PropagationSound }

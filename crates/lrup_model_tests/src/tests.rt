@@ -1,4 +1,4 @@
-//! Worked values, texts, and each public call once.
+//! Worked values, texts of faults, and each public call at least once.
 ghost use Rattle.std.specs.Prelude.{◌≡◌, ◌∷◌, ◌++◌, [], pos, negsuc, Some, None, IsTrue};
 ghost use Rattle.lrup_model.specs.Cube.{IsUnsatisfiableUnder, Within};
 ghost use Rattle.lrup_model.specs.Entailment.{Follows, IsUnsatisfiable};
@@ -23,19 +23,19 @@ use std::process::Abort;
 use std::test::Fail;
 use test_support::{four_clauses, lit};
 
-/// Stops the test where two values differ: an assertion that is proved once for all tests.
+/// Stops the test if two values differ. As a function the assertion is proved only once.
 fn same<T: PartialEq + fmt::Debug + Drop>(rt: &impl Abort, value: T, wanted: T) {
     assert_eq!(rt; value, wanted);
 }
 
-/// Stops the test where this doesn't hold.
+/// Stops the test if this doesn't hold.
 fn holds(rt: &impl Abort, fact: bool)
     ensures { IsTrue fact }
 {
     assert!(rt; fact);
 }
 
-/// Numbers of literals, their variables and their codes.
+/// The numbers of literals, their variables and their codes.
 static LITERALS: [(i64, u32, u32); 6] = [
     (1, 1, 2),
     (-1, 1, 3),
@@ -45,7 +45,7 @@ static LITERALS: [(i64, u32, u32); 6] = [
     (-16_777_215, 16_777_215, 33_554_431),
 ];
 
-/// Numbers of no literal.
+/// Numbers that are no literals.
 static NO_LITERALS: [i64; 5] = [0, 16_777_216, -16_777_216, i64::MAX, i64::MIN];
 
 #[test]
@@ -64,7 +64,7 @@ fn literals_have_variables_and_codes(rt: HostRuntime) -> Result<(), Fail> {
     Ok(())
 }
 
-/// The greatest number.
+/// The largest number.
 const ALL: u64 = u64::MAX;
 
 const VARIABLES: Option<LayoutFault> = Some(LayoutFault::TooManyVariables);
@@ -75,7 +75,7 @@ const STREAMS: Option<LayoutFault> = Some(LayoutFault::BadStreamCount);
 
 const TOO_LONG: Option<LayoutFault> = Some(LayoutFault::RowTooLong);
 
-/// Six numbers of a layout, and why there is none of them.
+/// Six numbers for a layout, and why they give none.
 static LAYOUTS: [([u64; 6], Option<LayoutFault>); 21] = [
     ([16_777_215, 4, 8, 1, 0, 0], None),
     ([16_777_216, 4, 8, 1, 0, 0], VARIABLES),
@@ -120,7 +120,7 @@ fn the_longest_row_has_its_words(rt: HostRuntime) -> Result<(), Fail> {
     Ok(())
 }
 
-/// Who owns the identities from 0 on.
+/// The owners of the identities from 0 on.
 static OWNERS: [Owner; 10] = [
     Owner::Outside,
     Owner::Formula,
@@ -180,7 +180,7 @@ fn a_formula_keeps_its_clauses(rt: HostRuntime) -> Result<(), Fail> {
     Ok(())
 }
 
-/// The gate refuses each allocation of this test in turn; the second attempt then has memory.
+/// The gate refuses each allocation of this test in turn; the second attempt then succeeds.
 #[test]
 fn a_refused_push_changes_nothing(rt: HostRuntime) -> Result<(), Fail> {
     let mut formula = Formula::new(rt.alloc(), 2);
@@ -193,7 +193,7 @@ fn a_refused_push_changes_nothing(rt: HostRuntime) -> Result<(), Fail> {
     Ok(())
 }
 
-/// As the test above.
+/// As in the test above.
 #[test]
 fn a_refused_open_can_be_made_again(rt: HostRuntime) -> Result<(), Fail> {
     let formula = Formula::new(rt.alloc(), 2);
@@ -217,7 +217,7 @@ fn literals(alloc: Global, values: &[i64]) -> Result<Vec<Lit>, Fail> {
     Ok(found)
 }
 
-/// The cube's greatest variable, whether it refutes the clause, and whether it has the literal.
+/// The cube's largest variable, whether it makes the clause false, and whether it has the literal.
 fn ask_cube(
     alloc: Global,
     cube: &[i64],
@@ -234,7 +234,7 @@ fn ask_cube(
     ))
 }
 
-/// A cube, a clause and a literal, and what is found of them.
+/// A cube, a clause and a literal, and what `ask_cube` returns.
 static ASKED: [(&[i64], &[i64], i64, (u32, bool, bool)); 11] = [
     (&[-2], &[2], -2, (2, true, true)),
     (&[-2, 1, -2], &[2], 2, (2, true, false)),
@@ -266,7 +266,7 @@ fn cubes_refute_clauses(rt: HostRuntime) -> Result<(), Fail> {
     Ok(())
 }
 
-/// As a refused push: the gate refuses each allocation.
+/// As with a refused push: the gate refuses each allocation in turn.
 #[test]
 fn a_refused_cube_can_be_made_again(rt: HostRuntime) -> Result<(), Fail> {
     let cube = match Cube::of(rt.alloc(), &[lit(-2), lit(1)]) {
@@ -284,7 +284,7 @@ fn clips_have_their_parts(rt: HostRuntime) {
     holds(&rt, !clip.is_empty());
 }
 
-/// Publishes `2`, which the first two clauses show, under an identity of the caller's own.
+/// Publishes `2`, which follows from the first two clauses, under an identity of the caller's own.
 fn publish_two<M: ClauseMap>(desk: &mut M, id: Id) -> Option<Published>
     requires { (M.caller_view desk.old).caller.formula ≡ four }
     ensures { (es : History) × M.moves desk.old desk.new es }
@@ -295,7 +295,7 @@ fn publish_two<M: ClauseMap>(desk: &mut M, id: Id) -> Option<Published>
     Some(desk.publish(id, &[lit(2)]))
 }
 
-/// What stands under an identity, as the count of a live clause's literals.
+/// What the map has under an identity.
 fn look<M: ClauseMap>(desk: &mut M, id: Id) -> Option<Fetched>
     ensures { (es : History) × M.moves desk.old desk.new es }
 {
@@ -354,7 +354,7 @@ fn first_desk(rt: &impl Abort, map: &mut PlainMap)
     same(rt, publish_two(&mut desk, 6), None);
 }
 
-/// Stream 2 publishes 6, which costs nothing of what stream 1 has, and reads what is there.
+/// Stream 2 publishes 6, which takes none of stream 1's room, and reads clauses.
 fn second_desk(rt: &impl Abort, map: &mut PlainMap)
     requires formula { formula_of map.old ≡ four }
     requires stream { IsStream map.old.layout 2 }
@@ -387,7 +387,7 @@ fn last_desk(rt: &impl Abort, map: &mut PlainMap)
     same(rt, look(&mut desk, 197), None);
 }
 
-/// Has the live clause these literals, in this order?
+/// Whether the live clause has these literals, in this order.
 fn reads_as<M: ClauseMap>(desk: &mut M, id: Id, literals: &[Lit]) -> bool
     ensures { (es : History) × M.moves desk.old desk.new es }
 {
@@ -408,7 +408,7 @@ fn reads_as<M: ClauseMap>(desk: &mut M, id: Id, literals: &[Lit]) -> bool
     true
 }
 
-/// Has the live clause these literals, in this order, when they are read by pairs?
+/// Whether the live clause has these literals, in this order, if they are read in pairs.
 fn reads_in_pairs_as<M: ClauseMap>(desk: &mut M, id: Id, literals: &[Lit]) -> bool
     ensures { (es : History) × M.moves desk.old desk.new es }
 {
@@ -453,7 +453,7 @@ fn sixty_four_streams_have_a_map(rt: HostRuntime) -> Result<(), Fail> {
     Ok(())
 }
 
-/// The worked row has 16 words, and its stream spent one literal of its room.
+/// The worked row has 16 words, and its stream used one literal of its room.
 fn worked_row_is_counted()
     ensures words { row_words one_line ≡ 16 }
     ensures spent { spent 1 calls ≡ 1 }
@@ -469,7 +469,7 @@ fn calls_are_legal()
     ensures outside { ¬ IsLegal four one_line (fetch 1 6 vacant ∷ []) }
 {}
 
-/// Hints as they are judged: each before the last is unit and the last is a conflict.
+/// Hints are accepted if each before the last is unit and the last is a conflict.
 fn hints_are_judged()
     ensures shown { Accepts unit (first ∷ second ∷ []) }
     ensures empty { Accepts [] (unit ∷ third ∷ fourth ∷ []) }
@@ -481,7 +481,7 @@ fn hints_are_judged()
     ensures refuted { IsUnsatisfiable four }
 {}
 
-/// A clause is within the complements of its literals, and within nothing less, nor within itself.
+/// A clause is within a cube that has the complement of each of its literals, and within no other.
 fn clauses_are_within_cubes()
     ensures unit { Within (pos 2 ∷ []) (negsuc 1 ∷ pos 1 ∷ []) }
     ensures itself { ¬ Within (pos 2 ∷ []) (pos 2 ∷ []) }
@@ -493,9 +493,9 @@ fn four_is_a_formula()
     ensures { IsCnf four }
 {}
 
-/// By laws alone: clauses of a legal history follow, so do clauses that these show by hints, and a
-/// clause that follows leaves no assignment under its complement. What a stream never published isn't
-/// there.
+/// From the laws alone: clauses of a legal history follow from the formula, and so do clauses
+/// derived from them by hints; under the complement of such a clause no assignment is left. An
+/// identity under which its stream never published is vacant.
 fn what_laws_say()
     ensures unit { Follows four unit }
     ensures empty { Follows four [] }

@@ -4,23 +4,23 @@ use Rattle.std.specs.Prelude.{Vec}
 use Rattle.std.specs.declared.alloc.Global.{Global}
 use Rattle.std.specs.Fmt.{decimal, signed_decimal}
 use Rattle.std.specs.List.{AllByRecursion, flat_map}
-use Rattle.std.proofs.lemmas.List.{append_assoc, append-nil, length-append, length-take-le, take-take}
+use Rattle.std.proofs.lemmas.List.{append_assoc, append-nil, length-append, length-take-le}
 use Rattle.lrup_model.specs.lemmas.ListLemmas.{All-append}
-use Rattle.lrup_text.specs.declared.machine.ParserState.TheVariants as states
-use Rattle.lrup_text.specs.declared.machine.PartialLine.{PartialLine}
+use Rattle.lrup_text.specs.declared.partial_line.ParserState.TheVariants as states
+use Rattle.lrup_text.specs.declared.partial_line.PartialLine.{PartialLine}
 use Rattle.lrup_text.specs.Writing.{space}
 use Rattle.lrup_text.specs.internal.ByteNames.{minus}
 use Rattle.lrup_text.specs.Grammar.{IsDigit, SpellsNumber, SpellsLiteral}
-use Rattle.lrup_text.specs.internal.Kernel.{ReadsLiterals, ReadsItems, numbers_text}
+use Rattle.lrup_text.specs.internal.Kernel.{ReadsWords}
 use Rattle.lrup_text.specs.Lines.{IsStreamNumber, IsStreamLiteral}
-use Rattle.lrup_text.specs.internal.Reading.{IsPartialLine, ReadsAhead, pending, pending_at, spot_at, IsRoomy, literals_text, items_text}
-use Rattle.lrup_text.specs.internal.Reading.{clause_front, list_front, literals_read, identities_read}
+use Rattle.lrup_text.specs.internal.Reading.{IsPartialLine, ReadsAhead, pending, pending_at, spot_at, IsRoomy}
+use Rattle.lrup_text.specs.internal.Reading.{words_text, literals_text, numbers_text, clause_front, list_front, item_front}
+use Rattle.lrup_text.specs.internal.Reading.{literals_read, identities_read}
 use Rattle.lrup_text.specs.internal.Rests.{Spot, BeforeLiteral, AfterMinus, InLiteral, BeforeItem, InItem, Tracks}
 use Rattle.lrup_text.proofs.Steps.{tracks_more, item_digit, number_digit, number_space, body_minus, body_digit, minus_digit, literal_digit}
 use Rattle.lrup_text.proofs.Steps.{literal_space}
-use Rattle.lrup_text.proofs.Bytes.{clause_more}
+use Rattle.lrup_text.proofs.Bytes.{clause_more, list_more}
 use Rattle.lrup_text.proofs.TextLaws.{signed_word, decimal_word}
-use Rattle.lrup_text.proofs.WholeLines.{spaces_move}
 
 -- the same with the bytes and the spot given by equations
 pub tracks_as : {p q : List ℕ} {s t : Spot} → Tracks p s → p ≡ q → s ≡ t → Tracks q t
@@ -44,7 +44,7 @@ tracks_number p deletes j (c ∷ cs) h t =
 
 tracks_numbers : (p : List ℕ) (deletes : Bool) (j : ℕ) (ns : List ℕ) → AllByRecursion IsStreamNumber ns → Tracks p (BeforeItem deletes j)
     → Tracks (p ++ numbers_text ns) (BeforeItem deletes (j + length ns))
-unfolding numbers_text
+unfolding words_text
 tracks_numbers p deletes j [] h t = tracks_as t (sym (append-nil p)) (ap (BeforeItem deletes) (omega arith))
 tracks_numbers p deletes j (n ∷ ns) h t =
     tracks_as (tracks_numbers (p ++ (decimal n ++ space ∷ [])) deletes (j + 1) ns h.1
@@ -80,7 +80,7 @@ tracks_literal p imports n (c ∷ d ∷ ds) (inr h) t =
 
 pub tracks_literals : (p : List ℕ) (imports : Bool) (n : ℕ) (zs : List ℤ) → AllByRecursion IsStreamLiteral zs
     → Tracks p (BeforeLiteral imports n) → Tracks (p ++ literals_text zs) (BeforeLiteral imports (n + length zs))
-unfolding literals_text
+unfolding words_text
 tracks_literals p imports n [] h t = tracks_as t (sym (append-nil p)) (ap (BeforeLiteral imports) (omega arith))
 tracks_literals p imports n (z ∷ zs) h t =
     tracks_as (tracks_literals (p ++ (signed_decimal z ++ space ∷ [])) imports (n + 1) zs h.1
@@ -98,33 +98,25 @@ count_is : {X : Type 0} (old new more : List X) (first count : ℕ) → first �
 count_is old new more first count first_in count_in is =
     omega (arith, length-take-le count new count_in, length-take-le first old first_in, ap length is, length-append (take first old) more)
 
-pub items_ahead : (m : PartialLine) (v : Vec ℕ Global) (count used last : ℕ) (ids piece : List ℕ) → IsPartialLine m → m.state ≡ states.Item
-    → v.items ≡ ids → length ids ≡ 65536 → last ≤ length piece
-    → ReadsItems (take last piece) 0 m.identities.items m.identity_count ids count used
+pub items_ahead : (m : PartialLine) (v : Vec ℕ Global) (count used : ℕ) (ids piece : List ℕ) → IsPartialLine m → m.state ≡ states.Item
+    → v.items ≡ ids → length ids ≡ 65536
+    → ReadsWords decimal IsStreamNumber piece 0 m.identities.items m.identity_count ids count used
     → ReadsAhead m piece used (record m { identities = v; identity_count = count })
-unfolding pending_at spot_at IsRoomy items_text
-items_ahead m v count used last ids piece h at items size inside found =
+unfolding pending_at spot_at IsRoomy words_text
+items_ahead m v count used ids piece h at items size found =
     let next : PartialLine = record m { identities = v; identity_count = count; state = states.Item } in
-    let front = list_front m.deletes m.lead (literals_read m) in
     let few : m.identity_count ≤ length m.identities.items = omega (arith, h.room.identities, h.kept.few_identities) in
-    let lists : identities_read next ≡ identities_read m ++ found.more = ap (take count) items ∙ found.ids in
+    let lists : identities_read next ≡ identities_read m ++ found.more = ap (take count) items ∙ found.words in
     let counted : count ≡ m.identity_count + length found.more =
-    count_is m.identities.items ids found.more m.identity_count count few found.few found.ids in
-    let texts : items_text (identities_read next) ≡ items_text (identities_read m) ++ items_text found.more =
-    ap items_text lists ∙ texts_append (λ n. space ∷ decimal n) (identities_read m) found.more in
-    let here = (front ++ items_text (identities_read m)) ++ space ∷ [] in
+    count_is m.identities.items ids found.more m.identity_count count few found.few found.words in
+    let texts : numbers_text (identities_read next) ≡ numbers_text (identities_read m) ++ numbers_text found.more =
+    ap numbers_text lists ∙ texts_append (λ n. decimal n ++ space ∷ []) (identities_read m) found.more in
+    let here = item_front m in
     let grown : pending next ≡ here ++ numbers_text found.more =
-    ap (λ t. (front ++ t) ++ space ∷ []) texts
-    ∙ ap (λ t. t ++ space ∷ []) (sym (append_assoc front (items_text (identities_read m)) (items_text found.more)))
-    ∙ append_assoc (front ++ items_text (identities_read m)) (items_text found.more) (space ∷ [])
-    ∙ ap (λ t. (front ++ items_text (identities_read m)) ++ t) (sym (spaces_move found.more [])
-    ∙ ap (λ t. space ∷ t) (append-nil (numbers_text found.more)))
-    ∙ sym (append_assoc (front ++ items_text (identities_read m)) (space ∷ []) (numbers_text found.more)) in
+    list_more (list_front m.deletes m.lead (literals_read m)) (identities_read m) (identities_read next) (numbers_text found.more) texts in
     let tracks : Tracks here (BeforeItem m.deletes m.identity_count) = subst (λ p. Tracks (pending_at p m) (spot_at p m)) at h.tracks in
-    let bytes : take used piece ≡ numbers_text found.more =
-    sym (take-take used last piece (omega (arith, found.inside, length-take-le last piece inside))) ∙ found.is in
     let result : ReadsAhead m piece used next = record {
-      bound = omega (arith, found.inside, length-take-le last piece inside);
+      bound = found.inside;
       reads = record {
         room = record { literals = h.room.literals; identities = ap length items ∙ size };
         kept = record {
@@ -140,31 +132,29 @@ items_ahead m v count used last ids piece h at items size inside found =
         tracks = tracks_as (tracks_numbers here m.deletes m.identity_count found.more found.each tracks) (sym grown)
             (ap (BeforeItem m.deletes) (sym counted));
       };
-      is = grown ∙ ap (λ p. pending_at p m ++ numbers_text found.more) (sym at) ∙ ap (λ t. pending m ++ t) (sym bytes);
+      is = grown ∙ ap (λ p. pending_at p m ++ numbers_text found.more) (sym at) ∙ ap (λ t. pending m ++ t) (sym found.is);
     } in
     subst (λ p. ReadsAhead m piece used (record next { state = p })) (sym at) result
 
-pub literals_ahead : (m : PartialLine) (v : Vec ℤ Global) (count used last : ℕ) (lits : List ℤ) (piece : List ℕ) → IsPartialLine m
-    → m.state ≡ states.Body → v.items ≡ lits → length lits ≡ 65535 → last ≤ length piece
-    → ReadsLiterals (take last piece) 0 m.literals.items m.literal_count lits count used
+pub literals_ahead : (m : PartialLine) (v : Vec ℤ Global) (count used : ℕ) (lits : List ℤ) (piece : List ℕ) → IsPartialLine m
+    → m.state ≡ states.Body → v.items ≡ lits → length lits ≡ 65535
+    → ReadsWords signed_decimal IsStreamLiteral piece 0 m.literals.items m.literal_count lits count used
     → ReadsAhead m piece used (record m { literals = v; literal_count = count })
-unfolding pending_at spot_at IsRoomy literals_text
-literals_ahead m v count used last lits piece h at items size inside found =
+unfolding pending_at spot_at IsRoomy words_text
+literals_ahead m v count used lits piece h at items size found =
     let next : PartialLine = record m { literals = v; literal_count = count; state = states.Body } in
     let few : m.literal_count ≤ length m.literals.items = omega (arith, h.room.literals, h.kept.few_literals) in
-    let lists : literals_read next ≡ literals_read m ++ found.more = ap (take count) items ∙ found.lits in
+    let lists : literals_read next ≡ literals_read m ++ found.more = ap (take count) items ∙ found.words in
     let counted : count ≡ m.literal_count + length found.more =
-    count_is m.literals.items lits found.more m.literal_count count few found.few found.lits in
+    count_is m.literals.items lits found.more m.literal_count count few found.few found.words in
     let texts : literals_text (literals_read next) ≡ literals_text (literals_read m) ++ literals_text found.more =
     ap literals_text lists ∙ texts_append (λ z. signed_decimal z ++ space ∷ []) (literals_read m) found.more in
     let here = clause_front m.imports m.lead (literals_read m) in
     let grown : pending next ≡ here ++ literals_text found.more =
     clause_more m.imports m.lead (literals_read m) (literals_read next) (literals_text found.more) texts in
     let tracks : Tracks here (BeforeLiteral m.imports m.literal_count) = subst (λ p. Tracks (pending_at p m) (spot_at p m)) at h.tracks in
-    let bytes : take used piece ≡ literals_text found.more =
-    sym (take-take used last piece (omega (arith, found.inside, length-take-le last piece inside))) ∙ found.is in
     let result : ReadsAhead m piece used next = record {
-      bound = omega (arith, found.inside, length-take-le last piece inside);
+      bound = found.inside;
       reads = record {
         room = record { literals = ap length items ∙ size; identities = h.room.identities };
         kept = record {
@@ -180,7 +170,7 @@ literals_ahead m v count used last lits piece h at items size inside found =
         tracks = tracks_as (tracks_literals here m.imports m.literal_count found.more found.each tracks) (sym grown)
             (ap (BeforeLiteral m.imports) (sym counted));
       };
-      is = grown ∙ ap (λ p. pending_at p m ++ literals_text found.more) (sym at) ∙ ap (λ t. pending m ++ t) (sym bytes);
+      is = grown ∙ ap (λ p. pending_at p m ++ literals_text found.more) (sym at) ∙ ap (λ t. pending m ++ t) (sym found.is);
     } in
     subst (λ p. ReadsAhead m piece used (record next { state = p })) (sym at) result
 

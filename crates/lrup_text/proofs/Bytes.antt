@@ -9,9 +9,9 @@ use Rattle.std.proofs.lemmas.List.{append_assoc, append-nil, flat_map_more, take
 use Rattle.std.proofs.lemmas.Bool.{cases_eq}
 use Rattle.lrup_model.specs.lemmas.ListLemmas.{All-push}
 use Rattle.lrup_text.specs.declared.LineFault.TheVariants.{Spelling, TooLong, RatHint}
-use Rattle.lrup_text.specs.declared.machine.ParserState.{ParserState}
-use Rattle.lrup_text.specs.declared.machine.ParserState.TheVariants as states
-use Rattle.lrup_text.specs.declared.machine.PartialLine.{PartialLine}
+use Rattle.lrup_text.specs.declared.partial_line.ParserState.{ParserState}
+use Rattle.lrup_text.specs.declared.partial_line.ParserState.TheVariants as states
+use Rattle.lrup_text.specs.declared.partial_line.PartialLine.{PartialLine}
 use Rattle.lrup_text.specs.Writing.{space}
 use Rattle.lrup_text.specs.internal.ByteNames.{minus, zero_digit, letter_d, letter_i, line_feed}
 use Rattle.lrup_text.specs.Grammar.{IsDigit, list_text, clause_text}
@@ -19,10 +19,10 @@ use Rattle.lrup_text.specs.Faults.{IsRefused}
 use Rattle.lrup_text.specs.Lines.{IsWithinLimits, IsStreamNumber, IsStreamLiteral, LineText, line_text}
 use Rattle.lrup_text.specs.internal.Rests.{Spot, InLead, AfterImport, BeforeLiteral, AfterMinus, InLiteral, BeforeList, BeforeItem}
 use Rattle.lrup_text.specs.internal.Rests.{InItem, AtEnd, Tracks, Moves, Blocks, Allows}
-use Rattle.lrup_text.specs.internal.Reading.{FitsDigits, CanStandInLine, IsPartialLine, pending_at, spot_at, pending, IsRoomy}
+use Rattle.lrup_text.specs.internal.Reading.{FitsDigits, CanOccurInLine, IsPartialLine, pending_at, spot_at, pending, IsRoomy}
 use Rattle.lrup_text.specs.internal.Reading.{clause_front}
 use Rattle.lrup_text.specs.internal.Reading.{list_front, item_front, end_front, literal_front, literals_read, identities_read}
-use Rattle.lrup_text.specs.internal.Reading.{literals_text, items_text, line_so_far, line_of_parts}
+use Rattle.lrup_text.specs.internal.Reading.{words_text, literals_text, numbers_text, line_so_far, line_of_parts}
 use Rattle.lrup_text.proofs.Decisions.{decides_spelling, decides_long, decides_rat}
 use Rattle.lrup_text.proofs.Rests.{list_is_clause}
 use Rattle.lrup_text.proofs.Numerals.{decimal_one, decimal_byte, power_more, power_below}
@@ -139,29 +139,29 @@ positive n k h = (h.low, below_limit n k h)
 pub text_more : {X : Type 0} (f : X → List ℕ) (xs : List X) (x : X) → flat_map f (xs ++ x ∷ []) ≡ flat_map f xs ++ f x
 text_more f xs x = sym (flat_map_more f [] xs x)
 
--- the end of a list's text
-pub items_end : (ids : List ℕ) → items_text ids ++ space ∷ zero_digit ∷ line_feed ∷ [] ≡ list_text (map decimal ids)
-unfolding items_text
-items_end [] = refl
-items_end (n ∷ ns) = ap (λ t. space ∷ t)
-    (append_assoc (decimal n) (items_text ns) (space ∷ zero_digit ∷ line_feed ∷ []) ∙ ap (λ t. decimal n ++ t) (items_end ns))
+-- the end of a clause's text
+pub words_end : {A : Type 0} (spell : A → List ℕ) (words : List A) (after : List ℕ)
+    → words_text spell words ++ zero_digit ∷ after ≡ clause_text (map spell words) after
+unfolding words_text
+words_end spell [] after = refl
+words_end spell (w ∷ ws) after =
+    append_assoc (spell w ++ space ∷ []) (words_text spell ws) (zero_digit ∷ after)
+    ∙ append_assoc (spell w) (space ∷ []) (words_text spell ws ++ zero_digit ∷ after)
+    ∙ ap (λ t. spell w ++ space ∷ t) (words_end spell ws after)
 
-pub literals_end : (lits : List ℤ) (after : List ℕ) → literals_text lits ++ zero_digit ∷ after ≡ clause_text (map signed_decimal lits) after
-unfolding literals_text
-literals_end [] after = refl
-literals_end (z ∷ zs) after =
-    append_assoc (signed_decimal z ++ space ∷ []) (literals_text zs) (zero_digit ∷ after)
-    ∙ append_assoc (signed_decimal z) (space ∷ []) (literals_text zs ++ zero_digit ∷ after)
-    ∙ ap (λ t. signed_decimal z ++ space ∷ t) (literals_end zs after)
+-- a list has a space before its words, and then a space after each
+pub list_words : {A : Type 0} (spell : A → List ℕ) (words : List A)
+    → space ∷ (words_text spell words ++ zero_digit ∷ line_feed ∷ []) ≡ list_text (map spell words)
+list_words spell words = ap (λ t. space ∷ t) (words_end spell words (line_feed ∷ [])) ∙ sym (list_is_clause (map spell words))
 
 -- the whole text of a line, from its front
 list_end : (deletes : Bool) (lead : ℕ) (lits : List ℤ) (ids : List ℕ)
-    → ((list_front deletes lead lits ++ items_text ids) ++ space ∷ zero_digit ∷ []) ++ line_feed ∷ []
+    → ((list_front deletes lead lits ++ space ∷ numbers_text ids) ++ zero_digit ∷ []) ++ line_feed ∷ []
     ≡ line_text (line_of_parts false deletes lead lits ids)
 list_end deletes lead lits ids =
-    append_assoc (list_front deletes lead lits ++ items_text ids) (space ∷ zero_digit ∷ []) (line_feed ∷ [])
-    ∙ append_assoc (list_front deletes lead lits) (items_text ids) (space ∷ zero_digit ∷ line_feed ∷ [])
-    ∙ ap (λ t. list_front deletes lead lits ++ t) (items_end ids)
+    append_assoc (list_front deletes lead lits ++ space ∷ numbers_text ids) (zero_digit ∷ []) (line_feed ∷ [])
+    ∙ append_assoc (list_front deletes lead lits) (space ∷ numbers_text ids) (zero_digit ∷ line_feed ∷ [])
+    ∙ ap (λ t. list_front deletes lead lits ++ t) (list_words decimal ids)
     ∙ front deletes
   where
     front : (deletes : Bool)
@@ -170,18 +170,17 @@ list_end deletes lead lits ids =
     front false =
         append_assoc (clause_front false lead lits) (zero_digit ∷ []) (list_text (map decimal ids))
         ∙ append_assoc (decimal lead) (space ∷ literals_text lits) (zero_digit ∷ list_text (map decimal ids))
-        ∙ ap (λ t. decimal lead ++ space ∷ t) (literals_end lits (list_text (map decimal ids)))
+        ∙ ap (λ t. decimal lead ++ space ∷ t) (words_end signed_decimal lits (list_text (map decimal ids)))
 
 pub line_end : (imports deletes : Bool) (lead : ℕ) (lits : List ℤ) (ids : List ℕ)
     → end_front imports deletes lead lits ids ++ line_feed ∷ [] ≡ line_text (line_of_parts imports deletes lead lits ids)
 line_end true deletes lead lits ids =
     append_assoc (clause_front true lead lits) (zero_digit ∷ []) (line_feed ∷ [])
     ∙ append_assoc (decimal lead) (space ∷ letter_i ∷ space ∷ literals_text lits) (zero_digit ∷ line_feed ∷ [])
-    ∙ ap (λ t. decimal lead ++ space ∷ letter_i ∷ t) (ap (λ t. space ∷ t) (literals_end lits (line_feed ∷ []))
-    ∙ sym (list_is_clause (map signed_decimal lits)))
+    ∙ ap (λ t. decimal lead ++ space ∷ letter_i ∷ t) (list_words signed_decimal lits)
 line_end false deletes lead lits ids = list_end deletes lead lits ids
 
-pub line_fits : (imports deletes : Bool) (lead : ℕ) (lits : List ℤ) (n : ℕ) (ids : List ℕ) (j : ℕ) → CanStandInLine lead lits n ids j
+pub line_fits : (imports deletes : Bool) (lead : ℕ) (lits : List ℤ) (n : ℕ) (ids : List ℕ) (j : ℕ) → CanOccurInLine lead lits n ids j
     → n ≤ length lits → j ≤ length ids → IsWithinLimits (line_of_parts imports deletes lead (take n lits) (take j ids))
 line_fits true deletes lead lits n ids j h n_in j_in =
     (h.lead, record { count = omega (arith, length-take-le n lits n_in, h.few_literals); each = h.literals })
@@ -200,6 +199,11 @@ clause_more true lead lits longer x is = ap (λ t. decimal lead ++ space ∷ let
     ∙ sym (append_assoc (decimal lead) (space ∷ letter_i ∷ space ∷ literals_text lits) x)
 clause_more false lead lits longer x is = ap (λ t. decimal lead ++ space ∷ t) is
     ∙ sym (append_assoc (decimal lead) (space ∷ literals_text lits) x)
+
+-- the front of a list after one more word
+pub list_more : (front : List ℕ) (ids longer x : List ℕ) → numbers_text longer ≡ numbers_text ids ++ x
+    → front ++ space ∷ numbers_text longer ≡ (front ++ space ∷ numbers_text ids) ++ x
+list_more front ids longer x is = ap (λ t. front ++ space ∷ t) is ∙ sym (append_assoc front (space ∷ numbers_text ids) x)
 
 -- The line isn't finished after this byte.
 abbrev pub GoesOn : PartialLine → ℕ → PartialLine → Type 0
@@ -249,7 +253,7 @@ module _ (m : PartialLine) (b : ℕ) (h : IsPartialLine m) where
 
   pub lead_space_goes_on : m.state ≡ states.Lead → b ≡ space
       → GoesOn m b (record m { lead = m.number; imports = false; literal_count = 0; identity_count = 0; state = states.Body })
-  unfolding pending_at spot_at IsRoomy literals_text
+  unfolding pending_at spot_at IsRoomy words_text
   lead_space_goes_on at e =
       let next : PartialLine = record m { lead = m.number; imports = false; literal_count = 0; identity_count = 0; state = states.Body } in
       let is : pending next ≡ decimal m.number ++ b ∷ [] = ap (λ x. decimal m.number ++ x ∷ []) (sym e) in (
@@ -283,7 +287,7 @@ module _ (m : PartialLine) (b : ℕ) (h : IsPartialLine m) where
   -- Import
 
   pub import_space_goes_on : m.state ≡ states.Import → b ≡ space → GoesOn m b (record m { state = states.Body })
-  unfolding pending_at spot_at IsRoomy literals_text
+  unfolding pending_at spot_at IsRoomy words_text
   import_space_goes_on at e =
       let next : PartialLine = record m { state = states.Body } in
       let roomy : (m.identity_count ≡ 0) × (m.literal_count ≡ 0) × (m.imports ≡ true) = subst (λ p. IsRoomy p m) at h.roomy in
@@ -355,7 +359,7 @@ module _ (m : PartialLine) (b : ℕ) (h : IsPartialLine m) where
 
   -- the front of a line that has no literals and is no import so far
   lead_front : m.imports ≡ false → m.literal_count ≡ 0 → clause_front m.imports m.lead (literals_read m) ≡ decimal m.lead ++ space ∷ []
-  unfolding literals_text
+  unfolding words_text
   lead_front adds few = ap (λ i. clause_front i m.lead (literals_read m)) adds
       ∙ ap (λ n. clause_front false m.lead (take n m.literals.items)) few
 
@@ -517,7 +521,7 @@ module _ (m : PartialLine) (b : ℕ) (h : IsPartialLine m) where
       → signed_decimal z ≡ literal_front m.negative m.number → unsigned_abs z ≡ m.number
       → m.state ≡ states.Literal → b ≡ space
       → GoesOn m b (record m { literals = v; literal_count = m.literal_count + 1; state = states.Body })
-  unfolding pending_at spot_at IsRoomy literals_text
+  unfolding pending_at spot_at IsRoomy words_text
   literal_space_goes_on v z items value magnitude at e =
       let next : PartialLine = record m { literals = v; literal_count = m.literal_count + 1; state = states.Body } in
       let roomy : (m.identity_count ≡ 0) × (m.literal_count < 65535) = subst (λ p. IsRoomy p m) at h.roomy in
@@ -572,14 +576,14 @@ module _ (m : PartialLine) (b : ℕ) (h : IsPartialLine m) where
   -- List
 
   pub list_goes_on : m.state ≡ states.List → b ≡ space → GoesOn m b (record m { state = states.Item })
-  unfolding pending_at spot_at IsRoomy items_text
+  unfolding pending_at spot_at IsRoomy words_text
   list_goes_on at e =
       let next : PartialLine = record m { state = states.Item } in
       let front = list_front m.deletes m.lead (literals_read m) in
       let roomy : (m.identity_count ≡ 0) × (m.imports ≡ false) = subst (λ p. IsRoomy p m) at h.roomy in
       let none : m.identity_count ≡ 0 = roomy.0 in
-      let empty : item_front m ≡ front = ap (λ n. front ++ items_text (take n m.identities.items)) none ∙ append-nil front in
-      let is : pending next ≡ front ++ b ∷ [] = ap (λ t. t ++ space ∷ []) empty ∙ ap (λ x. front ++ x ∷ []) (sym e) in (
+      let empty : item_front m ≡ front ++ space ∷ [] = ap (λ n. front ++ space ∷ numbers_text (take n m.identities.items)) none in
+      let is : pending next ≡ front ++ b ∷ [] = empty ∙ ap (λ x. front ++ x ∷ []) (sym e) in (
         record {
           room = h.room;
           kept = h.kept;
@@ -598,17 +602,13 @@ module _ (m : PartialLine) (b : ℕ) (h : IsPartialLine m) where
 
   -- Item
 
-  -- one more byte after the space before an item
-  after_space : (x : ℕ) → x ≡ b → item_front m ++ space ∷ x ∷ [] ≡ (item_front m ++ space ∷ []) ++ b ∷ []
-  after_space x e = ap (λ y. item_front m ++ space ∷ y ∷ []) e ∙ sym (append_assoc (item_front m) (space ∷ []) (b ∷ []))
-
   pub item_zero_goes_on : m.state ≡ states.Item → b ≡ zero_digit → GoesOn m b (record m { state = states.LineEnd })
   unfolding pending_at spot_at IsRoomy
   item_zero_goes_on at e =
       let next : PartialLine = record m { state = states.LineEnd } in
       let lists : m.imports ≡ false = subst (λ p. IsRoomy p m) at h.roomy in
-      let is : pending next ≡ (item_front m ++ space ∷ []) ++ b ∷ [] =
-      ap (λ i. end_front i m.deletes m.lead (literals_read m) (identities_read m)) lists ∙ after_space zero_digit (sym e) in (
+      let is : pending next ≡ item_front m ++ b ∷ [] =
+      ap (λ i. end_front i m.deletes m.lead (literals_read m) (identities_read m)) lists ∙ ap (λ x. item_front m ++ x ∷ []) (sym e) in (
         record {
           room = h.room;
           kept = h.kept;
@@ -625,8 +625,7 @@ module _ (m : PartialLine) (b : ℕ) (h : IsPartialLine m) where
   unfolding pending_at spot_at IsRoomy
   item_digit_goes_on at low high few =
       let next : PartialLine = record m { number = b - 48; digits = 1; state = states.Number } in
-      let is : pending next ≡ (item_front m ++ space ∷ []) ++ b ∷ [] =
-      ap (λ t. item_front m ++ space ∷ t) (decimal_one b (omega arith, high)) ∙ after_space b refl in (
+      let is : pending next ≡ item_front m ++ b ∷ [] = ap (λ t. item_front m ++ t) (decimal_one b (omega arith, high)) in (
         record {
           room = h.room;
           kept = h.kept;
@@ -667,9 +666,9 @@ module _ (m : PartialLine) (b : ℕ) (h : IsPartialLine m) where
   unfolding pending_at spot_at IsRoomy
   number_digit_goes_on at digit few =
       let next : PartialLine = record m { number = m.number * 10 + (b - 48); digits = m.digits + 1; state = states.Number } in
-      let is : pending next ≡ (item_front m ++ space ∷ decimal m.number) ++ b ∷ [] =
-      ap (λ t. item_front m ++ space ∷ t) (decimal_next m.number m.digits b h.number few digit)
-      ∙ sym (append_assoc (item_front m) (space ∷ decimal m.number) (b ∷ [])) in
+      let is : pending next ≡ (item_front m ++ decimal m.number) ++ b ∷ [] =
+      ap (λ t. item_front m ++ t) (decimal_next m.number m.digits b h.number few digit)
+      ∙ sym (append_assoc (item_front m) (decimal m.number) (b ∷ [])) in
       let goes : GoesOn m b next = (
         record {
           room = h.room;
@@ -691,21 +690,19 @@ module _ (m : PartialLine) (b : ℕ) (h : IsPartialLine m) where
   pub number_space_goes_on : (v : Vec ℕ Global) → v.items ≡ slice_set m.identities.items m.identity_count m.number
       → m.state ≡ states.Number → b ≡ space
       → GoesOn m b (record m { identities = v; identity_count = m.identity_count + 1; state = states.Item })
-  unfolding pending_at spot_at IsRoomy items_text
+  unfolding pending_at spot_at IsRoomy words_text
   number_space_goes_on v items at e =
       let next : PartialLine = record m { identities = v; identity_count = m.identity_count + 1; state = states.Item } in
       let roomy : (m.identity_count < 65536) × (m.imports ≡ false) = subst (λ p. IsRoomy p m) at h.roomy in
       let count : length m.identities.items ≡ 65536 = h.room.identities in
       let more : identities_read next ≡ identities_read m ++ m.number ∷ [] =
       ap (take (m.identity_count + 1)) items ∙ take_more_set m.identities.items m.identity_count m.number (omega arith) in
-      let front = list_front m.deletes m.lead (literals_read m) in
-      let word = space ∷ decimal m.number in
-      let texts : items_text (identities_read next) ≡ items_text (identities_read m) ++ word =
-      ap items_text more ∙ text_more (λ n. space ∷ decimal n) (identities_read m) m.number in
+      let word = decimal m.number in
+      let texts : numbers_text (identities_read next) ≡ numbers_text (identities_read m) ++ (word ++ space ∷ []) =
+      ap numbers_text more ∙ text_more (λ n. decimal n ++ space ∷ []) (identities_read m) m.number in
       let is : pending next ≡ (item_front m ++ word) ++ b ∷ [] =
-      ap (λ t. (front ++ t) ++ space ∷ []) texts
-      ∙ ap (λ t. t ++ space ∷ []) (sym (append_assoc front (items_text (identities_read m)) word))
-      ∙ ap (λ x. (item_front m ++ word) ++ x ∷ []) (sym e) in (
+      list_more (list_front m.deletes m.lead (literals_read m)) (identities_read m) (identities_read next) (word ++ space ∷ []) texts
+      ∙ sym (append_assoc (item_front m) word (space ∷ [])) ∙ ap (λ x. (item_front m ++ word) ++ x ∷ []) (sym e) in (
         record {
           room = record {
             literals = h.room.literals;

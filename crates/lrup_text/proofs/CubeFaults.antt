@@ -53,7 +53,7 @@ begins_cube limits lifted bytes h = (h.0, cube_of_line limits lifted (bytes ++ h
 
 -- A byte that decides that the line has a fault decides it for the text, too.
 
-module _ (read : List ℕ) (spot : Spot) (byte : ℕ) (after : List ℕ) (stands : EndsAtSpot read spot) (bounded : IsBounded spot) where
+module _ (read : List ℕ) (spot : Spot) (byte : ℕ) (after : List ℕ) (occurs : EndsAtSpot read spot) (bounded : IsBounded spot) where
   none : (fault : LineFault) (Shortest : List ℕ → Type 0) → IsRefused ((import_front ++ read) ++ byte ∷ []) fault
       → Shortest (read ++ byte ∷ []) → BeginsNone IsCubeLine (read ++ byte ∷ after) Shortest
   none fault Shortest h shortest = record {
@@ -61,46 +61,46 @@ module _ (read : List ℕ) (spot : Spot) (byte : ℕ) (after : List ℕ) (stands
     byte = byte;
     after = after;
     is = refl;
-    before = begins_cube standard standard_lifted read (tracks_begins (import_front ++ read) spot stands bounded);
+    before = begins_cube standard standard_lifted read (tracks_begins (import_front ++ read) spot occurs bounded);
     none = λ b. h.after (begins_line standard standard_lifted (read ++ byte ∷ []) b);
     shortest = shortest;
   }
 
   pub misspelled : ((signed : Bool) → Blocks signed spot byte) → IsTextFault IsCubeLine (read ++ byte ∷ after) Spelling
   misspelled blocks =
-      let h = decides_spelling (import_front ++ read) spot byte stands bounded blocks in
+      let h = decides_spelling (import_front ++ read) spot byte occurs bounded blocks in
       inr (none lines.Spelling (λ s. ¬ BeginsOneLifted IsCubeLine s) h
       (λ l. let line = begins_line l.0 l.1 (read ++ byte ∷ []) l.2 in h.why.0 (l.0, line.0, l.1, line.1)))
 
   pub too_long : Exceeds spot byte → IsTextFault IsCubeLine (read ++ byte ∷ after) TooLong
   too_long exceeds =
-      let h = decides_long (import_front ++ read) spot byte stands bounded exceeds in
+      let h = decides_long (import_front ++ read) spot byte occurs bounded exceeds in
       none lines.TooLong (BeginsOneLifted IsCubeLine) h
       (h.why.0, h.why.2, begins_cube h.why.0 h.why.2 (read ++ byte ∷ []) (h.why.1, h.why.3))
 
 -- the fault of the rest after a byte
 pub rest_fault : (spot next : ℕ → Spot) (byte : ℕ) (after : List ℕ) (fault : CubeFault) → ((n : ℕ) → Moves (spot n) byte (next n))
     → IsRestFault next after fault → IsRestFault spot (byte ∷ after) fault
-rest_fault spot next byte after fault moves h read n few stands =
+rest_fault spot next byte after fault moves h read n few occurs =
     subst (λ t. IsTextFault IsCubeLine t fault) (append_assoc read (byte ∷ []) after)
-    (h (read ++ byte ∷ []) n few (tracks_more (import_front ++ read) (spot n) (next n) byte stands (moves n)))
+    (h (read ++ byte ∷ []) n few (tracks_more (import_front ++ read) (spot n) (next n) byte occurs (moves n)))
 
 -- the text ends before the line does
 pub too_short : (read : List ℕ) (spot : Spot) → EndsAtSpot read spot → IsBounded spot → IsTextFault IsCubeLine (read ++ []) Spelling
-too_short read spot stands bounded =
+too_short read spot occurs bounded =
     let line = import_front ++ read in
     subst (λ t. IsTextFault IsCubeLine t Spelling) (sym (append-nil read))
     (inl (
-      begins_cube standard standard_lifted read (tracks_begins line spot stands bounded),
+      begins_cube standard standard_lifted read (tracks_begins line spot occurs bounded),
       λ cube.
           let whole = (texts_are_lines line).0 (line_of_cube standard standard_lifted read cube) in
-          (tracks_pending line spot stands bounded).whole whole.0 [] whole.1.0 (whole.1.1 ∙ sym (append-nil _)),
+          (tracks_pending line spot occurs bounded).whole whole.0 [] whole.1.0 (whole.1.1 ∙ sym (append-nil _)),
     ))
 
 -- bytes follow the LF
 too_much : (read : List ℕ) (byte : ℕ) (after : List ℕ) → EndsAtSpot read AtEnd
     → IsTextFault IsCubeLine (read ++ line_feed ∷ byte ∷ after) Spelling
-too_much read byte after stands = inr (record {
+too_much read byte after occurs = inr (record {
   read = line;
   byte = byte;
   after = after;
@@ -108,7 +108,7 @@ too_much read byte after stands = inr (record {
   before = begins_cube standard standard_lifted line (
     [],
     subst (λ t. IsLine standard (import_front ++ t)) (sym (append-nil line))
-        (stands.line false standard standard_lifted (line_feed ∷ []) refl),
+        (occurs.line false standard standard_lifted (line_feed ∷ []) refl),
   );
   none = λ h. never standard standard_lifted h.0 h.1;
   shortest = λ l. never l.0 l.1 l.2.0 l.2.1;
@@ -122,20 +122,20 @@ too_much read byte after stands = inr (record {
         let longer : (line ++ byte ∷ []) ++ rest ≡ read ++ line_feed ∷ byte ∷ rest = append_assoc line (byte ∷ []) rest
         ∙ append_assoc read (line_feed ∷ []) (byte ∷ rest) in
         let end : line_feed ∷ byte ∷ rest ≡ line_feed ∷ [] =
-        stands.completes false limits lifted _ (subst (λ t. IsLine limits (import_front ++ t)) longer (line_of_cube limits lifted _ h)) in
+        occurs.completes false limits lifted _ (subst (λ t. IsLine limits (import_front ++ t)) longer (line_of_cube limits lifted _ h)) in
         cc
 
 -- the rest after the closing 0 isn't just LF
 pub wrong_end : (read : List ℕ) (n : ℕ) (after : List ℕ) → EndsAtSpot read (BeforeLiteral true n) → n ≤ 65535 → ¬ (after ≡ line_feed ∷ [])
     → IsTextFault IsCubeLine (read ++ zero_digit ∷ after) Spelling
-wrong_end read n after stands few other =
+wrong_end read n after occurs few other =
     subst (λ t. IsTextFault IsCubeLine t Spelling) (append_assoc read (zero_digit ∷ []) after) (cases after other)
   where
     closed : List ℕ
     closed = read ++ zero_digit ∷ []
 
     ends : EndsAtSpot closed AtEnd
-    ends = tracks_more (import_front ++ read) (BeforeLiteral true n) AtEnd zero_digit stands (body_end n few)
+    ends = tracks_more (import_front ++ read) (BeforeLiteral true n) AtEnd zero_digit occurs (body_end n few)
 
     cases : (after : List ℕ) → ¬ (after ≡ line_feed ∷ []) → IsTextFault IsCubeLine (closed ++ after) Spelling
     cases [] other = too_short closed AtEnd ends tt

@@ -16,8 +16,8 @@ use Rattle.lrup_text.specs.internal.ByteNames.{line_feed, zero_digit}
 use Rattle.lrup_text.specs.Writing.{space}
 use Rattle.lrup_text.specs.Grammar.{IsDigit}
 use Rattle.lrup_text.specs.Lines.{IsStreamLiteral}
-use Rattle.lrup_text.specs.internal.Reading.{FitsDigits, literals_text}
-use Rattle.lrup_text.proofs.Bytes.{first_digit, more_digits, below_limit, decimal_next, positive, text_more, literals_end}
+use Rattle.lrup_text.specs.internal.Reading.{FitsDigits, words_text, literals_text}
+use Rattle.lrup_text.proofs.Bytes.{first_digit, more_digits, below_limit, decimal_next, positive, text_more, words_end}
 use Rattle.lrup_text.specs.internal.Rests.{BeforeLiteral, InLiteral}
 use Rattle.lrup_text.proofs.Ahead.{tracks_as, literal_digits, tracks_literals}
 use Rattle.lrup_text.proofs.CubeFaults.{nothing_read}
@@ -70,9 +70,9 @@ digits_read first after number digits rest next so is = record {
 pub digits_fault : (first : ℕ) (after : List ℕ) (number digits : ℕ) (rest : List ℕ) (fault : CubeFault)
     → DigitsSoFar first after number digits rest → IsRestFault (InLiteral true digits) rest fault
     → IsRestFault (InLiteral true 1) after fault
-digits_fault first after number digits rest fault so h read n few stands =
+digits_fault first after number digits rest fault so h read n few occurs =
     let here : EndsAtSpot (read ++ so.more) (InLiteral true digits n) =
-    tracks_as (literal_digits (import_front ++ read) true 1 n so.more so.each stands) refl (ap (λ k. InLiteral true k n) (sym so.size)) in
+    tracks_as (literal_digits (import_front ++ read) true 1 n so.more so.each occurs) refl (ap (λ k. InLiteral true k n) (sym so.size)) in
     subst (λ t. IsTextFault IsCubeLine t fault) (append_assoc read so.more rest ∙ ap (λ t. read ++ t) (sym so.is))
     (h (read ++ so.more) n few here)
 
@@ -85,12 +85,12 @@ pub record LiteralsSoFar (text : List ℕ) (literals : List ℤ) (count : ℕ) (
   pub is : text ≡ literals_text literals ++ rest
 
 pub literals_start : (text : List ℕ) → LiteralsSoFar text [] 0 text
-unfolding literals_text
+unfolding words_text
 literals_start text = record { size = refl; few = omega arith; each = tt; is = refl }
 
 pub literals_next : (text : List ℕ) (literals : List ℤ) (count : ℕ) (rest next : List ℕ) (z : ℤ) → LiteralsSoFar text literals count rest
     → ReadsLiteral rest z next → count < 65535 → LiteralsSoFar text (literals ++ z ∷ []) (count + 1) next
-unfolding literals_text
+unfolding words_text
 literals_next text literals count rest next z so read few =
     let word = signed_decimal z ++ space ∷ [] in
     let longer : literals_text (literals ++ z ∷ []) ≡ literals_text literals ++ word =
@@ -117,7 +117,7 @@ pub text_read : (text : List ℕ) (literals : List ℤ) (count : ℕ) (rest : Li
     → rest ≡ zero_digit ∷ line_feed ∷ [] → IsLiteralsText literals text
 text_read text literals count rest so is = record {
   few = record { count = omega (arith, so.size, so.few); each = so.each };
-  is = so.is ∙ ap (λ t. literals_text literals ++ t) is ∙ literals_end literals (line_feed ∷ []);
+  is = so.is ∙ ap (λ t. literals_text literals ++ t) is ∙ words_end signed_decimal literals (line_feed ∷ []);
 }
 
 -- The literals of a whole text that are kept.

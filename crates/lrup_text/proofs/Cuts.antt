@@ -1,4 +1,5 @@
--- Every list of bytes can be cut into lines: take bytes one by one, up to the end of a line or the byte that decides that there is none.
+-- Every list of bytes can be cut into lines: take bytes one by one, up to the end of a line or the
+-- byte that decides that there is none.
 use Rattle.std.proofs.Common.{◌≡◌, ◌≢◌, ℕ, suc, zero, ◌+◌, ◌<◌, ◌≤◌, ◌⊎◌, inl, inr, Bool, true, false, List, [], ◌∷◌, ◌++◌, length, refl}
 use Rattle.std.proofs.Common.{sym, ◌∙◌, ap, subst, arith}
 use Rattle.std.specs.List.{flat_map}
@@ -59,7 +60,8 @@ number_byte spot k b few digit digit_more closes none = elim (digit_or_not b) [
   | inr never ↦ elim (cases_eq b space) [ inl is ↦ subst (ByteAt spot) (sym is) closes | inr ne ↦ none never ne ]
 ]
 
--- among literals: a 0, a sign, a digit, a letter if the kind of the line isn't known yet, or another byte
+-- among literals: a 0, a sign, a digit, a letter if the kind of the line isn't known yet, or
+-- another byte
 body_byte : (imports : Bool) (n b : ℕ) → n ≤ 65535 → ByteAt (BeforeLiteral imports n) b
 body_byte imports n b few = elim (cases_eq b zero_digit) [
   | inl is ↦ subst (ByteAt (BeforeLiteral imports n)) (sym is) (closes imports)

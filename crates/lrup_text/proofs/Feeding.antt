@@ -2,8 +2,8 @@
 use Rattle.std.proofs.Common.{◌≡◌, ℕ, ◌≤◌, List, ◌++◌, length, take, Option, None, Ok, Err, refl, sym, ◌∙◌, ap, subst, arith}
 use Rattle.lrup_text.specs.declared.LineFault.{LineFault}
 use Rattle.lrup_text.specs.declared.Line.{Line}
-use Rattle.lrup_text.specs.declared.machine.ByteStep.TheVariants.{More, Done, Refused}
-use Rattle.lrup_text.specs.declared.machine.PartialLine.{PartialLine}
+use Rattle.lrup_text.specs.declared.partial_line.ByteStep.TheVariants.{More, Done, Refused}
+use Rattle.lrup_text.specs.declared.partial_line.PartialLine.{PartialLine}
 use Rattle.lrup_text.specs.declared.reader.ReaderStatus.{ReaderStatus}
 use Rattle.lrup_text.specs.declared.reader.ReaderStatus.TheVariants as statuses
 use Rattle.lrup_text.specs.Lines.{IsPending, LineText, line_of}

@@ -1,7 +1,6 @@
 pub mod Bytes
 pub mod Decisions
 pub mod Feeding
-pub mod Digits
 pub mod Numerals
 pub mod Readers
 pub mod Rests

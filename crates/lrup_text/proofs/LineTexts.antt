@@ -6,30 +6,32 @@ use Rattle.lrup_text.specs.Writing.{space}
 use Rattle.lrup_text.specs.internal.ByteNames.{zero_digit, letter_d, letter_i, line_feed}
 use Rattle.lrup_text.specs.Grammar.{list_text}
 use Rattle.lrup_text.specs.Lines.{Addition, Deletion, Import, line_text}
-use Rattle.lrup_text.specs.internal.Reading.{literals_text}
-use Rattle.lrup_text.proofs.Bytes.{literals_end}
-use Rattle.lrup_text.proofs.Rests.{list_is_clause}
+use Rattle.lrup_text.specs.internal.Reading.{literals_text, numbers_text}
+use Rattle.lrup_text.proofs.Bytes.{words_end, list_words}
 
-pub addition_text : (id : ℕ) (lits : List ℤ) (hints : List ℕ)
-    → line_text (Addition id lits hints) ≡ (((decimal id ++ space ∷ []) ++ literals_text lits) ++ zero_digit ∷ [])
-    ++ list_text (map decimal hints)
+pub addition_text : (id : ℕ) (lits : List ℤ) (hints : List ℕ) → line_text (Addition id lits hints)
+    ≡ (((decimal id ++ space ∷ []) ++ literals_text lits) ++ zero_digit ∷ space ∷ [])
+    ++ (numbers_text hints ++ zero_digit ∷ line_feed ∷ [])
 addition_text id lits hints =
-    sym (append_assoc ((decimal id ++ space ∷ []) ++ literals_text lits) (zero_digit ∷ []) (list_text (map decimal hints))
-    ∙ append_assoc (decimal id ++ space ∷ []) (literals_text lits) (zero_digit ∷ list_text (map decimal hints))
-    ∙ append_assoc (decimal id) (space ∷ []) (literals_text lits ++ zero_digit ∷ list_text (map decimal hints))
-    ∙ ap (λ t. decimal id ++ space ∷ t) (literals_end lits (list_text (map decimal hints))))
+    let list = numbers_text hints ++ zero_digit ∷ line_feed ∷ [] in
+    sym (append_assoc ((decimal id ++ space ∷ []) ++ literals_text lits) (zero_digit ∷ space ∷ []) list
+    ∙ append_assoc (decimal id ++ space ∷ []) (literals_text lits) (zero_digit ∷ space ∷ list)
+    ∙ append_assoc (decimal id) (space ∷ []) (literals_text lits ++ zero_digit ∷ space ∷ list)
+    ∙ ap (λ t. decimal id ++ space ∷ t) (ap (λ t. literals_text lits ++ zero_digit ∷ t) (list_words decimal hints)
+    ∙ words_end signed_decimal lits (list_text (map decimal hints))))
 
-pub deletion_text : (lead : ℕ) (ids : List ℕ)
-    → line_text (Deletion lead ids) ≡ ((decimal lead ++ space ∷ []) ++ letter_d ∷ []) ++ list_text (map decimal ids)
+pub deletion_text : (lead : ℕ) (ids : List ℕ) → line_text (Deletion lead ids)
+    ≡ ((decimal lead ++ space ∷ []) ++ letter_d ∷ space ∷ []) ++ (numbers_text ids ++ zero_digit ∷ line_feed ∷ [])
 deletion_text lead ids =
-    sym (append_assoc (decimal lead ++ space ∷ []) (letter_d ∷ []) (list_text (map decimal ids))
-    ∙ append_assoc (decimal lead) (space ∷ []) (letter_d ∷ list_text (map decimal ids)))
+    let list = numbers_text ids ++ zero_digit ∷ line_feed ∷ [] in
+    sym (append_assoc (decimal lead ++ space ∷ []) (letter_d ∷ space ∷ []) list
+    ∙ append_assoc (decimal lead) (space ∷ []) (letter_d ∷ space ∷ list)
+    ∙ ap (λ t. decimal lead ++ space ∷ letter_d ∷ t) (list_words decimal ids))
 
 pub import_text : (id : ℕ) (lits : List ℤ) → line_text (Import id lits)
-    ≡ (((decimal id ++ space ∷ []) ++ letter_i ∷ space ∷ []) ++ literals_text lits) ++ zero_digit ∷ line_feed ∷ []
+    ≡ ((decimal id ++ space ∷ []) ++ letter_i ∷ space ∷ []) ++ (literals_text lits ++ zero_digit ∷ line_feed ∷ [])
 import_text id lits =
-    sym (append_assoc ((decimal id ++ space ∷ []) ++ letter_i ∷ space ∷ []) (literals_text lits) (zero_digit ∷ line_feed ∷ [])
-    ∙ append_assoc (decimal id ++ space ∷ []) (letter_i ∷ space ∷ []) (literals_text lits ++ zero_digit ∷ line_feed ∷ [])
-    ∙ append_assoc (decimal id) (space ∷ []) (letter_i ∷ space ∷ (literals_text lits ++ zero_digit ∷ line_feed ∷ []))
-    ∙ ap (λ t. decimal id ++ space ∷ letter_i ∷ t) (ap (λ t. space ∷ t) (literals_end lits (line_feed ∷ []))
-    ∙ sym (list_is_clause (map signed_decimal lits))))
+    let list = literals_text lits ++ zero_digit ∷ line_feed ∷ [] in
+    sym (append_assoc (decimal id ++ space ∷ []) (letter_i ∷ space ∷ []) list
+    ∙ append_assoc (decimal id) (space ∷ []) (letter_i ∷ space ∷ list)
+    ∙ ap (λ t. decimal id ++ space ∷ letter_i ∷ t) (list_words signed_decimal lits))

@@ -4,20 +4,20 @@ use Rattle.std.proofs.Common.{◌∙◌, ap, subst, arith}
 use Rattle.std.specs.Fmt.{decimal}
 use Rattle.std.proofs.lemmas.List.{append_assoc, append-nil, length-drop, take_more, take_all}
 use Rattle.std.proofs.Math.Seq.{take-add}
-use Rattle.lrup_text.specs.declared.machine.ParserState.{ParserState}
-use Rattle.lrup_text.specs.declared.machine.ParserState.TheVariants as states
-use Rattle.lrup_text.specs.declared.machine.ByteStep.{ByteStep}
-use Rattle.lrup_text.specs.declared.machine.ByteStep.TheVariants.{More, Done, Refused}
+use Rattle.lrup_text.specs.declared.partial_line.ParserState.{ParserState}
+use Rattle.lrup_text.specs.declared.partial_line.ParserState.TheVariants as states
+use Rattle.lrup_text.specs.declared.partial_line.ByteStep.{ByteStep}
+use Rattle.lrup_text.specs.declared.partial_line.ByteStep.TheVariants.{More, Done, Refused}
 use Rattle.lrup_text.specs.Faults.{IsRefused}
-use Rattle.lrup_text.specs.declared.machine.PartialLine.{PartialLine}
+use Rattle.lrup_text.specs.declared.partial_line.PartialLine.{PartialLine}
 use Rattle.lrup_text.specs.Writing.{space}
 use Rattle.lrup_text.specs.internal.ByteNames.{minus, zero_digit, letter_i}
 use Rattle.lrup_text.specs.Grammar.{SpellsNumber}
 use Rattle.lrup_text.specs.Lines.{IsPending, IsStreamNumber, LineText}
-use Rattle.lrup_text.specs.internal.Reading.{HasRoom, FitsDigits, CanStandInLine, IsPartialLine, ReadsAhead, ReadsByte, StepsThrough}
+use Rattle.lrup_text.specs.internal.Reading.{HasRoom, FitsDigits, CanOccurInLine, IsPartialLine, ReadsAhead, ReadsByte, StepsThrough}
 use Rattle.lrup_text.specs.internal.Reading.{pending_at}
 use Rattle.lrup_text.specs.internal.Reading.{spot_at, pending, IsRoomy, line_so_far, clause_front, list_front, item_front, end_front}
-use Rattle.lrup_text.specs.internal.Reading.{literal_front, literals_text, items_text, literals_read, identities_read}
+use Rattle.lrup_text.specs.internal.Reading.{literal_front, literals_text, numbers_text, literals_read, identities_read}
 use Rattle.lrup_text.proofs.Bytes.{bounded, below_limit}
 use Rattle.lrup_text.proofs.TextLaws.{tracks_pending}
 use Rattle.lrup_text.proofs.Numerals.{number_word}
@@ -29,7 +29,7 @@ reads_pending m h = tracks_pending (pending m) (spot_at m.state m) h.tracks (bou
 
 -- before the first byte
 pub start_reads : (m : PartialLine) → m.state ≡ states.Start → HasRoom m.literals.items m.identities.items
-    → CanStandInLine m.lead m.literals.items m.literal_count m.identities.items m.identity_count
+    → CanOccurInLine m.lead m.literals.items m.literal_count m.identities.items m.identity_count
     → FitsDigits m.number m.digits → IsPartialLine m × (pending m ≡ [])
 unfolding pending_at spot_at IsRoomy
 start_reads m at room kept number = (
@@ -61,7 +61,7 @@ clause_started false lead lits more e = some_byte_before (decimal lead) space (l
 
 end_started : (imports deletes : Bool) (lead : ℕ) (lits : List ℤ) (ids : List ℕ) → end_front imports deletes lead lits ids ≡ [] → ⊥
 end_started true deletes lead lits ids e = some_byte (clause_front true lead lits) zero_digit _ e
-end_started false deletes lead lits ids e = some_byte (list_front deletes lead lits ++ items_text ids) space _ e
+end_started false deletes lead lits ids e = some_byte (list_front deletes lead lits ++ space ∷ numbers_text ids) zero_digit _ e
 
 word_some : (w : List ℕ) → SpellsNumber 18 w → w ≡ [] → ⊥
 word_some [] h e = h
@@ -77,8 +77,9 @@ started m states.Body ne h e =
 started m states.Minus ne h e = clause_started m.imports m.lead (literals_read m) (minus ∷ []) e
 started m states.Literal ne h e = clause_started m.imports m.lead (literals_read m) (literal_front m.negative m.number) e
 started m states.List ne h e = list_started m.deletes m.lead (literals_read m) e
-started m states.Item ne h e = some_byte (item_front m) space _ e
-started m states.Number ne h e = some_byte (item_front m) space _ e
+started m states.Item ne h e = some_byte (list_front m.deletes m.lead (literals_read m)) space _ e
+started m states.Number ne h e =
+    some_byte_before (list_front m.deletes m.lead (literals_read m)) space (numbers_text (identities_read m)) (decimal m.number) e
 started m states.LineEnd ne h e = end_started m.imports m.deletes m.lead (literals_read m) (identities_read m) e
 
 pub is_started : (m : PartialLine) → IsPartialLine m → m.state ≢ states.Start → pending m ≡ [] → ⊥
@@ -96,18 +97,18 @@ read_more read before piece i byte now h is so step =
     ∙ ap (λ t. read ++ t) (sym (take_more piece i 0 h))
 
 -- no literals and no identities are kept
-pub kept_none : (first : ℕ) (lits : List ℤ) (ids : List ℕ) → IsStreamNumber first → CanStandInLine first lits 0 ids 0
+pub kept_none : (first : ℕ) (lits : List ℤ) (ids : List ℕ) → IsStreamNumber first → CanOccurInLine first lits 0 ids 0
 kept_none first lits ids h = record { lead = h; few_literals = omega arith; few_identities = omega arith; literals = tt; identities = tt }
 
 -- the same with the lists given by equations
 pub restarts : (next : PartialLine) (lits : List ℤ) (ids : List ℕ) → next.state ≡ states.Start → next.literals.items ≡ lits
     → next.identities.items ≡ ids → length lits ≡ 65535 → length ids ≡ 65536
-    → CanStandInLine next.lead lits next.literal_count ids next.identity_count → FitsDigits next.number next.digits
+    → CanOccurInLine next.lead lits next.literal_count ids next.identity_count → FitsDigits next.number next.digits
     → IsPartialLine next × (pending next ≡ [])
 restarts next lits ids at lits_are ids_are room_lits room_ids kept number =
     start_reads next at (record { literals = ap length lits_are ∙ room_lits; identities = ap length ids_are ∙ room_ids })
-    (subst (λ x. CanStandInLine next.lead x next.literal_count next.identities.items next.identity_count) (sym lits_are)
-    (subst (λ x. CanStandInLine next.lead lits next.literal_count x next.identity_count) (sym ids_are) kept)) number
+    (subst (λ x. CanOccurInLine next.lead x next.literal_count next.identities.items next.identity_count) (sym lits_are)
+    (subst (λ x. CanOccurInLine next.lead lits next.literal_count x next.identity_count) (sym ids_are) kept)) number
 
 -- the result for a piece depends only on the text read before
 pub steps_from : (old other : PartialLine) (piece : List ℕ) (used : ℕ) (step : ByteStep) (new : PartialLine) → pending other ≡ pending old

@@ -243,7 +243,8 @@ words_of_list limits deletes rest f =
     let few : 0 + length f.words ≤ limits.identities = f.count in
     record { count = omega arith; each = f.each }
 
--- the text of an import's literals, with a space before each, is a space and then the text of a clause
+-- the text of an import's literals, with a space before each, is a space and then the text of a
+-- clause
 pub list_is_clause : (ws : List (List ℕ)) → list_text ws ≡ space ∷ clause_text ws (line_feed ∷ [])
 list_is_clause [] = refl
 list_is_clause (w ∷ ws) = ap (λ t. space ∷ (w ++ t)) (list_is_clause ws)

@@ -271,7 +271,7 @@ one_fault rest fault other h = (
 
 -- A stream that comes in pieces is cut into the lines that were given.
 
--- a text that was refused begins with no line, also if more bytes follow
+-- a text that was refused begins with no line, even if more bytes follow
 pub refused_stays : RefusedStays
 refused_stays bytes more fault h line rest fits e =
     elim (shorter (line_text line) h.read rest more h.byte (sym e ∙ last_apart bytes h.read h.byte more h.is)) [

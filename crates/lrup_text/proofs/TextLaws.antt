@@ -1,4 +1,5 @@
--- Texts of lines: a text spells only one line, and the text of a line is no proper prefix of another's.
+-- Texts of lines: a text spells only one line, and the text of a line is no proper prefix of
+-- another's.
 use Rattle.std.proofs.Common.{◌≡◌, ◌≢◌, ℕ, suc, ℤ, pos, negsuc, ◌<◌, ◌≤◌, inl, inr, false, List, [], ◌∷◌, ◌++◌, length, map, refl, sym, ◌∙◌}
 use Rattle.std.proofs.Common.{ap, arith}
 use Rattle.std.specs.Fmt.{decimal, signed_decimal}

@@ -5,15 +5,14 @@ use Rattle.std.specs.Fmt.{decimal, signed_decimal}
 use Rattle.std.specs.List.{AllByRecursion}
 use Rattle.std.proofs.Math.Nat.{mod-eq_of_lt}
 use Rattle.std.proofs.lemmas.Bool.{cases_lt}
-use Rattle.std.proofs.lemmas.List.{append_assoc, take_more, take_more_set, length-set, take_all, append-nil}
+use Rattle.std.proofs.lemmas.List.{append_assoc, take_more, take_more_set, length-set, take_all, append-nil, length-take-le, take-take}
 use Rattle.lrup_model.specs.lemmas.ListLemmas.{All-push}
 use Rattle.lrup_text.specs.Writing.{space}
 use Rattle.lrup_text.specs.internal.ByteNames.{minus, zero_digit, letter_d, letter_i, line_feed}
 use Rattle.lrup_text.specs.Lines.{IsStreamNumber, IsStreamLiteral}
-use Rattle.lrup_text.specs.internal.Kernel.{EndsLine, EndsWord, ReadsNumber, ReadsLiterals, ReadsItems, ReadsList, ReadsClause, IsWhole}
-use Rattle.lrup_text.specs.internal.Kernel.{numbers_text}
-use Rattle.lrup_text.specs.internal.Reading.{FitsDigits, CanStandInLine, literals_text, items_text, literal_front, clause_front}
-use Rattle.lrup_text.specs.internal.Reading.{list_front}
+use Rattle.lrup_text.specs.internal.Kernel.{EndsLine, EndsWord, ReadsNumber, ReadsWord, ReadsWords, ReadsList, IsWhole}
+use Rattle.lrup_text.specs.internal.Reading.{FitsDigits, CanOccurInLine, words_text, literals_text, numbers_text, literal_front}
+use Rattle.lrup_text.specs.internal.Reading.{clause_front, list_front}
 use Rattle.lrup_text.proofs.Numerals.{decimal_one}
 use Rattle.lrup_text.proofs.Bytes.{first_digit, more_digits, decimal_next, below_limit, positive, text_more, line_end, line_fits}
 
@@ -89,7 +88,7 @@ wrapped line start number end digit so low high is few =
 pub number_read : (line : List ℕ) (start number end : ℕ) → SoFar line start number end → end - start ≤ 18
     → ReadsNumber line start number end
 number_read line start number end so few = record {
-  positive = positive number (end - start) (so.exact few).0;
+  fits = positive number (end - start) (so.exact few).0;
   after = so.after;
   inside = so.inside;
   is = (so.exact few).1;
@@ -105,157 +104,114 @@ sign_literal true n = refl
 sign_literal false n = refl
 
 pub sign_there : (line : List ℕ) (at digits : ℕ) (negative : Bool) → at < length line → negative ≡ true → get_or line at 0 ≡ minus
-    → digits ≡ at + 1 → take digits line ≡ take at line ++ sign_text negative
-sign_there line at digits negative inside signed is e =
-    ap (λ k. take k line) e ∙ take_more line at 0 inside ∙ ap (λ x. take at line ++ x ∷ []) is
-    ∙ ap (λ b. take at line ++ sign_text b) (sym signed)
+    → digits ≡ at + 1 → (at ≤ digits) × (take digits line ≡ take at line ++ sign_text negative)
+sign_there line at digits negative inside signed is e = (
+  omega (arith, e),
+  ap (λ k. take k line) e ∙ take_more line at 0 inside ∙ ap (λ x. take at line ++ x ∷ []) is
+      ∙ ap (λ b. take at line ++ sign_text b) (sym signed),
+)
 
 pub sign_absent : (line : List ℕ) (at digits : ℕ) (negative : Bool) → negative ≡ false → digits ≡ at
-    → take digits line ≡ take at line ++ sign_text negative
-sign_absent line at digits negative none e = ap (λ k. take k line) e ∙ sym (append-nil (take at line))
-    ∙ ap (λ b. take at line ++ sign_text b) (sym none)
+    → (at ≤ digits) × (take digits line ≡ take at line ++ sign_text negative)
+sign_absent line at digits negative none e = (
+  omega (arith, e),
+  ap (λ k. take k line) e ∙ sym (append-nil (take at line)) ∙ ap (λ b. take at line ++ sign_text b) (sym none),
+)
 
--- literals, with a space after each, from one place up to another
-pub literals_start : (text : List ℕ) (start : ℕ) (lits : List ℤ) (first : ℕ) → start ≤ length text → first ≤ length lits
-    → ReadsLiterals text start lits first lits first start
-unfolding literals_text
-literals_start text start lits first inside room = record {
-  more = [];
-  few = room;
-  lits = sym (append-nil (take first lits));
-  each = tt;
-  inside = inside;
-  is = sym (append-nil (take start text));
+-- a sign or none, and a number, are a literal
+pub literal_read : (text : List ℕ) (start : ℕ) (negative : Bool) (digits magnitude end : ℕ) (z : ℤ) → start ≤ digits
+    → take digits text ≡ take start text ++ sign_text negative → ReadsNumber text digits magnitude end
+    → signed_decimal z ≡ literal_front negative magnitude → unsigned_abs z ≡ magnitude
+    → ReadsWord signed_decimal IsStreamLiteral text start z end
+literal_read text start negative digits magnitude end z before sign number value size = record {
+  fits = subst IsStreamNumber (sym size) number.fits;
+  after = omega (arith, before, number.after);
+  inside = number.inside;
+  is = number.is ∙ ap (λ t. t ++ decimal magnitude) sign ∙ append_assoc (take start text) (sign_text negative) (decimal magnitude)
+      ∙ ap (λ t. take start text ++ t) (sign_literal negative magnitude ∙ sym value);
 }
 
--- one more literal: a sign or none, a number, a space
-pub literals_next : (text : List ℕ) (start : ℕ) (old lits : List ℤ) (first count at : ℕ) (negative : Bool) (digits magnitude end : ℕ)
-    (z : ℤ) → ReadsLiterals text start old first lits count at
-    → take digits text ≡ take at text ++ sign_text negative → ReadsNumber text digits magnitude end → get_or text end 0 ≡ space
-    → count < length lits → signed_decimal z ≡ literal_front negative magnitude → unsigned_abs z ≡ magnitude
-    → ReadsLiterals text start old first (set lits count z) (count + 1) (end + 1)
-unfolding literals_text
-literals_next text start old lits first count at negative digits magnitude end z so sign number is room value size =
-    let front = take start text ++ literals_text so.more in
-    record {
-      more = so.more ++ z ∷ [];
-      few = omega (arith, length-set lits count z, room);
-      lits = take_more_set lits count z room ∙ ap (λ t. t ++ z ∷ []) so.lits ∙ append_assoc (take first old) so.more (z ∷ []);
-      each = All-push IsStreamLiteral so.more z so.each (subst IsStreamNumber (sym size) number.positive);
-      inside = omega (arith, number.inside);
-      is =
-          take_more text end 0 number.inside
-          ∙ ap (λ x. take end text ++ x ∷ []) is
-          ∙ ap (λ t. t ++ space ∷ []) (number.is ∙ ap (λ t. t ++ decimal magnitude) (sign ∙ ap (λ t. t ++ sign_text negative) so.is)
-          ∙ append_assoc front (sign_text negative) (decimal magnitude)
-          ∙ ap (λ t. front ++ t) (sign_literal negative magnitude ∙ sym value))
-          ∙ append_assoc front (signed_decimal z) (space ∷ [])
-          ∙ append_assoc (take start text) (literals_text so.more) (signed_decimal z ++ space ∷ [])
-          ∙ ap (λ t. take start text ++ t) (sym (text_more (λ x. signed_decimal x ++ space ∷ []) so.more z));
-    }
+module _ {A : Type 0} (spell : A → List ℕ) (Fits : A → Type 0) (text : List ℕ) where
+  -- words, with a space after each, from one place up to another
+  pub words_start : (start : ℕ) (words : List A) (first : ℕ) → start ≤ length text → first ≤ length words
+      → ReadsWords spell Fits text start words first words first start
+  unfolding words_text
+  words_start start words first inside room = record {
+    more = [];
+    few = room;
+    words = sym (append-nil (take first words));
+    each = tt;
+    inside = inside;
+    is = sym (append-nil (take start text));
+  }
 
--- numbers, with a space after each, from one place up to another
-pub items_start : (text : List ℕ) (start : ℕ) (ids : List ℕ) (first : ℕ) → start ≤ length text → first ≤ length ids
-    → ReadsItems text start ids first ids first start
-unfolding numbers_text
-items_start text start ids first inside room = record {
-  more = [];
-  few = room;
-  ids = sym (append-nil (take first ids));
-  each = tt;
-  inside = inside;
-  is = sym (append-nil (take start text));
-}
+  -- one more word, and a space
+  pub words_next : (start : ℕ) (old words : List A) (first count at : ℕ) (word : A) (end : ℕ)
+      → ReadsWords spell Fits text start old first words count at → ReadsWord spell Fits text at word end → get_or text end 0 ≡ space
+      → count < length words → ReadsWords spell Fits text start old first (set words count word) (count + 1) (end + 1)
+  unfolding words_text
+  words_next start old words first count at word end so read is room =
+      let front = take start text ++ words_text spell so.more in
+      record {
+        more = so.more ++ word ∷ [];
+        few = omega (arith, length-set words count word, room);
+        words = take_more_set words count word room ∙ ap (λ t. t ++ word ∷ []) so.words
+            ∙ append_assoc (take first old) so.more (word ∷ []);
+        each = All-push Fits so.more word so.each read.fits;
+        inside = omega (arith, read.inside);
+        is =
+            take_more text end 0 read.inside
+            ∙ ap (λ x. take end text ++ x ∷ []) is
+            ∙ ap (λ t. t ++ space ∷ []) (read.is ∙ ap (λ t. t ++ spell word) so.is)
+            ∙ append_assoc front (spell word) (space ∷ [])
+            ∙ append_assoc (take start text) (words_text spell so.more) (spell word ++ space ∷ [])
+            ∙ ap (λ t. take start text ++ t) (sym (text_more (λ w. spell w ++ space ∷ []) so.more word));
+      }
 
-pub items_next : (text : List ℕ) (start : ℕ) (old ids : List ℕ) (first count at identity end : ℕ)
-    → ReadsItems text start old first ids count at → ReadsNumber text at identity end → get_or text end 0 ≡ space
-    → count < length ids → ReadsItems text start old first (set ids count identity) (count + 1) (end + 1)
-unfolding numbers_text
-items_next text start old ids first count at identity end so number is room =
-    let front = take start text ++ numbers_text so.more in
-    record {
-      more = so.more ++ identity ∷ [];
-      few = omega (arith, length-set ids count identity, room);
-      ids = take_more_set ids count identity room ∙ ap (λ t. t ++ identity ∷ []) so.ids
-          ∙ append_assoc (take first old) so.more (identity ∷ []);
-      each = All-push IsStreamNumber so.more identity so.each number.positive;
-      inside = omega (arith, number.inside);
-      is =
-          take_more text end 0 number.inside
-          ∙ ap (λ x. take end text ++ x ∷ []) is
-          ∙ ap (λ t. t ++ space ∷ []) (number.is ∙ ap (λ t. t ++ decimal identity) so.is)
-          ∙ append_assoc front (decimal identity) (space ∷ [])
-          ∙ append_assoc (take start text) (numbers_text so.more) (decimal identity ++ space ∷ [])
-          ∙ ap (λ t. take start text ++ t) (sym (text_more (λ n. decimal n ++ space ∷ []) so.more identity));
-    }
+  -- the words of the text's beginning are the text's
+  pub words_ahead : (last : ℕ) (old new : List A) (first count used : ℕ) → last ≤ length text
+      → ReadsWords spell Fits (take last text) 0 old first new count used → ReadsWords spell Fits text 0 old first new count used
+  words_ahead last old new first count used inside found = record {
+    more = found.more;
+    few = found.few;
+    words = found.words;
+    each = found.each;
+    inside = omega (arith, found.inside, length-take-le last text inside);
+    is = sym (take-take used last text (omega (arith, found.inside, length-take-le last text inside))) ∙ found.is;
+  }
 
--- a space after each number, or a space before each
-pub spaces_move : (ns : List ℕ) (after : List ℕ) → space ∷ (numbers_text ns ++ after) ≡ items_text ns ++ space ∷ after
-unfolding numbers_text items_text
-spaces_move [] after = refl
-spaces_move (n ∷ ns) after =
-    ap (λ t. space ∷ t)
-    (append_assoc (decimal n ++ space ∷ []) (numbers_text ns) after ∙ append_assoc (decimal n) (space ∷ []) (numbers_text ns ++ after)
-    ∙ ap (λ t. decimal n ++ t) (spaces_move ns after) ∙ sym (append_assoc (decimal n) (items_text ns) (space ∷ after)))
-
--- A list: a space, its numbers, a 0 and the LF.
-pub list_read : (line : List ℕ) (start : ℕ) (old new : List ℕ) (count close : ℕ) → EndsLine line → start < length line
-    → get_or line start 0 ≡ space → ReadsItems line (start + 1) old 0 new count close
-    → close + 2 ≡ length line → get_or line close 0 ≡ zero_digit → ReadsList line start new count
-list_read line start old new count close ends inside is items size nought =
-    let last : length line - 1 ≡ close + 1 = omega arith in
-    let feed : get_or line (close + 1) 0 ≡ line_feed = ap (λ k. get_or line k 0) (sym last) ∙ ends.1 in
-    let front = take start line in
-    let end = zero_digit ∷ line_feed ∷ [] in
-    let one : take (start + 1) line ≡ front ++ space ∷ [] = take_more line start 0 inside ∙ ap (λ x. front ++ x ∷ []) is in
-    let two : take (close + 1) line ≡ take close line ++ zero_digit ∷ [] = take_more line close 0 (omega arith)
-    ∙ ap (λ x. take close line ++ x ∷ []) nought in
-    let three : take ((close + 1) + 1) line ≡ (take close line ++ zero_digit ∷ []) ++ line_feed ∷ [] =
-    take_more line (close + 1) 0 (omega arith) ∙ ap (λ x. take (close + 1) line ++ x ∷ []) feed ∙ ap (λ t. t ++ line_feed ∷ []) two in
-    record {
-      few = items.few;
-      each = subst (AllByRecursion IsStreamNumber) (sym items.ids) items.each;
-      text =
-          sym (take_all ((close + 1) + 1) line (omega arith)) ∙ three ∙ append_assoc (take close line) (zero_digit ∷ []) (line_feed ∷ [])
-          ∙ ap (λ t. t ++ end) (items.is ∙ ap (λ t. t ++ numbers_text items.more) one)
-          ∙ append_assoc (front ++ space ∷ []) (numbers_text items.more) end
-          ∙ append_assoc front (space ∷ []) (numbers_text items.more ++ end)
-          ∙ ap (λ t. front ++ t) (spaces_move items.more end)
-          ∙ sym (append_assoc front (items_text items.more) (space ∷ end))
-          ∙ ap (λ ns. (front ++ items_text ns) ++ space ∷ end) (sym items.ids);
-    }
-
--- the literals of an import, and the end of the line
-pub clause_read : (line : List ℕ) (start : ℕ) (old new : List ℤ) (count close : ℕ) → EndsLine line → start < length line
-    → get_or line start 0 ≡ space → ReadsLiterals line (start + 1) old 0 new count close
-    → close + 2 ≡ length line → get_or line close 0 ≡ zero_digit → ReadsClause line start new count
-clause_read line start old new count close ends inside is lits size nought =
-    let last : length line - 1 ≡ close + 1 = omega arith in
-    let feed : get_or line (close + 1) 0 ≡ line_feed = ap (λ k. get_or line k 0) (sym last) ∙ ends.1 in
-    let front = take start line in
-    let end = zero_digit ∷ line_feed ∷ [] in
-    let one : take (start + 1) line ≡ front ++ space ∷ [] = take_more line start 0 inside ∙ ap (λ x. front ++ x ∷ []) is in
-    let two : take (close + 1) line ≡ take close line ++ zero_digit ∷ [] = take_more line close 0 (omega arith)
-    ∙ ap (λ x. take close line ++ x ∷ []) nought in
-    let three : take ((close + 1) + 1) line ≡ (take close line ++ zero_digit ∷ []) ++ line_feed ∷ [] =
-    take_more line (close + 1) 0 (omega arith) ∙ ap (λ x. take (close + 1) line ++ x ∷ []) feed ∙ ap (λ t. t ++ line_feed ∷ []) two in
-    record {
-      few = lits.few;
-      each = subst (AllByRecursion IsStreamLiteral) (sym lits.lits) lits.each;
-      text =
-          sym (take_all ((close + 1) + 1) line (omega arith)) ∙ three ∙ append_assoc (take close line) (zero_digit ∷ []) (line_feed ∷ [])
-          ∙ ap (λ t. t ++ end) (lits.is ∙ ap (λ t. t ++ literals_text lits.more) one
-          ∙ append_assoc front (space ∷ []) (literals_text lits.more))
-          ∙ ap (λ zs. (front ++ space ∷ literals_text zs) ++ end) (sym lits.lits);
-    }
+  -- A list: a space, its words, a 0 and the LF.
+  pub list_read : (start : ℕ) (old new : List A) (count close : ℕ) → EndsLine text → start < length text
+      → get_or text start 0 ≡ space → ReadsWords spell Fits text (start + 1) old 0 new count close
+      → close + 2 ≡ length text → get_or text close 0 ≡ zero_digit → ReadsList spell Fits text start new count
+  list_read start old new count close ends inside is found size nought =
+      let last : length text - 1 ≡ close + 1 = omega arith in
+      let feed : get_or text (close + 1) 0 ≡ line_feed = ap (λ k. get_or text k 0) (sym last) ∙ ends.1 in
+      let front = take start text in
+      let end = zero_digit ∷ line_feed ∷ [] in
+      let one : take (start + 1) text ≡ front ++ space ∷ [] = take_more text start 0 inside ∙ ap (λ x. front ++ x ∷ []) is in
+      let two : take (close + 1) text ≡ take close text ++ zero_digit ∷ [] = take_more text close 0 (omega arith)
+      ∙ ap (λ x. take close text ++ x ∷ []) nought in
+      let three : take ((close + 1) + 1) text ≡ (take close text ++ zero_digit ∷ []) ++ line_feed ∷ [] =
+      take_more text (close + 1) 0 (omega arith) ∙ ap (λ x. take (close + 1) text ++ x ∷ []) feed ∙ ap (λ t. t ++ line_feed ∷ []) two in
+      record {
+        few = found.few;
+        each = subst (AllByRecursion Fits) (sym found.words) found.each;
+        text =
+            sym (take_all ((close + 1) + 1) text (omega arith)) ∙ three ∙ append_assoc (take close text) (zero_digit ∷ []) (line_feed ∷ [])
+            ∙ ap (λ t. t ++ end) (found.is ∙ ap (λ t. t ++ words_text spell found.more) one
+            ∙ append_assoc front (space ∷ []) (words_text spell found.more))
+            ∙ ap (λ ws. (front ++ space ∷ words_text spell ws) ++ end) (sym found.words);
+      }
 
 -- An import: a number, a space, the letter i, literals.
 pub whole_import : (line : List ℕ) (lits : List ℤ) (ids : List ℕ) (lead end count : ℕ) → length lits ≡ 65535 → ReadsNumber line 0 lead end
-    → get_or line end 0 ≡ space → end + 1 < length line → get_or line (end + 1) 0 ≡ letter_i → ReadsClause line ((end + 1) + 1) lits count
+    → get_or line end 0 ≡ space → end + 1 < length line → get_or line (end + 1) 0 ≡ letter_i
+    → ReadsList signed_decimal IsStreamLiteral line ((end + 1) + 1) lits count
     → IsWhole line lits ids (record { lead = lead; imports = true; deletes = false; literal_count = count; identity_count = 0 })
 whole_import line lits ids lead end count room number is inside letter clause =
-    let kept : CanStandInLine lead lits count ids 0 = record {
-      lead = number.positive;
+    let kept : CanOccurInLine lead lits count ids 0 = record {
+      lead = number.fits;
       few_literals = omega (arith, clause.few, room);
       few_identities = omega arith;
       literals = clause.each;
@@ -281,11 +237,12 @@ whole_import line lits ids lead end count room number is inside letter clause =
 
 -- A deletion: a number, a space, the letter d, a list.
 pub whole_deletion : (line : List ℕ) (lits : List ℤ) (ids : List ℕ) (lead end count : ℕ) → length ids ≡ 65536 → ReadsNumber line 0 lead end
-    → get_or line end 0 ≡ space → end + 1 < length line → get_or line (end + 1) 0 ≡ letter_d → ReadsList line ((end + 1) + 1) ids count
+    → get_or line end 0 ≡ space → end + 1 < length line → get_or line (end + 1) 0 ≡ letter_d
+    → ReadsList decimal IsStreamNumber line ((end + 1) + 1) ids count
     → IsWhole line lits ids (record { lead = lead; imports = false; deletes = true; literal_count = 0; identity_count = count })
 whole_deletion line lits ids lead end count room number is inside letter list =
-    let kept : CanStandInLine lead lits 0 ids count = record {
-      lead = number.positive;
+    let kept : CanOccurInLine lead lits 0 ids count = record {
+      lead = number.fits;
       few_literals = omega arith;
       few_identities = omega (arith, list.few, room);
       literals = tt;
@@ -300,8 +257,8 @@ whole_deletion line lits ids lead end count room number is inside letter list =
       kept = kept;
       text = (
         line_fits false true lead lits 0 ids count kept (omega arith) list.few,
-        list.text ∙ ap (λ t. (t ++ items_text (take count ids)) ++ space ∷ zero_digit ∷ line_feed ∷ []) front
-            ∙ sym (append_assoc (list_front true lead [] ++ items_text (take count ids)) (space ∷ zero_digit ∷ []) (line_feed ∷ []))
+        list.text ∙ ap (λ t. (t ++ space ∷ numbers_text (take count ids)) ++ zero_digit ∷ line_feed ∷ []) front
+            ∙ sym (append_assoc (list_front true lead [] ++ space ∷ numbers_text (take count ids)) (zero_digit ∷ []) (line_feed ∷ []))
             ∙ line_end false true lead [] (take count ids),
       );
     }
@@ -309,15 +266,15 @@ whole_deletion line lits ids lead end count room number is inside letter list =
 -- An addition: a number, a space, literals, a 0, a list.
 pub whole_addition : (line : List ℕ) (old lits : List ℤ) (ids : List ℕ) (lead end literals close count : ℕ) → length lits ≡ 65535
     → length ids ≡ 65536 → ReadsNumber line 0 lead end → get_or line end 0 ≡ space
-    → ReadsLiterals line (end + 1) old 0 lits literals close → close < length line → get_or line close 0 ≡ zero_digit
-    → ReadsList line (close + 1) ids count
+    → ReadsWords signed_decimal IsStreamLiteral line (end + 1) old 0 lits literals close → close < length line
+    → get_or line close 0 ≡ zero_digit → ReadsList decimal IsStreamNumber line (close + 1) ids count
     → IsWhole line lits ids (record { lead = lead; imports = false; deletes = false; literal_count = literals; identity_count = count })
 whole_addition line old lits ids lead end literals close count room_lits room_ids number is clause inside nought list =
-    let kept : CanStandInLine lead lits literals ids count = record {
-      lead = number.positive;
+    let kept : CanOccurInLine lead lits literals ids count = record {
+      lead = number.fits;
       few_literals = omega (arith, clause.few, room_lits);
       few_identities = omega (arith, list.few, room_ids);
-      literals = subst (AllByRecursion IsStreamLiteral) (sym clause.lits) clause.each;
+      literals = subst (AllByRecursion IsStreamLiteral) (sym clause.words) clause.each;
       identities = list.each;
     } in
     let front : take (close + 1) line ≡ list_front false lead (take literals lits) =
@@ -326,13 +283,13 @@ whole_addition line old lits ids lead end literals close count room_lits room_id
     ∙ ap (λ t. t ++ literals_text clause.more) (take_more line end 0 number.inside ∙ ap (λ x. take end line ++ x ∷ []) is
     ∙ ap (λ t. t ++ space ∷ []) number.is)
     ∙ append_assoc (decimal lead) (space ∷ []) (literals_text clause.more)
-    ∙ ap (λ zs. decimal lead ++ space ∷ literals_text zs) (sym clause.lits)) in
+    ∙ ap (λ zs. decimal lead ++ space ∷ literals_text zs) (sym clause.words)) in
     record {
       kept = kept;
       text = (
         line_fits false false lead lits literals ids count kept clause.few list.few,
-        list.text ∙ ap (λ t. (t ++ items_text (take count ids)) ++ space ∷ zero_digit ∷ line_feed ∷ []) front
-            ∙ sym (append_assoc (list_front false lead (take literals lits) ++ items_text (take count ids)) (space ∷ zero_digit ∷ [])
+        list.text ∙ ap (λ t. (t ++ space ∷ numbers_text (take count ids)) ++ zero_digit ∷ line_feed ∷ []) front
+            ∙ sym (append_assoc (list_front false lead (take literals lits) ++ space ∷ numbers_text (take count ids)) (zero_digit ∷ [])
             (line_feed ∷ []))
             ∙ line_end false false lead (take literals lits) (take count ids),
       );

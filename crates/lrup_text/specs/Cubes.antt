@@ -20,7 +20,7 @@ pub record IsCubeText (vars : ℕ) (bytes : List ℕ) (cube : CubeValue) : Type 
   pub literals : List ℤ
   pub text : bytes ≡ flat_map (λ l. signed_decimal l ++ codes " ") literals ++ codes "0\n"
   pub few : length literals ≤ 65535
-  pub over : IsCubeOver vars literals
+  pub finished : IsCubeOver vars literals
   pub set : IsCubeOf literals cube
 
 -- Faults.
@@ -40,7 +40,7 @@ abbrev pub BeginsOneLifted : (Limits → List ℕ → Type 0) → List ℕ → T
 BeginsOneLifted IsOne bytes =
     (limits : Limits) × AreLifted false limits × BeginsOne IsOne limits bytes
 
--- the bytes begin a text, and aren't one
+-- the bytes are a proper prefix of a text
 abbrev pub BreaksOff : (Limits → List ℕ → Type 0) → List ℕ → Type 0
 BreaksOff IsOne bytes = BeginsOne IsOne standard bytes × ¬ IsOne standard bytes
 

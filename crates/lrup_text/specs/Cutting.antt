@@ -35,7 +35,7 @@ abbrev pub lines_given : List Call → List StreamLine
 lines_given [] = []
 lines_given (call ∷ calls) = line_given call.status ++ lines_given calls
 
--- the stream so far: its lines, and the text read of the next line; or, after a fault, a text that
+-- the stream so far: its lines, and what was read of the next line; or, after a fault, a text that
 -- begins no line
 abbrev pub IsCut : List ℕ → List StreamLine → ReaderState → Type 0
 IsCut stream lines (Ok read) = Cut stream lines read

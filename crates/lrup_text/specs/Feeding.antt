@@ -1,5 +1,5 @@
 -- What a reader of lines gives for a piece of a stream, and its state afterwards. The state of a
--- reader is the text that it has read of a line, `Ok`, or the fault that it gave, `Err`.
+-- reader is the part of a line that it has read, `Ok`, or the fault that it gave, `Err`.
 use Rattle.std.specs.Prelude.{◌≡◌, ℕ, ◌<◌, ◌≤◌, List, [], ◌++◌, length, take, Result, Ok, Err, IfOk}
 use Rattle.lrup_text.specs.declared.LineFault.{LineFault}
 use Rattle.lrup_text.specs.declared.LineFault.TheVariants.{Truncated}

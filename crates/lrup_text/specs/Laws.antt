@@ -59,11 +59,11 @@ abbrev pub OneFault : Type 0
 OneFault = (rest : List ℕ) (fault other : LineFault) → HasTextFault rest fault
     → (HasTextFault rest other → fault ≡ other) × ¬ Begins rest
 
--- no bytes may still become a line
+-- the empty text may still become a line
 abbrev pub EmptyPending : Type 0
 EmptyPending = IsPending []
 
--- no bytes are cut into no lines
+-- the empty text is cut into no lines
 abbrev pub EmptyCut : Type 0
 EmptyCut = IsCut [] [] (Ok [])
 

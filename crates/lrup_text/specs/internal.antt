@@ -3,5 +3,4 @@ pub mod ByteNames
 pub mod Rests
 pub mod Reading
 pub mod Kernel
-pub mod FourDigits
 pub mod CubeReading

@@ -9,7 +9,7 @@ ghost use Rattle.lrup_text.specs.Grammar.{IsDigit};
 ghost use Rattle.lrup_text.specs.internal.Rests.{BeforeLiteral, AfterMinus, InLiteral};
 ghost use Rattle.lrup_text.specs.declared.cube.CubeFault.TheVariants.{Memory};
 
-use crate::machine::{MAX_DIGITS, MAX_LITERALS, literal_of};
+use crate::partial_line::{MAX_DIGITS, MAX_LITERALS, literal_of};
 use lrup_model::{Cube, Lit};
 use std::alloc::{AllocError, Global};
 use thiserror::Error;
@@ -56,7 +56,7 @@ pub fn read_cube(alloc: Global, bytes: &[u8], vars: u32) -> Result<Cube, CubeFau
 fn read_cube_literals(alloc: Global, text: &[u8], vars: u32) -> Result<Vec<Lit>, CubeFault>
     requires { vars ≤ max_variable }
     ensures text { IfOk result (λ literals. IsLiteralsText literals.items text.now) }
-    ensures over { IfOk result (λ literals. IsCubeOver vars literals.items) }
+    ensures finished { IfOk result (λ literals. IsCubeOver vars literals.items) }
     ensures fault { IfErr result (IsCubeFault vars text.now) }
 {
     let mut kept = Ok(Vec::new(alloc));

@@ -1,8 +1,12 @@
 //! The fast path of the line reader: a whole line at once, and long lists.
-ghost use Rattle.std.specs.Prelude.{◌≡◌, ◌<◌, ◌≤◌, ◌+◌, get_or, length, IfSome};
-ghost use Rattle.lrup_text.specs.internal.Kernel.{EndsLine, EndsWord, ReadsNumber, ReadsLiterals, ReadsItems, ReadsList, ReadsClause, IsWhole};
+ghost use Rattle.std.specs.Prelude.{◌≡◌, ◌<◌, ◌≤◌, ◌+◌, List, ℕ, get_or, length, IfSome};
+ghost use Rattle.std.specs.Fmt.{decimal, signed_decimal};
+ghost use Rattle.lrup_text.specs.Lines.{IsStreamNumber, IsStreamLiteral};
+ghost use Rattle.lrup_text.specs.internal.Reading.{literal_front};
+ghost use Rattle.lrup_text.specs.internal.Kernel.{EndsLine, EndsWord, ReadsNumber, ReadsWord, ReadsWords, ReadsList, IsWhole};
 
-use crate::machine::{MAX_DIGITS, literal_of};
+use crate::partial_line::{MAX_DIGITS, literal_of};
+use memchr::memrchr;
 
 const SPACE: u8 = b' ';
 
@@ -52,7 +56,7 @@ pub fn read_line(line: &[u8], literals: &mut [i64], identities: &mut [u64]) -> O
     if line[body] > NINE {
         return read_marked(line, lead, end, literals, identities);
     }
-    let (literal_count, close) = read_literals(line, body, literals, 0);
+    let (literal_count, close) = read_words(line, body, literals, 0);
     if close >= line.len() || line[close] != ZERO {
         return None;
     }
@@ -96,7 +100,7 @@ fn read_marked(
     if line[mark] != LETTER_I {
         return None;
     }
-    let literal_count = read_clause(line, mark + 1, literals)?;
+    let literal_count = read_list(line, mark + 1, literals)?;
     Some(Whole {
         lead,
         imports: true,
@@ -106,35 +110,18 @@ fn read_marked(
     })
 }
 
-/// Reads the literals of an import, with the space before each, and the end of the line.
-fn read_clause(line: &[u8], start: usize, out: &mut [i64]) -> Option<usize>
-    requires ends { EndsLine line.now }
-    requires inside { start < length line.now }
-    ensures { IfSome result (ReadsClause line.now start out.new) }
-{
-    if line[start] != SPACE {
-        return None;
-    }
-    let (count, end) = read_literals(line, start + 1, out, 0);
-    if end + 2 == line.len() && line[end] == ZERO {
-        Some(count)
-    } else {
-        None
-    }
-}
-
-/// Reads the items of a list, with the space before each, and the end of the line.
+/// Reads the words of a list, with the space before each, and the end of the line.
 #[inline(always)]
-fn read_list(line: &[u8], start: usize, out: &mut [u64]) -> Option<usize>
+fn read_list<T: Word>(line: &[u8], start: usize, out: &mut [T]) -> Option<usize>
     requires ends { EndsLine line.now }
     requires inside { start < length line.now }
-    ensures { IfSome result (ReadsList line.now start out.new) }
+    ensures { IfSome result (ReadsList T.text T.fits line.now start out.new) }
 {
     if line[start] != SPACE {
         return None;
     }
-    let (count, close) = read_items(line, start + 1, out, 0);
-    if close + 2 == line.len() && line[close] == ZERO {
+    let (count, end) = read_words(line, start + 1, out, 0);
+    if end + 2 == line.len() && line[end] == ZERO {
         Some(count)
     } else {
         None
@@ -168,56 +155,93 @@ fn read_number(text: &[u8], start: usize) -> Option<(u64, usize)>
     Some((number, end))
 }
 
-/// Reads as many literals as there are, with the space after each, into the places from `first` on.
+/// A word of a list: a literal, or an identity.
+pub trait Word: Copy {
+    /// How it is spelled.
+    ghost text: { Self → List ℕ };
+
+    /// Whether a line can have it.
+    ghost fits: { Self → Type 0 };
+
+    /// Reads a word, and returns it and the index after it, where any byte may be.
+    fn read(bytes: &[u8], start: usize) -> Option<(Self, usize)>
+        requires ends { EndsWord bytes.now }
+        requires inside { start < length bytes.now }
+        ensures { IfSome result (λ found. ReadsWord text fits bytes.now start found.0 found.1) };
+
+    /// Whether it has a sign, and its magnitude.
+    fn parts(self) -> (bool, u64)
+        ensures { text self ≡ literal_front result.0 result.1 };
+}
+
+impl Word for i64 {
+    ghost text = { signed_decimal };
+
+    ghost fits = { IsStreamLiteral };
+
+    #[inline(always)]
+    fn read(bytes: &[u8], start: usize) -> Option<(i64, usize)> {
+        let negative = bytes[start] == MINUS;
+        let digits = if negative { start + 1 } else { start };
+        let (magnitude, end) = read_number(bytes, digits)?;
+        Some((literal_of(negative, magnitude), end))
+    }
+
+    fn parts(self) -> (bool, u64) {
+        (self < 0, self.unsigned_abs())
+    }
+}
+
+impl Word for u64 {
+    ghost text = { decimal };
+
+    ghost fits = { IsStreamNumber };
+
+    #[inline(always)]
+    fn read(bytes: &[u8], start: usize) -> Option<(u64, usize)> {
+        read_number(bytes, start)
+    }
+
+    fn parts(self) -> (bool, u64) {
+        (false, self)
+    }
+}
+
+/// Reads as many words as there are, with the space after each, into the places from `first` on.
 ///
 /// Returns how many places are then in use, and how far the text was read.
 #[inline(always)]
-pub fn read_literals(text: &[u8], start: usize, out: &mut [i64], first: usize) -> (usize, usize)
+fn read_words<T: Word>(text: &[u8], start: usize, out: &mut [T], first: usize) -> (usize, usize)
     requires ends { EndsWord text.now }
     requires inside { start ≤ length text.now }
     requires room { first ≤ length out.old }
-    ensures { ReadsLiterals text.now start out.old first out.new result.0 result.1 }
+    ensures { ReadsWords T.text T.fits text.now start out.old first out.new result.0 result.1 }
 {
     let mut at = start;
     let mut count = first;
     while at < text.len() && count < out.len() {
-        let negative = text[at] == MINUS;
-        let digits = if negative { at + 1 } else { at };
-        let Some((magnitude, end)) = read_number(text, digits) else {
+        let Some(found) = T::read(text, at) else {
             break;
         };
+        let (word, end) = found;
         if text[end] != SPACE {
             break;
         }
-        out[count] = literal_of(negative, magnitude);
+        out[count] = word;
         count += 1;
         at = end + 1;
     }
     (count, at)
 }
 
-/// Reads as many numbers as there are, with the space after each, into the places from `first` on.
-///
-/// Returns how many places are then in use, and how far the text was read.
-#[inline(always)]
-pub fn read_items(text: &[u8], start: usize, out: &mut [u64], first: usize) -> (usize, usize)
-    requires ends { EndsWord text.now }
-    requires inside { start ≤ length text.now }
-    requires room { first ≤ length out.old }
-    ensures { ReadsItems text.now start out.old first out.new result.0 result.1 }
+/// Reads words as `read_words` does, from the front of a piece up to its last space: a text of
+/// `read_words` has to end with a byte that isn't a word's.
+pub fn read_words_ahead<T: Word>(piece: &[u8], out: &mut [T], first: usize) -> (usize, usize)
+    requires { first ≤ length out.old }
+    ensures { ReadsWords T.text T.fits piece.now 0 out.old first out.new result.0 result.1 }
 {
-    let mut at = start;
-    let mut count = first;
-    while at < text.len() && count < out.len() {
-        let Some((identity, end)) = read_number(text, at) else {
-            break;
-        };
-        if text[end] != SPACE {
-            break;
-        }
-        out[count] = identity;
-        count += 1;
-        at = end + 1;
+    match memrchr(SPACE, piece) {
+        Some(last) => read_words(&piece[..last + 1], 0, out, first),
+        None => (first, 0),
     }
-    (count, at)
 }

@@ -10,14 +10,14 @@ mod cube;
 mod device;
 mod kernel;
 pub mod laws;
-mod machine;
+mod partial_line;
 mod reader;
 mod writer;
 
 pub use cube::{CubeFault, read_cube};
 pub use device::{PIECE, ReadFault, Reading, Sink, Source, StreamEnd, WriteFault, Writing};
-pub use machine::MAX_LITERALS;
-use machine::{MAX_IDENTITIES, MAX_NUMBER};
+pub use partial_line::MAX_LITERALS;
+use partial_line::{MAX_IDENTITIES, MAX_NUMBER};
 pub use reader::{End, Fed, LineReader, ReaderStatus};
 use thiserror::Error;
 pub use writer::{WriteBuffer, write_all, write_line};

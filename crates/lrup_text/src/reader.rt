@@ -3,7 +3,7 @@ ghost use Rattle.std.specs.Prelude.{◌≡◌, ◌≤◌, [], Ok, IfOk, length};
 ghost use Rattle.lrup_text.specs.Feeding.{Feeds, ReaderEnds};
 ghost use Rattle.lrup_text.specs.Lines.{IsPending};
 
-use crate::machine::{ByteStep, PartialLine};
+use crate::partial_line::{ByteStep, PartialLine};
 use crate::{Line, LineFault};
 use std::alloc::{AllocError, Global};
 use std::marker::Model;
@@ -39,7 +39,7 @@ pub enum End {
 
 /// Cuts a stream, which comes in pieces of any length, into lines.
 ///
-/// For contracts, a reader is the text that it has read of the next line, or the fault that it
+/// For contracts, a reader is the part of the next line that it has read, or the fault that it
 /// gave. After a fault each call gives that fault again, and uses nothing.
 #[derive(Drop)]
 pub struct LineReader {

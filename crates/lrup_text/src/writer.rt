@@ -1,203 +1,37 @@
 //! Writes texts and lines.
-ghost use Rattle.std.specs.Prelude.{◌≡◌, ◌<◌, ◌≤◌, ◌+◌, [], ◌∷◌, ◌++◌, length, take, false, is_err, map, IsTrue, ◌↔◌, OnErr};
+ghost use Rattle.std.specs.Prelude.{◌≡◌, ◌<◌, ◌≤◌, ◌+◌, ◌-◌, [], ◌∷◌, ◌++◌, length, take, drop, false, is_err, IsTrue, ◌↔◌, OnErr};
 ghost use Rattle.std.specs.Fmt.{decimal, signed_decimal};
 ghost use Rattle.lrup_text.specs.Writing.{space, PutsAll, WritesText};
-ghost use Rattle.lrup_text.specs.Grammar.{list_text};
 ghost use Rattle.lrup_text.specs.Lines.{line_of, line_text, IsWithinLimits};
-ghost use Rattle.lrup_text.specs.internal.Reading.{literals_text};
-ghost use Rattle.lrup_text.specs.internal.FourDigits.{four_digits};
+ghost use Rattle.lrup_text.specs.internal.ByteNames.{zero_digit, line_feed};
+ghost use Rattle.lrup_text.specs.internal.Reading.{words_text, literal_front};
 
+use crate::kernel::Word;
 use crate::{Line, Sink, WriteFault};
+use itoa::write_digits;
 use std::marker::Model;
-
-/// The size of a number's text with the bytes around it.
-const WORD: usize = 24;
 
 /// The maximum number of bytes that a buffer holds.
 const CAPACITY: usize = 4_096;
 
-/// The largest size of a number's text, with a sign before it and a space after it.
-const LONGEST: usize = 22;
+/// The largest size of a word, with the space after it.
+const WORD: usize = 22;
 
-/// A short text that is built from its end.
-#[derive(Drop)]
-struct Word {
-    bytes: [u8; WORD],
-    start: usize,
-}
+/// The size of the places where a word is spelled, of which that many are copied.
+const PLACES: usize = 44;
 
-impl Model for Word {
-    ghost use Rattle.std.specs.Prelude.{List, ℕ, ◌≤◌, drop};
-
-    ghost Value = { List ℕ };
-
-    ghost view = { λ w. drop w.start w.bytes };
-
-    ghost invariant = { λ w. w.start ≤ 24 };
-}
-
-impl Word {
-    fn new() -> Word
-        ensures { result ≡ [] }
-    {
-        Word {
-            bytes: [0; WORD],
-            start: WORD,
-        }
-    }
-
-    /// A line's first number and the space after it.
-    fn lead(number: u64) -> Word
-        ensures text { result ≡ decimal number ++ space ∷ [] }
-        ensures room { length result < 24 }
-    {
-        let mut word = Word::new();
-        word.push_front(b' ');
-        word.push_number(number);
-        word
-    }
-
-    /// A literal and the space after it.
-    fn literal(literal: i64) -> Word
-        ensures { result ≡ signed_decimal literal ++ space ∷ [] }
-    {
-        let mut word = Word::lead(literal.unsigned_abs());
-        if literal < 0 {
-            word.push_front(b'-');
-        }
-        word
-    }
-
-    /// An item of a list and the space before it.
-    fn item(number: u64) -> Word
-        ensures { result ≡ space ∷ decimal number }
-    {
-        let mut word = Word::new();
-        word.push_number(number);
-        word.push_front(b' ');
-        word
-    }
-
-    fn bytes(&self) -> &[u8]
-        ensures { result.now ≡ self.now }
-    {
-        &self.bytes[self.start..]
-    }
-
-    fn push_front(&mut self, byte: u8)
-        requires { length self.old < 24 }
-        ensures { self.new ≡ byte ∷ self.old }
-    {
-        self.start -= 1;
-        self.bytes[self.start] = byte;
-    }
-
-    /// Puts a number's decimal text in front.
-    fn push_number(&mut self, number: u64)
-        requires { length self.old ≤ 4 }
-        ensures text { self.new ≡ decimal number ++ self.old }
-        ensures room { length self.new ≤ length self.old + 20 }
-    {
-        let mut rest = number;
-        while rest >= 10 {
-            self.push_front(b'0' + (rest % 10) as u8);
-            rest /= 10;
-        }
-        self.push_front(b'0' + rest as u8);
-    }
-}
-
-/// Writes a byte of a text at its place, and returns the next place.
+/// Spells a number with its sign, up to the place of the space, and returns where it begins. Signs
+/// are unpredictable, so a minus is always written, and left before the number if it isn't wanted.
 #[inline]
-fn write_byte(bytes: &mut [u8], at: usize, byte: u8) -> usize
-    requires { at < length bytes.old }
-    ensures end { result ≡ at + 1 }
-    ensures text { take result bytes.new ≡ take at bytes.old ++ byte ∷ [] }
+fn spell(bytes: &mut [u8], negative: bool, magnitude: u64) -> usize
+    requires { 21 ≤ length bytes.old }
+    ensures start { result + length (literal_front negative magnitude) ≡ 21 }
+    ensures text { drop result bytes.new
+        ≡ literal_front negative magnitude ++ drop 21 bytes.old }
 {
-    bytes[at] = byte;
-    at + 1
-}
-
-/// Writes a number of at most four digits with leading zeros, as four digits.
-#[inline]
-fn write_four(bytes: &mut [u8], at: usize, number: u32) -> usize
-    requires small { number < 10000 }
-    requires room { at + 4 ≤ length bytes.old }
-    ensures end { result ≡ at + 4 }
-    ensures text { take result bytes.new ≡ take at bytes.old ++ four_digits number }
-{
-    let (front, back) = (number / 100, number % 100);
-    let second = write_byte(bytes, at, b'0' + (front / 10) as u8);
-    let third = write_byte(bytes, second, b'0' + (front % 10) as u8);
-    let fourth = write_byte(bytes, third, b'0' + (back / 10) as u8);
-    write_byte(bytes, fourth, b'0' + (back % 10) as u8)
-}
-
-/// Writes a number of at most four digits in decimal.
-#[inline]
-fn write_few(bytes: &mut [u8], at: usize, number: u32) -> usize
-    requires small { number < 10000 }
-    requires room { at + 4 ≤ length bytes.old }
-    ensures end { result ≡ at + length (decimal number) }
-    ensures text { take result bytes.new ≡ take at bytes.old ++ decimal number }
-{
-    if number >= 1000 {
-        write_four(bytes, at, number)
-    } else if number >= 100 {
-        let second = write_byte(bytes, at, b'0' + (number / 100) as u8);
-        let third = write_byte(bytes, second, b'0' + (number / 10 % 10) as u8);
-        write_byte(bytes, third, b'0' + (number % 10) as u8)
-    } else if number >= 10 {
-        let second = write_byte(bytes, at, b'0' + (number / 10) as u8);
-        write_byte(bytes, second, b'0' + (number % 10) as u8)
-    } else {
-        write_byte(bytes, at, b'0' + number as u8)
-    }
-}
-
-/// Writes a number in decimal: four digits at a time, so that a short one takes few divisions.
-#[inline]
-fn write_number(bytes: &mut [u8], at: usize, number: u64) -> usize
-    requires { at + 20 ≤ length bytes.old }
-    ensures end { result ≡ at + length (decimal number) }
-    ensures text { take result bytes.new ≡ take at bytes.old ++ decimal number }
-{
-    if number < 10_000 {
-        write_few(bytes, at, number as u32)
-    } else if number < 100_000_000 {
-        let last = write_few(bytes, at, (number / 10_000) as u32);
-        write_four(bytes, last, (number % 10_000) as u32)
-    } else {
-        write_long(bytes, at, number)
-    }
-}
-
-/// Writes a number in decimal that is usually long.
-fn write_long(bytes: &mut [u8], at: usize, number: u64) -> usize
-    requires { at + 20 ≤ length bytes.old }
-    ensures end { result ≡ at + length (decimal number) }
-    ensures text { take result bytes.new ≡ take at bytes.old ++ decimal number }
-{
-    if number < 10_000 {
-        return write_few(bytes, at, number as u32);
-    }
-    let last = write_long(bytes, at, number / 10_000);
-    write_four(bytes, last, (number % 10_000) as u32)
-}
-
-/// Writes a literal and a space after it. Signs are unpredictable, so there is no branch on the
-/// sign: an unwanted minus is overwritten by the number.
-#[inline]
-fn write_literal(bytes: &mut [u8], at: usize, literal: i64) -> usize
-    requires { at + 22 ≤ length bytes.old }
-    ensures end { result ≤ at + 22 }
-    ensures text { take result bytes.new
-        ≡ take at bytes.old ++ (signed_decimal literal ++ space ∷ []) }
-{
-    bytes[at] = b'-';
-    let first = at + usize::from(literal < 0);
-    let last = write_number(bytes, first, literal.unsigned_abs());
-    write_byte(bytes, last, b' ')
+    let digits = write_digits(magnitude, bytes, WORD - 1);
+    bytes[digits - 1] = b'-';
+    if negative { digits - 1 } else { digits }
 }
 
 /// Bytes on their way to a sink. Up to 4,096 are held, so that many short texts make few writes.
@@ -241,15 +75,8 @@ impl WriteBuffer {
         write_all(&self.bytes[..len], sink)
     }
 
-    /// Whether there is room for a number, with its sign and a space.
-    #[inline]
-    fn has_room(&self) -> bool
-        ensures { IsTrue result ↔ (length self.now + 22 ≤ 4096) }
-    {
-        self.len <= CAPACITY - LONGEST
-    }
-
     /// Appends bytes to what is held.
+    #[inline]
     fn append(&mut self, bytes: &[u8])
         requires { length self.old + length bytes.now ≤ 4096 }
         ensures { self.new ≡ self.old ++ bytes.now }
@@ -316,13 +143,7 @@ impl WriteBuffer {
         ensures failed { W.has_failed sink.new ≡ is_err result }
         ensures empty { OnErr result (self.new ≡ []) }
     {
-        if self.has_room() {
-            self.len = write_number(&mut self.bytes, self.len, number);
-            return Ok(());
-        }
-        let mut word = Word::new();
-        word.push_number(number);
-        self.put(word.bytes(), sink)
+        self.put(itoa::Buffer::new().format(number).as_bytes(), sink)
     }
 
     /// Puts a literal and a space, as `put` does for bytes.
@@ -334,59 +155,78 @@ impl WriteBuffer {
         ensures failed { W.has_failed sink.new ≡ is_err result }
         ensures empty { OnErr result (self.new ≡ []) }
     {
-        if self.has_room() {
-            self.len = write_literal(&mut self.bytes, self.len, literal);
-            return Ok(());
-        }
-        self.put_literal_beyond(literal, sink)
+        self.put_word(literal, sink)
     }
 
-    /// Puts a literal and a space, even if there is no room for them before a write.
-    #[inline(never)]
-    fn put_literal_beyond<W: Sink>(&mut self, literal: i64, sink: &mut W) -> Result<(), WriteFault>
+    /// Whether there is room for a word and a space.
+    #[inline]
+    fn has_room(&self) -> bool
+        ensures { IsTrue result ↔ (length self.now + 22 ≤ 4096) }
+    {
+        self.len <= CAPACITY - WORD
+    }
+
+    /// Drops this many bytes at the end of what is held.
+    #[inline]
+    fn cut(&mut self, count: usize)
+        requires { count ≤ length self.old }
+        ensures { self.new ≡ take (length self.old - count) self.old }
+    {
+        self.len -= count;
+    }
+
+    /// Appends a number with its sign, and a space: first 22 bytes, whatever the number is, since
+    /// copies of a fixed size are fast.
+    #[inline]
+    fn push_word(&mut self, negative: bool, magnitude: u64)
+        requires { length self.old + 22 ≤ 4096 }
+        ensures { self.new ≡ self.old ++ (literal_front negative magnitude ++ space ∷ []) }
+    {
+        let mut places = [b' '; PLACES];
+        let start = spell(&mut places, negative, magnitude);
+        self.append(&places[start..start + WORD]);
+        self.cut(start);
+    }
+
+    /// Puts a word and a space, as `put` does for bytes.
+    #[inline]
+    fn put_word<T: Word, W: Sink>(&mut self, word: T, sink: &mut W) -> Result<(), WriteFault>
         requires { W.has_failed sink.old ≡ false }
         ensures puts { PutsAll result (W.written sink.old) (W.written sink.new)
-            self.old self.new (signed_decimal literal ++ space ∷ []) }
+            self.old self.new (T.text word ++ space ∷ []) }
         ensures failed { W.has_failed sink.new ≡ is_err result }
         ensures empty { OnErr result (self.new ≡ []) }
     {
-        self.put(Word::literal(literal).bytes(), sink)
+        if !self.has_room() {
+            self.flush(sink)?;
+        }
+        let (negative, magnitude) = word.parts();
+        self.push_word(negative, magnitude);
+        Ok(())
     }
 
-    /// Puts literals, and a space after each.
-    fn put_literals<W: Sink>(&mut self, lits: &[i64], sink: &mut W) -> Result<(), WriteFault>
+    /// Puts words, and a space after each.
+    fn put_words<T: Word, W: Sink>(&mut self, words: &[T], sink: &mut W) -> Result<(), WriteFault>
         requires { W.has_failed sink.old ≡ false }
         ensures puts { PutsAll result (W.written sink.old) (W.written sink.new)
-            self.old self.new (literals_text lits.now) }
+            self.old self.new (words_text T.text words.now) }
         ensures failed { W.has_failed sink.new ≡ is_err result }
     {
-        for literal in lits {
-            self.put_literal(*literal, sink)?;
+        for word in words {
+            self.put_word(*word, sink)?;
         }
         Ok(())
     }
 
-    /// Puts the items of a list, each after a space, and the end of the line.
-    fn put_list<W: Sink>(&mut self, ids: &[u64], sink: &mut W) -> Result<(), WriteFault>
+    /// Puts the words of a list, a space after each, and the end of the line.
+    fn put_list<T: Word, W: Sink>(&mut self, words: &[T], sink: &mut W) -> Result<(), WriteFault>
         requires { W.has_failed sink.old ≡ false }
         ensures puts { PutsAll result (W.written sink.old) (W.written sink.new)
-            self.old self.new (list_text (map decimal ids.now)) }
+            self.old self.new (words_text T.text words.now ++ zero_digit ∷ line_feed ∷ []) }
         ensures failed { W.has_failed sink.new ≡ is_err result }
     {
-        for id in ids {
-            self.put(Word::item(*id).bytes(), sink)?;
-        }
-        self.put(b" 0\n", sink)
-    }
-
-    /// Puts the first number of a line.
-    fn put_lead<W: Sink>(&mut self, lead: u64, sink: &mut W) -> Result<(), WriteFault>
-        requires { W.has_failed sink.old ≡ false }
-        ensures puts { PutsAll result (W.written sink.old) (W.written sink.new)
-            self.old self.new (decimal lead ++ space ∷ []) }
-        ensures failed { W.has_failed sink.new ≡ is_err result }
-    {
-        self.put(Word::lead(lead).bytes(), sink)
+        self.put_words(words, sink)?;
+        self.put(b"0\n", sink)
     }
 
     /// Puts a whole line.
@@ -398,21 +238,20 @@ impl WriteBuffer {
     {
         match *line {
             Line::Add { id, lits, hints } => {
-                self.put_lead(id, sink)?;
-                self.put_literals(lits, sink)?;
-                self.put(b"0", sink)?;
+                self.put_word(id, sink)?;
+                self.put_words(lits, sink)?;
+                self.put(b"0 ", sink)?;
                 self.put_list(hints, sink)
             }
             Line::Delete { lead, ids } => {
-                self.put_lead(lead, sink)?;
-                self.put(b"d", sink)?;
+                self.put_word(lead, sink)?;
+                self.put(b"d ", sink)?;
                 self.put_list(ids, sink)
             }
             Line::Import { id, lits } => {
-                self.put_lead(id, sink)?;
+                self.put_word(id, sink)?;
                 self.put(b"i ", sink)?;
-                self.put_literals(lits, sink)?;
-                self.put(b"0\n", sink)
+                self.put_list(lits, sink)
             }
         }
     }

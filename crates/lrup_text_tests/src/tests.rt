@@ -1,4 +1,4 @@
-//! Lines and cubes that were spelled by hand, devices, and what each gives.
+//! Handwritten lines and cubes, devices, and the results of each.
 ghost use Rattle.std.specs.Prelude.{IsTrue};
 
 use lrup_text::{Line, LineFault, ReaderStatus};
@@ -12,19 +12,19 @@ mod devices;
 mod reading;
 mod writing;
 
-/// Stops the test where two values differ: an assertion that is proved once for all tests.
+/// Stops the test if two values differ. As a function the assertion is proved only once.
 fn same<T: PartialEq + fmt::Debug + Drop>(rt: &impl Abort, value: T, wanted: T) {
     assert_eq!(rt; value, wanted);
 }
 
-/// Stops the test where this doesn't hold.
+/// Stops the test if this doesn't hold.
 fn holds(rt: &impl Abort, fact: bool)
     ensures { IsTrue fact }
 {
     assert!(rt; fact);
 }
 
-/// A fault has this text.
+/// Checks a fault's text.
 fn has_text<F: fmt::Display>(
     rt: &impl Abort,
     alloc: Global,
@@ -35,7 +35,7 @@ fn has_text<F: fmt::Display>(
     Ok(())
 }
 
-/// What a reader gives: the numbers of a line, or why there is none.
+/// What a reader returns: the numbers of a line, or why there is no line.
 #[derive(Clone, Copy)]
 enum Given<'a> {
     Add(u64, &'a [i64], &'a [u64]),
@@ -64,7 +64,7 @@ impl<'a> Given<'a> {
     }
 }
 
-/// A beginning, a part as often as this, and an end.
+/// A beginning, a part `count` times, and an end.
 fn repeated(
     alloc: Global,
     (start, part, end): (&str, &str, &str),

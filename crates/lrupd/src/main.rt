@@ -22,7 +22,7 @@ impl Files for MachineFiles<'_> {
 
     ghost use Rattle.std.specs.Prelude.{None};
 
-    ghost tells = { λ _ _. None };
+    ghost contents = { λ _ _. None };
 
     ghost opens = { λ _ _ _ _. Unit {0} };
 

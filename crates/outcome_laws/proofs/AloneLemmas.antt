@@ -2,7 +2,8 @@
 use Rattle.std.proofs.Common.{◌≡◌, ◌∙◌, List, Option, None, Some, inl, inr, refl, sym}
 use Rattle.command_line.specs.CommandLine.{AskForRounds, IsCommandLineOf, rounds_of}
 use Rattle.command_line.specs.declared.words.CommandLine.{CommandLine}
-use Rattle.command.specs.Commands.{FilesView, Text}
+use Rattle.run_files.specs.Files.{FilesView}
+use Rattle.run_files.specs.Asked.{Text}
 use Rattle.command.specs.lemmas.OneRound.{is_over, never_on, was_alone, were_one}
 use Rattle.outcome_laws.specs.Laws.{OneRoundAlone}
 
@@ -17,7 +18,12 @@ pub one_round_alone : (files : FilesView) → OneRoundAlone files
 one_round_alone files words after out err status never (inl ends) =
     let once = no_rounds words ends.given ends.command_line never _ refl in
     let one = were_one once files ends.cube ends.last ends.before ends.were in
-    inl (ends, was_alone once files ends.cube ends.last ends.before ends.were, one.rounds.number, is_over once ends.last after ends.over)
+    inl (
+      ends,
+      was_alone once files ends.cube ends.last ends.before ends.were,
+      one.rounds.number,
+      is_over once ends.last after ends.finished,
+    )
 one_round_alone files words after out err status never (inr ends) = elim ends.cause [
   | inl first ↦ inr (ends, first.0, first.1)
   | inr fails ↦ absurd (

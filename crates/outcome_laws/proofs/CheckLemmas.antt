@@ -19,7 +19,7 @@ use Rattle.stream_check.specs.Excuses.{CutOff, Lacking, IsExcusedAt}
 use Rattle.stream_check.specs.Closed.{IsOfStream}
 use Rattle.stream_check.specs.Streams.{Stream, InputObservation, RunParamsValue, stream_params, observations}
 use Rattle.stream_check.specs.lemmas.StreamLemmas.{judged_count, same_at, observed_as_many, observation_at, some_end}
-use Rattle.stream_check.specs.Turns.{IsOrderedByTurns}
+use Rattle.stream_check.specs.Turns.{IsOrderedRoundRobin}
 use Rattle.run_laws.specs.Groups.{IsRun}
 use Rattle.run_laws.specs.Valid.{AddsEmpty, IsValidProof}
 use Rattle.run_laws.specs.ValidLaws.{ValidBegins, ValidEmpty}
@@ -30,35 +30,38 @@ use Rattle.run_outcome.specs.Outcomes.{verdict_of}
 use Rattle.run_outcome.specs.declared.outcome.Verdict.{Verdict}
 use Rattle.run_outcome.specs.declared.outcome.Verdict.TheVariants.{Unsatisfiable, UnsatisfiableUnder, Unknown}
 use Rattle.command_line.specs.declared.words.CommandLine.{CommandLine}
-use Rattle.command.specs.Commands.{AreChecked, Deeds, Text, run_params_by}
+use Rattle.command.specs.Commands.{AreChecked}
+use Rattle.run_files.specs.Files.{Effects}
+use Rattle.run_files.specs.Asked.{Text, run_params_by}
 use Rattle.command.specs.Rounds.{Round}
 
--- The streams at these paths were opened as these readers, which have what the files are known to hold; and the streams were checked.
+-- The streams at these paths were opened as these readers, which have what the files are known to
+-- hold; and the streams were checked.
 pub record Check {R : Type 0} (reading : SourceView R) : Type 0 where
   pub serial : Bool
   pub formula : Cnf
   pub run_params : RunParamsValue
   pub fits : Fits run_params.layout formula
-  pub tells : Text → Option (List ℕ)
+  pub contents : Text → Option (List ℕ)
   pub paths : List Text
   pub count : length paths ≡ run_params.layout.streams
   pub readers : List R
-  pub left : map reading.left readers ≡ map tells paths
+  pub left : map reading.left readers ≡ map contents paths
   pub reports : List Report
   pub verdict : Verdict
   pub checked : AreChecked reading serial formula run_params readers reports verdict
 
 -- the check of a round whose streams were opened in this way
-abbrev pub check_of : {its : Deeds} {given : CommandLine} {cube : CubeValue} (round : Round its given cube)
-    (tells : Text → Option (List ℕ)) (paths : List Text) → map its.reading.left round.readers ≡ map tells paths → Check its.reading
-check_of {its} {given} {cube} round tells paths left = record {
+abbrev pub check_of : {its : Effects} {given : CommandLine} {cube : CubeValue} (round : Round its given cube)
+    (contents : Text → Option (List ℕ)) (paths : List Text) → map its.reading.left round.readers ≡ map contents paths → Check its.reading
+check_of {its} {given} {cube} round contents paths left = record {
   serial = given.serial;
   formula = round.formula;
   run_params = run_params_by given cube round.formula round.sizes;
   fits = record { vars = refl; clauses = refl; literals = refl };
-  tells = tells;
+  contents = contents;
   paths = paths;
-  count = sym (length-map paths tells) ∙ sym (ap length left) ∙ length-map round.readers its.reading.left ∙ round.count;
+  count = sym (length-map paths contents) ∙ sym (ap length left) ∙ length-map round.readers its.reading.left ∙ round.count;
   readers = round.readers;
   left = left;
   reports = round.reports;
@@ -129,14 +132,14 @@ module _ {R : Type 0} (reading : SourceView R) (c : Check reading) where
   pub observed_length : length observed_of ≡ length c.paths
   observed_length =
       observed_as_many reading c.readers c.checked.lasts c.checked.ran.run.streams c.checked.ran.read
-      ∙ sym (length-map c.readers reading.left) ∙ ap length c.left ∙ length-map c.paths c.tells
+      ∙ sym (length-map c.readers reading.left) ∙ ap length c.left ∙ length-map c.paths c.contents
 
   -- the reports are those of a run
   abbrev pub run_of : IsRun c.formula c.run_params observed_of c.reports
   run_of = c.checked.ran.run
 
   -- a check on one thread has an order that takes the streams in turn
-  pub turns_of : c.serial ≡ true → IsOrderedByTurns c.formula c.run_params run_of.streams c.reports
+  pub turns_of : c.serial ≡ true → IsOrderedRoundRobin c.formula c.run_params run_of.streams c.reports
   turns_of on_one =
       let way : RanSo true c.formula c.run_params run_of.history run_of.streams c.reports =
       subst (λ (b : Bool). RanSo b c.formula c.run_params run_of.history run_of.streams c.reports) on_one c.checked.ran.way in
@@ -149,12 +152,12 @@ module _ {R : Type 0} (reading : SourceView R) (c : Check reading) where
       not_under (list_any (λ r. r.empty) c.reports) (list_any (λ r. r.within) c.reports) same (sym c.checked.is_verdict ∙ under)
 
   -- what a file is known to hold, its reader had left at first
-  pub observation_of_file : (s : ℕ) (path : Text) (whole : List ℕ) → IsOfStream c.paths s path → c.tells path ≡ Some whole
+  pub observation_of_file : (s : ℕ) (path : Text) (whole : List ℕ) → IsOfStream c.paths s path → c.contents path ≡ Some whole
       → (observation : InputObservation) × IsOfStream observed_of s observation × (observation.entry ≡ Some whole)
-  observation_of_file s path whole at told =
+  observation_of_file s path whole at known =
       let entry : slice_get (map reading.left c.readers) (s - 1) ≡ Some (Some whole) =
       ap (λ (es : List (Option (List ℕ))). slice_get es (s - 1)) c.left
-      ∙ slice_get-map c.tells c.paths (s - 1) ∙ ap (option_map c.tells) at.1 ∙ ap (λ (x : Option (List ℕ)). Some x) told in
+      ∙ slice_get-map c.contents c.paths (s - 1) ∙ ap (option_map c.contents) at.1 ∙ ap (λ (x : Option (List ℕ)). Some x) known in
       let is = observation_at reading c.readers c.checked.lasts run_of.streams c.checked.ran.read (s - 1) (Some whole) entry in
       (is.0, (at.0, is.1), is.2)
 
@@ -169,19 +172,20 @@ module _ {R : Type 0} (reading : SourceView R) (c : Check reading) where
 
   -- its reader had left what its file is known to hold
   pub entry_at : (s : ℕ) (observation : InputObservation) (path : Text) (whole : List ℕ) → IsOfStream observed_of s observation
-      → IsOfStream c.paths s path → c.tells path ≡ Some whole → observation.entry ≡ Some whole
-  entry_at s observation path whole at names tells =
-      let here = observation_of_file s path whole names tells in
+      → IsOfStream c.paths s path → c.contents path ≡ Some whole → observation.entry ≡ Some whole
+  entry_at s observation path whole at names contents =
+      let here = observation_of_file s path whole names contents in
       ap (λ (x : InputObservation). x.entry) (same_at observed_of s observation here.0 at here.1) ∙ here.2
 
-  -- With a valid refutation the verdict is 'unsatisfiable', or the stream was cut off in the refutation.
+  -- With a valid refutation the verdict is 'unsatisfiable', or the stream was cut off in the
+  -- refutation.
   pub refutation_says : ValidBegins → ValidEmpty → IsCnf c.formula → (s : ℕ) (path : Text) (bytes more : List ℕ)
-      (lines : List StreamLine) → IsOfStream c.paths s path → c.tells path ≡ Some (bytes ++ more)
+      (lines : List StreamLine) → IsOfStream c.paths s path → c.contents path ≡ Some (bytes ++ more)
       → IsValidProof c.formula c.run_params.layout s bytes lines → Any AddsEmpty lines
       → (c.verdict ≡ Unsatisfiable) ⊎ ((report : Report) × IsOfStream c.reports s report
       × ((line : ℕ) × (line ≤ length lines) × IsExcusedAt CutOff report line))
-  refutation_says begins empty cnf s path bytes more lines names tells valid refutes =
-      let here = observation_of_file s path (bytes ++ more) names tells in
+  refutation_says begins empty cnf s path bytes more lines names contents valid refutes =
+      let here = observation_of_file s path (bytes ++ more) names contents in
       let within = slice_get_within c.paths (s - 1) path names.1 in
       let stream : IsStream c.run_params.layout s = (names.0, omega (arith, within, names.0, c.count)) in
       let report = has_report c.formula c.run_params observed_of c.reports run_of s stream in
@@ -197,16 +201,16 @@ module _ {R : Type 0} (reading : SourceView R) (c : Check reading) where
   -- the files of a set of streams begin with the texts of their lines
   abbrev pub BeginSo : (ℕ → Bool) → List Step → Type 0
   BeginSo set steps = (t : ℕ) (path : Text) → IsTrue (set t) → IsOfStream c.paths t path
-      → (more : List ℕ) × (c.tells path ≡ Some (flat_map line_text (lines_by t steps) ++ more))
+      → (more : List ℕ) × (c.contents path ≡ Some (flat_map line_text (lines_by t steps) ++ more))
 
   pub have_texts : (set : ℕ → Bool) (steps : List Step) → BeginSo set steps → HaveTexts set steps observed_of
   have_texts set steps begin t observation member at =
       let path = path_at t observation at in
-      let tells = begin t path.0 member path.1 in
-      (tells.0, entry_at t observation path.0 (flat_map line_text (lines_by t steps) ++ tells.0) at path.1 tells.1)
+      let contents = begin t path.0 member path.1 in
+      (contents.0, entry_at t observation path.0 (flat_map line_text (lines_by t steps) ++ contents.0) at path.1 contents.1)
 
-  -- If a stream adds the empty clause in a valid order, the verdict is 'unsatisfiable', or the stream was cut off in its lines, or lacks
-  -- another's clause.
+  -- If a stream adds the empty clause in a valid order, the verdict is 'unsatisfiable', or the
+  -- stream was cut off in its lines, or lacks another's clause.
   pub order_says : TogetherBegins → ValidEmpty → IsCnf c.formula → (s : ℕ) (set : ℕ → Bool) (steps : List Step)
       → IsValidOrder c.formula c.run_params.layout steps → AllByRecursion (λ step. IsTrue (set step.stream)) steps
       → BeginSo set steps → Any AddsEmpty (lines_by s steps)

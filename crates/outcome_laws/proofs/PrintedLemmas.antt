@@ -22,7 +22,9 @@ use Rattle.run_outcome.specs.ReportText.{ending_text, report_text, stream_line, 
 use Rattle.run_outcome.specs.declared.outcome.Verdict.{Verdict}
 use Rattle.run_outcome.specs.declared.outcome.Verdict.TheVariants.{Unsatisfiable}
 use Rattle.command_line.specs.declared.words.CommandLine.{CommandLine}
-use Rattle.command.specs.Commands.{Deeds, FilesView, IsUntouched, SinkChange, SinkTook, TakesUnlessFailed, Text}
+use Rattle.run_files.specs.Files.{Effects, FilesView}
+use Rattle.command.specs.Commands.{IsUntouched, SinkChange, SinkTook, TakesUnlessFailed}
+use Rattle.run_files.specs.Asked.{Text}
 use Rattle.command.specs.Rounds.{EndsWithReport, HaveEnded, Round, last_text}
 use Rattle.outcome_laws.specs.Inconclusive.{FallsShort, HasStopped, InconclusiveBecause, no_report, not_kept}
 use Rattle.outcome_laws.specs.Inconclusive.{short, stopped, under_cube, unwritten}
@@ -274,7 +276,7 @@ module _ (s count : ℕ) (out : SinkChange) (shows : ShowsBadLine s out) where
   printed_so number reports verdict is took = subst (λ (n : ℕ). SinkTook out (last_text n reports verdict)) is took
 
   -- this isn't seen of the report of a round in which a stream stopped
-  none_of_stopped : {its : Deeds} {given : CommandLine} {cube : CubeValue} (round : Round its given cube) → 0 < round.number
+  none_of_stopped : {its : Effects} {given : CommandLine} {cube : CubeValue} (round : Round its given cube) → 0 < round.number
       → SinkTook out (last_text round.number round.reports round.verdict) → ¬ HasStopped Cut s count 1 round
   none_of_stopped round some took stops = elim stops.place [
     | inl early ↦ omega (arith, some, early)
@@ -283,13 +285,13 @@ module _ (s count : ℕ) (out : SinkChange) (shows : ShowsBadLine s out) where
         (subst (λ (t : ℕ). IsOfStream round.reports t stops.report) stream stops.says) (stops.line, stops.excused)
   ]
 
-  none_of_open : {its : Deeds} {given : CommandLine} {cube : CubeValue} (round : Round its given cube) → 0 < round.number
+  none_of_open : {its : Effects} {given : CommandLine} {cube : CubeValue} (round : Round its given cube) → 0 < round.number
       → SinkTook out (last_text round.number round.reports round.verdict)
       → ¬ (((round.number < 1) × HaveEnded round.reports) ⊎ HasStopped Cut s count 1 round)
   none_of_open round some took (inl early) = omega (arith, some, early.0)
   none_of_open round some took (inr lost) = none_of_stopped round some took lost
 
-  none_of_short : {its : Deeds} {given : CommandLine} {cube : CubeValue} (round : Round its given cube) (written : ℕ) → 0 < round.number
+  none_of_short : {its : Effects} {given : CommandLine} {cube : CubeValue} (round : Round its given cube) (written : ℕ) → 0 < round.number
       → SinkTook out (last_text round.number round.reports round.verdict) → ¬ FallsShort Cut s count 1 round written
   none_of_short round written some took (not_kept path asked fault unsaved verdict streams is) = none_of_open round some took streams
   none_of_short round written some took (under_cube path asked verdict saved streams is) = none_of_open round some took streams

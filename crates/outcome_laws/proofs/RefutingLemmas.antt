@@ -9,7 +9,8 @@ use Rattle.checkpoint.specs.Checkpoints.{AreCheckpoints, FilesRefute, FilesRefut
 use Rattle.checkpoint.specs.Checkpoints.{IsUnsatisfiableTextUnder, last_file}
 use Rattle.checkpoint.specs.Entails.{Entails, EntailsItself, EntailsOnward, RefutesBack, RefutesBackUnder}
 use Rattle.checkpoint.specs.declared.saving.SaveFault.{SaveFault}
-use Rattle.command.specs.Commands.{FilesView, report_status}
+use Rattle.run_files.specs.Files.{FilesView}
+use Rattle.command.specs.Commands.{report_status}
 use Rattle.outcome_laws.specs.Refuting.{AreRuns, IsRunOn, OutcomesRefute, OutcomesRefuteUnder}
 use Rattle.outcome_laws.proofs.SavedLemmas.{follows, saves_checkpoint}
 use Rattle.outcome_laws.proofs.StatusLemmas.{refuted}

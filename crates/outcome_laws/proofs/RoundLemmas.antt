@@ -10,7 +10,7 @@ use Rattle.stream_check.specs.Excuses.{Lacking}
 use Rattle.stream_check.specs.Laws.{EmptyCubeReported}
 use Rattle.stream_check.specs.Streams.{stream_params}
 use Rattle.run_laws.specs.ValidLaws.{ValidBegins, ValidEmpty, ValidReported}
-use Rattle.run_laws.specs.TurnsLaws.{ValidByTurns}
+use Rattle.run_laws.specs.TurnsLaws.{ValidRoundRobin}
 use Rattle.run_laws.specs.Together.{ValidTogether, TogetherBegins}
 use Rattle.run_outcome.specs.declared.outcome.Verdict.{Verdict}
 use Rattle.run_outcome.specs.declared.outcome.Verdict.TheVariants.{Unsatisfiable, UnsatisfiableUnder, Unknown}
@@ -18,34 +18,36 @@ use Rattle.checkpoint.specs.declared.saving.SaveFault.{SaveFault}
 use Rattle.command_line.specs.CommandLine.{IsCommandLineOf, rounds_of}
 use Rattle.command_line.specs.declared.sizes.Sizes.{Sizes}
 use Rattle.command_line.specs.declared.words.CommandLine.{CommandLine}
-use Rattle.command.specs.Commands.{AreAssumed, Deeds, FilesView, IsOpenCause, IsStartCause, SinkChange, Text, WasReadIn, assumed_at}
-use Rattle.command.specs.Commands.{created_path, report_status, run_params_by, sizes_of}
-use Rattle.command.specs.Paths.{sizes_path, stream_path, stream_paths}
-use Rattle.command.specs.Rounds.{AreSized, CarriesOn, EndsWithFault, EndsWithReport, HaveEnded, IsCauseIn, IsFirstCause, IsRoundCause}
-use Rattle.command.specs.Rounds.{LeavesBehind, SavesCheckpoint}
-use Rattle.command.specs.Rounds.{IsSizesCause, ProgramEnds, Round, RoundsEnd, WereRounds}
+use Rattle.run_files.specs.Files.{AreAssumed, AreSized, Effects, FilesView, WasReadIn}
+use Rattle.run_files.specs.Causes.{IsFirstCause, IsOpenCause, IsSizesCause, IsStartCause}
+use Rattle.command.specs.Commands.{SinkChange, report_status}
+use Rattle.run_files.specs.Asked.{Text, assumed_at, created_path, run_params_by, sizes_of}
+use Rattle.run_files.specs.Paths.{sizes_path, stream_path, stream_paths}
+use Rattle.command.specs.Rounds.{CarriesOn, EndsWithFault, EndsWithReport, HaveEnded, IsCauseIn, IsRoundCause, LeavesAtPath}
+use Rattle.run_files.specs.Saving.{SavesCheckpoint}
+use Rattle.command.specs.Rounds.{ProgramEnds, Round, RoundsEnd, WereRounds}
 use Rattle.command.specs.lemmas.SavedLemmas.{carried}
-use Rattle.command.specs.declared.fault.CommandFault.{CommandFault}
-use Rattle.command.specs.declared.fault.CommandFault.TheVariants as faults
+use Rattle.run_files.specs.declared.fault.CommandFault.{CommandFault}
+use Rattle.run_files.specs.declared.fault.CommandFault.TheVariants as faults
 use Rattle.outcome_laws.specs.Laws.{SameWordsAskAlike}
 use Rattle.outcome_laws.specs.Outcomes.{layout_in}
 use Rattle.outcome_laws.specs.Inconclusive.{FallsShort, HasStopped, InconclusiveBecause}
 use Rattle.outcome_laws.specs.Inconclusive.{no_report, not_kept, short, stopped, under_cube, unwritten}
-use Rattle.outcome_laws.specs.Valid.{AreValidAlone, AreValidByTurns, AreValidInOrder, AskForValidRounds, IsAskedOf, IsProvided}
-use Rattle.outcome_laws.specs.Valid.{IsRefutedAlone, IsRefutedByTurns, IsRefutedInOrder, RoundAsk}
+use Rattle.outcome_laws.specs.Valid.{AreValidAlone, AreValidRoundRobin, AreValidInOrder, AskForValidRounds, IsAskedOf, IsProvided}
+use Rattle.outcome_laws.specs.Valid.{IsRefutedAlone, IsRefutedRoundRobin, IsRefutedInOrder, RoundAsk}
 use Rattle.outcome_laws.specs.ValidLaws.{ValidOrdersSay, ValidRoundsSay, ValidTurnsSay}
 use Rattle.outcome_laws.proofs.CheckLemmas.{Check, check_of, never_under}
 use Rattle.outcome_laws.proofs.OutcomeLemmas.{OneFormula, first_text}
 use Rattle.outcome_laws.proofs.ValidLemmas.{IsOfMachine, NoFormulaFault, of_machine, text_cnf}
 use Rattle.outcome_laws.proofs.StreamLemmas.{Cut, Either, EndsSo, IsLost, Lines, Lost, OnOne, Reason, RefutesSo, cut_first, ended_at}
 use Rattle.outcome_laws.proofs.StreamLemmas.{ends_alone}
-use Rattle.outcome_laws.proofs.StreamLemmas.{ends_by_turns, ends_in_order, refutes_alone, refutes_by_turns, refutes_in_order}
+use Rattle.outcome_laws.proofs.StreamLemmas.{ends_round_robin, ends_in_order, refutes_alone, refutes_round_robin, refutes_in_order}
 use Rattle.outcome_laws.proofs.StreamLemmas.{stopped_is_open}
 
 -- Faults
 
 -- what no fault of a later round is about
-module _ (its : Deeds) (given : CommandLine) (cube : CubeValue) (folder : Text) (number : ℕ) (old : Sizes) (formula : Cnf)
+module _ (its : Effects) (given : CommandLine) (cube : CubeValue) (folder : Text) (number : ℕ) (old : Sizes) (formula : Cnf)
     (before after : its.State) where
   abbrev Read : Sizes → its.State → Type 0
   Read sizes sized = AreSized its (sizes_path folder number) old before sizes sized
@@ -96,21 +98,23 @@ module _ (its : Deeds) (given : CommandLine) (cube : CubeValue) (folder : Text) 
 
 -- Rounds
 
--- What is known of a round whose streams were checked: its formula is a formula, and this was required of its streams.
-pub record IsAsked (Before Last : RoundAsk) (last : ℕ) {its : Deeds} {given : CommandLine} {cube : CubeValue}
+-- What is known of a round whose streams were checked: its formula is a formula, and this was
+-- required of its streams.
+pub record IsAsked (Before Last : RoundAsk) (last : ℕ) {its : Effects} {given : CommandLine} {cube : CubeValue}
     (round : Round its given cube) : Type 0 where
   pub cnf : IsCnf round.formula
-  pub tells : Text → Option (List ℕ)
+  pub contents : Text → Option (List ℕ)
   pub paths : List Text
-  pub left : map its.reading.left round.readers ≡ map tells paths
-  pub asked : IsAskedOf Before Last last round.number round.formula round.sizes tells paths
+  pub left : map its.reading.left round.readers ≡ map contents paths
+  pub asked : IsAskedOf Before Last last round.number round.formula round.sizes contents paths
 
-abbrev check_in : (Before Last : RoundAsk) (last : ℕ) {its : Deeds} {given : CommandLine} {cube : CubeValue} (round : Round its given cube)
+abbrev check_in : (Before Last : RoundAsk) (last : ℕ) {its : Effects} {given : CommandLine} {cube : CubeValue}
+    (round : Round its given cube)
     → IsAsked Before Last last round → Check its.reading
-check_in Before Last last round is = check_of round is.tells is.paths is.left
+check_in Before Last last round is = check_of round is.contents is.paths is.left
 
 -- the formula that a round passes on is a formula
-carried_cnf : {its : Deeds} {given : CommandLine} {cube : CubeValue} (round : Round its given cube) (next : Cnf) → CarriesOn round next
+carried_cnf : {its : Effects} {given : CommandLine} {cube : CubeValue} (round : Round its given cube) (next : Cnf) → CarriesOn round next
     → IsCnf next
 carried_cnf round next on =
     let at = carried round next on in
@@ -126,7 +130,7 @@ module _ (files : FilesView) (given : CommandLine) (cube : CubeValue) where
     is_formula = were.is_formula;
     later = were.later;
     assumed = were.assumed;
-    told = were.told;
+    known = were.known;
     rounds = were.rounds.1;
   }
 
@@ -137,10 +141,10 @@ module _ (files : FilesView) (given : CommandLine) (cube : CubeValue) where
   some_number round (b ∷ more) were = omega (arith, were.rounds.0.number)
 
 -- What a round left.
-module _ (its : Deeds) (Saves : Result (Option Cnf) SaveFault → its.Output → its.Output → Type 0) where
+module _ (its : Effects) (Saves : Result (Option Cnf) SaveFault → its.Output → its.Output → Type 0) where
   -- with 'unsatisfiable' there is nothing to save
   all_saved : (verdict : Verdict) (before : its.State) (path : Option Text) (fault : SaveFault) (next : Option Cnf)
-      (after : its.State) → verdict ≡ Unsatisfiable → ¬ LeavesBehind its Saves verdict before path (Some fault) next after
+      (after : its.State) → verdict ≡ Unsatisfiable → ¬ LeavesAtPath its Saves verdict before path (Some fault) next after
   all_saved UnsatisfiableUnder before path fault next after is leaves = let no : UnsatisfiableUnder ≡ Unsatisfiable = is in cc
   all_saved Unknown before path fault next after is leaves = let no : Unknown ≡ Unsatisfiable = is in cc
   all_saved Unsatisfiable before None fault next after is leaves = let no : Some fault ≡ None = leaves.0 in cc
@@ -148,11 +152,11 @@ module _ (its : Deeds) (Saves : Result (Option Cnf) SaveFault → its.Output →
 
   -- if there is something that wasn't saved, the words ask for it
   asked_for : (verdict : Verdict) (before : its.State) (path : Option Text) (fault : SaveFault) (next : Option Cnf) (after : its.State)
-      → LeavesBehind its Saves verdict before path (Some fault) next after → (asked : Text) × (path ≡ Some asked)
+      → LeavesAtPath its Saves verdict before path (Some fault) next after → (asked : Text) × (path ≡ Some asked)
   asked_for verdict before None fault next after leaves = absurd (let no : Some fault ≡ None = leaves.0 in cc)
   asked_for verdict before (Some path) fault next after leaves = (path, refl)
 
-module _ {its : Deeds} {given : CommandLine} {cube : CubeValue} (round : Round its given cube) (fault : SaveFault)
+module _ {its : Effects} {given : CommandLine} {cube : CubeValue} (round : Round its given cube) (fault : SaveFault)
     (unsaved : round.unsaved ≡ Some fault) where
   abbrev Saves : Result (Option Cnf) SaveFault → its.Output → its.Output → Type 0
   Saves = SavesCheckpoint its round.formula (layout_in round.formula round.sizes) round.checked.ran.run.history round.checked.dropped
@@ -160,9 +164,9 @@ module _ {its : Deeds} {given : CommandLine} {cube : CubeValue} (round : Round i
   abbrev left_at : Option Text
   left_at = created_path given.next round.number
 
-  leaves_unsaved : LeavesBehind its Saves round.verdict round.opened left_at (Some fault) round.next round.after
+  leaves_unsaved : LeavesAtPath its Saves round.verdict round.opened left_at (Some fault) round.next round.after
   leaves_unsaved =
-      subst (λ (u : Option SaveFault). LeavesBehind its Saves round.verdict round.opened left_at u round.next round.after) unsaved
+      subst (λ (u : Option SaveFault). LeavesAtPath its Saves round.verdict round.opened left_at u round.next round.after) unsaved
       round.leaves
 
   unsaved_open : ¬ (round.verdict ≡ Unsatisfiable)
@@ -219,18 +223,18 @@ module _ (Mode : Bool → Type 0) (Before Last : RoundAsk) (Why : Reason) (at : 
         let asks = ask.asks in
         let same = alike words asks.given given asks.command_line line in
         let text : IsFormulaText asks.text round.formula =
-        first_text files given cube round were asks.text (ap files.tells same.3 ∙ asks.told) in
+        first_text files given cube round were asks.text (ap files.contents same.3 ∙ asks.known) in
         let formulas : round.formula ≡ asks.formula = one_formula asks.text round.formula asks.formula text asks.is_text in
         let sizes : round.sizes ≡ sizes_of asks.given = first.sizes_are ∙ same.1 in
         record {
           cnf = text_cnf asks.text round.formula text;
-          tells = files.tells;
+          contents = files.contents;
           paths = given.streams;
-          left = first.opened.left ∙ ap (λ (t : Text → Option (List ℕ)). map t given.streams) were.told;
-          asked = subst (λ (n : ℕ). IsAskedOf Before Last last n round.formula round.sizes files.tells given.streams) (sym first.number)
-              (subst (λ (p : List Text). IsAskedOf Before Last last 1 round.formula round.sizes files.tells p) (sym same.2)
-              (subst (λ (z : Sizes). IsAskedOf Before Last last 1 round.formula z files.tells asks.given.streams) (sym sizes)
-              (subst (λ (f : Cnf). IsAskedOf Before Last last 1 f (sizes_of asks.given) files.tells asks.given.streams) (sym formulas)
+          left = first.opened.left ∙ ap (λ (t : Text → Option (List ℕ)). map t given.streams) were.known;
+          asked = subst (λ (n : ℕ). IsAskedOf Before Last last n round.formula round.sizes files.contents given.streams) (sym first.number)
+              (subst (λ (p : List Text). IsAskedOf Before Last last 1 round.formula round.sizes files.contents p) (sym same.2)
+              (subst (λ (z : Sizes). IsAskedOf Before Last last 1 round.formula z files.contents asks.given.streams) (sym sizes)
+              (subst (λ (f : Cnf). IsAskedOf Before Last last 1 f (sizes_of asks.given) files.contents asks.given.streams) (sym formulas)
               ask.first)));
         }
     is_asked round (b ∷ more) were few =
@@ -242,7 +246,7 @@ module _ (Mode : Bool → Type 0) (Before Last : RoundAsk) (Why : Reason) (at : 
         (ask.later given cube b more round.formula line earlier below on) in
         record {
           cnf = carried_cnf b round.formula on;
-          tells = files.its.tells comes.sized;
+          contents = files.its.contents comes.sized;
           paths = stream_paths on.folder round.number round.sizes.streams;
           left = comes.opened.left;
           asked = (provided.ready round.sizes comes.sized comes.sizes).2;
@@ -319,11 +323,11 @@ module _ (Mode : Bool → Type 0) (Before Last : RoundAsk) (Why : Reason) (at : 
     -- The rounds ended without an answer: a stream was stopped.
     lost_in : (round : Round files.its given cube) (before : List (Round files.its given cube)) → WereRounds files given cube round before
         → (after : files.its.State) → RoundsEnd round after → round.verdict ≡ Unknown → round.unsaved ≡ None → Stops round
-    lost_in round before were after over unknown saved =
+    lost_in round before were after finished unknown saved =
         elim (fate round before were (few_rounds round before were)) [
           | inr (inr lost) ↦ lost
           | inr (inl refuted) ↦ absurd (let no : Unsatisfiable ≡ Unknown = sym refuted ∙ unknown in cc)
-          | inl (below, ended) ↦ absurd (elim over [
+          | inl (below, ended) ↦ absurd (elim finished [
             | inl (barred, same) ↦ elim barred [
               | inl once ↦ rounds_asked round before were below once
               | inr (inl other) ↦ other unknown
@@ -373,7 +377,7 @@ module _ (Mode : Bool → Type 0) (Before Last : RoundAsk) (Why : Reason) (at : 
         λ refuted. let no : UnsatisfiableUnder ≡ Unsatisfiable = sym v ∙ refuted in cc in
         inr (under_cube asked.0 asked.1 v u (streams_of ends other) refl)
     short_so ends None u Unknown v =
-        inr (stopped v u (lost_in ends.given ends.command_line ends.cube ends.last ends.before ends.were after ends.over v u) refl)
+        inr (stopped v u (lost_in ends.given ends.command_line ends.cube ends.last ends.before ends.were after ends.finished v u) refl)
 
     reported_so : (ends : EndsWithReport files words after out err status)
         → (failed : Bool) → out.failed ≡ failed → status ≡ report_status failed ends.last.unsaved ends.last.verdict
@@ -427,13 +431,13 @@ valid_orders_say one_formula no_fault bare alike together begins empty files las
     (refutes_in_order begins empty s count) bare one_formula no_fault alike files words last ask (λ given line. tt) after
     out err status
 
-pub valid_turn_rounds_say : OneFormula → NoFormulaFault → EmptyCubeReported → SameWordsAskAlike → ValidByTurns → ValidEmpty
+pub valid_turn_rounds_say : OneFormula → NoFormulaFault → EmptyCubeReported → SameWordsAskAlike → ValidRoundRobin → ValidEmpty
     → (files : FilesView) (last : ℕ) → ValidTurnsSay files last
-valid_turn_rounds_say one_formula no_fault bare alike by_turns empty files last words s after out err status ask on_one ending =
+valid_turn_rounds_say one_formula no_fault bare alike round_robin empty files last words s after out err status ask on_one ending =
     let on_one_so : (given : CommandLine) → IsCommandLineOf words given → given.serial ≡ true =
     λ given line. line.said.serial ∙ sym ask.asks.command_line.said.serial ∙ on_one in
-    elim (rounds_say OnOne AreValidByTurns (IsRefutedByTurns s) Cut cut_first (ends_by_turns by_turns)
-    (refutes_by_turns by_turns empty s) bare one_formula no_fault alike files words last ask on_one_so after out err status
+    elim (rounds_say OnOne AreValidRoundRobin (IsRefutedRoundRobin s) Cut cut_first (ends_round_robin round_robin)
+    (refutes_round_robin round_robin empty s) bare one_formula no_fault alike files words last ask on_one_so after out err status
     ending) [
       | inl is ↦ inl is
       | inr inconclusive ↦ inr (_, _, inconclusive)

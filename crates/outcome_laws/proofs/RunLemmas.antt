@@ -52,16 +52,16 @@ same_run_params run_params other layout tries =
     ∙ ap (λ (n : ℕ). record { layout = run_params.layout; cube = []; tries = n }) tries
 
 pub same_bytes_say_the_same : NoCubeJudgesAlike → SameBytesAgree → SameBytesSayTheSame
-same_bytes_say_the_same law agree f run_params other_run_params s whole told other_observed observation other_observation reports
+same_bytes_say_the_same law agree f run_params other_run_params s whole known other_observed observation other_observation reports
     other_reports report other
-    fits layout tries cites a b here entry there known says too fine good =
-    let mine = run_bare law f run_params told reports a in
+    fits layout tries cites a b here entry there is_known says too fine good =
+    let mine = run_bare law f run_params known reports a in
     let theirs = subst (λ (t : RunParamsValue). IsRun f t other_observed (map bare_report other_reports))
     (same_run_params run_params other_run_params layout tries) (run_bare law f other_run_params other_observed other_reports b) in
     let same : bare_report report ≡ bare_report other =
-    agree f (bare_run_params run_params) s whole told other_observed observation other_observation (map bare_report reports)
+    agree f (bare_run_params run_params) s whole known other_observed observation other_observation (map bare_report reports)
     (map bare_report other_reports)
-    (bare_report report) (bare_report other) fits cites mine theirs here entry there known (at_bare reports s report says)
+    (bare_report report) (bare_report other) fits cites mine theirs here entry there is_known (at_bare reports s report says)
     (at_bare other_reports s other too)
     fine good in
     record {

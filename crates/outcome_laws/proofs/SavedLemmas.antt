@@ -11,18 +11,20 @@ use Rattle.checkpoint.specs.Entails.{Entails, EntailsItself, EntailsOnward}
 use Rattle.checkpoint.specs.declared.saving.SaveFault.{SaveFault}
 use Rattle.stream_check.specs.DroppedIdsValue.{DroppedIdsValue}
 use Rattle.command_line.specs.declared.words.CommandLine.{CommandLine}
-use Rattle.command.specs.Commands.{Deeds, Text, created_path}
-use Rattle.command.specs.Rounds.{AreRounds, LeavesBehind, Round, SavesCheckpoint}
+use Rattle.run_files.specs.Files.{Effects}
+use Rattle.run_files.specs.Asked.{Text, created_path}
+use Rattle.command.specs.Rounds.{AreRounds, LeavesAtPath, Round}
+use Rattle.run_files.specs.Saving.{SavesCheckpoint}
 use Rattle.command.specs.lemmas.SavedLemmas.{carried_entails}
 use Rattle.outcome_laws.specs.Outcomes.{layout_in}
 use Rattle.outcome_laws.specs.Refuting.{saved_bytes, saved_in, written_bytes}
 
-module _ (its : Deeds) (f : Cnf) (layout : LayoutValue) (history : History) (dropped : List DroppedIdsValue) where
+module _ (its : Effects) (f : Cnf) (layout : LayoutValue) (history : History) (dropped : List DroppedIdsValue) where
   abbrev Saves : Result (Option Cnf) SaveFault → its.Output → its.Output → Type 0
   Saves = SavesCheckpoint its f layout history dropped
 
   abbrev Leaves : Verdict → its.State → Option Text → Option SaveFault → Option Cnf → its.State → Type 0
-  Leaves = LeavesBehind its Saves
+  Leaves = LeavesAtPath its Saves
 
   -- what was saved is a checkpoint
   is_written : (result : Result (Option Cnf) SaveFault) (first last : its.Output) (saves : Saves result first last) (saved : List ℕ)
@@ -43,7 +45,7 @@ module _ (its : Deeds) (f : Cnf) (layout : LayoutValue) (history : History) (dro
   is_saved Unknown before (Some path) None next after leaves saved is =
       is_written leaves.result leaves.first leaves.last leaves.saving saved is
 
-module _ (itself : EntailsItself) (onward : EntailsOnward) {its : Deeds} {given : CommandLine} {cube : CubeValue} (f : Cnf)
+module _ (itself : EntailsItself) (onward : EntailsOnward) {its : Effects} {given : CommandLine} {cube : CubeValue} (f : Cnf)
     (first : its.State) where
   -- each round's formula follows from that of round 1
   pub follows : (round : Round its given cube) (before : List (Round its given cube)) → AreRounds f first (round ∷ before)

@@ -12,7 +12,7 @@ use Rattle.stream_check.specs.declared.report.Ending.{Ending}
 use Rattle.stream_check.specs.declared.report.Ending.TheVariants as endings
 use Rattle.stream_check.specs.declared.report.Report.{Report}
 use Rattle.stream_check.specs.Excuses.{CutOff, IsExcused}
-use Rattle.stream_check.specs.Turns.{IsByTurns, IsOrderedByTurns}
+use Rattle.stream_check.specs.Turns.{IsRoundRobin, IsOrderedRoundRobin}
 use Rattle.stream_check.specs.Closed.{IsOfStream}
 use Rattle.stream_check.specs.Streams.{InputObservation, RunParamsValue}
 use Rattle.run_laws.specs.Groups.{IsRun, NoneExcused}
@@ -20,11 +20,12 @@ use Rattle.run_laws.specs.Valid.{AddsEmpty, valid_report}
 use Rattle.run_laws.specs.ValidLaws.{ValidEmpty}
 use Rattle.run_laws.specs.Valid.{Step}
 use Rattle.run_laws.specs.Together.{IsValidOrder, lines_by}
-use Rattle.run_laws.specs.TurnsLaws.{BytesDecide, ValidByTurns}
+use Rattle.run_laws.specs.TurnsLaws.{BytesDecide, ValidRoundRobin}
 use Rattle.run_outcome.specs.Outcomes.{verdict_of}
 use Rattle.run_outcome.specs.declared.outcome.Verdict.TheVariants.{Unsatisfiable}
 use Rattle.command_line.specs.declared.sizes.Sizes.{Sizes}
-use Rattle.command.specs.Commands.{FilesView, Text}
+use Rattle.run_files.specs.Files.{FilesView}
+use Rattle.run_files.specs.Asked.{Text}
 use Rattle.outcome_laws.specs.Outcomes.{layout_in}
 use Rattle.outcome_laws.specs.Serial.{SerialOutcomesAgree}
 use Rattle.outcome_laws.proofs.CheckLemmas.{Check, turns_of, comes_to, entry_at, has_report, of_some, path_at, run_of, observed_of}
@@ -32,7 +33,7 @@ use Rattle.outcome_laws.proofs.OutcomeLemmas.{OneFormula, first_check, first_tex
 
 -- a run whose lines have an order that takes the streams in turn
 abbrev IsRunInTurns : Cnf → RunParamsValue → List InputObservation → List Report → Type 0
-IsRunInTurns f run_params told reports = (run : IsRun f run_params told reports) × IsOrderedByTurns f run_params run.streams reports
+IsRunInTurns f run_params known reports = (run : IsRun f run_params known reports) × IsOrderedRoundRobin f run_params run.streams reports
 
 pub serial_outcomes_agree : OneFormula → BytesDecide → (files : FilesView) (others : FilesView) → SerialOutcomesAgree files others
 serial_outcomes_agree one_formula decide files others given other_given cube other_cube round other were others_were ask cubes fine good =
@@ -122,24 +123,26 @@ some_cut reports = elim (cut_at reports) [
 ]
 
 -- Lines in a valid order that takes the streams in turn, when no stream was cut off.
-module _ {R : Type 0} (reading : SourceView R) (c : Check reading) (cnf : IsCnf c.formula) (valid : ValidByTurns) (on_one : c.serial ≡ true)
-    (steps : List Step) (order : IsValidOrder c.formula c.run_params.layout steps) (turns : IsByTurns (map (λ step. step.stream) steps))
-    (tells : (t : ℕ) (path : Text) → IsOfStream c.paths t path → c.tells path ≡ Some (flat_map line_text (lines_by t steps)))
+module _ {R : Type 0} (reading : SourceView R) (c : Check reading) (cnf : IsCnf c.formula) (valid : ValidRoundRobin)
+    (on_one : c.serial ≡ true)
+    (steps : List Step) (order : IsValidOrder c.formula c.run_params.layout steps) (turns : IsRoundRobin (map (λ step. step.stream) steps))
+    (contents : (t : ℕ) (path : Text) → IsOfStream c.paths t path → c.contents path ≡ Some (flat_map line_text (lines_by t steps)))
     (fine : NoneExcused (λ s. true) CutOff c.reports) where
-  pub valid_by_turns : (s : ℕ) (report : Report) → IsOfStream c.reports s report → report ≡ valid_report c.run_params s (lines_by s steps)
-  valid_by_turns s report says =
+  pub valid_round_robin : (s : ℕ) (report : Report) → IsOfStream c.reports s report
+      → report ≡ valid_report c.run_params s (lines_by s steps)
+  valid_round_robin s report says =
       let texts : (t : ℕ) (observation : InputObservation) → IsOfStream (observed_of reading c) t observation
       → observation.entry ≡ Some (flat_map line_text (lines_by t steps)) =
       λ t observation at.
       let path = path_at reading c t observation at in
-      entry_at reading c t observation path.0 (flat_map line_text (lines_by t steps)) at path.1 (tells t path.0 path.1) in
+      entry_at reading c t observation path.0 (flat_map line_text (lines_by t steps)) at path.1 (contents t path.0 path.1) in
       valid c.formula c.run_params steps (observed_of reading c) c.reports s report cnf c.fits order turns texts
       (run_of reading c) (turns_of reading c on_one) fine says
 
-  pub by_turns_refutes : ValidEmpty → (s : ℕ) → Any AddsEmpty (lines_by s steps) → c.verdict ≡ Unsatisfiable
-  by_turns_refutes empty s refutes =
+  pub round_robin_refutes : ValidEmpty → (s : ℕ) → Any AddsEmpty (lines_by s steps) → c.verdict ≡ Unsatisfiable
+  round_robin_refutes empty s refutes =
       let some : 0 < length (lines_by s steps) = omega (arith, refutes.2) in
       let stream : IsStream c.run_params.layout s = of_some s (IsStream c.run_params.layout) steps order.streams some in
       let report = has_report c.formula c.run_params (observed_of reading c) c.reports (run_of reading c) s stream in
       comes_to c.reports c.verdict s report.0 c.checked.is_verdict report.1
-      (ap (λ (r : Report). r.empty) (valid_by_turns s report.0 report.1) ∙ (empty c.run_params s (lines_by s steps)).1 refutes)
+      (ap (λ (r : Report). r.empty) (valid_round_robin s report.0 report.1) ∙ (empty c.run_params s (lines_by s steps)).1 refutes)

@@ -7,10 +7,11 @@ use Rattle.run_outcome.specs.declared.outcome.Verdict.{Verdict}
 use Rattle.run_outcome.specs.declared.outcome.Verdict.TheVariants.{Unsatisfiable, UnsatisfiableUnder, Unknown}
 use Rattle.checkpoint.specs.Entails.{EntailsItself, EntailsOnward, RefutesBack}
 use Rattle.checkpoint.specs.declared.saving.SaveFault.{SaveFault}
-use Rattle.command.specs.Commands.{FilesView, report_status}
-use Rattle.command.specs.Faults.{layout_status, status_of}
-use Rattle.command.specs.declared.fault.CommandFault.{CommandFault}
-use Rattle.command.specs.declared.fault.CommandFault.TheVariants as faults
+use Rattle.run_files.specs.Files.{FilesView}
+use Rattle.command.specs.Commands.{report_status}
+use Rattle.run_files.specs.Faults.{layout_status, status_of}
+use Rattle.run_files.specs.declared.fault.CommandFault.{CommandFault}
+use Rattle.run_files.specs.declared.fault.CommandFault.TheVariants as faults
 use Rattle.outcome_laws.specs.Laws.{Status0HasACommandLine}
 use Rattle.outcome_laws.proofs.SavedLemmas.{follows}
 

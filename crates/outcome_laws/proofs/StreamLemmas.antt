@@ -1,4 +1,4 @@
--- What valid proofs of a round come to.
+-- The results of valid proofs in a round.
 use Rattle.std.proofs.Common.{◌≡◌, ◌⊎◌, ◌≤◌, ◌-◌, ◌+◌, ℕ, Bool, true, List, [], ◌∷◌, zero, suc, Some, inl, inr, refl, sym, ap}
 use Rattle.std.proofs.Common.{subst, ◌∙◌, arith}
 use Rattle.std.specs.Prelude.{IsTrue, slice_get}
@@ -21,14 +21,14 @@ use Rattle.run_laws.specs.Groups.{NoneExcused}
 use Rattle.run_laws.specs.ValidLaws.{ValidBegins, ValidEmpty, ValidReported}
 use Rattle.run_laws.specs.Valid.{Step}
 use Rattle.run_laws.specs.Together.{TogetherBegins, ValidTogether, lines_by}
-use Rattle.run_laws.specs.TurnsLaws.{ValidByTurns}
+use Rattle.run_laws.specs.TurnsLaws.{ValidRoundRobin}
 use Rattle.run_outcome.specs.declared.outcome.Verdict.TheVariants.{Unsatisfiable}
-use Rattle.command.specs.Commands.{Text}
+use Rattle.run_files.specs.Asked.{Text}
 use Rattle.command.specs.Rounds.{HaveEnded}
-use Rattle.outcome_laws.specs.Valid.{AreValidAlone, AreValidByTurns, AreValidInOrder, IsRefutedAlone, IsRefutedByTurns}
+use Rattle.outcome_laws.specs.Valid.{AreValidAlone, AreValidRoundRobin, AreValidInOrder, IsRefutedAlone, IsRefutedRoundRobin}
 use Rattle.outcome_laws.specs.Valid.{IsRefutedInOrder, RoundAsk}
 use Rattle.outcome_laws.proofs.CheckLemmas.{Check, have_texts, order_says, refutation_says, run_of, observation_of_file, observed_of}
-use Rattle.outcome_laws.proofs.SerialLemmas.{SomeCut, by_turns_refutes, valid_by_turns, said_of, some_cut}
+use Rattle.outcome_laws.proofs.SerialLemmas.{SomeCut, round_robin_refutes, valid_round_robin, said_of, some_cut}
 
 -- with threads or on one thread
 abbrev pub Either : Bool → Type 0
@@ -59,7 +59,7 @@ IsLost Why run_params reports = (s : ℕ) × (report : Report) × IsOfStream rep
 -- streams for which this holds have ended, or some stream was stopped
 abbrev pub EndsSo : (Bool → Type 0) → RoundAsk → Reason → Type 1
 EndsSo Mode Before Why = (R : Type 0) (reading : SourceView R) (c : Check reading) → Mode c.serial → IsCnf c.formula
-    → Before c.formula c.run_params.layout c.tells c.paths
+    → Before c.formula c.run_params.layout c.contents c.paths
     → HaveEnded c.reports ⊎ IsLost Why c.run_params c.reports
 
 -- a stream and a number of its first lines
@@ -69,7 +69,7 @@ Lines = ℕ × ℕ
 -- the verdict is 'unsatisfiable', or the stream was stopped that `at` finds in the reports
 abbrev pub RefutesSo : (Bool → Type 0) → RoundAsk → Reason → (List Report → Lines) → Type 1
 RefutesSo Mode Last Why at = (R : Type 0) (reading : SourceView R) (c : Check reading) → Mode c.serial → IsCnf c.formula
-    → Last c.formula c.run_params.layout c.tells c.paths
+    → Last c.formula c.run_params.layout c.contents c.paths
     → (c.verdict ≡ Unsatisfiable) ⊎ Lost Why c.run_params c.reports (at c.reports).0 (at c.reports).1
 
 -- All streams ended, or one didn't.
@@ -120,7 +120,7 @@ module _ {R : Type 0} (reading : SourceView R) (c : Check reading) (cnf : IsCnf 
         | inr past ↦ absurd (omega (arith, past.0, stream.1, says.0, c.count))
       ]
 
-  alone_ends : ValidReported → AreValidAlone c.formula c.run_params.layout c.tells c.paths → (s : ℕ) (report : Report)
+  alone_ends : ValidReported → AreValidAlone c.formula c.run_params.layout c.contents c.paths → (s : ℕ) (report : Report)
       → IsOfStream c.reports s report → (report.ending ≡ endings.Ended) ⊎ IsExcused CutOff report
   alone_ends reported valid s report says =
       let at = path_of s report says in
@@ -138,7 +138,7 @@ all_true [] = tt
 all_true (step ∷ steps) = (refl, all_true steps)
 
 module _ {R : Type 0} (reading : SourceView R) (c : Check reading) (cnf : IsCnf c.formula) where
-  order_ends : ValidTogether → AreValidInOrder c.formula c.run_params.layout c.tells c.paths → (s : ℕ) (report : Report)
+  order_ends : ValidTogether → AreValidInOrder c.formula c.run_params.layout c.contents c.paths → (s : ℕ) (report : Report)
       → IsOfStream c.reports s report → (report.ending ≡ endings.Ended) ⊎ IsExcused (Lacking (stream_params c.run_params s)) report
   order_ends together valid s report says =
       let at = path_of reading c cnf s report says in
@@ -191,11 +191,11 @@ refutes_in_order together empty s count R reading c mode cnf valid =
       | inr (report, says, held) ↦ inr (report, says, (held.0, omega (arith, held.1, valid.6), held.2))
     ]
 
-pub ends_by_turns : ValidByTurns → EndsSo OnOne AreValidByTurns Cut
-ends_by_turns by_turns R reading c on_one cnf valid = elim (some_cut c.reports) [
+pub ends_round_robin : ValidRoundRobin → EndsSo OnOne AreValidRoundRobin Cut
+ends_round_robin round_robin R reading c on_one cnf valid = elim (some_cut c.reports) [
   | inl cut ↦ inr cut
   | inr fine ↦ some_lost Cut c.run_params c.reports (λ s report says. inl (ap (λ (r : Report). r.ending)
-      (valid_by_turns reading c cnf by_turns on_one valid.0.0 valid.0.1 valid.1 valid.0.2 fine s report says)))
+      (valid_round_robin reading c cnf round_robin on_one valid.0.0 valid.0.1 valid.1 valid.0.2 fine s report says)))
 ]
 
 -- the stream that was cut off, if there is one
@@ -206,19 +206,19 @@ cut_lines reports (inr fine) = (0, 0)
 abbrev pub cut_first : List Report → Lines
 cut_first reports = cut_lines reports (some_cut reports)
 
-module _ (by_turns : ValidByTurns) (empty : ValidEmpty) (s : ℕ) (R : Type 0) (reading : SourceView R) (c : Check reading)
-    (on_one : OnOne c.serial) (cnf : IsCnf c.formula) (valid : IsRefutedByTurns s c.formula c.run_params.layout c.tells c.paths) where
+module _ (round_robin : ValidRoundRobin) (empty : ValidEmpty) (s : ℕ) (R : Type 0) (reading : SourceView R) (c : Check reading)
+    (on_one : OnOne c.serial) (cnf : IsCnf c.formula) (valid : IsRefutedRoundRobin s c.formula c.run_params.layout c.contents c.paths) where
   turns_refute : (found : SomeCut c.reports ⊎ NoneExcused (λ s. true) CutOff c.reports)
       → (c.verdict ≡ Unsatisfiable)
       ⊎ Lost Cut c.run_params c.reports (cut_lines c.reports found).0 (cut_lines c.reports found).1
   turns_refute (inl cut) = inr (cut.1, cut.2, (cut.3.0, omega arith, cut.3.1))
   turns_refute (inr fine) =
       let order = valid.0.0 in
-      inl (by_turns_refutes reading c cnf by_turns on_one order.0 order.1 valid.0.1 order.2 fine empty s valid.1)
+      inl (round_robin_refutes reading c cnf round_robin on_one order.0 order.1 valid.0.1 order.2 fine empty s valid.1)
 
-pub refutes_by_turns : ValidByTurns → ValidEmpty → (s : ℕ) → RefutesSo OnOne (IsRefutedByTurns s) Cut cut_first
-refutes_by_turns by_turns empty s R reading c on_one cnf valid =
-    turns_refute by_turns empty s R reading c on_one cnf valid (some_cut c.reports)
+pub refutes_round_robin : ValidRoundRobin → ValidEmpty → (s : ℕ) → RefutesSo OnOne (IsRefutedRoundRobin s) Cut cut_first
+refutes_round_robin round_robin empty s R reading c on_one cnf valid =
+    turns_refute round_robin empty s R reading c on_one cnf valid (some_cut c.reports)
 
 -- a stream that was cut off hasn't ended
 cut_is_open : (report : Report) → IsExcused CutOff report → ¬ (report.ending ≡ endings.Ended)

@@ -18,10 +18,12 @@ use Rattle.command_line.specs.CommandLine.{IsCommandLineOf}
 use Rattle.command_line.specs.lemmas.NextLemmas.{asks_for_one}
 use Rattle.command_line.specs.declared.sizes.Sizes.{Sizes}
 use Rattle.command_line.specs.declared.words.CommandLine.{CommandLine}
-use Rattle.command.specs.Commands.{FilesView, IsAssumeCause, IsCause, IsFormulaAt, IsReadCause, Text, assumed_at, sizes_of}
-use Rattle.command.specs.Faults.{status_of}
-use Rattle.command.specs.declared.fault.CommandFault.{CommandFault}
-use Rattle.command.specs.declared.fault.CommandFault.TheVariants as faults
+use Rattle.run_files.specs.Files.{FilesView, IsFormulaAt}
+use Rattle.run_files.specs.Causes.{IsAssumeCause, IsCause, IsReadCause}
+use Rattle.run_files.specs.Asked.{Text, assumed_at, sizes_of}
+use Rattle.run_files.specs.Faults.{status_of}
+use Rattle.run_files.specs.declared.fault.CommandFault.{CommandFault}
+use Rattle.run_files.specs.declared.fault.CommandFault.TheVariants as faults
 use Rattle.outcome_laws.specs.Outcomes.{layout_in}
 use Rattle.outcome_laws.specs.Valid.{AskWell}
 use Rattle.outcome_laws.specs.Laws.{SameWordsAskAlike}
@@ -57,18 +59,18 @@ NoFormulaFault = (bytes : List ℕ) (f : Cnf) (fault : DimacsFault) → IsFormul
 module _ (one_formula : OneFormula) (no_fault : NoFormulaFault) (alike : SameWordsAskAlike) (files : FilesView) where
   -- no file that was read has a fault
   not_refused : (given : CommandLine) (text : List ℕ) (f : Cnf) (fault : DimacsFault) (after : files.its.State)
-      → files.tells given.formula.now ≡ Some text → IsFormulaText text f → ¬ IsReadCause files given (faults.Refused fault) after
-  not_refused given text f fault after told is cause =
-      let same = text_of (files.tells given.formula.now) text cause.1.0 told cause.1.1.told in
+      → files.contents given.formula.now ≡ Some text → IsFormulaText text f → ¬ IsReadCause files given (faults.Refused fault) after
+  not_refused given text f fault after known is cause =
+      let same = text_of (files.contents given.formula.now) text cause.1.0 known cause.1.1.known in
       no_fault cause.1.0 f fault (subst (λ (b : List ℕ). IsFormulaText b f) same is) cause.1.2
 
   not_assumed : (vars : ℕ) (before : files.its.State) (path : Option Text) (fault : CubeFault) (after : files.its.State)
-      → IfSome path (λ at. (bytes : List ℕ) × (files.tells at ≡ Some bytes)
+      → IfSome path (λ at. (bytes : List ℕ) × (files.contents at ≡ Some bytes)
       × ((its : CubeFault) → its ≢ cubes.Memory → ¬ IsCubeFault vars bytes its))
       → ¬ IsAssumeCause files vars before path (faults.CubeRefused fault) after
   not_assumed vars before None fault after valid cause = cause
   not_assumed vars before (Some path) fault after valid cause =
-      let same = text_of (files.tells path) valid.0 cause.1.0 valid.1 cause.1.1.told in
+      let same = text_of (files.contents path) valid.0 cause.1.0 valid.1 cause.1.1.known in
       valid.2 fault cause.0 (subst (λ (b : List ℕ). IsCubeFault vars b fault) (sym same) cause.1.2)
 
   -- without assumed literals they have no fault
@@ -82,7 +84,8 @@ module _ (one_formula : OneFormula) (no_fault : NoFormulaFault) (alike : SameWor
       → IsCommandLineOf words given → IsFormulaAt files given.formula.now f next → f ≡ ask.formula
   formula_at words ask given f next line at =
       let same = alike words ask.given given ask.command_line line in
-      one_formula ask.text f ask.formula (is_text files given.formula.now f next ask.text (ap files.tells same.3 ∙ ask.told) at) ask.is_text
+      one_formula ask.text f ask.formula
+      (is_text files given.formula.now f next ask.text (ap files.contents same.3 ∙ ask.known) at) ask.is_text
 
   pub of_machine : (words : List Text) (ask : AskWell files words) → (after : files.its.State)
       → (fault : CommandFault) → IsCause files words fault after → IsOfMachine fault
@@ -96,7 +99,7 @@ module _ (one_formula : OneFormula) (no_fault : NoFormulaFault) (alike : SameWor
   of_machine words ask after (faults.Refused fault) cause =
       let same = alike words ask.given cause.0 ask.command_line cause.1 in
       absurd (elim cause.2 [
-        | inl read ↦ not_refused cause.0 ask.text ask.formula fault after (ap files.tells same.3 ∙ ask.told) ask.is_text read
+        | inl read ↦ not_refused cause.0 ask.text ask.formula fault after (ap files.contents same.3 ∙ ask.known) ask.is_text read
         | inr later ↦ elim later.3 [
           | inl assume ↦ some_assumed (faults.Refused fault) later.0.vars later.1 (assumed_at cause.0) after (λ at x. x) assume
           | inr last ↦ elim last.3 [ inl opens ↦ opens | inr start ↦ start.4 ]

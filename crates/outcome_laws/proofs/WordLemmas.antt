@@ -1,7 +1,7 @@
 -- What the words ask for.
 use Rattle.std.proofs.Common.{◌≡◌, ◌∙◌, ℕ, Some, length, sym, ap}
 use Rattle.command_line.specs.declared.sizes.Sizes.{Sizes}
-use Rattle.command.specs.Commands.{sizes_of}
+use Rattle.run_files.specs.Asked.{sizes_of}
 use Rattle.outcome_laws.specs.Laws.{SameWordsAskAlike}
 
 same_sizes : (a b : Sizes) → a.streams ≡ b.streams → a.lines ≡ b.lines → a.room ≡ b.room → a ≡ b

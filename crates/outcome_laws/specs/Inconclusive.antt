@@ -10,12 +10,14 @@ use Rattle.stream_check.specs.Streams.{stream_params}
 use Rattle.run_outcome.specs.declared.outcome.Verdict.TheVariants.{Unknown, Unsatisfiable, UnsatisfiableUnder}
 use Rattle.checkpoint.specs.declared.saving.SaveFault.{SaveFault}
 use Rattle.command_line.specs.declared.words.CommandLine.{CommandLine}
-use Rattle.command.specs.Commands.{Deeds, FilesView, SinkChange, Text, assumed_at, created_path, run_params_by}
+use Rattle.run_files.specs.Files.{Effects, FilesView}
+use Rattle.command.specs.Commands.{SinkChange}
+use Rattle.run_files.specs.Asked.{Text, assumed_at, created_path, run_params_by}
 use Rattle.command.specs.Rounds.{EndsWithFault, EndsWithReport, HaveEnded, Round}
 
 -- Some stream of the round was stopped, for a reason that its parameters excuse: in a round before
 -- the last one in any line, and in the last one it is stream s, in one of its first `count` lines.
-pub record HasStopped {its : Deeds} {given : CommandLine} {cube : CubeValue}
+pub record HasStopped {its : Effects} {given : CommandLine} {cube : CubeValue}
     (Why : StreamParams → Excuse) (s count last : ℕ) (round : Round its given cube) : Type 0 where
   pub stream : ℕ
   pub report : Report
@@ -29,7 +31,7 @@ pub record HasStopped {its : Deeds} {given : CommandLine} {cube : CubeValue}
 -- Why the report of the round with which the run ended doesn't say 'unsatisfiable', and the status
 -- once the report is written. `last` is the number of the round that refutes; a run may end before
 -- it. None of these cases says that a line is wrong.
-pub data FallsShort {its : Deeds} {given : CommandLine} {cube : CubeValue}
+pub data FallsShort {its : Effects} {given : CommandLine} {cube : CubeValue}
     (Why : StreamParams → Excuse) (s count last : ℕ) (round : Round its given cube)
     (status : ℕ) : Type 0 where
   -- the words ask for a checkpoint or for rounds, and the file couldn't be saved

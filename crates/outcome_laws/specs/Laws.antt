@@ -15,7 +15,10 @@ use Rattle.run_laws.specs.Groups.{one, IsRun}
 use Rattle.run_outcome.specs.ReportText.{stream_line}
 use Rattle.command_line.specs.CommandLine.{AskForRounds, IsCommandLineOf}
 use Rattle.command_line.specs.declared.words.CommandLine.{CommandLine}
-use Rattle.command.specs.Commands.{FilesView, IsCause, SinkChange, Text, WasReadIn, sizes_of}
+use Rattle.run_files.specs.Files.{FilesView, WasReadIn}
+use Rattle.run_files.specs.Causes.{IsCause}
+use Rattle.command.specs.Commands.{SinkChange}
+use Rattle.run_files.specs.Asked.{Text, sizes_of}
 use Rattle.command.specs.Rounds.{EndsWithFault, EndsWithReport, ProgramEnds, Round, WereRounds}
 use Rattle.dimacs.specs.FormulaText.{IsFormulaText}
 use Rattle.lrup_model.specs.Entailment.{IsUnsatisfiable}
@@ -68,14 +71,15 @@ OutcomesAgree files others =
     (s : ℕ) (text whole : List ℕ) (report other_report : Report)
     → WereRounds files given cube round [] → WereRounds others other_given other_cube other []
     → other_given.tries ≡ given.tries → sizes_of other_given ≡ sizes_of given
-    → files.tells given.formula.now ≡ Some text → others.tells other_given.formula.now ≡ Some text
+    → files.contents given.formula.now ≡ Some text
+    → others.contents other_given.formula.now ≡ Some text
     → CiteWithin (layout_in round.formula round.sizes) (one s) whole
     → ReportsOn files given round.reports s whole report
     → ReportsOn others other_given other.reports s whole other_report
     → stream_line s report ≡ stream_line s other_report
 
 -- With status 0 the ending of the program says that the words give a command line, and that the
--- bytes read of its FORMULA are a text of a formula that no assignment satisfies. So the clause
+-- bytes read from its FORMULA are a text of a formula that no assignment satisfies. So the clause
 -- `ends` says what the clause `sound` leaves out about the words.
 abbrev pub Status0HasACommandLine : FilesView → Type 0
 Status0HasACommandLine files = (words : List Text) (after : files.its.State) (out err : SinkChange)

@@ -9,7 +9,8 @@ use Rattle.stream_check.specs.Closed.{IsOfStream}
 use Rattle.run_outcome.specs.Outcomes.{layout_of}
 use Rattle.command_line.specs.declared.sizes.Sizes.{Sizes}
 use Rattle.command_line.specs.declared.words.CommandLine.{CommandLine}
-use Rattle.command.specs.Commands.{FilesView, Text, options_by}
+use Rattle.run_files.specs.Files.{FilesView}
+use Rattle.run_files.specs.Asked.{Text, options_by}
 
 -- the layout of a round
 abbrev pub layout_in : Cnf → Sizes → LayoutValue
@@ -45,6 +46,6 @@ pub record ReportsOn (files : FilesView) (given : CommandLine)
     (reports : List Report) (s : ℕ) (whole : List ℕ) (report : Report) : Type 0 where
   pub path : Text
   pub names : IsOfStream given.streams s path
-  pub tells : files.tells path ≡ Some whole
+  pub contents : files.contents path ≡ Some whole
   pub says : IsOfStream reports s report
   pub fine : ¬ IsExcused CutOff report

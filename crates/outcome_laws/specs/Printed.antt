@@ -5,7 +5,9 @@ use Rattle.stream_check.specs.declared.report.Ending.TheVariants as endings
 use Rattle.stream_check.specs.declared.report.Report.{Report}
 use Rattle.run_outcome.specs.ReportText.{stream_line, stream_lines}
 use Rattle.run_outcome.specs.declared.outcome.Verdict.TheVariants.{Unsatisfiable}
-use Rattle.command.specs.Commands.{FilesView, SinkChange, Text}
+use Rattle.run_files.specs.Files.{FilesView}
+use Rattle.command.specs.Commands.{SinkChange}
+use Rattle.run_files.specs.Asked.{Text}
 use Rattle.command.specs.Rounds.{EndsWithReport, ProgramEnds}
 use Rattle.outcome_laws.specs.Valid.{AreValidAlone, AskForValidRounds, IsRefutedAlone}
 

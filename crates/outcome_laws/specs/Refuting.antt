@@ -10,12 +10,15 @@ use Rattle.checkpoint.specs.Checkpoints.{IsUnsatisfiableText, IsUnsatisfiableTex
 use Rattle.checkpoint.specs.declared.saving.SaveFault.{SaveFault}
 use Rattle.stream_check.specs.DroppedIdsValue.{DroppedIdsValue}
 use Rattle.command_line.specs.declared.words.CommandLine.{CommandLine}
-use Rattle.command.specs.Commands.{Deeds, FilesView, SinkChange, Text, created_path}
-use Rattle.command.specs.Rounds.{EndsWithReport, LeavesBehind, Round, SavesCheckpoint}
+use Rattle.run_files.specs.Files.{Effects, FilesView}
+use Rattle.command.specs.Commands.{SinkChange}
+use Rattle.run_files.specs.Asked.{Text, created_path}
+use Rattle.command.specs.Rounds.{EndsWithReport, LeavesAtPath, Round}
+use Rattle.run_files.specs.Saving.{SavesCheckpoint}
 use Rattle.outcome_laws.specs.Outcomes.{layout_in}
 
--- A run of one round or more ended with a report and this status, and these bytes were read of its
--- FORMULA.
+-- A run of one round or more ended with a report and this status, and these bytes were read from
+-- its FORMULA.
 pub record IsRunOn (files : FilesView) (bytes : List ℕ) (status : ℕ) : Type 0 where
   pub words : List Text
   pub after : files.its.State
@@ -25,7 +28,8 @@ pub record IsRunOn (files : FilesView) (bytes : List ℕ) (status : ℕ) : Type 
   pub read : ends.were.is_formula.0 ≡ bytes
 
 -- the bytes that were written to a sink, if the save succeeded
-abbrev pub written_bytes : {its : Deeds} {formula : Cnf} {layout : LayoutValue} {history : History}
+abbrev pub written_bytes : {its : Effects} {formula : Cnf} {layout : LayoutValue}
+    {history : History}
     {dropped : List DroppedIdsValue} (result : Result (Option Cnf) SaveFault)
     (first last : its.Output)
     → SavesCheckpoint its formula layout history dropped result first last → Option (List ℕ)
@@ -33,10 +37,10 @@ written_bytes (Ok _) first last saves = Some saves.checkpoint.bytes
 written_bytes (Err fault) first last saves = None
 
 -- the bytes that were saved as a checkpoint, if there is one
-abbrev pub saved_bytes : (its : Deeds) (formula : Cnf) (layout : LayoutValue) (history : History)
+abbrev pub saved_bytes : (its : Effects) (formula : Cnf) (layout : LayoutValue) (history : History)
     (dropped : List DroppedIdsValue) (verdict : Verdict) (before : its.State) (path : Option Text)
     (unsaved : Option SaveFault) (next : Option Cnf) (after : its.State)
-    → LeavesBehind its (SavesCheckpoint its formula layout history dropped) verdict before path
+    → LeavesAtPath its (SavesCheckpoint its formula layout history dropped) verdict before path
     unsaved next after → Option (List ℕ)
 saved_bytes its formula layout history dropped verdict before None unsaved next after leaves = None
 saved_bytes its formula layout history dropped Unsatisfiable before (Some path) unsaved next after
@@ -47,7 +51,8 @@ saved_bytes its formula layout history dropped verdict before (Some path) None n
     written_bytes leaves.result leaves.first leaves.last leaves.saving
 
 -- the same for a round
-abbrev pub saved_in : {its : Deeds} {given : CommandLine} {cube : CubeValue} → Round its given cube
+abbrev pub saved_in : {its : Effects} {given : CommandLine} {cube : CubeValue}
+    → Round its given cube
     → Option (List ℕ)
 saved_in {its} {given} round =
     saved_bytes its round.formula (layout_in round.formula round.sizes)

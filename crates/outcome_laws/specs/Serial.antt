@@ -5,7 +5,8 @@ use Rattle.stream_check.specs.Excuses.{CutOff}
 use Rattle.stream_check.specs.Closed.{IsOfStream}
 use Rattle.run_laws.specs.Groups.{NoneExcused}
 use Rattle.command_line.specs.declared.words.CommandLine.{CommandLine}
-use Rattle.command.specs.Commands.{FilesView, Text, sizes_of}
+use Rattle.run_files.specs.Files.{FilesView}
+use Rattle.run_files.specs.Asked.{Text, sizes_of}
 use Rattle.command.specs.Rounds.{Round, WereRounds}
 
 -- Two command lines ask for the same round 1 on one thread: with the same tries and sizes, and with
@@ -17,12 +18,12 @@ pub record AskForSameTurns (files : FilesView) (others : FilesView)
   pub tries : other.tries ≡ given.tries
   pub sizes : sizes_of other ≡ sizes_of given
   pub text : List ℕ
-  pub formula : files.tells given.formula.now ≡ Some text
-  pub same_formula : others.tells other.formula.now ≡ Some text
+  pub formula : files.contents given.formula.now ≡ Some text
+  pub same_formula : others.contents other.formula.now ≡ Some text
   pub streams : (s : ℕ) (path other_path : Text)
       → IsOfStream given.streams s path → IsOfStream other.streams s other_path
-      → (bytes : List ℕ) × (files.tells path ≡ Some bytes)
-      × (others.tells other_path ≡ Some bytes)
+      → (bytes : List ℕ) × (files.contents path ≡ Some bytes)
+      × (others.contents other_path ≡ Some bytes)
 
 -- In round 1 of two runs of such command lines, under the same assumed literals, the reports are
 -- the same, and so are the verdicts, unless a report says that memory ran out or a read failed. A

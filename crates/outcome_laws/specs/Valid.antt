@@ -11,16 +11,18 @@ use Rattle.lrup_text.specs.declared.cube.CubeFault.{CubeFault}
 use Rattle.lrup_text.specs.declared.cube.CubeFault.TheVariants as cubes
 use Rattle.dimacs.specs.FormulaText.{IsFormulaText}
 use Rattle.stream_check.specs.Closed.{IsOfStream}
-use Rattle.stream_check.specs.Turns.{IsByTurns}
+use Rattle.stream_check.specs.Turns.{IsRoundRobin}
 use Rattle.run_laws.specs.Valid.{AddsEmpty, IsValidRefutation, IsValidProof}
 use Rattle.run_laws.specs.Valid.{Step}
 use Rattle.run_laws.specs.Together.{IsValidOrder, lines_by}
 use Rattle.command_line.specs.CommandLine.{IsCommandLineOf, rounds_of}
 use Rattle.command_line.specs.declared.sizes.Sizes.{Sizes}
 use Rattle.command_line.specs.declared.words.CommandLine.{CommandLine}
-use Rattle.command.specs.Commands.{Deeds, FilesView, Text, assumed_at, sizes_of}
-use Rattle.command.specs.Paths.{sizes_path, stream_path, stream_paths}
-use Rattle.command.specs.Rounds.{AreSized, CarriesOn, HoldsNoSizes, Round, WereRounds}
+use Rattle.run_files.specs.Files.{AreSized, Effects, FilesView}
+use Rattle.run_files.specs.Asked.{Text, assumed_at, sizes_of}
+use Rattle.run_files.specs.Paths.{sizes_path, stream_path, stream_paths}
+use Rattle.command.specs.Rounds.{CarriesOn, Round, WereRounds}
+use Rattle.run_files.specs.Causes.{HoldsNoSizes}
 use Rattle.outcome_laws.specs.Outcomes.{layout_in}
 
 -- The words ask for a formula whose file holds a text of it; for assumed literals, if any, whose
@@ -30,12 +32,12 @@ pub record AskWell (files : FilesView) (words : List Text) : Type 0 where
   pub given : CommandLine
   pub command_line : IsCommandLineOf words given
   pub text : List ℕ
-  pub told : files.tells given.formula.now ≡ Some text
+  pub known : files.contents given.formula.now ≡ Some text
   pub formula : Cnf
   pub is_text : IsFormulaText text formula
   pub layout : (fault : LayoutFault) → ¬ IsFault (layout_in formula (sizes_of given)) fault
   pub assumptions : IfSome (assumed_at given) (λ path. (bytes : List ℕ)
-      × (files.tells path ≡ Some bytes)
+      × (files.contents path ≡ Some bytes)
       × ((fault : CubeFault) → fault ≢ cubes.Memory → ¬ IsCubeFault formula.vars bytes fault))
 
 -- What may be required of the streams of a round: it depends on the round's formula and layout, on
@@ -46,66 +48,68 @@ RoundAsk = Cnf → LayoutValue → (Text → Option (List ℕ)) → List Text �
 -- each stream is valid, and cites only its own clauses and the formula's: its file holds the texts
 -- of valid lines, and nothing else
 abbrev pub AreValidAlone : RoundAsk
-AreValidAlone formula layout tells paths =
+AreValidAlone formula layout contents paths =
     (s : ℕ) (path : Text) → IsOfStream paths s path
-    → (bytes : List ℕ) × (lines : List StreamLine) × (tells path ≡ Some bytes)
+    → (bytes : List ℕ) × (lines : List StreamLine) × (contents path ≡ Some bytes)
     × IsValidProof formula layout s bytes lines
 
 -- the file of stream s begins with a valid refutation of at most this many lines; nothing is
 -- required of the other streams
 abbrev pub IsRefutedAlone : (s count : ℕ) → RoundAsk
-IsRefutedAlone s count formula layout tells paths =
-    (path : Text) × (bytes : List ℕ) × IsOfStream paths s path × (tells path ≡ Some bytes)
+IsRefutedAlone s count formula layout contents paths =
+    (path : Text) × (bytes : List ℕ) × IsOfStream paths s path × (contents path ≡ Some bytes)
     × ((valid : IsValidRefutation formula layout s bytes) × (length valid.lines ≤ count))
 
 -- lines of the streams have a valid order, and the file of each stream holds the texts of its
 -- lines, and nothing else
 abbrev pub AreValidInOrder : RoundAsk
-AreValidInOrder formula layout tells paths =
+AreValidInOrder formula layout contents paths =
     (steps : List Step) × IsValidOrder formula layout steps
     × ((s : ℕ) (path : Text) → IsOfStream paths s path
-    → tells path ≡ Some (flat_map line_text (lines_by s steps)))
+    → contents path ≡ Some (flat_map line_text (lines_by s steps)))
 
 -- the same, with an order that takes the streams in turn
-abbrev pub AreValidByTurns : RoundAsk
-AreValidByTurns formula layout tells paths =
-    (valid : AreValidInOrder formula layout tells paths)
-    × IsByTurns (map (λ step. step.stream) valid.0)
+abbrev pub AreValidRoundRobin : RoundAsk
+AreValidRoundRobin formula layout contents paths =
+    (valid : AreValidInOrder formula layout contents paths)
+    × IsRoundRobin (map (λ step. step.stream) valid.0)
 
 -- the same, with a line of stream s that adds the empty clause
-abbrev pub IsRefutedByTurns : ℕ → RoundAsk
-IsRefutedByTurns s formula layout tells paths =
-    (valid : AreValidByTurns formula layout tells paths) × Any AddsEmpty (lines_by s valid.0.0)
+abbrev pub IsRefutedRoundRobin : ℕ → RoundAsk
+IsRefutedRoundRobin s formula layout contents paths =
+    (valid : AreValidRoundRobin formula layout contents paths)
+    × Any AddsEmpty (lines_by s valid.0.0)
 
 -- lines of a set of streams have a valid order, their files begin with the texts of their lines,
 -- and some line of stream s, which has at most this many lines, adds the empty clause; nothing is
 -- required of the other streams
 abbrev pub IsRefutedInOrder : (s count : ℕ) → RoundAsk
-IsRefutedInOrder s count formula layout tells paths =
+IsRefutedInOrder s count formula layout contents paths =
     (set : ℕ → Bool) × (steps : List Step) × IsValidOrder formula layout steps
     × AllByRecursion (λ step. IsTrue (set step.stream)) steps
     × ((t : ℕ) (path : Text) → IsTrue (set t) → IsOfStream paths t path
-    → (more : List ℕ) × (tells path ≡ Some (flat_map line_text (lines_by t steps) ++ more)))
+    → (more : List ℕ) × (contents path ≡ Some (flat_map line_text (lines_by t steps) ++ more)))
     × Any AddsEmpty (lines_by s steps) × (length (lines_by s steps) ≤ count)
 
 -- the round with this number meets the one requirement if it comes before the last round, and the
 -- other one if it is the last
 pub record IsAskedOf (Before Last : RoundAsk) (last number : ℕ) (formula : Cnf) (sizes : Sizes)
-    (tells : Text → Option (List ℕ)) (paths : List Text) : Type 0 where
-  pub earlier : number < last → Before formula (layout_in formula sizes) tells paths
-  pub at_last : number ≡ last → Last formula (layout_in formula sizes) tells paths
+    (contents : Text → Option (List ℕ)) (paths : List Text) : Type 0 where
+  pub earlier : number < last → Before formula (layout_in formula sizes) contents paths
+  pub at_last : number ≡ last → Last formula (layout_in formula sizes) contents paths
 
 -- A later round, whose sizes aren't known yet, is provided for: its file of sizes, if there is one,
 -- holds sizes; and with these, or with the old ones if there is no such file, there is a file for
 -- its stream 1, the streams have a layout, and they are as required.
-pub record IsProvided (Before Last : RoundAsk) (last : ℕ) (its : Deeds) (folder : Text) (number : ℕ)
+pub record IsProvided (Before Last : RoundAsk) (last : ℕ) (its : Effects) (folder : Text)
+    (number : ℕ)
     (old : Sizes) (formula : Cnf) (before : its.State) : Type 0 where
   pub sizes : (after : its.State) → ¬ HoldsNoSizes its before (sizes_path folder number) after
   pub ready : (sizes : Sizes) (sized : its.State)
       → AreSized its (sizes_path folder number) old before sizes sized
       → ((after : its.State) → ¬ its.lacks sized (stream_path folder number 1) after)
       × ((fault : LayoutFault) → ¬ IsFault (layout_in formula sizes) fault)
-      × IsAskedOf Before Last last number formula sizes (its.tells sized)
+      × IsAskedOf Before Last last number formula sizes (its.contents sized)
       (stream_paths folder number sizes.streams)
 
 -- The words ask well, and for rounds in a folder unless round 1 is the last one. The last round has
@@ -118,7 +122,7 @@ pub record AskForValidRounds (Before Last : RoundAsk) (files : FilesView) (words
   pub some : 0 < last
   pub few : last + 2 ≤ 2 ^ 64
   pub rounds : 1 < last → (folder : Text) × (rounds_of asks.given.next ≡ Some folder)
-  pub first : IsAskedOf Before Last last 1 asks.formula (sizes_of asks.given) files.tells
+  pub first : IsAskedOf Before Last last 1 asks.formula (sizes_of asks.given) files.contents
       asks.given.streams
   pub later : (given : CommandLine) (cube : CubeValue) (round : Round files.its given cube)
       (before : List (Round files.its given cube)) (next : Cnf)

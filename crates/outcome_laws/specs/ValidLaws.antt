@@ -2,10 +2,12 @@
 -- in which round 1 is the last one.
 use Rattle.std.specs.Prelude.{◌≡◌, ◌⊎◌, ℕ, true, List}
 use Rattle.stream_check.specs.Excuses.{CutOff, Lacking}
-use Rattle.command.specs.Commands.{FilesView, SinkChange, Text}
+use Rattle.run_files.specs.Files.{FilesView}
+use Rattle.command.specs.Commands.{SinkChange}
+use Rattle.run_files.specs.Asked.{Text}
 use Rattle.command.specs.Rounds.{ProgramEnds}
 use Rattle.outcome_laws.specs.Inconclusive.{InconclusiveBecause}
-use Rattle.outcome_laws.specs.Valid.{AreValidAlone, AreValidByTurns, AreValidInOrder, AskForValidRounds, IsRefutedAlone, IsRefutedByTurns, IsRefutedInOrder}
+use Rattle.outcome_laws.specs.Valid.{AreValidAlone, AreValidRoundRobin, AreValidInOrder, AskForValidRounds, IsRefutedAlone, IsRefutedRoundRobin, IsRefutedInOrder}
 
 -- If in each round before the last each stream is valid and cites only its own clauses and the
 -- formula's, and in the last one stream s is a valid refutation, the program ends with status 0; or
@@ -40,7 +42,7 @@ ValidOrdersSay files last = (words : List Text) (s count : ℕ) (after : files.i
 abbrev pub ValidTurnsSay : FilesView → (last : ℕ) → Type 0
 ValidTurnsSay files last = (words : List Text) (s : ℕ) (after : files.its.State)
     (out err : SinkChange) (status : ℕ)
-    → (ask : AskForValidRounds AreValidByTurns (IsRefutedByTurns s) files words last)
+    → (ask : AskForValidRounds AreValidRoundRobin (IsRefutedRoundRobin s) files words last)
     → ask.asks.given.serial ≡ true
     → ProgramEnds files words after out err status
     → (status ≡ 0)

@@ -13,7 +13,7 @@ use checkpoint::laws::{
 use command::{Machine, Viewed};
 use dimacs::laws::{formula_or_fault, one_formula};
 use run_laws::groups::same_bytes_agree;
-use run_laws::turns::{bytes_decide, valid_by_turns};
+use run_laws::turns::{bytes_decide, valid_round_robin};
 use run_laws::valid::{together_begins, valid_begins, valid_empty, valid_reported, valid_together};
 use stream_check::laws::empty_cube_reported;
 
@@ -57,8 +57,9 @@ pub fn outcomes_agree<F: Machine, G: Machine>(files: &F, others: &G)
     same_bytes_say_the_same();
 }
 
-/// With status 0 the words give a whole command line, and the bytes read of its FORMULA are a text
-/// of a formula that no assignment satisfies. This follows from the clause `ends` of `command`.
+/// With status 0 the words give a whole command line, and the bytes read from its FORMULA are a
+/// text of a formula that no assignment satisfies. This follows from the clause `ends` of
+/// `command`.
 pub fn status_0_has_a_command_line<F: Machine>(files: &F)
     ensures { Status0HasACommandLine (⟦<F as Viewed>⟧.view files.now) }
 {
@@ -126,7 +127,7 @@ pub fn valid_turn_rounds_say<F: Machine>(files: &F)
     formula_or_fault();
     empty_cube_reported();
     same_words_ask_alike();
-    valid_by_turns();
+    valid_round_robin();
     valid_empty();
 }
 

@@ -21,9 +21,9 @@ use Rattle.stream_check.specs.Judging.{joined}
 use Rattle.stream_check.specs.Reaching.{ReachesState}
 use Rattle.stream_check.specs.DroppedIdsValue.{DroppedIdsValue}
 use Rattle.stream_check.specs.StreamParams.{StreamParams}
-use Rattle.run_outcome.specs.Dropping.{HasDropped, HaveDropped}
+use Rattle.stream_check.specs.Dropping.{HasDropped, HaveDropped}
 use Rattle.run_outcome.specs.Histories.{IsRunOf, IsRunOfSome}
-use Rattle.portfolio.specs.RingStops.{StopsAtRing}
+use Rattle.run_outcome.specs.RingStops.{StopsAtRing}
 use Rattle.stream_check.specs.Each.{Each, EachOfThree}
 use Rattle.stream_check.specs.lemmas.EachLemmas.{each_count, each_take, zip_count}
 use Rattle.stream_check.specs.lemmas.StreamLemmas.{IsJudgedBy, observed_as_many, observed_count}
@@ -67,7 +67,8 @@ are_opened store f p ps count each = opened_from store f 1 ps (λ k pass at.
 
 -- the effect of a pass's calls
 
--- one stream's pass, from its opening to the meeting: it is the stream's, and its calls are those that were made
+-- one stream's pass, from its opening to the meeting: it is the stream's, and its calls are those
+-- that were made
 pub record Ends (f : Cnf) (p : LayoutValue) (s : ℕ) (es : History) (v : View) : Type 0 where
   pub caller : v.caller ≡ record { formula = f; layout = p; stream = s }
   pub mine : v.mine ≡ es
@@ -93,7 +94,8 @@ opened_room f p store s q same opened =
     whole ∙ sym (ap₂ (λ (c : Caller) (m : History). c.layout.room - spent c.stream m) opened.caller opened.mine
     ∙ ap (λ (l : LayoutValue). l.room - 0) same)
 
--- For the streams, counted from s: each report judges the observed stream and the calls of the stream's pass.
+-- For the streams, counted from s: each report judges the observed stream and the calls of the
+-- stream's pass.
 abbrev pub AreJudgedBy : RunParamsValue → ℕ → List Stream → List View → List Report → Type 0
 AreJudgedBy run_params s streams vs reports =
     EachOfThree (λ t stream v report. IsJudgedBy (stream_params run_params t) stream v.mine report) s streams vs reports
@@ -306,13 +308,13 @@ module _ {S : Type 0} (view : SourceView S) where
 
   -- ---- the reports
 
-  -- The streams that match what is observed of the readers and what their reads gave; the reports and the dropped identities are right for
-  -- them.
+  -- The streams that match what is observed of the readers and what their reads gave; the reports
+  -- and the dropped identities are right for them.
   pub record Judged (run_params : RunParamsValue) (s : ℕ) (firsts : List S) (fs : List (StreamResultValue S))
       (vs : List View) : Type 0 where
     pub streams : List Stream
     pub out : AllByRecursion (λ stream. IsSome stream.end) streams
-    pub told : AllZip MatchesInput (observations view firsts (map (λ x. x.reader) fs)) streams
+    pub known : AllZip MatchesInput (observations view firsts (map (λ x. x.reader) fs)) streams
     pub judged : AreJudgedBy run_params s streams vs (map (λ x. x.report) fs)
     pub read : AreRead S view.reads firsts (map (λ x. x.reader) fs) streams
     pub dropped : (h : History) → ((k : ℕ) (v : View) → slice_get vs k ≡ Some v → v.mine ≡ own h (s + k))
@@ -325,7 +327,7 @@ module _ {S : Type 0} (view : SourceView S) where
   judged_by f run_params store same s [] [] [] [] ready all synced = record {
     streams = [];
     out = tt;
-    told = tt;
+    known = tt;
     judged = tt;
     read = tt;
     dropped = λ h at. tt;
@@ -350,7 +352,7 @@ module _ {S : Type 0} (view : SourceView S) where
       record {
         streams = one.0 ∷ more.streams;
         out = (one.1, more.out);
-        told = (of.0, more.told);
+        known = (of.0, more.known);
         judged = ((all.0.blocks, calls, judged), more.judged);
         read = (of.1, more.read);
         dropped = λ h at.
@@ -375,8 +377,8 @@ module _ {S : Type 0} (view : SourceView S) where
         record {
           run = record {
             streams = j.streams;
-            match_inputs = j.told;
-            count = observed_count _ _ j.told ∙ observed_as_many view firsts (map (λ x. x.reader) so.found) j.streams j.read;
+            match_inputs = j.known;
+            count = observed_count _ _ j.known ∙ observed_as_many view firsts (map (λ x. x.reader) so.found) j.streams j.read;
             history = h;
             legal = legal;
             judged = judged_in run_params h 1 j.streams vs (map (λ x. x.report) so.found) j.judged calls;
@@ -468,7 +470,8 @@ module _ {S : Type 0} (view : SourceView S) where
         (first_run f run_params one.0 (e ∷ es) (j ∷ js) results vs so judged legal (λ k v at. (calls k v at).2)).0,
       )
 
-  -- the reader was read to its end, or to the read that failed, and a stream matches it; so is each reader whose mark was missed
+  -- the reader was read to its end, or to the read that failed, and a stream matches it; so is each
+  -- reader whose mark was missed
   abbrev WasReadOut : S → Type 0
   WasReadOut reader = (last : S) × (its : Stream) × IsSome its.end × IsStreamOf view reader last its
 

@@ -11,8 +11,8 @@ use Rattle.stream_check.specs.DroppedIdsValue.{DroppedIdsValue}
 use Rattle.stream_check.specs.StreamParams.{StreamParams}
 use Rattle.stream_check.specs.Stopping.{IsFullAtMemory}
 use Rattle.stream_threads.specs.Judged.{DropsBy, ending_with}
-use Rattle.run_outcome.specs.Dropping.{HasDropped}
-use Rattle.run_outcome.specs.lemmas.DroppingLemmas.{going_drops, stopped_drops}
+use Rattle.stream_check.specs.Dropping.{HasDropped}
+use Rattle.stream_check.specs.lemmas.DroppingLemmas.{going_drops, stopped_drops}
 
 checker_drops : (c : StreamParams) (v : CheckerValue) (room : ℕ) (bytes : List ℕ) (blocks : List History) (end : StreamEnd)
     (ending : Option Ending) → v.ending ≡ ending → ReachesState c bytes blocks (checker_state v room)

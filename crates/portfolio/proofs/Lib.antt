@@ -1,2 +1,3 @@
 pub mod ConsistencyLemmas
 pub mod DroppingLemmas
+pub mod SerialLemmas

@@ -2,11 +2,12 @@
 //! for users, and what it saves.
 #![tactic(auto)]
 
+mod serial;
 mod threads;
 
 pub use run_outcome::{
     Clauses, Options, Outcome, Pause, RunFault, SerialOutcome, TurnWatch, Verdict, Watch,
     write_report,
 };
-pub use serial_run::run_serial;
+pub use serial::run_serial;
 pub use threads::run;

@@ -12,7 +12,7 @@ ghost use Rattle.stream_check.specs.Readings.{readers_view};
 ghost use Rattle.stream_check.specs.SequentialConsistency.{HaveOneHistory, seen_by};
 ghost use Rattle.run_outcome.specs.Histories.{IsRunOf};
 ghost use Rattle.run_outcome.specs.Outcomes.{layout_of, run_params_of, verdict_of};
-ghost use Rattle.portfolio.specs.RingStops.{StopsAtRing};
+ghost use Rattle.run_outcome.specs.RingStops.{StopsAtRing};
 ghost use Rattle.run_laws.specs.Groups.{AreIsolated};
 ghost use Rattle.run_laws.specs.Serializable.{IsSerializable};
 

@@ -24,7 +24,7 @@ use Rattle.lrup_model.specs.Formula.{Cnf}
 use Rattle.lrup_model.specs.Event.{History, published}
 use Rattle.run_outcome.specs.declared.outcome.Verdict.{Verdict}
 use Rattle.run_outcome.specs.declared.outcome.Verdict.TheVariants.{Unsatisfiable, UnsatisfiableUnder, Unknown}
-use Rattle.run_outcome.specs.Dropping.{HasDropped, HasDroppedBy, HaveDropped}
+use Rattle.stream_check.specs.Dropping.{HasDropped, HasDroppedBy, HaveDropped}
 use Rattle.run_outcome.specs.Outcomes.{OptionsValue, run_params_of, verdict_of}
 use Rattle.run_laws.specs.Serializable.{ComeToVerdict, IsSerializable}
 use Rattle.run_laws.specs.Premises.{FoundStays}
@@ -42,20 +42,20 @@ use Rattle.portfolio_tests.specs.Alone.{first_bytes, usual, layout_of_two, two_t
 
 -- Places
 
--- the first stream, and what its reader told, which hasn't failed
-record IsFirst (told : List InputObservation) (streams : List Stream) (bytes : List ℕ) : Type 0 where
+-- the first stream, and what is known of its reader, which hasn't failed
+record IsFirst (known : List InputObservation) (streams : List Stream) (bytes : List ℕ) : Type 0 where
   stream : Stream
   at : IsOfStream streams 1 stream
   observation : InputObservation
-  observation_at : IsOfStream told 1 observation
+  observation_at : IsOfStream known 1 observation
   entry : observation.entry ≡ Some bytes
   running : observation.has_failed ≡ false
 
-first_told : {S : Type 0} (view : SourceView S) (firsts lasts : List S) (streams : List Stream) (bytes : List ℕ)
+first_known : {S : Type 0} (view : SourceView S) (firsts lasts : List S) (streams : List Stream) (bytes : List ℕ)
     → AreRead S view.reads firsts lasts streams → IsOfStream (map view.left firsts) 1 (Some bytes)
     → IsOfStream (map view.has_failed lasts) 1 false → IsFirst (observations view firsts lasts) streams bytes
-first_told view [] [] [] bytes read entry fine = absurd (let none : None ≡ Some (Some bytes) = entry.1 in cc)
-first_told view (first ∷ firsts) (last ∷ lasts) (stream ∷ streams) bytes read entry fine = record {
+first_known view [] [] [] bytes read entry fine = absurd (let none : None ≡ Some (Some bytes) = entry.1 in cc)
+first_known view (first ∷ firsts) (last ∷ lasts) (stream ∷ streams) bytes read entry fine = record {
   stream = stream;
   at = (omega arith, refl);
   observation = observation_of view first last;
@@ -63,7 +63,7 @@ first_told view (first ∷ firsts) (last ∷ lasts) (stream ∷ streams) bytes r
   entry = let same : Some (view.left first) ≡ Some (Some bytes) = entry.1 in cc;
   running = let same : Some (view.has_failed last) ≡ Some false = fine.1 in cc;
 }
-first_told view _ _ _ bytes read entry fine = absurd read
+first_known view _ _ _ bytes read entry fine = absurd read
 
 -- the parameters of such a run are those of two streams over the four clauses
 of_two : (Holds : Cnf → RunParamsValue → Type 0) (options : OptionsValue) (cube : CubeValue) (f : Cnf) (count : ℕ)
@@ -79,34 +79,35 @@ abbrev pub IsIsolated : {S : Type 0} → SourceView S → List S → List S → 
 IsIsolated {S} view firsts lasts reports f run_params =
     (run : IsRun f run_params (observations view firsts lasts) reports) × AreIsolated run × AreRead S view.reads firsts lasts run.streams
 
--- the streams of a run that has this history have an order that comes to the verdict, where it leaves what they found of one another
+-- a run with this history, whose lines are serializable
 abbrev pub HasOrdered : List InputObservation → List Report → History → Cnf → RunParamsValue → Type 0
-HasOrdered told reports h f run_params = (run : IsRun f run_params told reports) × (run.history ≡ h) × IsSerializable run
+HasOrdered known reports h f run_params = (run : IsRun f run_params known reports) × (run.history ≡ h) × IsSerializable run
 
 pub two_isolated : {S : Type 0} (view : SourceView S) (firsts lasts : List S) (reports : List Report) (options : OptionsValue)
     (cube : CubeValue) (f : Cnf) (count : ℕ) → options ≡ usual → cube ≡ [] → f ≡ four → count ≡ 2
     → IsIsolated view firsts lasts reports f (run_params_of options cube f count) → IsIsolated view firsts lasts reports four two_terms
 two_isolated view firsts lasts reports options cube f count = of_two (IsIsolated view firsts lasts reports) options cube f count
 
-pub two_ordered : (told : List InputObservation) (reports : List Report) (h : History) (options : OptionsValue) (cube : CubeValue) (f : Cnf)
+pub two_ordered : (known : List InputObservation) (reports : List Report) (h : History) (options : OptionsValue) (cube : CubeValue)
+    (f : Cnf)
     (count : ℕ) → options ≡ usual → cube ≡ [] → f ≡ four → count ≡ 2
-    → HasOrdered told reports h f (run_params_of options cube f count) → HasOrdered told reports h four two_terms
-two_ordered told reports h options cube f count = of_two (HasOrdered told reports h) options cube f count
+    → HasOrdered known reports h f (run_params_of options cube f count) → HasOrdered known reports h four two_terms
+two_ordered known reports h options cube f count = of_two (HasOrdered known reports h) options cube f count
 
--- A report of stream 1 is the one that it may have alone, by what a run promises.
+-- By what a run promises, a report of stream 1 is the one that it may have alone.
 pub report_alone : ReadersClosed → MatchIsReading → {S : Type 0} (view : SourceView S) (firsts lasts : List S) (bytes : List ℕ)
     (reports : List Report) (report : Report)
     → IsIsolated view firsts lasts reports four two_terms → CiteWithin layout_of_two (one 1) bytes
     → IsOfStream (map view.left firsts) 1 (Some bytes) → IsOfStream (map view.has_failed lasts) 1 false
     → IsOfStream reports 1 report → ¬ IsExcused OutOfMemory report → IsOnlyReport bytes report
 report_alone closes reads view firsts lasts bytes reports report (run, isolated, read) cites entry fine says memory =
-    let tells = observations view firsts lasts in
-    let first = first_told view firsts lasts run.streams bytes read entry fine in
-    let closed = closes layout_of_two (one 1) tells run.streams run.match_inputs
+    let shows = observations view firsts lasts in
+    let first = first_known view firsts lasts run.streams bytes read entry fine in
+    let closed = closes layout_of_two (one 1) shows run.streams run.match_inputs
     (λ s other member at.
-    let same = same_at tells 1 other first.observation (subst (λ n. IsOfStream tells n other) (only 1 s member) at) first.observation_at in
+    let same = same_at shows 1 other first.observation (subst (λ n. IsOfStream shows n other) (only 1 s member) at) first.observation_at in
     (bytes, ap (λ (t : InputObservation). t.entry) same ∙ first.entry, cites)) in
-    let is_reading = reads tells run.streams 1 first.observation first.stream bytes run.match_inputs first.observation_at
+    let is_reading = reads shows run.streams 1 first.observation first.stream bytes run.match_inputs first.observation_at
     first.at first.entry
     first.running in
     record {
@@ -150,11 +151,11 @@ order_says streams reports verdict (order, comes) is = record {
       (list_any (λ p. length p.1 == 0) (published (events_in order.blocks))) comes.empty is;
 }
 
--- A run's verdict is that of an order of its lines, by what it promises.
-pub has_order : (told : List InputObservation) (reports : List Report) (h : History) (verdict : Verdict)
-    → HasOrdered told reports h four two_terms
+-- By what a run promises, its verdict is that of an order of its lines.
+pub has_order : (known : List InputObservation) (reports : List Report) (h : History) (verdict : Verdict)
+    → HasOrdered known reports h four two_terms
     → verdict ≡ verdict_of reports → FoundStays four layout_of_two (λ s. true) h → HasOrder verdict
-has_order told reports h verdict (run, same, serializable) is stays =
+has_order known reports h verdict (run, same, serializable) is stays =
     order_says run.streams reports verdict (serializable.all (subst (FoundStays four layout_of_two (λ s. true)) (sym same) stays)) is
 
 -- What a stream dropped that ran out of memory
@@ -178,7 +179,7 @@ full_from run_params AreOwn s (stream ∷ streams) (one ∷ reports) (d ∷ all)
     full_from run_params AreOwn (s + 1) streams reports all have.1 k report dropped says at memory
 full_from run_params AreOwn s _ _ _ have k report dropped says at memory = absurd have
 
--- The lines of the first stream, and of one that imports alone
+-- The lines of the first stream, and of one that only imports
 
 -- a line has a byte
 longer : (xs ys : List ℕ) (y : ℕ) (more : List ℕ) → ([] ≡ (xs ++ y ∷ ys) ++ more) → ⊥
@@ -235,7 +236,7 @@ import_is_cut = record {
   last = none_in_nothing;
 }
 
--- stream 2 doesn't own 5, so it isn't closed where it imports it
+-- stream 2 doesn't own 5, so it isn't closed if it imports 5
 pub import_is_open : OneCut → ¬ CiteWithin layout_of_two (one 2) (codes "5 i 2 0\n")
 import_is_open law cites =
     let same = law (codes "5 i 2 0\n") cites.lines (Import 5 (pos 2 ∷ []) ∷ []) cites.rest [] cites.cut import_is_cut in

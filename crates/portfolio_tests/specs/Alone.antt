@@ -1,4 +1,5 @@
--- The row 'a neighbour': its first stream, and what two runs say of it (this project's own).
+-- The row 'a neighbour': its first stream, and the stream's report in two runs (this project's
+-- own).
 use Rattle.std.specs.Prelude.{◌≡◌, ◌==◌, ◌↔◌, ℕ, Bool, IsTrue, List, [], codes, false, length}
 use Rattle.std.specs.List.{list_any}
 use Rattle.lrup_model.specs.Layout.{LayoutValue}
@@ -20,7 +21,7 @@ use Rattle.test_support.specs.Worked.{four}
 abbrev pub first_bytes : List ℕ
 first_bytes = codes "5 2 0 1 2 0\n7 0 5 3 4 0\n"
 
--- the program's options where none is given
+-- the program's default options
 abbrev pub usual : OptionsValue
 usual = record { tries = 1000; lines = 65536; room = 1048576 }
 
@@ -31,25 +32,27 @@ layout_of_two = layout_of usual four 2
 abbrev pub two_terms : RunParamsValue
 two_terms = run_params_of usual [] four 2
 
--- the report is one that stream 1 may have alone, where it has these bytes and ends after them, and the only one
+-- with these bytes, and an end after them, stream 1 may alone have this report, and no other
 pub record IsOnlyReport (bytes : List ℕ) (report : Report) : Type 0 where
   pub alone : IsReportAlone four two_terms 1 bytes stream_ends.Ended report
   pub only : (other : Report) → IsReportAlone four two_terms 1 bytes stream_ends.Ended other
       → other ≡ report
 
--- stream 1 has such a report, where it has these bytes, cites within itself, no read of it failed and memory didn't run out
+-- stream 1 has such a report if it has these bytes, cites within itself, no read of it failed and
+-- memory didn't run out
 abbrev pub HasOnlyReport : List ℕ → List Report → List Bool → Type 0
 HasOnlyReport bytes reports failed = CiteWithin layout_of_two (one 1) bytes → (report : Report)
     → IsOfStream reports 1 report → IsOfStream failed 1 false → ¬ IsExcused OutOfMemory report
     → IsOnlyReport bytes report
 
--- where a report says that memory ran out, its stream has no room for one identity more among those that it dropped
+-- if a report says that memory ran out, its stream has no room for one more dropped identity
 abbrev pub AreFullAtMemory : List Report → List DroppedIdsValue → Type 0
 AreFullAtMemory reports all = (s : ℕ) (report : Report) (dropped : DroppedIdsValue)
     → IsOfStream reports s report → IsOfStream all s dropped → IsExcused OutOfMemory report
     → dropped.spare ≡ 0
 
--- a legal history of whole lines publishes the empty clause exactly where this is the verdict 'unsatisfiable'
+-- some legal history of whole lines publishes the empty clause exactly if this verdict is
+-- 'unsatisfiable'
 pub record HasOrder (verdict : Verdict) : Type 0 where
   pub lines : List Block
   pub legal : IsLegal four layout_of_two (events_in lines)

@@ -1,4 +1,5 @@
-// What tests of runs share: both kinds of run in one function, their streams, and reports in short.
+// What tests of runs share: one function for both kinds of run, streams, and short forms of
+// reports.
 ghost use Rattle.std.specs.Prelude.{◌≡◌, ◌≤◌, false, IfOk};
 ghost use Rattle.std.specs.List.{AllByRecursion};
 ghost use Rattle.stream_check.specs.StreamParams.{max_tries};
@@ -37,7 +38,7 @@ trait Machine: Threads + Wait + Clock + Abort + AllocGlobal + Sync {}
 
 impl<T: Threads + Wait + Clock + Abort + AllocGlobal + Sync> Machine for T {}
 
-/// Stops the test where two values differ: an assertion that is proved once for all tests.
+/// Stops the test if two values differ. As a function the assertion is proved only once.
 fn same<T: PartialEq + fmt::Debug + Drop>(rt: &impl Abort, value: T, wanted: T) {
     assert_eq!(rt; value, wanted);
 }
@@ -70,7 +71,7 @@ enum Mode {
 
 const BOTH: [Mode; 2] = [Mode::Threads, Mode::Serial];
 
-/// What both kinds of run answer.
+/// The results of a run of either kind.
 #[derive(Drop)]
 struct Found<R: Drop> {
     reports: Vec<Report>,
@@ -78,7 +79,8 @@ struct Found<R: Drop> {
     readers: Vec<R>,
 }
 
-/// A run over the four clauses. It promises nothing, so that tests needn't carry what runs promise.
+/// A run over the four clauses. It has no `ensures`, so that proofs of tests don't carry the
+/// contracts of runs.
 fn run_in<T: Machine, R: Source + Send + Drop, G: Gate + Send + Drop>(
     rt: &T,
     mode: Mode,
@@ -123,21 +125,21 @@ fn run_with<T: Machine, R: Source + Send + Drop, G: Gate + Copy + Send + Drop>(
     run_in(rt, mode, &Cube::empty(rt.alloc()), options, readers, gates)
 }
 
-/// Options with as many tries, up to the most that there may be.
+/// Options with this many tries, but at most the largest allowed number.
 fn options(tries: u64, lines: u64, room: u64) -> Options
     ensures { tries ≤ max_tries → result ≡ record { tries = tries; lines = lines; room = room } }
 {
     Options::new(tries.min(Options::MAX_TRIES), lines, room).unwrap()
 }
 
-/// The program's options where none is given.
+/// The program's default options.
 fn defaults() -> Options
     ensures { result ≡ usual }
 {
     options(1_000, 65_536, 1_048_576)
 }
 
-/// A reader of each stream, of which a read gives at most `most` bytes. For the first streams
+/// A reader for each stream, whose reads give at most `most` bytes. For the first streams
 /// `fails_at` has the number of the read that fails, or 0.
 fn failing_readers<'a>(
     alloc: Global,
@@ -200,10 +202,10 @@ const REFUTATION: &str = "5 2 0 1 2 0\n6 0 5 3 4 0\n";
 /// A refutation by two streams; the first cites the clause that the second derives.
 const CITING: [&str; 2] = ["5 2 0 1 2 0\n7 0 5 6 0\n", "6 -2 0 3 4 0\n"];
 
-/// The same, where neither cites the other.
+/// The same, but neither cites the other.
 const APART: [&str; 2] = ["5 2 0 1 2 0\n7 0 5 3 4 0\n", "6 -2 0 3 4 0\n"];
 
-/// The run of this row has these reports, and the verdict of the empty clause or else the cube's.
+/// Checks that the run of this row has these reports, and the strongest of their verdicts.
 fn says<R: Drop, D: Copy + PartialEq + fmt::Debug + Drop>(
     rt: &(impl Abort + AllocGlobal),
     row: D,

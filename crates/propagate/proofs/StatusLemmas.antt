@@ -86,7 +86,8 @@ HasStatus-next n d k x status after once at before step =
     subst (λ e. HasStatus n e after) (sym (ap (λ i. take i d) (add-one k) ∙ take-next d k x at))
     (step (take k d) before (Has-before d k x once at))
 
--- if the first literals of a clause make it neither unit nor a conflict, the whole clause is neither
+-- if the first literals of a clause make it neither unit nor a conflict, the whole clause is
+-- neither
 pub HasStatus-whole : (n : List ℤ) (d : Clause) (k : ℕ) → HasStatus n (take k d) More → HasStatus n d More
 HasStatus-whole n d k more = subst (λ e. HasStatus n e More) (take-append-drop k d) (HasStatus-more n (take k d) (drop k d) more)
 
@@ -135,11 +136,13 @@ HasStatus-pair n d i x (Some y) status at at' false_too before =
     let one = HasStatus-passed n d (2 * i) x status at false_too.0 before in
     subst (λ k. HasStatus n (take k d) status) next (HasStatus-passed n d (2 * i + 1) y status at' (false_too.1 y refl) one)
 
--- if one of the first literals isn't false, and neither is one after them, the clause is neither unit nor a conflict
-HasStatus-behind : (n : List ℤ) (d : Clause) (i k : ℕ) (x lit : ℤ) → EachOnce d → slice_get d k ≡ Some x → i ≤ k → IsUnit n (take i d) lit
+-- if one of the first literals isn't false, and neither is one after them, the clause is neither
+-- unit nor a conflict
+HasStatus-following : (n : List ℤ) (d : Clause) (i k : ℕ) (x lit : ℤ) → EachOnce d → slice_get d k ≡ Some x → i ≤ k
+    → IsUnit n (take i d) lit
     → (¬ Has n x) → HasStatus n d More
-HasStatus-behind n d i k x lit once at behind unit not_false =
-    let before : Has (take k d) lit = Has-take i (take k d) lit (subst (λ e. Has e lit) (sym (take-take i k d behind)) unit.here) in
+HasStatus-following n d i k x lit once at following unit not_false =
+    let before : Has (take k d) lit = Has-take i (take k d) lit (subst (λ e. Has e lit) (sym (take-take i k d following)) unit.here) in
     let here : Has d x = Has-at d k x at in (
       (λ conflict. not_false (conflict x here)),
       (λ other both.
@@ -150,12 +153,13 @@ HasStatus-behind n d i k x lit once at behind unit not_false =
           ]),
     )
 
--- if one literal isn't false, and neither is one of a later pair, the clause is neither unit nor a conflict
+-- if one literal isn't false, and neither is one of a later pair, the clause is neither unit nor a
+-- conflict
 pub HasStatus-open_pair : (n : List ℤ) (d : Clause) (i : ℕ) (x : ℤ) (second : Option ℤ) (lit : ℤ) → EachOnce d
     → slice_get d (2 * i) ≡ Some x
     → slice_get d (2 * i + 1) ≡ second → IsUnit n (take (2 * i) d) lit → (¬ Has n x) ⊎ ((l : ℤ) × (second ≡ Some l) × (¬ Has n l))
     → HasStatus n d More
 HasStatus-open_pair n d i x second lit once at at' unit (inl not_false) =
-    HasStatus-behind n d (2 * i) (2 * i) x lit once at (omega arith) unit not_false
+    HasStatus-following n d (2 * i) (2 * i) x lit once at (omega arith) unit not_false
 HasStatus-open_pair n d i x second lit once at at' unit (inr other) =
-    HasStatus-behind n d (2 * i) (2 * i + 1) other.0 lit once (at' ∙ other.1) (omega arith) unit other.2
+    HasStatus-following n d (2 * i) (2 * i + 1) other.0 lit once (at' ∙ other.1) (omega arith) unit other.2

@@ -111,7 +111,8 @@ pub unmarked-next : (before marks : List Bool) (d : List ℤ) (k : ℕ) (x : ℤ
 unmarked-next before marks d k x once at are none =
     (x, Has-at d k x at, λ b. none ((are.left x).1 (b, Has-before d k x once at)))
 
--- if the clause's literals were all marked, and clearing their marks leaves none of the list's, both have the same literals
+-- if the clause's literals were all marked, and clearing their marks leaves none of the list's,
+-- both have the same literals
 pub same-literals : (before marks : List Bool) (d ls : List ℤ) → AreTaken before marks d → ((l : ℤ) → Has d l → IsMarked before l
     → Has ls l) → ((l : ℤ) → Has ls l → IsMarked before l) → (¬ ((l : ℤ) × Has ls l × IsMarked marks l)) → (l : ℤ) → Has d l ↔ Has ls l
 same-literals before marks d ls are from to none l = (
@@ -155,14 +156,14 @@ HaveMarks-literals vars marks ls count all =
     (λ l h. subst (λ n. code_of l < n) (sym count) (code_of-lt vars l (All-Has (IsLiteral vars) ls l all h)))
 
 -- the clause and the list have the same literals exactly if no literal of the list is still marked
-pub same-told : (before first marks : List Bool) (d ls : List ℤ) (any : Bool)
+pub same-known : (before first marks : List Bool) (d ls : List ℤ) (any : Bool)
     → ((l : ℤ) → IsMarked first l ↔ (IsMarked before l ⊎ Has ls l)) → ((l : ℤ) → Has d l → ¬ IsMarked before l) → AreTaken first marks d
     → (IsTrue any ↔ ((l : ℤ) × Has ls l × IsMarked marks l)) → IsTrue (not any) ↔ ((l : ℤ) → Has d l ↔ Has ls l)
-same-told before first marks d ls true set clean are asked = (
+same-known before first marks d ls true set clean are asked = (
   (λ h. absurd (false≢true h)),
   (λ same. let found = asked.0 refl in absurd (((are.left found.0).0 found.2).1 ((same found.0).1 found.1))),
 )
-same-told before first marks d ls false set clean are asked = (
+same-known before first marks d ls false set clean are asked = (
   (λ h. same-literals first marks d ls are
       (λ l here m. elim ((set l).0 m) [ inl b ↦ absurd (clean l here b) | inr g ↦ g ])
       (λ l g. (set l).1 (inr g))
@@ -171,9 +172,9 @@ same-told before first marks d ls false set clean are asked = (
 )
 
 -- a literal of the clause isn't marked, so the list doesn't have it
-pub other-told : (before first : List Bool) (d ls : List ℤ) → ((l : ℤ) → IsMarked first l ↔ (IsMarked before l ⊎ Has ls l))
+pub other-known : (before first : List Bool) (d ls : List ℤ) → ((l : ℤ) → IsMarked first l ↔ (IsMarked before l ⊎ Has ls l))
     → ((l : ℤ) × Has d l × (¬ IsMarked first l)) → IsTrue false ↔ ((l : ℤ) → Has d l ↔ Has ls l)
-other-told before first d ls set missing = (
+other-known before first d ls set missing = (
   (λ h. absurd (false≢true h)),
   (λ same. absurd (missing.2 ((set missing.0).1 (inr ((same missing.0).0 missing.1))))),
 )

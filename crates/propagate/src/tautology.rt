@@ -1,4 +1,4 @@
-//! The only fault of a clause that is begun.
+//! The only reason why a clause can't be begun.
 ghost use Rattle.std.specs.Prelude.{Some, codes};
 
 use std::error::Error;

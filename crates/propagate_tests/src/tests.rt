@@ -1,4 +1,4 @@
-//! What is taken up, the text of the one fault, and hints at a plain map.
+//! Clauses that `begin` accepts, the text of its only fault, and hints at a plain map.
 ghost use Rattle.std.specs.Prelude.{◌≡◌, IfOk, IfSome, OnOk, IsTrue};
 ghost use Rattle.std.specs.List.{AllByRecursion};
 ghost use Rattle.lrup_model.specs.Literal.{IsLiteral};
@@ -13,19 +13,19 @@ use std::process::Abort;
 use std::test::Fail;
 use test_support::lit;
 
-/// Stops the test where two values differ: an assertion that is proved once for all tests.
+/// Stops the test if two values differ. As a function the assertion is proved only once.
 fn same<T: PartialEq + fmt::Debug + Drop>(rt: &impl Abort, value: T, wanted: T) {
     assert_eq!(rt; value, wanted);
 }
 
-/// Stops the test where this doesn't hold.
+/// Stops the test if this doesn't hold.
 fn holds(rt: &impl Abort, fact: bool)
     ensures { IsTrue fact }
 {
     assert!(rt; fact);
 }
 
-/// The literal of this number, which is of one of three variables.
+/// The literal of this number, over three variables.
 fn literal(rt: &impl Abort, value: i64) -> Lit
     ensures { IsLiteral 3 result }
 {
@@ -34,7 +34,7 @@ fn literal(rt: &impl Abort, value: i64) -> Lit
     literal
 }
 
-/// Takes up a clause with repeats and the empty one.
+/// Begins a clause with repeats, and the empty one.
 fn take_up(rt: &impl Abort, marks: &mut Marks) -> Result<(), Fail>
     requires { marks.old.vars ≡ 16777215 }
     ensures { marks.new.vars ≡ 16777215 }
@@ -48,7 +48,7 @@ fn take_up(rt: &impl Abort, marks: &mut Marks) -> Result<(), Fail>
     Ok(())
 }
 
-/// Takes up two tautologies, and then a clause.
+/// Tries to begin two tautologies, and then begins a clause.
 fn take_up_tautologies(rt: &impl Abort, marks: &mut Marks) -> Result<(), Fail>
     requires { marks.old.vars ≡ 16777215 }
 {
@@ -62,7 +62,7 @@ fn take_up_tautologies(rt: &impl Abort, marks: &mut Marks) -> Result<(), Fail>
     Ok(())
 }
 
-/// Over as many variables as there may be.
+/// Uses the largest number of variables.
 #[test]
 fn clauses_are_taken_up(rt: HostRuntime) -> Result<(), Fail> {
     same(&rt, Tautology.to_string(rt.alloc())?.as_str(), "tautology");
@@ -82,7 +82,8 @@ fn push_pair(rt: &impl Abort, formula: &mut Formula, one: i64, other: i64) -> Re
     formula.push(&[one, other])
 }
 
-/// The formula of clauses of two literals each, and the empty one after them, over three variables.
+/// The formula over three variables of these clauses of two literals, and an empty clause after
+/// them.
 fn formula_of_pairs(
     rt: &(impl Abort + AllocGlobal),
     pairs: &[(i64, i64)],
@@ -141,8 +142,8 @@ fn try_hint<M: ClauseMap>(marks: &mut Marks, map: &mut M, id: u64) -> Option<Ste
     Some(marks.hint(map, &clip))
 }
 
-/// Takes up the clause of the literal 1 and tries these hints: the last one's step, whether another
-/// may follow, and whether it is that clause still.
+/// Begins the clause of the literal 1 and tries these hints. Returns the last one's step, whether
+/// another may follow, and whether the clause is still the same.
 fn try_hints<M: ClauseMap>(
     marks: &mut Marks,
     map: &mut M,
@@ -162,7 +163,7 @@ fn try_hints<M: ClauseMap>(
     Some((step, marks.ready(), marks.clause() == clause.as_slice()))
 }
 
-/// Hints, what the last of them does, and whether another may follow.
+/// Hints, the step of the last one, and whether another may follow.
 type HintRow = (&'static [u64], Step, bool);
 
 /// Tries the hints of each row.
@@ -176,7 +177,7 @@ fn try_rows<M: ClauseMap>(rt: &impl Abort, marks: &mut Marks, map: &mut M, rows:
     }
 }
 
-/// Hints at the clauses 1 2, -2 3, -3 1 and 2 3.
+/// Hints over the clauses 1 2, -2 3, -3 1 and 2 3.
 static UNTIL_CONFLICT: [HintRow; 3] = [
     (&[1], Step::Unit, true),
     (&[1, 2], Step::Unit, true),
@@ -191,7 +192,7 @@ fn hints_are_unit_until_the_conflict(rt: HostRuntime) -> Result<(), Fail> {
     Ok(())
 }
 
-/// Hints at the clauses 1 2 and 2 3, of which one is unit.
+/// Hints over the clauses 1 2 and 2 3, one of which is unit.
 static TWO_CLAUSES: [HintRow; 3] = [
     (&[2], Step::NotUnit, false),
     (&[1], Step::Unit, true),
@@ -217,7 +218,7 @@ fn lits_of(rt: &(impl Abort + AllocGlobal), values: &[i64]) -> Result<Vec<Lit>, 
     Ok(lits)
 }
 
-/// Are these the literals of the clause that the map has under the identity?
+/// Whether the clause under the identity has exactly these literals.
 fn is_clause<M: ClauseMap>(marks: &mut Marks, map: &mut M, id: u64, lits: &[Lit]) -> Option<bool>
     requires marks { marks.old.vars ≡ 3 }
     requires map { (M.caller_view map.old).caller.formula.vars ≡ 3 }
@@ -229,7 +230,7 @@ fn is_clause<M: ClauseMap>(marks: &mut Marks, map: &mut M, id: u64, lits: &[Lit]
     Some(marks.same(map, &clip, lits))
 }
 
-/// An identity, numbers of literals, and whether these are the clause.
+/// An identity, literals, and whether its clause has exactly these.
 static COMPARED: [(u64, &[i64], bool); 12] = [
     (1, &[1, 2], true),
     (1, &[2, 1, 2, 2], true),
@@ -265,7 +266,7 @@ fn compare<M: ClauseMap>(
     Ok(())
 }
 
-/// Compares those of each row.
+/// Compares the literals of each row.
 fn compare_all<M: ClauseMap>(
     rt: &(impl Abort + AllocGlobal),
     marks: &mut Marks,
@@ -287,7 +288,7 @@ fn a_clause_is_compared_as_a_set(rt: HostRuntime) -> Result<(), Fail> {
     compare_all(&rt, &mut marks, &mut map.desk(1))
 }
 
-/// A clause is taken up, its hints are tried, and one is compared, a thousand times.
+/// Begins a clause, tries hints, and compares a clause, a thousand times.
 fn call_often<M: ClauseMap>(marks: &mut Marks, map: &mut M, lits: &[Lit]) -> Option<()>
     requires marks { marks.old.vars ≡ 3 }
     requires map { (M.caller_view map.old).caller.formula.vars ≡ 3 }
@@ -300,8 +301,8 @@ fn call_often<M: ClauseMap>(marks: &mut Marks, map: &mut M, lits: &[Lit]) -> Opt
     Some(())
 }
 
-/// No call of the marks takes memory: the ninth allocation comes after the last call. The gate
-/// refuses that one, and this test has to fail then.
+/// No call of `Marks` allocates: the ninth allocation comes after the last call. The gate refuses
+/// that one, and expects this test to fail.
 #[test]
 fn the_ninth_allocation_comes_after_all_calls(rt: HostRuntime) -> Result<(), Fail> {
     let mut map = map_of_pairs(&rt, &[(1, 2), (-2, 3)])?;

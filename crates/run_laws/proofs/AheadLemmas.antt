@@ -35,7 +35,7 @@ pub record Ahead (p : LayoutValue) (h : History) (rest : Lines) : Type 0 where
   pub lines : (s : ℕ) → AllByRecursion IsLineBlock (rest s)
   pub outside : (s : ℕ) → (IsStream p s → ⊥) → rest s ≡ []
 
--- the same after one stream went on
+-- the same after one stream has advanced
 pub ahead-with : (p : LayoutValue) (g h : History) (rest : Lines) (s : ℕ) (bs : List History) → Ahead p g rest → IsStream p s
     → own h s ≡ joined bs → ((t : ℕ) → (t ≡ s → ⊥) → own h t ≡ own g t) → AllByRecursion IsLineBlock bs → Ahead p h (with rest s bs)
 ahead-with p g h rest s bs ahead is here others lines = record {

@@ -12,19 +12,20 @@ use Rattle.lrup_text.specs.declared.device.StreamEnd.TheVariants as stream_ends
 use Rattle.stream_check.specs.declared.report.Report.{Report}
 use Rattle.stream_check.specs.StreamParams.{StreamParams}
 use Rattle.stream_check.specs.Judging.{JudgesBlocks, Judges}
-use Rattle.stream_check.specs.Laws.{cited_by, OverStays, AloneDecides}
+use Rattle.stream_check.specs.Laws.{cited_by, FinishedStays, AloneDecides}
 use Rattle.stream_check.specs.Streams.{Stream, RunParamsValue, stream_params}
 use Rattle.stream_check.specs.Closed.{IsOfStream, IsOwnedWithin}
 use Rattle.run_laws.specs.Groups.{one, IsGroup, IsReadingOf}
 use Rattle.run_laws.specs.GroupLaws.{AloneHasOneReport, BeginningsWithin}
 use Rattle.run_laws.proofs.Places.{judged_at}
 
--- these bytes are a reading of a stream with these bytes and this end, and the reading has this end, if any
+-- these bytes are a reading of a stream with these bytes and this end, and the reading has this
+-- end, if any
 abbrev pub ReadsTo : Option StreamEnd → List ℕ → List ℕ → StreamEnd → Type 0
 ReadsTo its bytes whole end = MatchOption its ((more : List ℕ) × (whole ≡ bytes ++ more)) (λ e. (whole ≡ bytes) × (e ≡ end))
 
 -- however much of a stream was read, all of it has this judgement
-pub judged_whole : OverStays
+pub judged_whole : FinishedStays
     → (c : StreamParams) (its : Option StreamEnd) (bytes whole : List ℕ) (end : StreamEnd) (blocks : List History) (report : Report)
     → ReadsTo its bytes whole end → ((other : StreamEnd) → IfSome its (λ e. e ≡ other) → JudgesBlocks c bytes other blocks report)
     → JudgesBlocks c whole end blocks report
@@ -44,7 +45,7 @@ own-one s [] all = refl
 own-one s (e ∷ h) all = cond-true (eqb (stream_of e) s) (e ∷ own h s) (own h s) all.0 ∙ ap (λ (k : History). e ∷ k) (own-one s h all.1)
 
 -- the group of one stream is a judgement of all its bytes
-pub alone_judged : OverStays → (f : Cnf) (run_params : RunParamsValue) (s : ℕ) (streams : List Stream) (reports : List Report)
+pub alone_judged : FinishedStays → (f : Cnf) (run_params : RunParamsValue) (s : ℕ) (streams : List Stream) (reports : List Report)
     (whole : List ℕ) (end : StreamEnd) (stream : Stream) (report : Report)
     → (g : IsGroup f run_params (one s) streams reports) → IsOfStream streams s stream → IsReadingOf whole end stream
     → IsOfStream reports s report → Judges (stream_params run_params s) whole end g.history report
@@ -56,7 +57,7 @@ alone_judged law f run_params s streams reports whole end stream report g at rea
       judges = judged_whole law (stream_params run_params s) stream.end stream.bytes whole end j.0 report reads j.2;
     }
 
-pub alone_has_one_report : OverStays → AloneDecides → AloneHasOneReport
+pub alone_has_one_report : FinishedStays → AloneDecides → AloneHasOneReport
 alone_has_one_report stays decides f run_params s whole end streams others reports other_reports stream other report other_report
     g h at there
     reads also says too =

@@ -36,12 +36,12 @@ use Rattle.stream_check.specs.SequentialConsistency.{AreJudgedIn}
 use Rattle.stream_check.specs.Streams.{Stream, InputObservation, RunParamsValue, stream_params}
 use Rattle.stream_check.specs.lemmas.StreamLemmas.{judged_count, same_at, some_end, observed_count}
 use Rattle.run_laws.specs.AnyRun.{ValidInAnyRun}
-use Rattle.run_laws.specs.Valid.{TellsAtLeast}
+use Rattle.run_laws.specs.Valid.{SaysAtLeast}
 use Rattle.run_laws.specs.Groups.{IsRun}
 use Rattle.run_laws.proofs.AnyRunLines.{IsFoundIn, AreFair, FindAlike, same_clause}
 use Rattle.run_laws.specs.lemmas.OwnLemmas.{own_all}
 use Rattle.run_laws.proofs.AnyRunStreams.{near_fair, IsStillThere, all_still_there, IsIn, in_left, in_all, own_published, left_published}
-use Rattle.run_laws.proofs.AnyRunStreams.{stream_publishes, has_ended, fair_front, IsBlameless, GoesOn, lines_go_on, goes_on_tells}
+use Rattle.run_laws.proofs.AnyRunStreams.{stream_publishes, has_ended, fair_front, IsBlameless, GoesOn, lines_go_on, goes_on_says}
 use Rattle.run_laws.proofs.AnyRunStreams.{whole_observed}
 use Rattle.run_laws.proofs.GroupLemmas.{inside, is_inside, inside_is, closed_finds}
 use Rattle.run_laws.proofs.Places.{has_place, judged_at}
@@ -95,7 +95,8 @@ in_more x a b on is =
 
 -- A stream in a run
 
--- an end that a stream had, and what its reader had left after the bytes by which it is judged: nothing, if it ended
+-- an end that a stream had, and what its reader had left after the bytes by which it is judged:
+-- nothing, if it ended
 pub record ReadSo (c : StreamParams) (bytes whole : List ℕ) (blocks : List History) (report : Report) : Type 0 where
   pub end : StreamEnd
   pub judges : JudgesBlocks c bytes end blocks report
@@ -301,7 +302,8 @@ module _ (first : OneFirstLine) (refused : RefusedStays) (cited : CitedFetched) 
     found_theirs s (events.publish u id d result ∷ es) there = (tt, found_theirs s es there.1)
     found_theirs s (events.retire u id result ∷ es) there = (tt, found_theirs s es there.1)
 
-    -- the run's good lines begin with those of the stream, or the stream ended in these lines, and none of them is to blame
+    -- the run's good lines begin with those of the stream, or the stream ended in these lines, and
+    -- none of them is to blame
     goes_on : (s : ℕ) (member : IsTrue (inside run_params.layout set s)) (w : Part s) (more : List ℕ) (o : Other s w more)
         → w.judges.rest ≡ []
         → GoesOn w.judges.lines o.read.reads.judges.lines ⊎ IsBlameless (stream_params run_params s) Mine (length w.judges.lines) o.report
@@ -330,18 +332,18 @@ module _ (first : OneFirstLine) (refused : RefusedStays) (cited : CitedFetched) 
         o.texts o.read.reads.ended ours also
 
     -- it says at least as much, or it ended in the stream's lines, and none of them is to blame
-    pub record TellsOn (s : ℕ) (report other : Report) : Type 0 where
+    pub record AgreesOn (s : ℕ) (report other : Report) : Type 0 where
       pub stream : Stream
       pub at : IsOfStream streams s stream
       pub lines : List StreamLine
       pub limits : AllByRecursion IsWithinLimits lines
       pub text : stream.bytes ≡ flat_map line_text lines
-      pub tells : TellsAtLeast other report
+      pub shows : SaysAtLeast other report
           ⊎ ((line : ℕ) × (line ≤ length lines) × IsExcusedAt (Lacking (stream_params run_params s)) other line)
 
-    pub tells_on : (s : ℕ) (report other : Report) → IsTrue (set s) → IsOfStream reports s report → report.ending ≡ endings.Ended
-        → IsOfStream others s other → TellsOn s report other
-    tells_on s report other member says ended too =
+    pub agrees_on : (s : ℕ) (report other : Report) → IsTrue (set s) → IsOfStream reports s report → report.ending ≡ endings.Ended
+        → IsOfStream others s other → AgreesOn s report other
+    agrees_on s report other member says ended too =
         let c = stream_params run_params s in
         let within = slice_get_within reports (s - 1) report says.1 in
         let here : IsTrue (inside run_params.layout set s) =
@@ -351,20 +353,20 @@ module _ (first : OneFirstLine) (refused : RefusedStays) (cited : CitedFetched) 
         let its : (more : List ℕ) × Other s w more = its_other s here w in
         let its_report : w.report ≡ report = same_at reports s w.report report w.says says in
         let its_other_report : its.1.report ≡ other = same_at others s its.1.report other its.1.says too in
-        let over = has_ended c w.judges.lines w.judges.rest w.end w.judges.back w.report w.judges.ends
+        let finished = has_ended c w.judges.lines w.judges.rest w.end w.judges.back w.report w.judges.ends
         (ap (λ (x : Report). x.ending) its_report ∙ ended) in
         record {
           stream = w.stream;
           at = w.at;
           lines = w.judges.lines;
           limits = w.judges.fits;
-          text = w.judges.text ∙ ap (λ (b : List ℕ). flat_map line_text w.judges.lines ++ b) over.none
+          text = w.judges.text ∙ ap (λ (b : List ℕ). flat_map line_text w.judges.lines ++ b) finished.none
               ∙ append-nil (flat_map line_text w.judges.lines);
-          tells = subst (λ (x : Report). TellsAtLeast x report
+          shows = subst (λ (x : Report). SaysAtLeast x report
               ⊎ ((line : ℕ) × (line ≤ length w.judges.lines) × IsExcusedAt (Lacking c) x line)) its_other_report
-              (elim (goes_on s here w its.0 its.1 over.none) [
-                | inl on ↦ inl (subst (TellsAtLeast its.1.report) (sym over.says ∙ its_report)
-                    (goes_on_tells c w.judges.lines on.0 its.1.read.reads.judges.rest its.1.read.reads.end
+              (elim (goes_on s here w its.0 its.1 finished.none) [
+                | inl on ↦ inl (subst (SaysAtLeast its.1.report) (sym finished.says ∙ its_report)
+                    (goes_on_says c w.judges.lines on.0 its.1.read.reads.judges.rest its.1.read.reads.end
                     its.1.read.reads.judges.back its.1.report
                     (subst (λ (ls : List StreamLine). EndsAfter c ls its.1.read.reads.judges.rest its.1.read.reads.end
                     its.1.read.reads.judges.back its.1.report) on.1
@@ -392,20 +394,20 @@ module _ (first : OneFirstLine) (refused : RefusedStays) (cited : CitedFetched) 
           other_of s inner w observation [] here (entry ∙ ap (λ (b : List ℕ). Some b) (sym whole ∙ sym (append-nil w.stream.bytes))) in
           let its_report : w.report ≡ report = same_at reports s w.report report w.says says in
           let its_other : o.report ≡ other = same_at others s o.report other o.says too in
-          let over = has_ended c w.judges.lines w.judges.rest w.end w.judges.back w.report w.judges.ends
+          let finished = has_ended c w.judges.lines w.judges.rest w.end w.judges.back w.report w.judges.ends
           (ap (λ (x : Report). x.ending) its_report ∙ ended) in
           let j = o.read.reads.judges in
           let no_memory : ¬ IsExcused OutOfMemory o.report = subst (λ (x :
           Report). ¬ IsExcused OutOfMemory x) (sym its_other) (fine_memory other fine) in
           let no_failure : ¬ IsExcused ReadFailed o.report = subst (λ (x :
           Report). ¬ IsExcused ReadFailed x) (sym its_other) (fine_failure other fine) in
-          elim (goes_on s inner w [] o over.none) [
+          elim (goes_on s inner w [] o finished.none) [
             | inl on ↦ inl (sym its_other
                 ∙ whole_observed one_fault empty c w.judges.lines j.lines j.rest o.read.reads.left o.read.reads.end j.back
                 o.report on j.fits
-                (o.texts ∙ ap (λ (b : List ℕ). flat_map line_text w.judges.lines ++ b) (append-nil w.judges.rest ∙ over.none)
+                (o.texts ∙ ap (λ (b : List ℕ). flat_map line_text w.judges.lines ++ b) (append-nil w.judges.rest ∙ finished.none)
                 ∙ append-nil (flat_map line_text w.judges.lines))
-                no_memory no_failure j.ends ∙ sym over.says ∙ its_report)
+                no_memory no_failure j.ends ∙ sym finished.says ∙ its_report)
             | inr (inl (line, below, inl lost)) ↦ absurd (no_memory (line, lost))
             | inr (inl (line, below, inr failed)) ↦ absurd (no_failure (line, failed))
             | inr (inr lacks) ↦

@@ -1,4 +1,5 @@
--- One line in two histories: if it is good in one, it is good in the other, or lacks a clause of another stream.
+-- One line in two histories: if it is good in one, it is good in the other, or lacks a clause of
+-- another stream.
 use Rattle.std.proofs.Common.{◌≡◌, ◌⊎◌, ◌++◌, ℕ, zero, suc, ℤ, neg_ℤ, Bool, List, [], ◌∷◌, length, replicate, Result, Ok, Err, inl, inr}
 use Rattle.std.proofs.Common.{refl, sym, ap, subst, ◌∙◌, append_assoc, append-nil}
 use Rattle.std.specs.Prelude.{◌↔◌}
@@ -49,8 +50,8 @@ IsFoundIn c Found (events.fetch s id events.retired) = Unit {0}
 IsFoundIn c Found (events.publish s id d r) = Unit {0}
 IsFoundIn c Found (events.retire s id r) = Unit {0}
 
--- from this state on, each event at an identity of the formula or of the stream's own answers as the state after the events before it, and
--- this holds for what is found of other streams
+-- from this state on, each event at an identity of the formula or of the stream's own answers as
+-- the state after the events before it, and this holds for what is found of other streams
 abbrev pub AreFair : StreamParams → (ℕ → Clause → Type 0) → State → History → Type 0
 AreFair c Found m [] = Unit {0}
 AreFair c Found m (e ∷ es) = (IsNear (ownership_of c (identity_of e)) → Answers m e) × IsFoundIn c Found e × AreFair c Found (after m e) es
@@ -98,7 +99,8 @@ same_clause absent d e a b = absurd a
 same_clause (live x) d e a b = sym a ∙ b
 same_clause (retired x) d e a b = sym a ∙ b
 
--- the fault is that a clause of another stream, found in the one history, isn't there yet, or is no longer there
+-- the fault is that a clause of another stream, found in the one history, isn't there yet, or is no
+-- longer there
 abbrev IsLackOf : StreamParams → (ℕ → Clause → Type 0) → ℕ → Clause → Fault → Type 0
 IsLackOf c Mine h d fault = (ownership_of c h ≡ ownerships.Foreign) × Mine h d × ((fault ≡ faults.Missing h) ⊎ (fault ≡ faults.Retired h))
 

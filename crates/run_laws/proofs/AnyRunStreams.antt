@@ -38,7 +38,7 @@ use Rattle.stream_check.specs.lemmas.ReportLemmas.{additions-append, joined-appe
 use Rattle.stream_check.specs.StreamParams.{StreamParams, ownership_of}
 use Rattle.stream_check.specs.StreamContext.{context_of, additions_of, capped, deleted_by, is_within}
 use Rattle.stream_check.specs.Verdicts.{Good, Bad}
-use Rattle.run_laws.specs.Valid.{TellsAtLeast}
+use Rattle.run_laws.specs.Valid.{SaysAtLeast}
 use Rattle.run_laws.proofs.AnyRunLines.{IsNear, IsFoundIn, AreFair, FindAlike, Lacks, line_agrees, line_reaches, good_publishes}
 use Rattle.run_laws.proofs.AnyRunLines.{bad_publishes, deletes_publish}
 use Rattle.run_laws.proofs.JudgedLemmas.{parts}
@@ -310,8 +310,8 @@ module _ (first : OneFirstLine) (refused : RefusedStays) (c : StreamParams) (Min
       inl (at_its_end line later rest left end before (capped (length before + 1)) count report
       (omega (arith, below)) limits is none pending says)
 
-  -- if a stream's bytes begin with lines that are good in the one history, its good lines in the other begin with these, or it ends in
-  -- them, and none of them is to blame
+  -- if a stream's bytes begin with lines that are good in the one history, its good lines in the
+  -- other begin with these, or it ends in them, and none of them is to blame
   pub lines_go_on : (before lines others : List StreamLine) (fs front back : List History) (m : State) (rest left more : List ℕ)
       (end : StreamEnd)
       (count : ℕ) (report : Report) → length before + length lines ≤ count
@@ -361,12 +361,12 @@ module _ (first : OneFirstLine) (refused : RefusedStays) (c : StreamParams) (Min
 -- What a stream says that continues after some lines
 
 more_observed : (c : StreamParams) (lines later : List StreamLine) (deleted : ℕ) (ending : Ending) (report : Report)
-    → report ≡ report_of c (lines ++ later) deleted ending → TellsAtLeast report (report_of c lines 0 endings.Ended)
+    → report ≡ report_of c (lines ++ later) deleted ending → SaysAtLeast report (report_of c lines 0 endings.Ended)
 more_observed c lines later deleted ending report says =
     let both = additions-append lines later in
     let is_empty : ℕ × Clause → Bool = λ addition. length addition.1 == 0 in
     let is_cubes : ℕ × Clause → Bool = λ addition. is_within c.cube addition.1 in
-    subst (λ (r : Report). TellsAtLeast r (report_of c lines 0 endings.Ended)) (sym says) (record {
+    subst (λ (r : Report). SaysAtLeast r (report_of c lines 0 endings.Ended)) (sym says) (record {
       added = omega (arith, ap (λ (x : List (ℕ × Clause)). length x) both, length-append (additions_of lines) (additions_of later));
       deleted = omega (arith, sum_by-append (λ line. length (deleted_by line)) lines later);
       empty = λ test. ap (list_any is_empty) both ∙ list_any-append is_empty (additions_of lines) (additions_of later)
@@ -376,16 +376,16 @@ more_observed c lines later deleted ending report says =
     })
 
 -- it says at least what the report of these lines does
-pub goes_on_tells : (c : StreamParams) (lines later : List StreamLine) (rest : List ℕ) (end : StreamEnd) (back : List History)
+pub goes_on_says : (c : StreamParams) (lines later : List StreamLine) (rest : List ℕ) (end : StreamEnd) (back : List History)
     (report : Report)
-    → EndsAfter c (lines ++ later) rest end back report → TellsAtLeast report (report_of c lines 0 endings.Ended)
-goes_on_tells c lines later rest end back report (at_bad_line line more text fits block is_one deleted fault bad says) =
+    → EndsAfter c (lines ++ later) rest end back report → SaysAtLeast report (report_of c lines 0 endings.Ended)
+goes_on_says c lines later rest end back report (at_bad_line line more text fits block is_one deleted fault bad says) =
     more_observed c lines later deleted (endings.Bad (capped (length (lines ++ later) + 1)) fault) report says
-goes_on_tells c lines later rest end back report (at_bad_text fault text no_block says) =
+goes_on_says c lines later rest end back report (at_bad_text fault text no_block says) =
     more_observed c lines later 0 (endings.Bad (capped (length (lines ++ later) + 1)) (faults.Text fault)) report says
-goes_on_tells c lines later rest end back report (at_memory lead ids more text fits block is_one earlier stops says) =
+goes_on_says c lines later rest end back report (at_memory lead ids more text fits block is_one earlier stops says) =
     more_observed c lines later (length earlier) (endings.Memory (capped (length (lines ++ later) + 1))) report says
-goes_on_tells c lines later rest end back report (at_end pending no_block says) =
+goes_on_says c lines later rest end back report (at_end pending no_block says) =
     more_observed c lines later 0 (ending_at end rest (capped (length (lines ++ later) + 1))) report says
 
 module _ (one_fault : OneFault) (empty : EmptyPending) (c : StreamParams) where
@@ -408,11 +408,11 @@ module _ (one_fault : OneFault) (empty : EmptyPending) (c : StreamParams) where
       by_end lines end (capped (length lines + 1)) report failure
       (says ∙ ap (λ (b : List ℕ). report_of c lines 0 (ending_at end b (capped (length lines + 1)))) none)
 
-  none_behind : (later : List StreamLine) (rest left : List ℕ) → AllByRecursion IsWithinLimits later
+  none_after : (later : List StreamLine) (rest left : List ℕ) → AllByRecursion IsWithinLimits later
       → flat_map line_text later ++ (rest ++ left) ≡ [] → (later ≡ []) × (rest ≡ [])
-  none_behind [] [] left limits is = (refl, refl)
-  none_behind [] (byte ∷ rest) left limits is = absurd (let no : byte ∷ (rest ++ left) ≡ [] = is in cc)
-  none_behind (line ∷ later) rest left limits is =
+  none_after [] [] left limits is = (refl, refl)
+  none_after [] (byte ∷ rest) left limits is = absurd (let no : byte ∷ (rest ++ left) ≡ [] = is in cc)
+  none_after (line ∷ later) rest left limits is =
       absurd (empty.whole line (flat_map line_text later ++ (rest ++ left)) limits.0 (sym is ∙ split_first line later (rest ++ left)))
 
   -- it also ended if these lines are all that its bytes have
@@ -426,7 +426,7 @@ module _ (one_fault : OneFault) (empty : EmptyPending) (c : StreamParams) where
       let split : flat_map line_text all ≡ texts ++ flat_map line_text on.0 = ap (flat_map line_text) on.1
       ∙ flat_map-append line_text lines on.0 in
       let none : (on.0 ≡ []) × (rest ≡ []) =
-      none_behind on.0 rest left (parts IsWithinLimits lines on.0 (subst (AllByRecursion IsWithinLimits) on.1 fits)).1
+      none_after on.0 rest left (parts IsWithinLimits lines on.0 (subst (AllByRecursion IsWithinLimits) on.1 fits)).1
       (append_cancel_left texts tail [] (sym (append_assoc texts (flat_map line_text on.0) (rest ++ left))
       ∙ ap (λ (b : List ℕ). b ++ (rest ++ left)) (sym split) ∙ is ∙ sym (append-nil texts))) in
       at_nothing lines rest end back report none.1 memory failure

@@ -24,7 +24,7 @@ use Rattle.run_laws.proofs.AnyRunLemmas.{foreign_by, IsReadIn, read_in}
 use Rattle.run_laws.proofs.AnyRunLines.{IsFoundIn, AreFair}
 use Rattle.run_laws.specs.lemmas.OwnLemmas.{own_all}
 use Rattle.run_laws.proofs.AnyRunStreams.{near_fair, IsStillThere, all_still_there, Anything, all_anything, fair_front, has_ended}
-use Rattle.run_laws.proofs.AnyRunStreams.{lines_go_on, goes_on_tells}
+use Rattle.run_laws.proofs.AnyRunStreams.{lines_go_on, goes_on_says}
 use Rattle.run_laws.proofs.ValidLemmas.{all_others, valid_judged}
 use Rattle.run_laws.proofs.ValidLines.{own_ownership}
 
@@ -70,10 +70,10 @@ valid_begins taken fresh ends empty_cut one_cut first refused
     (record { text = refl; fits = valid.fits; valid = valid.valid }) in
     let g = alone.0.history in
     let w = alone.0.judges.judges in
-    let over = has_ended c w.lines w.rest _ w.back (valid_report run_params s lines) w.ends refl in
+    let finished = has_ended c w.lines w.rest _ w.back (valid_report run_params s lines) w.ends refl in
     let same : w.lines ≡ lines = (one_cut texts w.lines lines [] []
     (record {
-      bytes = w.text ∙ ap (λ (b : List ℕ). flat_map line_text w.lines ++ b) over.none;
+      bytes = w.text ∙ ap (λ (b : List ℕ). flat_map line_text w.lines ++ b) finished.none;
       each = w.fits;
       last = empty_cut.last;
     })
@@ -102,7 +102,7 @@ valid_begins taken fresh ends empty_cut one_cut first refused
     (λ id d e foreign mine theirs. absurd mine) [] w.lines j.lines w.front j.front j.back
     (opening f) j.rest read.reads.left more read.reads.end (length lines) report
     (omega (arith, ap (λ (ls : List StreamLine). length ls) same)) w.good j.good j.ends w.fits j.fits begins read.reads.ended ours also) [
-      | inl on ↦ inl (goes_on_tells c lines on.0 j.rest read.reads.end j.back report
+      | inl on ↦ inl (goes_on_says c lines on.0 j.rest read.reads.end j.back report
           (subst (λ (ls : List StreamLine). EndsAfter c ls j.rest read.reads.end j.back report)
           (on.1 ∙ ap (λ (ls : List StreamLine). ls ++ on.0) same) j.ends))
       | inr (inl cut) ↦ inr cut

@@ -15,11 +15,12 @@ use Rattle.stream_check.specs.Streams.{Block, blocks_of, events_in}
 use Rattle.stream_check.specs.lemmas.StreamLemmas.{blocks-same, blocks-other}
 use Rattle.stream_check.specs.internal.Checking.{IsFetch}
 use Rattle.stream_check.specs.Deletions.{IsRetire}
-use Rattle.run_laws.proofs.SwapLemmas.{Settles, goes-behind, comes-before}
+use Rattle.run_laws.proofs.SwapLemmas.{Settles, goes-following, comes-before}
 
 -- Blocks
 
--- what is known of a block in an order: whose its events are, and what they say about retired identities
+-- what is known of a block in an order: whose its events are, and what they say about retired
+-- identities
 pub record IsSettled (p : LayoutValue) (final : State) (block : Block) : Type 0 where
   pub stream : IsStream p block.stream
   pub calls : AllByRecursion (λ e. stream_of e ≡ block.stream) block.events
@@ -105,15 +106,15 @@ join-legal f p final m e (block ∷ blocks) b more early some settles all is leg
     elim (cases_eq block.stream (stream_of e)) [
       | inl same ↦ subst (λ (bs : List Block). LegalFrom f p m (events_in bs)) (sym (join-same e block blocks same)) legal
       | inr other ↦
-          let behind : LegalFrom f p m (block.events ++ e ∷ events_in blocks)
-          = goes-behind f p final m e block.stream block.events (events_in blocks) early some
+          let following : LegalFrom f p m (block.events ++ e ∷ events_in blocks)
+          = goes-following f p final m e block.stream block.events (events_in blocks) early some
           (λ same. other (sym same)) settles all.0.calls all.0.settles legal in
           subst (λ (bs : List Block). LegalFrom f p m (events_in bs)) (sym (join-other e block blocks other))
           (legal-append f p m block.events (events_in (join e blocks))
-          (legal-front f p m block.events (e ∷ events_in blocks) behind)
+          (legal-front f p m block.events (e ∷ events_in blocks) following)
           (join-legal f p final (run m block.events) e blocks b more early some settles all.1
           (sym (blocks-other block blocks (stream_of e) other) ∙ is)
-          (legal-back f p m block.events (e ∷ events_in blocks) behind)))
+          (legal-back f p m block.events (e ∷ events_in blocks) following)))
     ]
 
 -- a fetch that found nothing goes before the same fetch

@@ -57,7 +57,8 @@ judged_blocks early_events vacant_tries_again c bytes end blocks report j =
 
 -- Which of the lines that the bytes are cut into are judged
 
--- the lines found whole at the front of some bytes are the first of those that the bytes are cut into
+-- the lines found whole at the front of some bytes are the first of those that the bytes are cut
+-- into
 pub record AreFirst (lines all : List StreamLine) (left rest : List ℕ) : Type 0 where
   pub more : List StreamLine
   pub is : all ≡ lines ++ more

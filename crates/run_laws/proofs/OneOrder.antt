@@ -19,7 +19,7 @@ use Rattle.stream_check.specs.StreamParams.{StreamParams}
 use Rattle.stream_check.specs.Streams.{Block, blocks_of, events_in, IsBlockWithin, RunParamsValue, stream_params}
 use Rattle.stream_check.specs.lemmas.StreamLemmas.{blocks-same, blocks-other}
 use Rattle.stream_check.specs.lemmas.TurnLemmas.{blocks_of-append, lines_before, lines_beside, lines_pushed, streams_of, streams_of-push}
-use Rattle.stream_check.specs.Turns.{AreTurns, IsByTurns, IsTurnOf, line_count}
+use Rattle.stream_check.specs.Turns.{AreTurns, IsRoundRobin, IsTurnOf, line_count}
 
 -- Turns
 
@@ -42,7 +42,7 @@ waits before (s ∷ order) t turns some = elim (cases_eq s t) [
       let later = waits (before ++ s ∷ []) order t turns.1 (omega (arith, some, lines_other s t order other)) in
       let own = lines_beside before s t other in
       λ u. (
-        λ behind. omega (arith, (later u).0 behind, lines_before before (s ∷ []) u, own),
+        λ following. omega (arith, (later u).0 following, lines_before before (s ∷ []) u, own),
         λ ahead. omega (arith, (later u).1 ahead, lines_before before (s ∷ []) u, own),
       )
 ]
@@ -54,7 +54,7 @@ waits_for before order s t turns other some =
     let later = waits (before ++ s ∷ []) order t turns.1 (omega (arith, some, lines_other s t order other)) s in
     let mine = lines_pushed before s in
     let own = lines_beside before s t other in (
-      λ behind. omega (arith, later.0 behind, mine, own),
+      λ following. omega (arith, later.0 following, mine, own),
       λ ahead. omega (arith, later.1 ahead, mine, own),
     )
 
@@ -182,5 +182,5 @@ module _ (alike : BlocksGoAlike) (forks : LegalNeverFork) (f : Cnf) (run_params 
   pub same_order : AllByRecursion (IsBlockWithin run_params.layout (λ s. true)) ps
       → AllByRecursion (IsBlockWithin run_params.layout (λ s. true)) qs
       → LegalFrom f run_params.layout (opening f) (events_in ps) → LegalFrom f run_params.layout (opening f) (events_in qs)
-      → IsByTurns (streams_of ps) → IsByTurns (streams_of qs) → ps ≡ qs
+      → IsRoundRobin (streams_of ps) → IsRoundRobin (streams_of qs) → ps ≡ qs
   same_order within too legal lawful turns others = one_order [] ps qs (opening f) refl refl within too legal lawful turns others

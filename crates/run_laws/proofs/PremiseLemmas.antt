@@ -283,6 +283,6 @@ readers_share beginnings_cite p set observed streams match_inputs keeps s t id c
     let theirs = observed_from observed streams (t - 1) deleting match_inputs yours.1 in
     let kept = keeps s t id mine.observation theirs.observation other member also (at.0, mine.at) (yours.0, theirs.at) owns in
     let front = observed_begins mine.observation kept.0 citing mine.matches_input kept.2 in
-    let behind = observed_begins theirs.observation kept.1 deleting theirs.matches_input kept.3 in
+    let following = observed_begins theirs.observation kept.1 deleting theirs.matches_input kept.3 in
     kept.4 (subst (λ (bytes : List ℕ). Cites bytes id) (sym front.1) ((beginnings_cite citing.bytes front.0 id).0 cited))
-    (subst (λ (bytes : List ℕ). SomeLineDeletes bytes id) (sym behind.1) ((beginnings_cite deleting.bytes behind.0 id).1 deleted))
+    (subst (λ (bytes : List ℕ). SomeLineDeletes bytes id) (sym following.1) ((beginnings_cite deleting.bytes following.0 id).1 deleted))

@@ -95,7 +95,8 @@ gone_stays (retired c) (retired d) advances is = tt
 not_absent : (x : Slot) (c : Clause) → x ≡ live c → x ≡ absent → ⊥
 not_absent x c is none = absurd (cc)
 
--- a clause that a stream finds is still there after another stream's event, if it isn't retired in the end
+-- a clause that a stream finds is still there after another stream's event, if it isn't retired in
+-- the end
 live_stays : (f : Cnf) (p : LayoutValue) (final m : State) (s id : ℕ) (c : Clause) (d : Event)
     → (s ≡ stream_of d → ⊥) → IsAllowed f p d → Settles p final (events.fetch s id (events.live c)) → Settles p final d
     → m id ≡ live c → Answers m d → after m d id ≡ live c
@@ -141,17 +142,17 @@ swap f p final m e d h fetches some other settles too legal =
     )
 
 -- a fetch that found something moves to after a whole block of another stream
-pub goes-behind : (f : Cnf) (p : LayoutValue) (final m : State) (e : Event) (t : ℕ) (block h : History)
+pub goes-following : (f : Cnf) (p : LayoutValue) (final m : State) (e : Event) (t : ℕ) (block h : History)
     → IsFetch e → is_vacant e ≡ false → (stream_of e ≡ t → ⊥) → Settles p final e
     → AllByRecursion (λ d. stream_of d ≡ t) block → AllByRecursion (Settles p final) block
     → LegalFrom f p m (e ∷ block ++ h) → LegalFrom f p m (block ++ e ∷ h)
-goes-behind f p final m e t [] h fetches some other settles theirs settled legal = legal
-goes-behind f p final m e t (d ∷ block) h fetches some other settles theirs settled legal =
+goes-following f p final m e t [] h fetches some other settles theirs settled legal = legal
+goes-following f p final m e t (d ∷ block) h fetches some other settles theirs settled legal =
     let swapped : LegalFrom f p m (d ∷ e ∷ block ++ h)
     = swap f p final m e d (block ++ h) fetches some (λ same. other (same ∙ theirs.0)) settles settled.0 legal in (
       swapped.0,
       swapped.1,
-      goes-behind f p final (after m d) e t block h fetches some other settles theirs.1 settled.1 swapped.2,
+      goes-following f p final (after m d) e t block h fetches some other settles theirs.1 settled.1 swapped.2,
     )
 
 -- Retires move to before events of other streams

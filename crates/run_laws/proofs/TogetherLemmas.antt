@@ -32,11 +32,11 @@ use Rattle.stream_check.specs.lemmas.StreamLemmas.{IsJudgedBy, blocks-same, bloc
 use Rattle.stream_check.specs.lemmas.TurnLemmas.{streams_of}
 use Rattle.run_laws.specs.AnyRun.{ValidInAnyRun}
 use Rattle.run_laws.specs.Groups.{IsRun}
-use Rattle.run_laws.specs.Valid.{Database, first_database, after_line, IsValidLine, valid_report, TellsAtLeast}
+use Rattle.run_laws.specs.Valid.{Database, first_database, after_line, IsValidLine, valid_report, SaysAtLeast}
 use Rattle.run_laws.specs.Valid.{Step, is_own, beside_line, after_step, AreValidTogether}
 use Rattle.run_laws.specs.Together.{lines_by, IsValidOrder, HaveTexts}
 use Rattle.run_laws.specs.Together.{ValidTogether, TogetherBegins}
-use Rattle.run_laws.proofs.AnyRunLemmas.{HaveBytesOf, tells_on}
+use Rattle.run_laws.proofs.AnyRunLemmas.{HaveBytesOf, agrees_on}
 use Rattle.run_laws.proofs.ValidLemmas.{next_going, first_agrees, is_first, ended_report}
 use Rattle.run_laws.proofs.ValidLines.{Agrees, Goes, line_goes, left, not_callers}
 
@@ -524,7 +524,7 @@ module _ (taken : GoodLineTaken) (fresh : FreshLeft) (ends : EndJudged)
       let c = stream_params run_params s in
       let j : AreJudgedTogether f run_params set steps = judged_together f run_params set steps cnf fits order members in
       let place = report_place f run_params observed reports r s report says in
-      let on = tells_on first refused cited f run_params set j.history (each_from n 1 (text_stream steps))
+      let on = agrees_on first refused cited f run_params set j.history (each_from n 1 (text_stream steps))
       (each_from n 1 (its_report run_params steps)) observed reports
       fits (each_count n 1 (text_stream steps)) j.legal j.judged j.closed r (have_bytes run_params.layout set steps observed texts)
       s (its_report run_params steps s) report member (each_place n s (its_report run_params steps) place.0 place.1) refl says in
@@ -534,6 +534,6 @@ module _ (taken : GoodLineTaken) (fresh : FreshLeft) (ends : EndJudged)
       let same : on.lines ≡ lines_by s steps = (one_cut whole on.lines (lines_by s steps) [] []
       (record { bytes = bytes ∙ sym (append-nil (flat_map line_text on.lines)); each = on.limits; last = empty_cut.last })
       (record { bytes = sym (append-nil whole); each = lines_limits steps s order.fits; last = empty_cut.last })).0 in
-      subst (λ (ls : List StreamLine). TellsAtLeast report (valid_report run_params s (lines_by s steps))
+      subst (λ (ls : List StreamLine). SaysAtLeast report (valid_report run_params s (lines_by s steps))
       ⊎ ((line : ℕ) × (line ≤ length ls) × IsExcusedAt (Lacking c) report line))
-      same on.tells
+      same on.shows

@@ -9,12 +9,12 @@ use Rattle.lrup_model.specs.Formula.{Cnf}
 use Rattle.lrup_text.specs.declared.device.StreamEnd.TheVariants as stream_ends
 use Rattle.stream_check.specs.declared.report.Report.{Report}
 use Rattle.stream_check.specs.Judging.{joined}
-use Rattle.stream_check.specs.Laws.{BlocksGoAlike, DecidedBeforeFailure, LegalNeverFork, OneReport, OverStays}
+use Rattle.stream_check.specs.Laws.{BlocksGoAlike, DecidedBeforeFailure, LegalNeverFork, OneReport, FinishedStays}
 use Rattle.stream_check.specs.Closed.{IsOfStream}
 use Rattle.stream_check.specs.Streams.{Stream, JudgesStream, blocks_of, AreJudged, RunParamsValue, stream_params}
 use Rattle.stream_check.specs.lemmas.EachLemmas.{each_at, each_count}
 use Rattle.stream_check.specs.lemmas.StreamLemmas.{observed_count}
-use Rattle.stream_check.specs.Turns.{IsOrderedByTurns}
+use Rattle.stream_check.specs.Turns.{IsOrderedRoundRobin}
 use Rattle.run_laws.specs.TurnsLaws.{BytesDecide, TurnsDecide}
 use Rattle.run_laws.proofs.AloneLemmas.{judged_whole}
 use Rattle.run_laws.proofs.OneOrder.{JudgedTwice, same_order}
@@ -54,10 +54,11 @@ own_at run_params own s streams reports stream report judged at says =
 
 -- Two runs
 
--- if each stream is judged twice, by its own blocks of the two orders, the orders and the reports are the same
+-- if each stream is judged twice, by its own blocks of the two orders, the orders and the reports
+-- are the same
 module _ (alike : BlocksGoAlike) (forks : LegalNeverFork) (one : OneReport) (f : Cnf) (run_params : RunParamsValue)
     (streams others : List Stream) (reports other_reports : List Report)
-    (a : IsOrderedByTurns f run_params streams reports) (b : IsOrderedByTurns f run_params others other_reports)
+    (a : IsOrderedRoundRobin f run_params streams reports) (b : IsOrderedRoundRobin f run_params others other_reports)
     (both : (s : ℕ) (stream other : Stream) (report other_report : Report)
     → IsOfStream streams s stream → IsOfStream others s other → IsOfStream reports s report → IsOfStream other_reports s other_report
     → (j : JudgedTwice (stream_params run_params s) (blocks_of s a.order.blocks) (blocks_of s b.order.blocks)) × (j.report ≡ report)
@@ -97,7 +98,7 @@ module _ (alike : BlocksGoAlike) (forks : LegalNeverFork) (one : OneReport) (f :
       (ap (λ bs. joined (blocks_of s bs)) orders_same) j.first j.second j.memory j.none in
       sym twice.1 ∙ same.1 ∙ twice.2)
 
-pub turns_decide : OverStays → OneReport → LegalNeverFork → BlocksGoAlike → TurnsDecide
+pub turns_decide : FinishedStays → OneReport → LegalNeverFork → BlocksGoAlike → TurnsDecide
 turns_decide stays one forks alike f run_params streams others reports other_reports readings a b memory none =
     let both : (s : ℕ) (stream other : Stream) (report other_report : Report)
     → IsOfStream streams s stream → IsOfStream others s other → IsOfStream reports s report → IsOfStream other_reports s other_report

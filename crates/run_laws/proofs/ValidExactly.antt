@@ -25,7 +25,7 @@ use Rattle.stream_check.specs.declared.params.Ownership.{Ownership}
 use Rattle.stream_check.specs.declared.params.Ownership.TheVariants as ownerships
 use Rattle.stream_check.specs.lemmas.AdditionLemmas.{run-fetches, found_live}
 use Rattle.stream_check.specs.Additions.{IsValidAddition, published_by, JudgesAddition}
-use Rattle.stream_check.specs.Laws.{cited_by, OverStays}
+use Rattle.stream_check.specs.Laws.{cited_by, FinishedStays}
 use Rattle.stream_check.specs.internal.Checking.{IsFetch}
 use Rattle.stream_check.specs.Judging.{JudgesLine, AreGood, joined}
 use Rattle.stream_check.specs.Lookup.{FetchesHintAt, FetchesHint, AreFound}
@@ -136,7 +136,8 @@ valid_addition f c Found m base st id lits hints es a within (fetches, good, is)
   shown = good.shown;
 }
 
--- what isn't dropped after a line wasn't dropped before it, and isn't a shared identity that the line deletes
+-- what isn't dropped after a line wasn't dropped before it, and isn't a shared identity that the
+-- line deletes
 was_kept : (c : StreamParams) (st next : StreamContext) (line : StreamLine) (j : ℕ) → SameContext (context_after c st line) next
     → next.is_dropped j ≡ false → (st.is_dropped j ≡ false) × ((is_shared (ownership_of c j) && is_among (deleted_by line) j) ≡ false)
 was_kept c st next line j same kept =
@@ -488,16 +489,16 @@ first_mirrors f c fits = record {
   own = λ id owns. neither false (is_shared (ownership_of c id)) refl;
 }
 
-pub ended_is_valid : OverStays → OneCut → EmptyCut → EndedIsValid
+pub ended_is_valid : FinishedStays → OneCut → EmptyCut → EndedIsValid
 ended_is_valid stays one_cut empty_cut f run_params s bytes rest all report fits cites whole deletes alone ended =
     let c = stream_params run_params s in
     let g = alone.alone in
     let j = alone_judged stays f run_params s alone.streams alone.reports bytes stream_ends.Ended alone.stream report g alone.at
     alone.reads alone.says in
     let its = j.judges in
-    let over = has_ended c its.lines its.rest stream_ends.Ended its.back report its.ends ended in
+    let finished = has_ended c its.lines its.rest stream_ends.Ended its.back report its.ends ended in
     let text : bytes ≡ flat_map line_text its.lines =
-    its.text ∙ ap (λ (b : List ℕ). flat_map line_text its.lines ++ b) over.none ∙ append-nil (flat_map line_text its.lines) in
+    its.text ∙ ap (λ (b : List ℕ). flat_map line_text its.lines ++ b) finished.none ∙ append-nil (flat_map line_text its.lines) in
     let cut : Cut bytes its.lines [] = record {
       bytes = text ∙ sym (append-nil (flat_map line_text its.lines));
       each = its.fits;

@@ -84,7 +84,8 @@ first_agrees f c cnf fits = record {
 
 -- The lines one after the other
 
--- these further blocks are legal here, take no more than the room that is left, and leave the checker unfinished
+-- these further blocks are legal here, take no more than the room that is left, and leave the
+-- checker unfinished
 record LinesGo (f : Cnf) (c : StreamParams) (base : Database) (m : State) (bytes : List ℕ) (blocks : List History)
     (lines : List StreamLine) : Type 0 where
   more : List History

@@ -110,7 +110,8 @@ formulas_within false false false s is = absurd (let no : owners.Outside ≡ own
 
 -- What lines leave
 
--- what the database of some lines of stream s, their context and the map after all events have in common
+-- what the database of some lines of stream s, their context and the map after all events have in
+-- common
 pub record Agrees (f : Cnf) (p : LayoutValue) (s : ℕ) (base : Database) (st : StreamContext) (m : State) : Type 0 where
   pub last : st.last ≡ base.last
   pub free : st.free ≡ base.free
@@ -331,7 +332,8 @@ record CanDelete (c : StreamParams) (is_dropped : ℕ → Bool) (earlier : List 
   new : is_among earlier id ≡ false
   alive : IsLive (m id)
 
--- this block judges the deletion of these identities good, is legal here, takes no room, and leaves all other identities unchanged
+-- this block judges the deletion of these identities good, is legal here, takes no room, and leaves
+-- all other identities unchanged
 record DeletionGoes (f : Cnf) (c : StreamParams) (is_dropped : ℕ → Bool) (earlier ids : List ℕ) (m : State) : Type 0 where
   block : History
   judged : JudgesDeletion c is_dropped earlier ids block Good

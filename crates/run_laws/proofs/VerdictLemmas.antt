@@ -1,5 +1,5 @@
--- The verdict of an order of lines: some stream says that it added the empty clause, or one within the cube, exactly if the order publishes
--- one.
+-- The verdict of an order of lines: some stream says that it added the empty clause, or one within
+-- the cube, exactly if the order publishes one.
 use Rattle.std.proofs.Common.{◌≡◌, ◌||◌, ◌+◌, ◌-◌, ◌<◌, ◌≤◌, ℕ, zero, suc, ℤ, Bool, true, false, List, [], ◌∷◌, ◌++◌, length, refl, sym, ap}
 use Rattle.std.proofs.Common.{subst, ◌∙◌, inl, inr, arith}
 use Rattle.std.specs.Prelude.{◌==◌}
@@ -46,8 +46,9 @@ both_ways false false to back = refl
 
 -- What a test is about
 
--- Tests of events, of additions and of reports that are about the same: no fetch and no retire passes, the publish of an addition passes
--- exactly if the addition does, and a report passes exactly if a good addition does.
+-- Tests of events, of additions and of reports that are about the same: no fetch and no retire
+-- passes, the publish of an addition passes exactly if the addition does, and a report passes
+-- exactly if a good addition does.
 record CallerStep (c : StreamParams) (passes : Event → Bool) (adds : ℕ × Clause → Bool) (says : Report → Bool) : Type 0 where
   fetches_none : (id : ℕ) (r : Reply) → passes (events.fetch c.stream id r) ≡ false
   retires_none : (id : ℕ) (r : Retired) → passes (events.retire c.stream id r) ≡ false
@@ -64,8 +65,8 @@ abbrev adds_within : CubeValue → ℕ × Clause → Bool
 adds_within cube a = is_within cube a.1
 
 -- for the empty clause
-empty_tells : (c : StreamParams) → CallerStep c publishes_empty adds_empty (λ report. report.empty)
-empty_tells c = record {
+empty_says : (c : StreamParams) → CallerStep c publishes_empty adds_empty (λ report. report.empty)
+empty_says c = record {
   fetches_none = λ id r. refl;
   retires_none = λ id r. refl;
   publishes_added = λ id lits. refl;
@@ -73,8 +74,8 @@ empty_tells c = record {
 }
 
 -- and for a clause within the cube
-within_tells : (c : StreamParams) → CallerStep c (publishes_within c.cube) (adds_within c.cube) (λ report. report.within)
-within_tells c = record {
+within_says : (c : StreamParams) → CallerStep c (publishes_within c.cube) (adds_within c.cube) (λ report. report.within)
+within_says c = record {
   fetches_none = λ id r. refl;
   retires_none = λ id r. refl;
   publishes_added = λ id lits. refl;
@@ -93,10 +94,10 @@ module _ (passes : Event → Bool) where
   quiet_none (e ∷ es) all = or_none (passes e) (list_any passes es) all.0 (quiet_none es all.1)
 
 module _ (c : StreamParams) (passes : Event → Bool) (adds : ℕ × Clause → Bool) (says : Report → Bool)
-    (tells : CallerStep c passes adds says) where
+    (shows : CallerStep c passes adds says) where
   quiet_retires : (ids : List ℕ) → AllByRecursion (λ id. (r : Retired) → IsQuiet passes (events.retire c.stream id r)) ids
   quiet_retires [] = tt
-  quiet_retires (id ∷ ids) = (tells.retires_none id, quiet_retires ids)
+  quiet_retires (id ∷ ids) = (shows.retires_none id, quiet_retires ids)
 
   -- a good line publishes something that passes exactly if it adds something that passes
   good_line : (st : StreamContext) (line : StreamLine) (es : History) → JudgesLine c st line es Good
@@ -105,18 +106,18 @@ module _ (c : StreamParams) (passes : Event → Bool) (adds : ℕ × Clause → 
       elim (cases_Bool (adds (id, distinct lits))) [
         | inl is ↦
             let last : list_any passes (published_by c id lits ∷ []) ≡ true
-            = or_left (passes (published_by c id lits)) false (tells.publishes_added id lits ∙ is) in
+            = or_left (passes (published_by c id lits)) false (shows.publishes_added id lits ∙ is) in
             ap (list_any passes) judged.2
             ∙ list_any-append passes judged.0 (published_by c id lits ∷ [])
             ∙ or_right (list_any passes judged.0) (list_any passes (published_by c id lits ∷ [])) last
             ∙ sym (or_left (adds (id, distinct lits)) false is)
         | inr none ↦
-            quiet_none passes es (addition_all c (IsQuiet passes) tells.fetches_none id lits Good
-            (λ good. tells.publishes_added id lits ∙ none) st hints es judged)
+            quiet_none passes es (addition_all c (IsQuiet passes) shows.fetches_none id lits Good
+            (λ good. shows.publishes_added id lits ∙ none) st hints es judged)
             ∙ sym (or_none (adds (id, distinct lits)) false none refl)
       ]
   good_line st (Import id lits) es judged =
-      quiet_none passes es (import_all c (IsQuiet passes) tells.fetches_none st id lits es Good judged)
+      quiet_none passes es (import_all c (IsQuiet passes) shows.fetches_none st id lits es Good judged)
   good_line st (Deletion lead ids) es judged =
       quiet_none passes es (identities_all c (IsQuiet passes) st.is_dropped [] ids es Good (quiet_retires ids) judged)
 
@@ -125,9 +126,9 @@ module _ (c : StreamParams) (passes : Event → Bool) (adds : ℕ × Clause → 
       → JudgesLine c st line es (Bad deleted fault) → list_any passes es ≡ false
   bad_line st (Addition id lits hints) es deleted fault judged =
       quiet_none passes es
-      (addition_all c (IsQuiet passes) tells.fetches_none id lits (Bad deleted fault) (λ good. absurd (cc)) st hints es judged)
+      (addition_all c (IsQuiet passes) shows.fetches_none id lits (Bad deleted fault) (λ good. absurd (cc)) st hints es judged)
   bad_line st (Import id lits) es deleted fault judged =
-      quiet_none passes es (import_all c (IsQuiet passes) tells.fetches_none st id lits es (Bad deleted fault) judged)
+      quiet_none passes es (import_all c (IsQuiet passes) shows.fetches_none st id lits es (Bad deleted fault) judged)
   bad_line st (Deletion lead ids) es deleted fault judged =
       quiet_none passes es (identities_all c (IsQuiet passes) st.is_dropped [] ids es (Bad deleted fault) (quiet_retires ids) judged)
 
@@ -165,20 +166,20 @@ module _ (c : StreamParams) (passes : Event → Bool) (adds : ℕ × Clause → 
   ends_quiet lines rest end back report (at_end pending no_block observed) = no_quiet back no_block
 
   -- a stream publishes something that passes exactly if its report passes
-  stream_tells : (bytes : List ℕ) (end : StreamEnd) (blocks : List History) (report : Report)
+  stream_says : (bytes : List ℕ) (end : StreamEnd) (blocks : List History) (report : Report)
       → JudgesBlocks c bytes end blocks report → list_any passes (joined blocks) ≡ says report
-  stream_tells bytes end blocks report j =
+  stream_says bytes end blocks report j =
       ap (λ (bs : List History). list_any passes (joined bs)) j.split
       ∙ ap (list_any passes) (joined-append j.front j.back)
       ∙ list_any-append passes (joined j.front) (joined j.back)
       ∙ ap (λ (b : Bool). b || list_any passes (joined j.back)) (good_lines [] j.lines j.front j.good)
       ∙ ap (λ (b : Bool). list_any adds (additions_of j.lines) || b) (ends_quiet j.lines j.rest end j.back report j.ends)
-      ∙ or-false (list_any adds (additions_of j.lines)) ∙ sym (tells.of_good j.lines j.rest end j.back report j.ends)
+      ∙ or-false (list_any adds (additions_of j.lines)) ∙ sym (shows.of_good j.lines j.rest end j.back report j.ends)
 
 -- The blocks of an order
 
 module _ (passes : Event → Bool) where
-  -- what one of a stream's blocks publishes, the order does
+  -- what a block of a stream publishes, the order publishes
   in_order : (s : ℕ) (order : List Block) → list_any passes (joined (blocks_of s order)) ≡ true
       → list_any passes (events_in order) ≡ true
   in_order s [] is = is
@@ -230,7 +231,7 @@ module _ (passes : Event → Bool) where
 
 module _ (run_params : RunParamsValue) (order : List Block) (passes : Event → Bool) (adds : ℕ × Clause → Bool)
     (says : Report → Bool)
-    (tells : (s : ℕ) → CallerStep (stream_params run_params s) passes adds says) where
+    (shows : (s : ℕ) → CallerStep (stream_params run_params s) passes adds says) where
   observed_by : (s : ℕ) (stream : Stream) (report : Report)
       → (events : List History) × (events ≡ blocks_of s order) × JudgesStream (stream_params run_params s) stream events report
       → list_any passes (joined (blocks_of s order)) ≡ says report
@@ -238,7 +239,7 @@ module _ (run_params : RunParamsValue) (order : List Block) (passes : Event → 
       let way : (end : StreamEnd) × JudgesBlocks (stream_params run_params s) stream.bytes end (blocks_of s order) report
       = some_end (stream_params run_params s) stream (blocks_of s order) report
       (subst (λ (bs : List History). JudgesStream (stream_params run_params s) stream bs report) judged.1 judged.2) in
-      stream_tells (stream_params run_params s) passes adds says (tells s) stream.bytes way.0 (blocks_of s order) report way.1
+      stream_says (stream_params run_params s) passes adds says (shows s) stream.bytes way.0 (blocks_of s order) report way.1
 
   said_published : (s : ℕ) (streams : List Stream) (reports : List Report)
       → AreJudged run_params (λ t. true) (λ t events. events ≡ blocks_of t order) s streams reports
@@ -270,11 +271,11 @@ module _ (run_params : RunParamsValue) (order : List Block) (passes : Event → 
       (subst (λ (t : ℕ). list_any passes (joined (blocks_of t order)) ≡ true) next is))
 
   -- some report passes exactly if the order publishes something that passes
-  reports_tell : (streams : List Stream) (reports : List Report) → length streams ≡ run_params.layout.streams
+  reports_say : (streams : List Stream) (reports : List Report) → length streams ≡ run_params.layout.streams
       → AllByRecursion (IsBlockWithin run_params.layout (λ s. true)) order
       → AreJudged run_params (λ s. true) (λ s events. events ≡ blocks_of s order) 1 streams reports
       → list_any says reports ≡ list_any passes (events_in order)
-  reports_tell streams reports count within judged =
+  reports_say streams reports count within judged =
       both_ways (list_any says reports) (list_any passes (events_in order))
       (said_published 1 streams reports judged)
       (λ is.
@@ -294,13 +295,13 @@ all_ordered closed_ordered all_closed f run_params h streams reports fits count 
       order,
       record {
         empty =
-            reports_tell run_params order.blocks publishes_empty adds_empty (λ report. report.empty)
-            (λ s. empty_tells (stream_params run_params s))
+            reports_say run_params order.blocks publishes_empty adds_empty (λ report. report.empty)
+            (λ s. empty_says (stream_params run_params s))
             streams reports count order.within order.judged
             ∙ published_some (λ c. length c == 0) (events_in order.blocks);
-        within = reports_tell run_params order.blocks (publishes_within run_params.cube) (adds_within run_params.cube)
+        within = reports_say run_params order.blocks (publishes_within run_params.cube) (adds_within run_params.cube)
             (λ report. report.within)
-            (λ s. within_tells (stream_params run_params s))
+            (λ s. within_says (stream_params run_params s))
             streams reports count order.within order.judged
             ∙ published_some (is_within run_params.cube) (events_in order.blocks);
       },

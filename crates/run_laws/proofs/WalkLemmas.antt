@@ -1,4 +1,5 @@
--- The order of lines, from one walk along a history from its end: an event joins its stream's next block, or begins a block.
+-- The order of lines, from one walk along a history from its end: an event joins its stream's next
+-- block, or begins a block.
 use Rattle.std.proofs.Common.{◌≡◌, ◌&&◌, ℕ, Bool, true, false, not, List, [], ◌∷◌, ◌++◌, map, refl, sym, ap, subst, ◌∙◌, inl, inr}
 use Rattle.std.specs.List.{AllByRecursion, list_all}
 use Rattle.std.proofs.lemmas.Bool.{cases_eq, cases_Bool, true≢false}
@@ -265,7 +266,8 @@ module _ (f : Cnf) (p : LayoutValue) (final m : State) (e : Event) (h : History)
         lines.1,
       )))
 
-  -- its stream's blocks begin with lines without events, and then with the line that the event begins
+  -- its stream's blocks begin with lines without events, and then with the line that the event
+  -- begins
   passes : (bs : List History) (rest : Lines) → rest (stream_of e) ≡ bs → e ∷ own h (stream_of e) ≡ joined bs → Ahead p (e ∷ h) rest
       → HasOrder f p final m rest
   passes [] rest is events ahead = absurd (cc)

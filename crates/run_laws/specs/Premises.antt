@@ -43,7 +43,7 @@ abbrev pub HistoryRetires : History → ℕ → Type 0
 HistoryRetires [] id = ⊥
 HistoryRetires (event ∷ history) id = IsRetireOf id event ⊎ HistoryRetires history id
 
--- if the event found an identity live that isn't the stream's own, the history doesn't retire it
+-- if the event found a live identity that isn't the stream's own, the history doesn't retire it
 abbrev pub FindsUnretired : LayoutValue → History → Event → Type 0
 FindsUnretired layout history (events.fetch s id (events.live clause)) =
     ¬ Owns layout s id → ¬ HistoryRetires history id

@@ -16,7 +16,7 @@ use Rattle.stream_check.specs.StreamContext.{is_among}
 use Rattle.stream_check.specs.Closed.{IsOfStream}
 use Rattle.stream_check.specs.Streams.{InputObservation, RunParamsValue, stream_params}
 use Rattle.run_laws.specs.Groups.{IsRun}
-use Rattle.run_laws.specs.Valid.{AreValidTogether, Step, TellsAtLeast, first_database, valid_report}
+use Rattle.run_laws.specs.Valid.{AreValidTogether, Step, SaysAtLeast, first_database, valid_report}
 
 -- the lines of one stream, in order
 abbrev pub lines_by : ℕ → List Step → List StreamLine
@@ -50,7 +50,7 @@ TogetherBegins = (formula : Cnf) (run_params : RunParamsValue) (set : ℕ → Bo
     → AllByRecursion (λ step. IsTrue (set step.stream)) steps
     → IsRun formula run_params observed reports → HaveTexts set steps observed
     → IsTrue (set s) → IsOfStream reports s report
-    → TellsAtLeast report (valid_report run_params s (lines_by s steps))
+    → SaysAtLeast report (valid_report run_params s (lines_by s steps))
     ⊎ ((line : ℕ) × (line ≤ length (lines_by s steps))
     × IsExcusedAt (Lacking (stream_params run_params s)) report line)
 

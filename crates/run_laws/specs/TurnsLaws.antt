@@ -10,7 +10,7 @@ use Rattle.stream_check.specs.declared.report.Report.{Report}
 use Rattle.stream_check.specs.Excuses.{CutOff, OutOfMemory}
 use Rattle.stream_check.specs.Closed.{IsOfStream}
 use Rattle.stream_check.specs.Streams.{Stream, InputObservation, RunParamsValue}
-use Rattle.stream_check.specs.Turns.{IsByTurns, IsOrderedByTurns}
+use Rattle.stream_check.specs.Turns.{IsRoundRobin, IsOrderedRoundRobin}
 use Rattle.run_laws.specs.Groups.{IsReadingOf, IsRun, NoneExcused}
 use Rattle.run_laws.specs.Valid.{valid_report}
 use Rattle.run_laws.specs.Valid.{Step}
@@ -25,8 +25,8 @@ TurnsDecide = (f : Cnf) (run_params : RunParamsValue) (streams others : List Str
     → IsOfStream streams s stream → IsOfStream others s other
     → (whole : List ℕ) × (end : StreamEnd) × IsReadingOf whole end stream
     × IsReadingOf whole end other)
-    → (a : IsOrderedByTurns f run_params streams reports)
-    → (b : IsOrderedByTurns f run_params others other_reports)
+    → (a : IsOrderedRoundRobin f run_params streams reports)
+    → (b : IsOrderedRoundRobin f run_params others other_reports)
     → NoneExcused (λ s. true) OutOfMemory reports
     → NoneExcused (λ s. true) OutOfMemory other_reports
     → (a.order.blocks ≡ b.order.blocks) × (reports ≡ other_reports)
@@ -42,23 +42,23 @@ BytesDecide =
     → (whole : List ℕ) × (observation.entry ≡ Some whole) × (other.entry ≡ Some whole))
     → (a : IsRun f run_params observed reports)
     (b : IsRun f run_params other_observed other_reports)
-    → IsOrderedByTurns f run_params a.streams reports
-    → IsOrderedByTurns f run_params b.streams other_reports
+    → IsOrderedRoundRobin f run_params a.streams reports
+    → IsOrderedRoundRobin f run_params b.streams other_reports
     → NoneExcused (λ s. true) CutOff reports → NoneExcused (λ s. true) CutOff other_reports
     → reports ≡ other_reports
 
 -- If the lines of streams have a valid order that takes the streams in turn, then in a run on one
 -- thread over their texts each stream ended with its valid report, unless memory ran out or a read
 -- failed.
-abbrev pub ValidByTurns : Type 0
-ValidByTurns =
+abbrev pub ValidRoundRobin : Type 0
+ValidRoundRobin =
     (f : Cnf) (run_params : RunParamsValue) (steps : List Step) (observed : List InputObservation)
     (reports : List Report) (s : ℕ) (report : Report)
     → IsCnf f → Fits run_params.layout f
-    → IsValidOrder f run_params.layout steps → IsByTurns (map (λ step. step.stream) steps)
+    → IsValidOrder f run_params.layout steps → IsRoundRobin (map (λ step. step.stream) steps)
     → ((t : ℕ) (observation : InputObservation) → IsOfStream observed t observation
     → observation.entry ≡ Some (flat_map line_text (lines_by t steps)))
     → (run : IsRun f run_params observed reports)
-    → IsOrderedByTurns f run_params run.streams reports
+    → IsOrderedRoundRobin f run_params run.streams reports
     → NoneExcused (λ s. true) CutOff reports
     → IsOfStream reports s report → report ≡ valid_report run_params s (lines_by s steps)

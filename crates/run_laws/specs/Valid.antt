@@ -148,8 +148,8 @@ pub record IsValidRefutation (formula : Cnf) (layout : LayoutValue) (s : ℕ)
 abbrev pub valid_report : RunParamsValue → ℕ → List StreamLine → Report
 valid_report run_params s lines = report_of (stream_params run_params s) lines 0 endings.Ended
 
--- the report says at least what the other one does; its ending may be any
-pub record TellsAtLeast (report least : Report) : Type 0 where
+-- the report says at least what the other one does, with any ending
+pub record SaysAtLeast (report least : Report) : Type 0 where
   pub added : least.added ≤ report.added
   pub deleted : least.deleted ≤ report.deleted
   pub empty : IsTrue least.empty → IsTrue report.empty

@@ -12,7 +12,7 @@ use Rattle.stream_check.specs.StreamContext.{deleted_by}
 use Rattle.stream_check.specs.Closed.{IsOfStream, IsOwnedWithin, CiteWithin}
 use Rattle.stream_check.specs.Streams.{InputObservation, RunParamsValue}
 use Rattle.run_laws.specs.Groups.{one, IsReportAlone, IsRun}
-use Rattle.run_laws.specs.Valid.{AddsEmpty, IsValidProof, TellsAtLeast, valid_report}
+use Rattle.run_laws.specs.Valid.{AddsEmpty, IsValidProof, SaysAtLeast, valid_report}
 
 -- a valid proof cites and imports no clause of another stream
 abbrev pub ValidCiteWithin : Type 0
@@ -63,7 +63,7 @@ ValidBegins =
     → IsRun f run_params observed reports → IsOfStream observed s observation
     → observation.entry ≡ Some (bytes ++ more)
     → IsOfStream reports s report
-    → TellsAtLeast report (valid_report run_params s lines)
+    → SaysAtLeast report (valid_report run_params s lines)
     ⊎ ((line : ℕ) × (line ≤ length lines) × IsExcusedAt CutOff report line)
 
 -- A valid proof's count of deletions is that of all identities that its lines delete: 64 bits

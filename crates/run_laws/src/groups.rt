@@ -4,7 +4,7 @@ ghost use Rattle.run_laws.specs.GroupLaws.{BeginningsWithin, ReadersClosed, Clos
 
 use lrup_text::laws::{a_beginning_is_cut_alike, every_stream_is_cut};
 use stream_check::laws::{
-    alone_decides, cited_fetched, decided_before_failure, end_judged, fresh_left, over_stays,
+    alone_decides, cited_fetched, decided_before_failure, end_judged, finished_stays, fresh_left,
 };
 
 /// If the lines of some bytes cite within a set of streams, so do those of a prefix of the bytes.
@@ -41,7 +41,7 @@ pub fn others_empty()
 pub fn alone_has_one_report()
     ensures { AloneHasOneReport }
 {
-    over_stays();
+    finished_stays();
     alone_decides();
 }
 

@@ -1,11 +1,11 @@
 //! Laws of runs on one thread. Each function does nothing: its contract is the law, which holds for
 //! every formula and run.
-ghost use Rattle.run_laws.specs.TurnsLaws.{BytesDecide, ValidByTurns, TurnsDecide};
+ghost use Rattle.run_laws.specs.TurnsLaws.{BytesDecide, ValidRoundRobin, TurnsDecide};
 
 use lrup_text::laws::{a_stream_is_cut_in_one_way, no_bytes_have_no_lines};
 use stream_check::laws::{
-    blocks_go_alike, decided_before_failure, end_judged, fresh_left, good_line_taken,
-    legal_never_fork, one_report, over_stays,
+    blocks_go_alike, decided_before_failure, end_judged, finished_stays, fresh_left,
+    good_line_taken, legal_never_fork, one_report,
 };
 
 /// Streams that are readings of the same bytes and ends have one order that takes them in turn, and
@@ -13,7 +13,7 @@ use stream_check::laws::{
 pub fn turns_decide()
     ensures { TurnsDecide }
 {
-    over_stays();
+    finished_stays();
     one_report();
     legal_never_fork();
     blocks_go_alike();
@@ -32,8 +32,8 @@ pub fn bytes_decide()
 
 /// If the lines of streams have a valid order that takes the streams in turn, a run on one thread
 /// gives each stream its valid report, unless memory ran out or a read failed.
-pub fn valid_by_turns()
-    ensures { ValidByTurns }
+pub fn valid_round_robin()
+    ensures { ValidRoundRobin }
 {
     good_line_taken();
     fresh_left();

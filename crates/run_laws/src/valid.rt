@@ -10,8 +10,8 @@ use lrup_text::laws::{
     bytes_begin_with_one_line, no_bytes_have_no_lines, no_bytes_may_become_a_line,
 };
 use stream_check::laws::{
-    alone_decides, cited_fetched, counts_within, decided_before_failure, end_judged, fresh_left,
-    good_line_taken, over_stays,
+    alone_decides, cited_fetched, counts_within, decided_before_failure, end_judged,
+    finished_stays, fresh_left, good_line_taken,
 };
 
 /// A valid proof cites only its own clauses and the formula's.
@@ -89,7 +89,7 @@ pub fn valid_counted()
 pub fn ended_is_valid()
     ensures { EndedIsValid }
 {
-    over_stays();
+    finished_stays();
     a_stream_is_cut_in_one_way();
     no_bytes_have_no_lines();
 }

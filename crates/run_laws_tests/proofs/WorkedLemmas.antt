@@ -21,7 +21,7 @@ use Rattle.test_support.specs.lemmas.WorkedLemmas.{two_not_one, signs, unit_is_p
 pub unit_is_shown : Accepts unit (first ∷ second ∷ [])
 unit_is_shown = (unit_is_proper, (pos 1, first_is_unit, second_is_conflict))
 
--- The hints the other way round
+-- The hints in reverse order
 
 second_is_unit : IsUnit unit second (negsuc 0)
 second_is_unit = record {
@@ -194,7 +194,7 @@ refutation_is_valid = record {
   );
 }
 
--- whatever comes behind it
+-- whatever comes after it
 pub begins_and_refutes : (more : List ℕ) → IsValidRefutation four one_stream 1 (codes "5 2 0 1 2 0\n6 0 5 3 4 0\n" ++ more)
 begins_and_refutes more = record {
   proof = codes "5 2 0 1 2 0\n6 0 5 3 4 0\n";

@@ -1,5 +1,5 @@
--- The worked example: four clauses over two variables, and room for one literal a stream. One stream with two identities, 5 and 6, or
--- two streams, of which the first has 5 and 7.
+-- The worked example: four clauses over two variables, and room for one literal per stream. There
+-- is one stream with the identities 5 and 6, or there are two, the first with 5 and 7.
 use Rattle.std.specs.Prelude.{◌≡◌, ◌⊎◌, ◌≤◌, ◌++◌, ℕ, true, false, pos, negsuc, [], ◌∷◌, List, Some, codes}
 use Rattle.lrup_model.specs.Cube.{CubeValue}
 use Rattle.lrup_model.specs.Layout.{LayoutValue}
@@ -21,7 +21,7 @@ one_stream = record { vars = 2; clauses = 4; literals = 8; streams = 1; lines = 
 abbrev pub two_streams : LayoutValue
 two_streams = record { vars = 2; clauses = 4; literals = 8; streams = 2; lines = 2; room = 1 }
 
--- one stream, with room for two literals: lines that have room and are wrong in another way
+-- one stream with room for two literals, for lines that have room but are wrong in another way
 abbrev pub roomy : LayoutValue
 roomy = record { vars = 2; clauses = 4; literals = 8; streams = 1; lines = 2; room = 2 }
 
@@ -29,7 +29,8 @@ roomy = record { vars = 2; clauses = 4; literals = 8; streams = 1; lines = 2; ro
 abbrev pub refutation : List StreamLine
 refutation = Addition 5 unit (1 ∷ 2 ∷ []) ∷ Addition 6 [] (5 ∷ 3 ∷ 4 ∷ []) ∷ []
 
--- before the first line; after the line `5 2 0 1 2 0`, and then `5 d 5 0`; and after the line `5 d 1 0`
+-- before the first line; after the line `5 2 0 1 2 0`, and then `5 d 5 0`; and after the line
+-- `5 d 1 0`
 abbrev pub at_first : Database
 at_first = first_database four one_stream
 
@@ -42,7 +43,7 @@ without_five = after_line with_five (Deletion 5 (5 ∷ []))
 abbrev pub without_one : Database
 without_one = after_line at_first (Deletion 5 (1 ∷ []))
 
--- the same where there is more room, before the first line and after `5 2 2 0 1 2 0`
+-- the same with more room: before the first line, and after `5 2 2 0 1 2 0`
 abbrev pub at_roomy : Database
 at_roomy = first_database four roomy
 
@@ -58,7 +59,8 @@ shared =
     ∷ record { stream = 2; line = Deletion 6 (5 ∷ []) }
     ∷ []
 
--- stream 2: 6 -2 0 3 4 0; then stream 1: 5 2 0 1 2 0; stream 2: 6 d 5 3 0; and stream 1: 7 0 5 3 4 0
+-- stream 2: 6 -2 0 3 4 0; then stream 1: 5 2 0 1 2 0; stream 2: 6 d 5 3 0; and stream 1:
+-- 7 0 5 3 4 0
 abbrev pub crossed : List Step
 crossed =
     record { stream = 2; line = Addition 6 (negsuc 1 ∷ []) (3 ∷ 4 ∷ []) }
@@ -91,15 +93,15 @@ one_added = record {
 abbrev pub run_params_at : LayoutValue → CubeValue → ℕ → RunParamsValue
 run_params_at p cube tries = record { layout = p; cube = cube; tries = tries }
 
--- the report tells that the stream ended, and counts these
+-- the report says that the stream ended, with these counts
 pub record Counts (report : Report) (additions deletions : ℕ) : Type 0 where
   pub added : report.added ≡ additions
   pub deleted : report.deleted ≡ deletions
   pub empty : report.empty ≡ true
   pub ending : report.ending ≡ endings.Ended
 
--- A run in which the reader of stream 1 has the bytes of the refutation left at first tells two additions, unless memory ran out or
--- a read failed.
+-- A run in which the reader of stream 1 has the bytes of the refutation left at first reports two
+-- additions, unless memory ran out or a read failed.
 abbrev pub RefutationCounted : Type 0
 RefutationCounted = (cube : CubeValue) (tries : ℕ) (observed : List InputObservation)
     (observation : InputObservation)
@@ -109,8 +111,8 @@ RefutationCounted = (cube : CubeValue) (tries : ℕ) (observed : List InputObser
     → observation.entry ≡ Some (codes "5 2 0 1 2 0\n6 0 5 3 4 0\n") → IsOfStream reports 1 report
     → ¬ IsExcused CutOff report → Counts report 2 0
 
--- Whatever comes behind the refutation, such a run tells two additions at least, one of them the empty clause, unless memory ran out,
--- or a read failed, in these two lines.
+-- Whatever comes after the refutation, such a run reports at least two additions, one of them of
+-- the empty clause, unless memory ran out, or a read failed, in these two lines.
 abbrev pub BeginningCounted : Type 0
 BeginningCounted = (cube : CubeValue) (tries : ℕ) (observed : List InputObservation)
     (observation : InputObservation)
@@ -122,8 +124,9 @@ BeginningCounted = (cube : CubeValue) (tries : ℕ) (observed : List InputObserv
     → ((2 ≤ report.added) × (report.empty ≡ true))
     ⊎ ((line : ℕ) × (line ≤ 2) × IsExcusedAt CutOff report line)
 
--- A run whose readers begin with the texts of the shared lines, and where nothing is behind those of stream 2, tells of that stream an
--- addition and a deletion, or that the clause of stream 1 wasn't there.
+-- If a run's readers begin with the texts of the shared lines, and nothing comes after those of
+-- stream 2, the run reports one addition and one deletion of that stream, or that the clause of
+-- stream 1 wasn't there, unless memory ran out or a read failed.
 abbrev pub SharedCounted : Type 0
 SharedCounted = (cube : CubeValue) (tries : ℕ) (observed : List InputObservation)
     (observation : InputObservation)

@@ -1,11 +1,11 @@
-//! Lines of one stream, valid and not, by the definitions alone.
+//! Lines that are valid and lines that aren't, proved from the definitions alone.
 ghost use Rattle.std.specs.Prelude.{◌≡◌, ◌++◌, ℕ, true, List, [], ◌∷◌, pos, negsuc, Some, codes};
 ghost use Rattle.lrup_text.specs.Lines.{Addition, Deletion, Import};
 ghost use Rattle.stream_check.specs.Excuses.{CutOff, OutOfMemory, ReadFailed, IsExcusedAt};
 ghost use Rattle.stream_check.specs.declared.fault.Fault.TheVariants as faults;
 ghost use Rattle.stream_check.specs.declared.report.Ending.TheVariants as endings;
-ghost use Rattle.stream_check.specs.Turns.{IsByTurns};
-ghost use Rattle.run_laws.specs.Valid.{IsValidLine, IsValidRefutation, IsValidProof, TellsAtLeast, first_database};
+ghost use Rattle.stream_check.specs.Turns.{IsRoundRobin};
+ghost use Rattle.run_laws.specs.Valid.{IsValidLine, IsValidRefutation, IsValidProof, SaysAtLeast, first_database};
 ghost use Rattle.run_laws.specs.Together.{IsValidOrder};
 ghost use Rattle.run_laws_tests.specs.Worked.{at_first, at_roomy, crossed, one_added, one_stream, retired_first, roomy, shared, two_streams, with_five, with_repeat, without_five, without_one, BeginningCounted, RefutationCounted, SharedCounted};
 ghost use Rattle.test_support.specs.Worked.{four, unit};
@@ -13,7 +13,7 @@ ghost use Rattle.test_support.specs.Worked.{four, unit};
 use lrup_text::laws::{bytes_begin_with_one_line, no_bytes_may_become_a_line};
 use run_laws::valid::{valid_begins, valid_reported, valid_together};
 
-/// The worked stream is a valid refutation, also where a torn line comes behind it, or whatever else.
+/// The worked stream is a valid refutation, even if a torn line or anything else comes after it.
 fn the_stream_is_valid()
     ensures whole { IsValidRefutation four one_stream 1 (codes "5 2 0 1 2 0\n6 0 5 3 4 0\n") }
     ensures torn { IsValidRefutation four one_stream 1
@@ -22,7 +22,7 @@ fn the_stream_is_valid()
         → IsValidRefutation four one_stream 1 (codes "5 2 0 1 2 0\n6 0 5 3 4 0\n" ++ more) }
 {}
 
-/// Its first line alone is none: it adds no empty clause.
+/// Its first line alone is no refutation: it doesn't add the empty clause.
 fn the_first_line_is_no_refutation()
     ensures { ¬ IsValidRefutation four one_stream 1 (codes "5 2 0 1 2 0\n") }
 {
@@ -30,14 +30,14 @@ fn the_first_line_is_no_refutation()
     no_bytes_may_become_a_line();
 }
 
-/// Bytes after the lines, and a line that breaks a limit of streams.
+/// A stream isn't valid with bytes after the lines, or with a line beyond the limits of streams.
 fn streams_are_not_valid()
     ensures rest { ¬ IsValidProof four one_stream 1 (codes "5 d 0\n5") (Deletion 5 [] ∷ []) }
     ensures limits { ¬ IsValidProof four one_stream 1 (codes "0 d 0\n") (Deletion 0 [] ∷ []) }
 {}
 
-/// Hints may stand in either order here, identities may have gaps, and imports may say a clause in their own way. A deletion takes
-/// clauses of the formula and of the stream.
+/// These hints may be in either order, identities may have gaps, and an import may repeat and
+/// reorder literals. A deletion may list clauses of the formula and of the stream.
 fn lines_are_valid()
     ensures swapped { IsValidLine one_stream 1 at_first (Addition 5 unit (2 ∷ 1 ∷ [])) }
     ensures repeated { IsValidLine one_stream 1 at_first
@@ -49,14 +49,14 @@ fn lines_are_valid()
         (Import 1 (pos 2 ∷ pos 1 ∷ pos 2 ∷ [])) }
 {}
 
-/// A literal that is written twice stands once in the clause, and takes room once.
+/// A literal that is written twice occurs once in the clause, and takes room once.
 fn repeats_are_left_out()
     ensures clause { with_repeat.clauses 5 ≡ Some unit }
     ensures room { IsValidLine roomy 1 with_repeat (Addition 6 unit (5 ∷ [])) }
 {}
 
-/// The identity of an addition is another stream's, or was added before; its clause has a variable that there isn't, or takes more
-/// room than there is, or is a tautology.
+/// An addition isn't valid if its identity is another stream's or was used before, or if its clause
+/// has an unknown variable, needs more room than is left, or is a tautology.
 fn additions_are_not_valid()
     ensures foreign { ¬ IsValidLine two_streams 1 (first_database four two_streams)
         (Addition 6 unit (1 ∷ 2 ∷ [])) }
@@ -68,7 +68,7 @@ fn additions_are_not_valid()
         (Addition 5 (pos 1 ∷ negsuc 0 ∷ []) (1 ∷ 2 ∷ [])) }
 {}
 
-/// So it is where nothing else is wrong; and what is deleted gives no room back.
+/// The same for lines without any other fault; and deleting a clause gives no room back.
 fn nothing_else_is_wrong()
     ensures again { ¬ IsValidLine one_stream 1 with_five (Addition 5 [] (5 ∷ 3 ∷ 4 ∷ [])) }
     ensures variable { ¬ IsValidLine roomy 1 with_repeat
@@ -78,7 +78,8 @@ fn nothing_else_is_wrong()
     ensures room { ¬ IsValidLine one_stream 1 without_five (Addition 6 unit (1 ∷ 2 ∷ [])) }
 {}
 
-/// There is no hint; a hint is missing, or deleted; or the clauses before the last are no conflict, or it comes too early.
+/// Hints aren't valid if there are none, if one is missing or deleted, if there is no conflict, or
+/// if it comes before the last hint.
 fn hints_are_not_valid()
     ensures none { ¬ IsValidLine one_stream 1 at_first (Addition 5 unit []) }
     ensures missing { ¬ IsValidLine one_stream 1 at_first (Addition 5 unit (1 ∷ 6 ∷ [])) }
@@ -87,8 +88,9 @@ fn hints_are_not_valid()
     ensures excess { ¬ IsValidLine one_stream 1 at_first (Addition 5 unit (1 ∷ 2 ∷ 3 ∷ [])) }
 {}
 
-/// A clause is deleted twice, in one line or in two, or isn't there; an import is of the stream's own, or of a clause that was deleted,
-/// or has other literals.
+/// A deletion isn't valid if its clause was deleted before, in the same line or an earlier one, or
+/// isn't there; an import isn't if its clause is the stream's own, was deleted, or has other
+/// literals.
 fn other_lines_are_not_valid()
     ensures twice { ¬ IsValidLine one_stream 1 with_five (Deletion 5 (5 ∷ 5 ∷ [])) }
     ensures again { ¬ IsValidLine one_stream 1 without_one (Deletion 5 (1 ∷ [])) }
@@ -101,17 +103,20 @@ fn other_lines_are_not_valid()
     ensures nought { ¬ IsValidLine one_stream 1 at_first (Deletion 5 (0 ∷ [])) }
 {}
 
-/// Two streams are valid together: the first derives the unit clause, and the second imports it, cites it and drops it.
+/// Two streams are valid together: the first derives the unit clause, and the second imports it,
+/// cites it and drops it.
 fn streams_are_valid_together()
     ensures { IsValidOrder four two_streams shared }
 {}
 
-/// A stream's additions leave another's last identity and room alone, and what a stream drops, another may still cite.
+/// A stream's additions don't change another's last identity and room, and a clause that one stream
+/// drops may still be cited by another.
 fn streams_leave_one_another_alone()
     ensures { IsValidOrder four two_streams crossed }
 {}
 
-/// What its owner deleted, no other stream may import; a line breaks a limit of streams; there is no such stream.
+/// An order isn't valid if a stream imports a clause that its owner deleted, if a line is beyond
+/// the limits of streams, or if there is no such stream.
 fn orders_are_not_valid()
     ensures retired { ¬ IsValidOrder four two_streams retired_first }
     ensures limits { ¬ IsValidOrder four two_streams
@@ -120,16 +125,17 @@ fn orders_are_not_valid()
         (record { stream = 3; line = Deletion 5 [] } ∷ []) }
 {}
 
-/// One addition is less than two, and nothing is less than one deletion, an empty clause, or one within the cube.
-fn reports_tell_less()
-    ensures added { ¬ TellsAtLeast one_added (record one_added { added = 2 }) }
-    ensures deleted { ¬ TellsAtLeast one_added (record one_added { deleted = 1 }) }
-    ensures empty { ¬ TellsAtLeast one_added (record one_added { empty = true }) }
-    ensures within { ¬ TellsAtLeast one_added (record one_added { within = true }) }
+/// A report with one addition doesn't say that there were two, or a deletion, or an empty clause,
+/// or one within the cube.
+fn reports_say_less()
+    ensures added { ¬ SaysAtLeast one_added (record one_added { added = 2 }) }
+    ensures deleted { ¬ SaysAtLeast one_added (record one_added { deleted = 1 }) }
+    ensures empty { ¬ SaysAtLeast one_added (record one_added { empty = true }) }
+    ensures within { ¬ SaysAtLeast one_added (record one_added { within = true }) }
 {}
 
-/// What is excused in the third line isn't excused in the second; want of memory is no failed read, nor the other way round; and a line
-/// that cites a clause that another stream retired is no case of either.
+/// An excuse in line 3 is none for line 2; running out of memory isn't a failed read, nor the other
+/// way round; and citing a clause that another stream retired is neither.
 fn no_other_excuse()
     ensures memory { ¬ IsExcusedAt CutOff (record one_added { ending = endings.Memory 3 }) 2 }
     ensures read { ¬ IsExcusedAt CutOff (record one_added { ending = endings.ReadFailed 3 }) 2 }
@@ -140,32 +146,33 @@ fn no_other_excuse()
         (record one_added { ending = endings.Bad 3 (faults.Retired 5) }) 3 }
 {}
 
-/// By the law of valid proofs, every run tells so of the worked stream.
+/// By the law of valid proofs, every run reports this for the worked stream.
 fn the_refutation_is_counted()
     ensures { RefutationCounted }
 {
     valid_reported();
 }
 
-/// By the law of valid beginnings, so it does whatever comes behind the refutation.
+/// By the law of valid beginnings, it does so whatever comes after the refutation.
 fn the_beginning_is_counted()
     ensures { BeginningCounted }
 {
     valid_begins();
 }
 
-/// By the law of valid orders, every run tells so of the second stream.
+/// By the law of valid orders, every run reports this for the second stream.
 fn shared_lines_are_counted()
     ensures { SharedCounted }
 {
     valid_together();
 }
 
-/// Stream 1 comes first, then stream 2, and so on round; a stream that has no line left drops out. Stream 1 doesn't come later, or take
-/// two lines at once, or be left out, where there is another.
+/// Stream 1 comes first, then stream 2, and so on, round-robin; a stream that has no line left
+/// drops out. It isn't round-robin if stream 1 comes later, takes two lines in a row while another
+/// has lines, or is left out.
 fn lines_go_round()
-    ensures round { IsByTurns (1 ∷ 2 ∷ 1 ∷ []) }
-    ensures late { ¬ IsByTurns (2 ∷ 1 ∷ []) }
-    ensures twice { ¬ IsByTurns (1 ∷ 1 ∷ 2 ∷ []) }
-    ensures left_out { ¬ IsByTurns (1 ∷ 2 ∷ 2 ∷ 1 ∷ []) }
+    ensures round { IsRoundRobin (1 ∷ 2 ∷ 1 ∷ []) }
+    ensures late { ¬ IsRoundRobin (2 ∷ 1 ∷ []) }
+    ensures twice { ¬ IsRoundRobin (1 ∷ 1 ∷ 2 ∷ []) }
+    ensures left_out { ¬ IsRoundRobin (1 ∷ 2 ∷ 2 ∷ 1 ∷ []) }
 {}

@@ -25,7 +25,8 @@ use Rattle.clause_store.specs.Passes.{AreOf, PassValue, StoreValue, store_of}
 use Rattle.stream_check.specs.SequentialConsistency.{HaveOneHistory}
 use Rattle.run_laws.specs.lemmas.OwnLemmas.{own_all}
 
--- these replies answered fetches of the identities from 1 on, and the live and wanted clauses were saved, or memory ran out
+-- these replies answered fetches of the identities from 1 on, and the live and wanted clauses were
+-- saved, or memory ran out
 abbrev pub SavesFound : {S : Type 0} → (S → Option (List ℕ)) → Result (Option Cnf) SaveFault → LayoutValue → (ℕ → Bool) → List Reply
     → S → S → Type 0
 SavesFound written result layout wants replies old new = (length replies ≤ last_identity layout)
@@ -87,12 +88,12 @@ pub fetches_answer : (f : Cnf) (p : LayoutValue) (m : State) (s : ℕ) (replies 
 fetches_answer f p m s replies legal t =
     answers_any m s t 1 replies (all_answer f p m (fetches s 1 replies) legal (are_fetches s 1 replies))
 
--- If, after a history, each owner of an identity only fetches, and this stream makes these fetches, the state that the history leaves
--- answers them.
-pub answered_behind : (f : Cnf) (p : LayoutValue) (h more : History) (s : ℕ) (replies : List Reply)
+-- If, after a history, each owner of an identity only fetches, and this stream makes these fetches,
+-- the state that the history leaves answers them.
+pub answered_after : (f : Cnf) (p : LayoutValue) (h more : History) (s : ℕ) (replies : List Reply)
     → IsLegal f p (h ++ more) → ((t id : ℕ) → Owns p t id → AllByRecursion IsFetch (own more t))
     → own more s ≡ fetches s 1 replies → (t : ℕ) → AllByRecursion (Answers (state f h)) (fetches t 1 replies)
-answered_behind f p h more s replies legal owners mine t =
+answered_after f p h more s replies legal owners mine t =
     let back : LegalFrom f p (state f h) more = legal-back f p (opening f) h more legal.events in
     let all : AllByRecursion (Answers (state f h)) more =
     all_answer f p (state f h) more back (all_fetch f p (state f h) more back owners) in
@@ -139,11 +140,12 @@ last_count [] v = refl
 last_count (w ∷ vs) v = omega (arith, last_count vs v)
 
 -- a stream whose events in a history are those in its prefix has none after the prefix
-own_none_behind : (h more : History) (s : ℕ) → own (h ++ more) s ≡ own h s → own more s ≡ []
-own_none_behind h more s same =
+own_none_after : (h more : History) (s : ℕ) → own (h ++ more) s ≡ own h s → own more s ≡ []
+own_none_after h more s same =
     append_cancel_left (own h s) (own more s) [] (sym (own-append h more s) ∙ same ∙ sym (append-nil (own h s)))
 
--- The last of a run's passes fetched, and then all met once more: the fetches gave what the run's history left.
+-- The last of a run's passes fetched, and then all met once more: the fetches gave what the run's
+-- history left.
 pub fetched_so : (f : Cnf) (p : LayoutValue) (h : History) (vs : List View) (v w : View) (replies : List Reply)
     (us : List View) (g : History)
     → HaveOneHistory f p h (vs ++ v ∷ []) → PassMoves v w (fetches v.caller.stream 1 replies)
@@ -182,14 +184,14 @@ fetched_so f p h vs v w replies us g one moves synced saw =
           let after : SyncedAt g x = synced_at g (vs ++ w ∷ []) us synced saw (t - 1) x at.2 in
           let same : own g t ≡ own h t =
           ap (λ (n : ℕ). own g n) (sym (ap (λ (c : Caller). c.stream) before.0)) ∙ synced_own g x after ∙ before.2 in
-          let none : own more t ≡ [] = own_none_behind h more t (ap (λ (k : History). own k t) (sym whole) ∙ same) in
+          let none : own more t ≡ [] = own_none_after h more t (ap (λ (k : History). own k t) (sym whole) ∙ same) in
           subst (λ (k : History). AllByRecursion IsFetch k) (sym none) tt
       | inr past ↦
           let this : s ≡ t = omega arith in
           subst (λ (n : ℕ). AllByRecursion IsFetch (own more n)) this
           (subst (λ (k : History). AllByRecursion IsFetch k) (sym mine) (are_fetches s 1 replies))
     ] in
-    answered_behind f p h more s replies legal owners mine
+    answered_after f p h more s replies legal owners mine
 
 -- the passes are still the store's with another last one
 pub other_last : (store : StoreValue) (ps : List PassValue) (p q : PassValue) → AreOf store (ps ++ p ∷ []) → store_of q ≡ store_of p

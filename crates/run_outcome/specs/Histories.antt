@@ -10,9 +10,9 @@ use Rattle.stream_check.specs.Judging.{joined}
 use Rattle.stream_check.specs.declared.report.Report.{Report}
 use Rattle.stream_check.specs.Readings.{AreRead}
 use Rattle.stream_check.specs.Streams.{Stream, RunParamsValue, events_in, observations}
-use Rattle.stream_check.specs.Turns.{IsOrderedByTurns}
+use Rattle.stream_check.specs.Turns.{IsOrderedRoundRobin}
 use Rattle.run_laws.specs.Groups.{IsRunOfFirst}
-use Rattle.run_outcome.specs.Dropping.{HaveDropped}
+use Rattle.stream_check.specs.Dropping.{HaveDropped}
 
 -- What else is known of a run's history, streams and reports. On one thread (`serial`), the history
 -- is that of an order of lines that takes one line of each stream in turn. With threads, each
@@ -20,7 +20,7 @@ use Rattle.run_outcome.specs.Dropping.{HaveDropped}
 abbrev pub RanSo : (serial : Bool) → Cnf → RunParamsValue → History → List Stream → List Report
     → Type 0
 RanSo true formula run_params history streams reports =
-    (ordered : IsOrderedByTurns formula run_params streams reports)
+    (ordered : IsOrderedRoundRobin formula run_params streams reports)
     × (history ≡ events_in ordered.order.blocks)
 RanSo false formula run_params history streams reports =
     AllByRecursion (λ stream. IsSome stream.end) streams

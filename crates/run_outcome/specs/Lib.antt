@@ -1,7 +1,7 @@
 pub mod Outcomes
 pub mod ReportText
 pub mod Saving
-pub mod Dropping
 pub mod Histories
+pub mod RingStops
 pub mod internal
 pub mod lemmas

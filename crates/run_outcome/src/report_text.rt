@@ -3,7 +3,7 @@ ghost use Rattle.std.specs.Prelude.{◌≡◌, ◌++◌, false, is_err};
 ghost use Rattle.std.specs.Fmt.{decimal};
 ghost use Rattle.lrup_text.specs.Writing.{PutsAll, WritesText};
 ghost use Rattle.stream_check.specs.Faults.{fault_text};
-ghost use Rattle.run_outcome.specs.internal.WatchText.{count_line, over_line, wait_line};
+ghost use Rattle.run_outcome.specs.internal.WatchText.{count_line, finished_line, wait_line};
 ghost use Rattle.run_outcome.specs.ReportText.{ending_text, line_after, report_text, verdict_line};
 
 use crate::outcome::Verdict;
@@ -63,10 +63,10 @@ fn put_stream<W: Sink>(
 }
 
 /// Writes the report of a finished stream, with one write if the sink takes all at once.
-pub fn write_over<W: Sink>(stream: u64, report: &Report, sink: &mut W) -> Result<(), WriteFault>
+pub fn write_finished<W: Sink>(stream: u64, report: &Report, sink: &mut W) -> Result<(), WriteFault>
     requires { W.has_failed sink.old ≡ false }
     ensures text { WritesText result (W.written sink.old) (W.written sink.new)
-        (over_line stream report.now) }
+        (finished_line stream report.now) }
     ensures failed { W.has_failed sink.new ≡ is_err result }
 {
     let mut buffer = WriteBuffer::new();

@@ -1,5 +1,5 @@
 //! The gates of streams whose progress may be reported.
-use crate::report_text::{write_count, write_over, write_wait};
+use crate::report_text::{write_count, write_finished, write_wait};
 use lrup_model::Id;
 use lrup_text::Sink;
 use std::time::{Clock, Instant};
@@ -107,9 +107,9 @@ impl<C: Clock + Drop, S: Sink + Drop> Reporter<C, S> {
     /// Reports that the stream is finished, with its report.
     #[cold]
     #[inline(never)]
-    fn report_over(&mut self, stream: u64, report: &Report) {
+    fn report_finished(&mut self, stream: u64, report: &Report) {
         if !self.sink.failed() {
-            let _ = write_over(stream, report, &mut self.sink);
+            let _ = write_finished(stream, report, &mut self.sink);
         }
     }
 }
@@ -154,11 +154,11 @@ impl<G: Gate + Drop, C: Clock + Drop, S: Sink + Drop> Gate for Watch<G, C, S> {
         self.gate.after_publish(stream, id);
     }
 
-    fn when_over(&mut self, stream: u64, report: &Report) {
+    fn when_finished(&mut self, stream: u64, report: &Report) {
         if let Some(reporter) = &mut self.reporter {
-            reporter.report_over(stream, report);
+            reporter.report_finished(stream, report);
         }
-        self.gate.when_over(stream, report);
+        self.gate.when_finished(stream, report);
     }
 }
 
@@ -190,9 +190,9 @@ impl<C: Clock + Drop, S: Sink + Drop> Gate for TurnWatch<C, S> {
         }
     }
 
-    fn when_over(&mut self, stream: u64, report: &Report) {
+    fn when_finished(&mut self, stream: u64, report: &Report) {
         if let Some(reporter) = &mut self.reporter {
-            reporter.report_over(stream, report);
+            reporter.report_finished(stream, report);
         }
     }
 }

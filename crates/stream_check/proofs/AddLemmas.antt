@@ -78,7 +78,7 @@ pub clause_is : (c : StreamParams) (st : StreamContext) (id : ℕ) (lits : List 
     → KeepsClause old new → clause ≡ new.clause → clause ≡ distinct lits
 clause_is c st id lits old new clause admits kept is = is ∙ kept.1 ∙ ap (λ (m : Propagation). m.clause) admits.marks_are
 
--- the hints show the addition's clause
+-- the hints derive the addition's clause
 pub shown_is : (c : StreamParams) (st : StreamContext) (is_dropped : ℕ → Bool) (f : Cnf) (id : ℕ) (lits : List ℤ) (hints : List ℕ)
     (marks : Propagation)
     (es : History) → Admits c st id lits marks
@@ -125,10 +125,10 @@ pub fails_before : (c : StreamParams) (st : StreamContext) (id : ℕ) (lits : Li
 fails_before c st id lits fault A fails = before_maps c st id lits [] [] fault ⊥ A (λ e. e) (λ no. absurd no) fails
 
 -- the hints decide
-pub fails_behind : (c : StreamParams) (st : StreamContext) (id : ℕ) (lits : List ℤ) (es : History) (fault : Fault) (A : Type 0)
+pub fails_after : (c : StreamParams) (st : StreamContext) (id : ℕ) (lits : List ℤ) (es : History) (fault : Fault) (A : Type 0)
     (marks : Propagation)
     → Admits c st id lits marks → A → BeforeHints c st id lits es fault A
-fails_behind c st id lits es fault A marks admits next =
+fails_after c st id lits es fault A marks admits next =
     inr (
       (admits.owns, admits.above),
       inr (

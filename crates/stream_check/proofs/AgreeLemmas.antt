@@ -25,7 +25,7 @@ use Rattle.stream_check.specs.Deletions.{RetiresThen, DropsThen, DeletesAt, Judg
 use Rattle.stream_check.specs.Imports.{JudgesImport}
 use Rattle.stream_check.specs.Judging.{JudgesLine}
 use Rattle.stream_check.specs.Forks.{NeverFork}
-use Rattle.stream_check.proofs.ForkLemmas.{same_asked, never_fork_turned, never_fork_behind}
+use Rattle.stream_check.proofs.ForkLemmas.{same_asked, never_fork_turned, never_fork_after}
 
 pub record Agree (es : History) (v : LineVerdict) (fs : History) (w : LineVerdict) : Type 0 where
   pub events : es ≡ fs
@@ -56,7 +56,7 @@ both_bad m n v w es fs one two same =
 record LookedAlike (a : History) (x : Result Clause Fault) (b : History) (y : Result Clause Fault) (q r : History) : Type 0 where
   asked : a ≡ b
   answer : x ≡ y
-  behind : NeverFork q r
+  following : NeverFork q r
 
 looks_agree : (c : StreamParams) (is_dropped : ℕ → Bool) (h : ℕ) (a b q r : History) (x y : Result Clause Fault)
     → LooksUp c is_dropped h a x
@@ -77,7 +77,7 @@ after_looks c is_dropped h es a rest fs b left q r x y one two first second neve
     record {
       asked = same.0;
       answer = same.1;
-      behind = never_fork_behind a (rest ++ q) (left ++ r)
+      following = never_fork_after a (rest ++ q) (left ++ r)
           (subst (λ e. NeverFork (a ++ (rest ++ q)) (e ++ (left ++ r))) (sym same.0) split);
     }
 
@@ -95,7 +95,7 @@ found_agree c is_dropped (h ∷ hints) ds [] a b q r one two never = absurd two
 found_agree c is_dropped (h ∷ hints) (d ∷ ds) (e ∷ es) a b q r one two never =
     let same = after_looks c is_dropped h a one.0 one.1 b two.0 two.1 q r (Ok d) (Ok e) one.2 two.2 one.3 two.3 never in
     one.2 ∙ ap (λ x. x ++ one.1) same.asked
-    ∙ ap (λ x. two.0 ++ x) (found_agree c is_dropped hints ds es one.1 two.1 q r one.4 two.4 same.behind) ∙ sym two.2
+    ∙ ap (λ x. two.0 ++ x) (found_agree c is_dropped hints ds es one.1 two.1 q r one.4 two.4 same.following) ∙ sym two.2
 
 -- hints that are found and refute, and fail
 never_both : (c : StreamParams) (is_dropped : ℕ → Bool) (n : List ℤ) (hints : List ℕ) (ds : List Clause) (a b q r : History) (fault : Fault)
@@ -110,7 +110,7 @@ never_both c is_dropped n (h ∷ hints) (d ∷ ds) a b q r fault found refutes f
     elim by [
       | inl unit ↦ never_both c is_dropped (n ++ neg_ℤ unit.0 ∷ []) hints ds found.1 fails.1 q r fault found.4
           (refutes_on n d ds unit.0 refutes
-          unit.1) unit.2 same.behind
+          unit.1) unit.2 same.following
       | inr misleads ↦ no_help n d ds c is_dropped h hints found.1 fault refutes found.4 misleads.1
     ]
 
@@ -143,7 +143,7 @@ hints_agree c is_dropped n [] es fs q r v w a b never = (a.0 ∙ sym b.0, a.1 �
 hints_agree c is_dropped n (h ∷ hints) es fs q r v w a b never =
     let same = after_looks c is_dropped h es a.0 a.1 fs b.0 b.1 q r a.3 b.3 a.2 b.2 a.4 b.4 never in
     let later = by_agree a.3 n h hints a.1 b.1 v w (λ m. FailsHints c is_dropped m hints a.1 v) (λ m. FailsHints c is_dropped m hints b.1 w)
-    (λ m k l. hints_agree c is_dropped m hints a.1 b.1 q r v w k l same.behind) a.5
+    (λ m k l. hints_agree c is_dropped m hints a.1 b.1 q r v w k l same.following) a.5
     (subst (λ x. FailsBy x n h hints b.1 w (λ m. FailsHints c is_dropped m hints b.1 w)) (sym same.answer) b.5) in
     (a.2 ∙ ap (λ e. e ++ a.1) same.asked ∙ ap (λ e. b.0 ++ e) later.0 ∙ sym b.2, later.1)
 
@@ -164,9 +164,9 @@ addition_agrees : (c : StreamParams) (st : StreamContext) (id : ℕ) (lits : Lis
     → JudgesAddition c st id lits hints es v → JudgesAddition c st id lits hints fs w → NeverFork (es ++ q) (fs ++ r) → Agree es v fs w
 addition_agrees c st id lits hints es fs q r Good Good a b never =
     let last = published_by c id lits ∷ [] in
-    let behind = subst (λ e. NeverFork e (b.0 ++ (last ++ r))) (ap (λ e. e ++ q) a.2 ∙ append_assoc a.0 last q)
+    let following = subst (λ e. NeverFork e (b.0 ++ (last ++ r))) (ap (λ e. e ++ q) a.2 ∙ append_assoc a.0 last q)
     (subst (NeverFork (es ++ q)) (ap (λ e. e ++ r) b.2 ∙ append_assoc b.0 last r) never) in
-    let same = found_agree c st.is_dropped hints a.1.clauses b.1.clauses a.0 b.0 (last ++ q) (last ++ r) a.1.named b.1.named behind in
+    let same = found_agree c st.is_dropped hints a.1.clauses b.1.clauses a.0 b.0 (last ++ q) (last ++ r) a.1.named b.1.named following in
     record { events = a.2 ∙ ap (λ e. e ++ last) same ∙ sym b.2; verdict = refl }
 addition_agrees c st id lits hints es fs q r Good (Bad deleted fault) a b never =
     absurd (good_agrees c st id lits hints es fs q r deleted fault a b never)
@@ -238,7 +238,7 @@ identities_agree c is_dropped earlier (id ∷ ids) es fs q r v w a b never =
     at_agree (ownership_of c id) c is_dropped earlier id es fs q r v w
     (λ rest. JudgesDeletion c is_dropped (earlier ++ id ∷ []) ids rest v)
     (λ rest. JudgesDeletion c is_dropped (earlier ++ id ∷ []) ids rest w)
-    (λ rest left behind one two. identities_agree c is_dropped (earlier ++ id ∷ []) ids rest left q r v w one two behind)
+    (λ rest left following one two. identities_agree c is_dropped (earlier ++ id ∷ []) ids rest left q r v w one two following)
     a b never
 
 -- Imports

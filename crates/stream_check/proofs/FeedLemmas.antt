@@ -1,4 +1,4 @@
--- What a checker is after a piece.
+-- A checker after a piece.
 use Rattle.std.specs.Fmt.{decimal, signed_decimal}
 use Rattle.std.proofs.Common.{◌≡◌, ℕ, Bool, true, false, List, [], ◌∷◌, ◌++◌, length, take, Option, None, Some, Ok, refl, sym, ap}
 use Rattle.std.proofs.Common.{subst, ◌∙◌, append_assoc, arith}
@@ -45,8 +45,8 @@ none_of None none = refl
 none_of (Some ending) none = absurd (cc)
 
 -- if a checker is unfinished, nothing is claimed about a finished one
-pub not_over : {A : Type 0} (old : Option Ending) (ending : Ending) → old ≡ None → old ≡ Some ending → A
-not_over old ending none some = absurd (let e : None ≡ Some ending = sym none ∙ some in cc)
+pub not_finished : {A : Type 0} (old : Option Ending) (ending : Ending) → old ≡ None → old ≡ Some ending → A
+not_finished old ending none some = absurd (let e : None ≡ Some ending = sym none ∙ some in cc)
 
 -- a line is taken
 pub feeds_line : (h n : StreamStateValue) (read : List ℕ) (r : ReaderState) (used : List ℕ) (blocks : List History) (free left : ℕ)
@@ -85,7 +85,7 @@ ends_later : (front back more : List ℕ) (byte : ℕ) → [] ≡ (front ++ byte
 ends_later [] back more byte e = absurd (cc)
 ends_later (b ∷ front) back more byte e = absurd (cc)
 
--- no bytes contain no line
+-- the empty text contains no line
 no_line : HasNoLine []
 no_line (Addition id lits hints) more fits e =
     ends_later (decimal id) (clause_text (map signed_decimal lits) (list_text (map decimal hints))) more space e
@@ -114,11 +114,12 @@ pub reads_on : (r : ReaderState) (read : List ℕ) → r ≡ Ok read → r ≡ O
 reads_on r read e = e ∙ ap (λ (b : List ℕ). Ok b) (sym (ap read_of e))
 
 -- the reading ends
-pub feeds_over : (h : StreamStateValue) (read used : List ℕ) (blocks : List History) (free : ℕ) (ending : Option Ending) (report : Report)
+pub feeds_finished : (h : StreamStateValue) (read used : List ℕ) (blocks : List History) (free : ℕ) (ending : Option Ending)
+    (report : Report)
     (is_dropped : ℕ → Bool) → ending ≡ None
     → Extends h.params (Going (hold h read free)) used blocks (Over report is_dropped)
     → Extends h.params (checker_state (value_of h read ending) free) used blocks (Over report is_dropped)
-feeds_over h read used blocks free ending report is_dropped none reaches =
+feeds_finished h read used blocks free ending report is_dropped none reaches =
     subst (λ (o : Option Ending). Extends h.params (checker_state (value_of h read o) free) used blocks (Over report is_dropped)) (sym none)
     reaches
 
@@ -126,19 +127,19 @@ feeds_over h read used blocks free ending report is_dropped none reaches =
 
 either_report : (c : StreamParams) (bytes : List ℕ) (blocks : List History) (end : StreamEnd) (report : Report)
     → JudgesBothEnds c bytes blocks report → JudgesBlocks c bytes end blocks report
-either_report c bytes blocks stream_ends.Ended report over = over.0
-either_report c bytes blocks stream_ends.Failed report over = over.1
+either_report c bytes blocks stream_ends.Ended report finished = finished.0
+either_report c bytes blocks stream_ends.Failed report finished = finished.1
 
 -- a finished checker stays unchanged
-pub ends_over : (end : StreamEnd) (v : CheckerValue) (ending : Ending) → v.ending ≡ Some ending → Ends end v v
-ends_over end v ending over = subst (λ (o : Option Ending). EndsBy o end v v) (sym over) refl
+pub ends_finished : (end : StreamEnd) (v : CheckerValue) (ending : Ending) → v.ending ≡ Some ending → Ends end v v
+ends_finished end v ending finished = subst (λ (o : Option Ending). EndsBy o end v v) (sym finished) refl
 
-pub reports_over : (end : StreamEnd) (v : CheckerValue) (ending : Ending) → v.ending ≡ Some ending → ReportsEnd end v v
-reports_over end v ending over bytes blocks free reaches = (
+pub reports_finished : (end : StreamEnd) (v : CheckerValue) (ending : Ending) → v.ending ≡ Some ending → ReportsEnd end v v
+reports_finished end v ending finished bytes blocks free reaches = (
   ending,
-  over,
+  finished,
   either_report v.params bytes blocks end (report_of_tally v.tally ending)
-      (subst (λ (o : Option Ending). ReachesState v.params bytes blocks (state_by v free o)) over reaches).0,
+      (subst (λ (o : Option Ending). ReachesState v.params bytes blocks (state_by v free o)) finished reaches).0,
 )
 
 -- an unfinished one then has this ending

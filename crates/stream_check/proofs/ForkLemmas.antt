@@ -30,15 +30,16 @@ never_fork_alone [] = tt
 never_fork_alone (d ∷ g) = (λ same. refl, λ is. never_fork_alone g)
 
 -- after the same events
-pub never_fork_behind : (a g h : History) → NeverFork (a ++ g) (a ++ h) → NeverFork g h
-never_fork_behind [] g h never = never
-never_fork_behind (d ∷ a) g h never = never_fork_behind a g h (never.1 refl)
+pub never_fork_after : (a g h : History) → NeverFork (a ++ g) (a ++ h) → NeverFork g h
+never_fork_after [] g h never = never
+never_fork_after (d ∷ a) g h never = never_fork_after a g h (never.1 refl)
 
 -- k vacant fetches, one more fetch
 abbrev pub fetches : ℕ → ℕ → ℕ → Reply → History
 fetches s id k r = replicate k (fetch s id vacant) ++ fetch s id r ∷ []
 
--- fetches that never fork are equally many, with the same last reply, if there were `done` fetches before
+-- fetches that never fork are equally many, with the same last reply, if there were `done` fetches
+-- before
 same_fetches : (s id most done k j : ℕ) (x y : Reply) (q r : History)
     → k + done ≤ most → j + done ≤ most → (x ≡ vacant → k + done ≡ most) → (y ≡ vacant → j + done ≡ most)
     → NeverFork (fetches s id k x ++ q) (fetches s id j y ++ r) → (k ≡ j) × (x ≡ y)

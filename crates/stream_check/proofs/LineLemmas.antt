@@ -108,10 +108,10 @@ ready_publish old new p q free es id lits hints step (fetches, good, made) param
     record {
       at = subst (λ (x : StreamParams). IsViewOf x q) (sym params) (still_at c p q es ready.at step);
       vacant = λ j theirs higher.
-          let over : id < j = omega (arith, higher, last) in
-          let other : j ≡ id → ⊥ = λ same. omega (arith, over, same) in
+          let finished : id < j = omega (arith, higher, last) in
+          let other : j ≡ id → ⊥ = λ same. omega (arith, finished, same) in
           owned j theirs ∙ put-other p.own id (live (distinct lits)) j other
-          ∙ ready.vacant j (own_before p q es j step theirs) (omega (arith, over, good.above));
+          ∙ ready.vacant j (own_before p q es j step theirs) (omega (arith, finished, good.above));
     }
 
 pub room_publish : (old : StreamStateValue) (p q : CallerView) (free : ℕ) (es : History) (id : ℕ) (lits : List ℤ) (hints : List ℕ)
@@ -130,7 +130,7 @@ room_publish old p q free es id lits hints at step (fetches, good, made) =
     ) in
     omega (arith, step.room, all)
 
--- What is held after a good line
+-- What a checker holds after a good line
 
 none_gone : (a s : Bool) → a ≡ (a || s && false)
 none_gone true s = refl
@@ -212,7 +212,7 @@ takes_import old free left id lits es room judged = (
   },
 )
 
--- What is held after a line that stopped
+-- What a checker holds after a line that stopped the stream
 
 pub stops_deletion : (old mid : StreamStateValue) (free left : ℕ) (lead : ℕ) (ids : List ℕ) (es : History) (count : ℕ) (stop : LineStop)
     → KeepsLines old mid → deleted_at mid ≡ capped (deleted_at old + count)

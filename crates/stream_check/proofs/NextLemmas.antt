@@ -15,7 +15,7 @@ use Rattle.stream_check.specs.lemmas.ReportLemmas.{split_first}
 use Rattle.stream_check.proofs.ForkLemmas.{never_fork_alone}
 use Rattle.stream_check.proofs.AgreeLemmas.{line_agrees}
 use Rattle.stream_check.proofs.StreamLemmas.{TextLaws, EndsWithout, same_first, faulty_has_no_line, out_of_memory, ends_not_good}
-use Rattle.stream_check.proofs.StreamLemmas.{behind_one}
+use Rattle.stream_check.proofs.StreamLemmas.{after_one}
 
 -- the text begins with a line, whose events are the first block
 record HasNext (c : StreamParams) (st : StreamContext) (text : List ℕ) (blocks : List History) : Type 0 where
@@ -91,21 +91,21 @@ next_alike laws c st text xs ys (inr a) (inr b) =
     subst (λ (bs : List History). GoAlike bs ys) (sym a.0) (subst (λ (bs : List History). GoAlike [] bs) (sym b.0) tt)
 
 -- if no line is good from here on, there is at most one block
-none_behind : TextLaws
+none_after : TextLaws
     → (c : StreamParams) (lines : List StreamLine) (rest : List ℕ) (end : StreamEnd) (p : History) (back pre xs : List History)
     (report : Report)
     → EndsWithout c lines rest end back report → p ∷ (pre ++ xs) ≡ back → xs ≡ []
-none_behind laws c lines rest end p back pre xs report (at_memory _ _ _ _ _ _ _ earlier _ says, no_memory) is =
+none_after laws c lines rest end p back pre xs report (at_memory _ _ _ _ _ _ _ earlier _ says, no_memory) is =
     absurd (no_memory (out_of_memory c lines (length earlier) report says))
-none_behind laws c lines rest end p back [] xs report
+none_after laws c lines rest end p back [] xs report
     (at_bad_line line more text fits block one_block deleted fault bad says, no_memory) is =
     let e : p ∷ xs ≡ block ∷ [] = is ∙ one_block in cc
-none_behind laws c lines rest end p back (b ∷ pre) xs report
+none_after laws c lines rest end p back (b ∷ pre) xs report
     (at_bad_line line more text fits block one_block deleted fault bad says, no_memory) is =
     let e : p ∷ (b ∷ (pre ++ xs)) ≡ block ∷ [] = is ∙ one_block in absurd (cc)
-none_behind laws c lines rest end p back pre xs report (at_bad_text fault text no_block says, no_memory) is =
+none_after laws c lines rest end p back pre xs report (at_bad_text fault text no_block says, no_memory) is =
     let e : p ∷ (pre ++ xs) ≡ [] = is ∙ no_block in absurd (cc)
-none_behind laws c lines rest end p back pre xs report (at_end pending no_block says, no_memory) is =
+none_after laws c lines rest end p back pre xs report (at_end pending no_block says, no_memory) is =
     let e : p ∷ (pre ++ xs) ≡ [] = is ∙ no_block in absurd (cc)
 
 -- a line that was good with the same block doesn't end the stream
@@ -136,8 +136,8 @@ go_alike laws c end before lines others all both rest left front back fore aft [
     (next_of laws c before others both left end fore aft other also fits fine stops))
 go_alike laws c end before [] [] all both rest left [] back [] aft
     (p ∷ pre) xs ys report other is also text fit fits good fine ends stops split also_split =
-    subst (λ (bs : List History). GoAlike bs ys) (sym (none_behind laws c all rest end p back pre xs report ends split))
-    (subst (λ (bs : List History). GoAlike [] bs) (sym (none_behind laws c both left end p aft pre ys other stops also_split)) tt)
+    subst (λ (bs : List History). GoAlike bs ys) (sym (none_after laws c all rest end p back pre xs report ends split))
+    (subst (λ (bs : List History). GoAlike [] bs) (sym (none_after laws c both left end p aft pre ys other stops also_split)) tt)
 go_alike laws c end before [] others all both rest left (b ∷ front) back fore aft
     (p ∷ pre) xs ys report other is also text fit fits good fine ends stops split also_split = absurd good
 go_alike laws c end before lines [] all both rest left front back (b ∷ fore) aft
@@ -165,7 +165,7 @@ go_alike laws c end before (l ∷ lines) (o ∷ others) all both rest left (b �
     let tail : pre ++ xs ≡ front ++ back = cc in
     let also_tail : pre ++ ys ≡ fore ++ aft = cc in
     go_alike laws c end (before ++ o ∷ []) lines others all both rest left front back fore aft pre xs ys report other
-    (behind_one before o lines all (subst (λ x. all ≡ before ++ (x ∷ lines)) same.0 is)) (behind_one before o others both also)
+    (after_one before o lines all (subst (λ x. all ≡ before ++ (x ∷ lines)) same.0 is)) (after_one before o others both also)
     same.1 fit.1 fits.1
     (subst (λ x. AreGood c (before ++ x ∷ []) lines front) same.0 good.1) fine.1 ends stops tail also_tail
 

@@ -26,7 +26,7 @@ use Rattle.stream_check.specs.Judging.{JudgesLine, AreGood, report_of, EndsAfter
 use Rattle.stream_check.specs.Judging.{JudgesBlocks}
 use Rattle.stream_check.specs.CheckerValue.{Tally, report_of_tally}
 use Rattle.stream_check.specs.Reaching.{GoingState, SameContext, ReachesGoing, context_after, tally_after, ReachesState, Going, Over}
-use Rattle.stream_check.specs.Laws.{FreshLeft, GoodLineTaken, EndJudged, OverStays}
+use Rattle.stream_check.specs.Laws.{FreshLeft, GoodLineTaken, EndJudged, FinishedStays}
 use Rattle.stream_check.specs.Laws.{DecidedBeforeFailure}
 use Rattle.stream_check.specs.lemmas.ContextLemmas.{context_of-snoc, counts_of, tally_is, tally_says, counts_of-snoc, same_context}
 use Rattle.stream_check.specs.lemmas.StoppingLemmas.{drops_none}
@@ -63,7 +63,7 @@ pub all_snoc : (lines : List StreamLine) (line : StreamLine) → AllByRecursion 
 all_snoc [] line all one = (one, tt)
 all_snoc (l ∷ lines) line all one = (all.0, all_snoc lines line all.1 one)
 
--- no bytes may still become a line
+-- the empty text may still become a line
 pub nothing_pending : TextsAreLines → EmptyCut → IsPending []
 nothing_pending texts none =
     let line = Deletion 1 [] in
@@ -144,11 +144,11 @@ good_line_taken texts none c bytes piece blocks block old new line before text j
     }
 
 -- A stream that ends in some way after the good lines that a checker holds.
-ends_behind : (c : StreamParams) (bytes piece : List ℕ) (blocks back : List History) (old : GoingState) (end : StreamEnd) (report : Report)
+ends_after : (c : StreamParams) (bytes piece : List ℕ) (blocks back : List History) (old : GoingState) (end : StreamEnd) (report : Report)
     → (before : ReachesGoing c bytes blocks old)
     → EndsAfter c before.lines (old.pending ++ piece) end back report
     → JudgesBlocks c (bytes ++ piece) end (blocks ++ back) report
-ends_behind c bytes piece blocks back old end report before ends = record {
+ends_after c bytes piece blocks back old end report before ends = record {
   lines = before.lines;
   rest = old.pending ++ piece;
   front = blocks;
@@ -226,7 +226,7 @@ bad_line_taken c bytes piece blocks block old line ids later fault is_dropped be
     let says = held_more c bytes blocks old deleted (λ n. endings.Bad n fault) before in
     let whole = whole_text line (old.pending ++ piece) text in
     let judges : (end : StreamEnd) → JudgesBlocks c (bytes ++ piece) end (blocks ++ block ∷ []) report =
-    λ end. ends_behind c bytes piece blocks (block ∷ []) old end report before
+    λ end. ends_after c bytes piece blocks (block ∷ []) old end report before
     (at_bad_line line [] whole text.0 block refl deleted fault
     (by_lines c old before.lines (λ st. JudgesLine c st line block (Bad deleted fault)) before.context judged) says) in (
       (judges stream_ends.Ended, judges stream_ends.Failed),
@@ -249,7 +249,7 @@ memory_wanted c bytes piece blocks block old lead ids earlier is_dropped before 
     let says = held_more c bytes blocks old (length earlier) (λ n. endings.Memory n) before in
     let whole = whole_text (Deletion lead ids) (old.pending ++ piece) text in
     let judges : (end : StreamEnd) → JudgesBlocks c (bytes ++ piece) end (blocks ++ block ∷ []) report =
-    λ end. ends_behind c bytes piece blocks (block ∷ []) old end report before
+    λ end. ends_after c bytes piece blocks (block ∷ []) old end report before
     (at_memory lead ids [] whole text.0 block refl earlier
     (by_lines c old before.lines (λ st. StopsDeletion c st.is_dropped ids block earlier) before.context stops) says) in (
       (judges stream_ends.Ended, judges stream_ends.Failed),
@@ -273,7 +273,7 @@ bad_text_read c bytes piece blocks old fault before refused =
     let says = held_report c bytes blocks old (λ n. endings.Bad n (faults.Text fault)) before in
     let judges : (end : StreamEnd) → JudgesBlocks c (bytes ++ piece) end blocks report =
     λ end. subst (λ b. JudgesBlocks c (bytes ++ piece) end b report) (append-nil blocks)
-    (ends_behind c bytes piece blocks [] old end report before
+    (ends_after c bytes piece blocks [] old end report before
     (at_bad_text fault (refused_alone (old.pending ++ piece) fault refused) refl says)) in (
       (judges stream_ends.Ended, judges stream_ends.Failed),
       held_drops c bytes piece blocks [] blocks old [] old.context.is_dropped report (sym (append-nil blocks)) before before.line
@@ -287,7 +287,7 @@ end_judged c bytes blocks old end before =
     let report = report_of_tally old.tally (ending_at end old.pending old.line) in
     subst (λ b. JudgesBlocks c b end blocks report) (append-nil bytes)
     (subst (λ b. JudgesBlocks c (bytes ++ []) end b report) (append-nil blocks)
-    (ends_behind c bytes [] blocks [] old end report before
+    (ends_after c bytes [] blocks [] old end report before
     (at_end (subst IsPending (sym (append-nil old.pending)) before.pending) refl
     (held_report c bytes blocks old (λ n. ending_at end old.pending n) before
     ∙ ap (λ rest. report_of c lines 0 (ending_at end rest (capped (length lines + 1)))) (sym (append-nil old.pending))))))
@@ -312,8 +312,8 @@ judges_longer c bytes more end other blocks report j ends = record {
   ends = ends;
 }
 
--- what is judged by a line, by a text or by memory that ran out is right for either end and for any further bytes; what remains is judged
--- by its end
+-- what is judged by a line, by a text or by memory that ran out is right for either end and for any
+-- further bytes; what remains is judged by its end
 before_end : (c : StreamParams) (bytes more : List ℕ) (end other : StreamEnd) (blocks : List History) (report : Report)
     → (j : JudgesBlocks c bytes end blocks report)
     → (report ≡ report_of c j.lines 0 (ending_at end j.rest (capped (length j.lines + 1)))
@@ -346,16 +346,16 @@ says_failed c lines others (byte ∷ rest) left report a b =
     ap (λ (r : Report). r.ending) (sym a ∙ b) in cc
 
 -- A report that fits both ends is decided before the end, so it fits any further bytes.
-over_longer : (c : StreamParams) (bytes more : List ℕ) (blocks : List History) (report : Report) (end : StreamEnd)
+finished_longer : (c : StreamParams) (bytes more : List ℕ) (blocks : List History) (report : Report) (end : StreamEnd)
     → JudgesBlocks c bytes stream_ends.Ended blocks report → JudgesBlocks c bytes stream_ends.Failed blocks report
     → JudgesBlocks c (bytes ++ more) end blocks report
-over_longer c bytes more blocks report end a b =
+finished_longer c bytes more blocks report end a b =
     before_end c bytes more stream_ends.Ended end blocks report a
     (λ says. before_end c bytes more stream_ends.Failed end blocks report b
-    (λ told. absurd (says_failed c a.lines b.lines a.rest b.rest report says told)))
+    (λ known. absurd (says_failed c a.lines b.lines a.rest b.rest report says known)))
 
-pub over_stays : OverStays
-over_stays c bytes more blocks report over = (
-  over_longer c bytes more blocks report stream_ends.Ended over.0 over.1,
-  over_longer c bytes more blocks report stream_ends.Failed over.0 over.1,
+pub finished_stays : FinishedStays
+finished_stays c bytes more blocks report finished = (
+  finished_longer c bytes more blocks report stream_ends.Ended finished.0 finished.1,
+  finished_longer c bytes more blocks report stream_ends.Failed finished.0 finished.1,
 )

@@ -20,7 +20,7 @@ use Rattle.stream_check.specs.Forks.{NeverFork}
 use Rattle.stream_check.specs.Excuses.{OutOfMemory, IsExcused}
 use Rattle.stream_check.specs.Laws.{RepliesDecide, OneReport}
 use Rattle.stream_check.specs.lemmas.ReportLemmas.{split_first, joined-append}
-use Rattle.stream_check.proofs.ForkLemmas.{never_fork_turned, never_fork_alone, never_fork_behind}
+use Rattle.stream_check.proofs.ForkLemmas.{never_fork_turned, never_fork_alone, never_fork_after}
 use Rattle.stream_check.proofs.AgreeLemmas.{line_agrees}
 
 -- what is known of the texts of lines
@@ -103,7 +103,7 @@ ends_agree laws c lines rest end back aft report other (at_memory _ _ _ _ _ _ _ 
 ends_agree laws c lines rest end back aft report other a (at_memory _ _ _ _ _ _ _ earlier _ says, none) never =
     absurd (none (out_of_memory c lines (length earlier) other says))
 ends_agree laws c lines rest end back aft report other (at_bad_line line more text fits block one_block deleted fault bad says, no_memory)
-    (at_bad_line like much words fit events all_one is_dropped wrong fails told, none) never =
+    (at_bad_line like much words fit events all_one is_dropped wrong fails known, none) never =
     let same = same_first laws line like more much fits fit (sym text ∙ words) in
     let here = subst (λ x. NeverFork (joined x) (events ++ [])) one_block (subst (λ x. NeverFork (joined back) (joined x)) all_one never) in
     let judged = subst (λ l. JudgesLine c (context_of c lines) l block (Bad deleted fault)) same.0 bad in
@@ -113,32 +113,33 @@ ends_agree laws c lines rest end back aft report other (at_bad_line line more te
     let same_fault : fault ≡ wrong = cc in (
       one_block ∙ ap (λ x. x ∷ []) agree.events ∙ sym all_one,
       says ∙ ap (λ d. report_of c lines d (endings.Bad (capped (length lines + 1)) fault)) same_deleted
-          ∙ ap (λ f. report_of c lines is_dropped (endings.Bad (capped (length lines + 1)) f)) same_fault ∙ sym told,
+          ∙ ap (λ f. report_of c lines is_dropped (endings.Bad (capped (length lines + 1)) f)) same_fault ∙ sym known,
     )
 ends_agree laws c lines rest end back aft report other (at_bad_line line more text fits block one_block deleted fault bad says, no_memory)
-    (at_bad_text wrong words no_block told, none) never =
+    (at_bad_text wrong words no_block known, none) never =
     absurd (faulty_has_no_line laws rest wrong words line more fits text)
 ends_agree laws c lines rest end back aft report other (at_bad_line line more text fits block one_block deleted fault bad says, no_memory)
-    (at_end pending no_block told, none) never =
+    (at_end pending no_block known, none) never =
     absurd (pending.whole line more fits text)
 ends_agree laws c lines rest end back aft report other (at_bad_text fault text no_block says, no_memory)
-    (at_bad_line like much words fit events all_one is_dropped wrong fails told, none) never =
+    (at_bad_line like much words fit events all_one is_dropped wrong fails known, none) never =
     absurd (faulty_has_no_line laws rest fault text like much fit words)
 ends_agree laws c lines rest end back aft report other (at_end pending no_block says, no_memory)
-    (at_bad_line like much words fit events all_one is_dropped wrong fails told, none) never =
+    (at_bad_line like much words fit events all_one is_dropped wrong fails known, none) never =
     absurd (pending.whole like much fit words)
 ends_agree laws c lines rest end back aft report other (at_bad_text fault text no_block says, no_memory)
-    (at_bad_text wrong words no_more told, none) never = (
+    (at_bad_text wrong words no_more known, none) never = (
       no_block ∙ sym no_more,
       says ∙ ap (λ f. report_of c lines 0 (endings.Bad (capped (length lines + 1)) (faults.Text f)))
-          ((laws.fault rest fault wrong text).0 words) ∙ sym told,
+          ((laws.fault rest fault wrong text).0 words) ∙ sym known,
     )
 ends_agree laws c lines rest end back aft report other (at_bad_text fault text no_block says, no_memory)
-    (at_end pending no_more told, none) never = absurd ((laws.fault rest fault fault text).1 pending.begins)
+    (at_end pending no_more known, none) never = absurd ((laws.fault rest fault fault text).1 pending.begins)
 ends_agree laws c lines rest end back aft report other (at_end pending no_block says, no_memory)
-    (at_bad_text wrong words no_more told, none) never = absurd ((laws.fault rest wrong wrong words).1 pending.begins)
-ends_agree laws c lines rest end back aft report other (at_end pending no_block says, no_memory) (at_end waiting no_more told, none) never =
-    (no_block ∙ sym no_more, says ∙ sym told)
+    (at_bad_text wrong words no_more known, none) never = absurd ((laws.fault rest wrong wrong words).1 pending.begins)
+ends_agree laws c lines rest end back aft report other (at_end pending no_block says, no_memory)
+    (at_end waiting no_more known, none) never =
+    (no_block ∙ sym no_more, says ∙ sym known)
 
 -- a good line doesn't end a stream
 pub ends_not_good : TextLaws → (c : StreamParams) (lines : List StreamLine) (rest more : List ℕ) (end : StreamEnd) (back : List History)
@@ -160,9 +161,9 @@ ends_not_good laws c lines rest more end back report line block r
     let verdict = agree.verdict in cc
 
 -- one line moves from the lines to those before them
-pub behind_one : (before : List StreamLine) (line : StreamLine) (lines all : List StreamLine) → all ≡ before ++ (line ∷ lines)
+pub after_one : (before : List StreamLine) (line : StreamLine) (lines all : List StreamLine) → all ≡ before ++ (line ∷ lines)
     → all ≡ (before ++ line ∷ []) ++ lines
-behind_one before line lines all e = e ∙ sym (append_assoc before (line ∷ []) lines)
+after_one before line lines all e = e ∙ sym (append_assoc before (line ∷ []) lines)
 
 -- the good lines, their blocks, what comes after, and the report are the same
 streams_agree : TextLaws → (c : StreamParams) (end : StreamEnd) (before lines others all both : List StreamLine) (rest left : List ℕ)
@@ -209,10 +210,10 @@ streams_agree laws c end before (l ∷ lines) (o ∷ others) all both rest left 
     let first = subst (λ x. JudgesLine c (context_of c before) x b Good) same.0 good.0 in
     let agree =
     line_agrees c (context_of c before) o b d (joined front ++ joined back) (joined fore ++ joined aft) Good Good first fine.0 here in
-    let later = never_fork_behind d (joined front ++ joined back) (joined fore ++ joined aft)
+    let later = never_fork_after d (joined front ++ joined back) (joined fore ++ joined aft)
     (subst (λ e. NeverFork (e ++ (joined front ++ joined back)) (d ++ (joined fore ++ joined aft))) agree.events here) in
     let step = streams_agree laws c end (before ++ o ∷ []) lines others all both rest left front back fore aft report other
-    (behind_one before o lines all (subst (λ x. all ≡ before ++ (x ∷ lines)) same.0 is)) (behind_one before o others both also)
+    (after_one before o lines all (subst (λ x. all ≡ before ++ (x ∷ lines)) same.0 is)) (after_one before o others both also)
     same.1 fit.1 fits.1
     (subst (λ x. AreGood c (before ++ x ∷ []) lines front) same.0 good.1) fine.1 ends stops later in
     (ap (λ x. x ∷ front) agree.events ∙ ap (λ x. d ∷ x) step.0, step.1, step.2)

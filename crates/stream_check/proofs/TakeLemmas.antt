@@ -19,7 +19,7 @@ use Rattle.stream_check.specs.internal.Taking.{hold, DeletesMore, TakesBy, endin
 use Rattle.stream_check.specs.Laws.{GoodLineTaken}
 use Rattle.stream_check.proofs.ReachingLemmas.{pending_grows, bad_line_taken, bad_text_read, memory_wanted}
 
--- the report after a line that stopped: what it deleted is already counted
+-- the report after a line that stopped the stream: what it deleted is already counted
 report_is : (old new : StreamStateValue) (ids : List ℕ) (ending : ℕ → Ending) → DeletesMore old new ids
     → report_of_tally (record (tally_at old) { deleted = capped ((tally_at old).deleted + length ids) }) (ending old.line)
     ≡ report_of_tally (tally_at new) (ending new.line)
@@ -34,7 +34,7 @@ pub reaches_good : GoodLineTaken → (old new : StreamStateValue) (free left : �
 reaches_good law old new free left read used line es text takes bytes before reaches =
     law old.params bytes used before es (hold old read free) (hold new [] left) line reaches text takes.0 (takes.1 read)
 
--- a line that stopped
+-- a line that stopped the stream
 pub reaches_stopped : (old new : StreamStateValue) (free left : ℕ) (read used : List ℕ) (line : StreamLine) (es : History) (stop : LineStop)
     → LineText line (read ++ used) → TakesBy old free new left line es (Err stop)
     → Extends old.params (Going (hold old read free)) used (es ∷ [])

@@ -1,5 +1,5 @@
--- What makes an addition valid, and how one is judged (this project's own; that hinted clauses show
--- the clause by propagation is the idea of Cruz-Filipe et al., CADE 2017).
+-- What makes an addition valid, and how one is judged (this project's own; that hinted clauses
+-- derive the clause by propagation is the idea of Cruz-Filipe et al., CADE 2017).
 use Rattle.std.specs.Prelude.{◌≡◌, ◌≤◌, ◌<◌, ◌⊎◌, ◌++◌, ℕ, ℤ, neg_ℤ, nat_abs, Bool, List, [], ◌∷◌, length, Result, Ok, Err}
 use Rattle.std.specs.List.{AllByRecursion}
 use Rattle.lrup_model.specs.Clause.{Clause, IsTautology}
@@ -18,7 +18,7 @@ use Rattle.stream_check.specs.Lookup.{AreFound, LooksUp}
 
 -- An addition is valid: its identity is the stream's own, and above the last one that was added, or
 -- the formula's last one; its literals are over the variables; there is room for its clause, in
--- literals; and the clauses that its hints name show its clause, which isn't a tautology, by
+-- literals; and the clauses that its hints name derive its clause, which isn't a tautology, by
 -- propagation.
 pub record IsValidAddition (layout : LayoutValue) (stream last free : ℕ)
     (Names : List ℕ → List Clause → Type 0) (id : ℕ) (lits : List ℤ)

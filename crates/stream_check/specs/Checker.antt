@@ -85,8 +85,9 @@ FeedsChecker statuses.Over old new piece used =
     × (old.ending ≡ None → StopsAt ending (old.pending ++ used))
 
 -- a finished checker takes nothing and doesn't change
-abbrev pub StaysOver : CheckerValue → CheckerValue → List ℕ → Type 0
-StaysOver old new used = (ending : Ending) → old.ending ≡ Some ending → (new ≡ old) × (used ≡ [])
+abbrev pub StaysFinished : CheckerValue → CheckerValue → List ℕ → Type 0
+StaysFinished old new used = (ending : Ending) → old.ending ≡ Some ending
+    → (new ≡ old) × (used ≡ [])
 
 -- the checker is new: it has these parameters, and has taken no byte
 pub record IsNew (layout : LayoutValue) (cube : CubeValue) (stream tries : ℕ)

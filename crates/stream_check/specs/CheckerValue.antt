@@ -25,7 +25,7 @@ report_of_tally tally ending =
     }
 
 -- The parameters; the counts, the last identity and the dropped ones, and how many were retired;
--- the text read of the next line, and that line's number; and how the stream ended, if it did.
+-- what was read of the next line, and that line's number; and how the stream ended, if it did.
 pub record CheckerValue : Type 0 where
   pub params : StreamParams
   pub tally : Tally

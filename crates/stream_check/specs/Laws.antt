@@ -54,8 +54,8 @@ EndJudged = (c : StreamParams) (bytes : List ℕ) (blocks : List History) (old :
     (report_of_tally old.tally (ending_at end old.pending old.line))
 
 -- a report that is right for both ends stays right for any further bytes
-abbrev pub OverStays : Type 0
-OverStays = (c : StreamParams) (bytes more : List ℕ) (blocks : List History) (report : Report)
+abbrev pub FinishedStays : Type 0
+FinishedStays = (c : StreamParams) (bytes more : List ℕ) (blocks : List History) (report : Report)
     → JudgesBothEnds c bytes blocks report → JudgesBothEnds c (bytes ++ more) blocks report
 
 -- if the read failed and the report doesn't say so, it was decided before: it is right for either

@@ -19,6 +19,7 @@ pub mod Excuses
 pub mod Laws
 pub mod Each
 pub mod Streams
+pub mod Dropping
 pub mod Readings
 pub mod Closed
 pub mod SequentialConsistency

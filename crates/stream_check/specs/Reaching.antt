@@ -13,7 +13,7 @@ use Rattle.stream_check.specs.Judging.{AreGood, report_of, JudgesBlocks}
 use Rattle.stream_check.specs.CheckerValue.{Tally, report_of_tally}
 use Rattle.stream_check.specs.Stopping.{DropsUntilStop}
 
--- what an unfinished checker holds: its counts, what good lines left, the text read of the next
+-- what an unfinished checker holds: its counts, what good lines left, what was read of the next
 -- line, and that line's number
 pub record GoingState : Type 0 where
   pub tally : Tally

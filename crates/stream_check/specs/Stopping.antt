@@ -1,4 +1,4 @@
--- What a stream dropped that one of its lines stopped (this project's own).
+-- What a stream has dropped when one of its lines stops it (this project's own).
 use Rattle.std.specs.Prelude.{◌≡◌, ◌⊎◌, ◌+◌, ◌++◌, ◌||◌, ◌&&◌, ℕ, Bool, List, [], length}
 use Rattle.std.specs.List.{AllByRecursion, flat_map, sum_by}
 use Rattle.lrup_model.specs.Event.{History}

@@ -22,11 +22,11 @@ AreTurns before (s ∷ later) = IsTurnOf s before × AreTurns (before ++ s ∷ [
 
 -- The order takes the streams in turn: first the first line of each stream, from stream 1 on, then
 -- the second line of each stream that has one, and so on.
-abbrev pub IsByTurns : List ℕ → Type 0
-IsByTurns order = AreTurns [] order
+abbrev pub IsRoundRobin : List ℕ → Type 0
+IsRoundRobin order = AreTurns [] order
 
 -- The reports of all streams have an order of lines that takes the streams in turn.
-pub record IsOrderedByTurns (formula : Cnf) (run_params : RunParamsValue) (streams : List Stream)
+pub record IsOrderedRoundRobin (formula : Cnf) (run_params : RunParamsValue) (streams : List Stream)
     (reports : List Report) : Type 0 where
   pub order : IsOrdered formula run_params (λ s. true) streams reports
-  pub turns : IsByTurns (map (λ block. block.stream) order.blocks)
+  pub turns : IsRoundRobin (map (λ block. block.stream) order.blocks)

@@ -1,4 +1,5 @@
 -- Lemmas that proofs of other crates may cite.
+pub mod ListLemmas
 pub mod CubeLemmas
 pub mod AdditionLemmas
 pub mod EventLemmas
@@ -9,4 +10,5 @@ pub mod StoppingLemmas
 pub mod ReducingLemmas
 pub mod EachLemmas
 pub mod StreamLemmas
+pub mod DroppingLemmas
 pub mod TurnLemmas

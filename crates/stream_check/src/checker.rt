@@ -7,7 +7,7 @@ ghost use Rattle.lrup_text.specs.declared.device.StreamEnd.TheVariants as stream
 ghost use Rattle.stream_check.specs.Judging.{joined};
 ghost use Rattle.stream_check.specs.CheckerValue.{report_of_tally};
 ghost use Rattle.stream_check.specs.Stopping.{IsFullAtMemory};
-ghost use Rattle.stream_check.specs.Checker.{checker_state, IsReadyAt, Extends, AreBlocksOf, FeedsChecker, StaysOver, IsNew, Ends, ReportsEnd};
+ghost use Rattle.stream_check.specs.Checker.{checker_state, IsReadyAt, Extends, AreBlocksOf, FeedsChecker, StaysFinished, IsNew, Ends, ReportsEnd};
 
 use crate::addition::LineScratch;
 use crate::dropped_ids::DroppedIds;
@@ -108,7 +108,7 @@ impl Checker {
         // Memory runs out only if there is no room left for a dropped identity.
         ensures memory { IfSome self.new.ending (λ ending.
             IsFullAtMemory ending self.new.dropped) }
-        ensures over { StaysOver self.old self.new (take result.used piece.now) }
+        ensures finished { StaysFinished self.old self.new (take result.used piece.now) }
         ensures ready { IsReadyAt self.new (M.caller_view map.new) }
         ensures params { self.new.params ≡ self.old.params }
     {
@@ -156,7 +156,7 @@ impl Checker {
         requires { IsSome self.now.ending }
         ensures { result ≡ record { used = used; status = CheckStatus.Over } }
     {
-        gate.when_over(self.stream(), &self.report());
+        gate.when_finished(self.stream(), &self.report());
         Progress {
             used,
             status: CheckStatus::Over,
@@ -171,13 +171,13 @@ impl Checker {
         ensures ends { Ends end self.old self.new }
         ensures reports { ReportsEnd end self.old self.new }
     {
-        let was_over = self.is_over();
+        let was_finished = self.is_over();
         match end {
             StreamEnd::Ended => self.end(),
             StreamEnd::Failed => self.read_failed(),
         }
-        if !was_over {
-            gate.when_over(self.stream(), &self.report());
+        if !was_finished {
+            gate.when_finished(self.stream(), &self.report());
         }
     }
 

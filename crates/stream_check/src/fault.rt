@@ -22,8 +22,8 @@ pub enum Fault {
     Tautology,
     /// The stream has no room left for the clause.
     NoRoom,
-    /// An earlier line of the stream deleted this identity of a hint or of an import, which isn't
-    /// the stream's own.
+    /// This hint, or identity of an import, isn't the stream's own, and an earlier line of the
+    /// stream deleted it.
     Dropped(Id),
     /// Nothing was published under this hint or identity of an import, or the hint isn't an
     /// identity.

@@ -1,6 +1,6 @@
 //! Laws of judging. Each function does nothing: its contract is the law, which holds for every
 //! stream, layout and history. If a body calls one, the proof of that body uses the law.
-ghost use Rattle.stream_check.specs.Laws.{FreshLeft, GoodLineTaken, EndJudged, OverStays, DecidedBeforeFailure, DroppedOnce, ReadyNew, ReadyBeside, OneReport, RepliesDecide, BlocksGoAlike, LegalNeverFork, AloneDecides, GoodFollows, EarlyEvents, VacantTriesAgain, ReducedStream, CitedFetched, WithinReported, EmptyCubeReported, CountsWithin};
+ghost use Rattle.stream_check.specs.Laws.{FreshLeft, GoodLineTaken, EndJudged, FinishedStays, DecidedBeforeFailure, DroppedOnce, ReadyNew, ReadyBeside, OneReport, RepliesDecide, BlocksGoAlike, LegalNeverFork, AloneDecides, GoodFollows, EarlyEvents, VacantTriesAgain, ReducedStream, CitedFetched, WithinReported, EmptyCubeReported, CountsWithin};
 
 use lrup_text::laws::{
     a_text_has_one_fault, a_text_spells_one_line, bytes_begin_with_one_line,
@@ -29,8 +29,8 @@ pub fn end_judged()
 {}
 
 /// A report that is right for both ends stays right for any further bytes.
-pub fn over_stays()
-    ensures { OverStays }
+pub fn finished_stays()
+    ensures { FinishedStays }
 {}
 
 /// If a read failed and the report doesn't say so, the report is right for either end and for any

@@ -15,7 +15,7 @@ use Rattle.lrup_model.specs.lemmas.HistoryLemmas.{run-others}
 use Rattle.lrup_model.specs.lemmas.CallerLemmas.{calls_differ}
 use Rattle.stream_check_tests.specs.lemmas.StepLemmas.{step_append}
 
--- the calls of stream t are none of stream s
+-- the calls of stream t aren't calls of stream s
 pub step_beside : (old new : Plain) (s t : ℕ) (es : History) → 0 < s → s ≢ t → PlainMoves old new t es
     → CallerStep (plain_caller_view old s) (plain_caller_view new s) []
 step_beside old new s t es positive other moves = record {
@@ -29,29 +29,29 @@ step_beside old new s t es positive other moves = record {
   follow = λ all. record { each = (moves.follow (record { each = all.each })).each };
 }
 
--- nothing, and then these events
+-- no events, and then these
 pub step_then : (p q r : CallerView) (es : History) → CallerStep p q [] → CallerStep q r es → CallerStep p r es
 step_then p q r es none later = step_append p q r [] es none later
 
 -- the calls of a desk that held the map from m to n
-pub desk_told : (a b : PlainDesk) (m n : Plain) (s : ℕ) (es : History) → PlainDeskMoves a b es → map_of a ≡ m → stream_at a ≡ s
+pub desk_known : (a b : PlainDesk) (m n : Plain) (s : ℕ) (es : History) → PlainDeskMoves a b es → map_of a ≡ m → stream_at a ≡ s
     → n ≡ map_of b → CallerStep (plain_caller_view m s) (plain_caller_view n s) es
-desk_told a b m n s es moves before stream behind =
-    let told : CallerStep (plain_caller_view (map_of a) (stream_at a)) (plain_caller_view (map_of b) (stream_at a)) es =
+desk_known a b m n s es moves before stream following =
+    let known : CallerStep (plain_caller_view (map_of a) (stream_at a)) (plain_caller_view (map_of b) (stream_at a)) es =
     plain_moves_are_step (map_of a) (map_of b) (stream_at a) es moves.moves in
     subst (λ (k : ℕ). CallerStep (plain_caller_view m k) (plain_caller_view n k) es) stream
     (subst (λ (x : Plain). CallerStep (plain_caller_view x (stream_at a)) (plain_caller_view n (stream_at a)) es) before
     (subst (λ (x : Plain). CallerStep (plain_caller_view (map_of a) (stream_at a)) (plain_caller_view x (stream_at a)) es)
-    (sym behind) told))
+    (sym following) known))
 
 -- and its fetch
 pub desk_fetched : (a b : PlainDesk) (m n : Plain) (s id : ℕ) (answer : Fetched)
     → PlainDeskMoves a b (fetch (stream_at a) id (reply_of (plain_desk_caller_view b) answer) ∷ [])
     → map_of a ≡ m → stream_at a ≡ s → n ≡ map_of b
     → CallerStep (plain_caller_view m s) (plain_caller_view n s) (fetch s id (reply_of (plain_caller_view n s) answer) ∷ [])
-desk_fetched a b m n s id answer moves before stream behind =
+desk_fetched a b m n s id answer moves before stream following =
     let event : ℕ → Plain → History = λ k x. fetch k id (reply_of (plain_caller_view x k) answer) ∷ [] in
-    let told : CallerStep (plain_caller_view m s) (plain_caller_view n s) (event (stream_at a) (map_of b)) =
-    desk_told a b m n s (event (stream_at a) (map_of b)) moves before stream behind in
+    let known : CallerStep (plain_caller_view m s) (plain_caller_view n s) (event (stream_at a) (map_of b)) =
+    desk_known a b m n s (event (stream_at a) (map_of b)) moves before stream following in
     subst (λ (k : ℕ). CallerStep (plain_caller_view m s) (plain_caller_view n s) (event k n)) stream
-    (subst (λ (x : Plain). CallerStep (plain_caller_view m s) (plain_caller_view n s) (event (stream_at a) x)) (sym behind) told)
+    (subst (λ (x : Plain). CallerStep (plain_caller_view m s) (plain_caller_view n s) (event (stream_at a) x)) (sym following) known)

@@ -1,4 +1,5 @@
--- The worked example: four clauses over two variables, and two streams with two identities each and room for one literal.
+-- The worked example: four clauses over two variables, and two streams with two identities each and
+-- room for one literal.
 use Rattle.std.specs.Prelude.{[], ◌∷◌}
 use Rattle.lrup_model.specs.Event.{Event, vacant, live, fetch, publish, retire}
 use Rattle.lrup_model.specs.Layout.{LayoutValue}
@@ -12,7 +13,7 @@ use Rattle.stream_check.specs.StreamContext.{StreamContext, context_of}
 abbrev pub two_streams : LayoutValue
 two_streams = record { vars = 2; clauses = 4; literals = 8; streams = 2; lines = 2; room = 1 }
 
--- stream 1, which tries a foreign hint once more
+-- stream 1, with one try
 abbrev pub first_stream : StreamParams
 first_stream = record { layout = two_streams; cube = []; stream = 1; tries = 1 }
 
@@ -23,7 +24,8 @@ at_start = context_of first_stream []
 abbrev pub after_drop : StreamContext
 after_drop = context_of first_stream (Deletion 5 (1 ∷ []) ∷ [])
 
--- fetches that find the first two clauses of the formula, one that finds nothing at 6, and the publish of the unit clause
+-- fetches that find the first two clauses of the formula, one that finds nothing at 6, and the
+-- publish of the unit clause
 abbrev pub first_found : Event
 first_found = fetch 1 1 (live first)
 

@@ -1,2 +1,2 @@
--- Lemmas, which other crates' proofs may cite.
+-- Lemmas that proofs of other crates may cite.
 pub mod StepLemmas

@@ -1,4 +1,5 @@
-//! Rows at a map that counts its calls, each whole, byte by byte and in pieces of two.
+//! Rows at a map that counts its calls; each stream comes whole, byte by byte, and in pieces of
+//! two.
 ghost use Rattle.std.specs.Prelude.{◌≡◌, IsSome};
 ghost use Rattle.lrup_model.specs.Event.{History};
 ghost use Rattle.stream_check.specs.Checker.{IsReadyAt};
@@ -18,12 +19,12 @@ mod late_map;
 mod memory;
 mod two_streams;
 
-/// Stops the test where two values differ: an assertion that is proved once for all tests.
+/// Stops the test if two values differ. As a function the assertion is proved only once.
 fn same<T: PartialEq + fmt::Debug + Drop>(rt: &impl Abort, value: T, wanted: T) {
     assert_eq!(rt; value, wanted);
 }
 
-/// The calls that a gate had.
+/// The calls that a gate got.
 #[derive(Clone, Copy, Debug, PartialEq, Eq)]
 struct GateCalls {
     fetches: u64,
@@ -48,7 +49,7 @@ impl Gate for GateCalls {
     }
 }
 
-/// What a stream is judged under. The cube's literals are parted by commas.
+/// The options of a row. The cube's literals are separated by commas.
 #[derive(Clone, Copy)]
 struct Options<'a> {
     streams: u64,
@@ -59,7 +60,7 @@ struct Options<'a> {
     late: Late,
 }
 
-/// The program's defaults, but for the tries.
+/// The program's defaults, except for the tries.
 const ONE_STREAM: Options = Options {
     streams: 1,
     lines: 65_536,
@@ -69,7 +70,7 @@ const ONE_STREAM: Options = Options {
     late: Late::Never,
 };
 
-/// 5 and 7 are the stream's own, and 6 and 8 the other's. Each has room for two literals.
+/// The stream owns 5 and 7, the other one 6 and 8. Each has room for two literals.
 const TWO_STREAMS: Options = Options {
     streams: 2,
     lines: 2,
@@ -78,7 +79,7 @@ const TWO_STREAMS: Options = Options {
 };
 
 impl<'a> Options<'a> {
-    /// Changes an option, by a word as `tries=3`.
+    /// Changes an option, by a word such as `tries=3`.
     fn set(&mut self, word: &'a str) -> Result<(), Fail> {
         let (name, value) = word.split_once('=').ok_or("no value")?;
         match name {
@@ -109,7 +110,7 @@ fn parts<'a>(
     Ok((options, lines, report))
 }
 
-/// The cube of literals that are parted by commas.
+/// The cube of literals that are separated by commas.
 fn cube_of(alloc: Global, text: &str) -> Result<Cube, Fail> {
     let mut literals = Vec::new(alloc);
     for word in text.split_terminator(',') {
@@ -118,8 +119,8 @@ fn cube_of(alloc: Global, text: &str) -> Result<Cube, Fail> {
     Ok(Cube::of(alloc, literals.as_slice())?)
 }
 
-/// The words of a report, and then the calls: how many fetches there were; the most attempts of a
-/// hint, if more than one; retires, if any.
+/// The words of a report, and then the calls: the number of fetches; the most attempts at a hint,
+/// if more than one; the retires, if any.
 fn shown(
     alloc: Global,
     report: Report,
@@ -151,7 +152,7 @@ fn shown(
     Ok(text)
 }
 
-/// Feeds a piece to its end, or until the checker is over.
+/// Feeds a piece to its end, or until the checker is finished.
 fn feed_whole<M: ClauseMap, G: Gate>(checker: &mut Checker, map: &mut M, gate: &mut G, piece: &[u8])
     requires { IsReadyAt checker.old (M.caller_view map.old) }
     ensures ready { IsReadyAt checker.new (M.caller_view map.new) }
@@ -186,7 +187,7 @@ fn feed_cut<M: ClauseMap, G: Gate>(
     checker.read_failed();
 }
 
-/// The stream of a row has its report and calls, in pieces of this length.
+/// Checks the report and the calls of a row's stream, in pieces of this length.
 fn has_report(
     rt: &impl Abort,
     alloc: Global,
@@ -200,7 +201,7 @@ fn has_report(
     Ok(())
 }
 
-/// The same of each row, in whichever pieces its stream comes.
+/// The same for each row, with pieces of each length.
 fn have_reports(
     rt: &impl Abort,
     alloc: Global,
@@ -219,7 +220,7 @@ static GOOD_LINES: &[&str] = &[
     " => 0 added, 0 deleted, ended; fetches 0",
     "5 2 0 1 2 0\n6 0 5 3 4 0\n => 2 added, 0 deleted, ended, empty, within; fetches 5",
     "7 2 0 1 2 0\n9 0 7 3 4 0\n => 2 added, 0 deleted, ended, empty, within; fetches 5",
-    // A bad line takes nothing back.
+    // A bad line doesn't undo what earlier lines did.
     "5 2 0 1 2 0\n6 0 5 3 4 0\n7 2 0 1 0\n \
      => 2 added, 0 deleted, bad line 3 (no conflict), empty, within; fetches 6",
 ];
@@ -261,7 +262,7 @@ fn bad_lines_have_faults(rt: HostRuntime) -> Result<(), Fail> {
     have_reports(&rt, rt.alloc(), ONE_STREAM, FAULTS)
 }
 
-/// Lines of which two tests fail.
+/// Lines that fail two tests.
 static TWO_FAULTS: &[&str] = &[
     "9999999 3 -3 0 1 0\n => 0 added, 0 deleted, bad line 1 (identity); fetches 0",
     "5 3 -3 0 1 0\n => 0 added, 0 deleted, bad line 1 (literal); fetches 0",
@@ -276,7 +277,7 @@ fn the_first_test_that_fails_decides(rt: HostRuntime) -> Result<(), Fail> {
     have_reports(&rt, rt.alloc(), ONE_STREAM, TWO_FAULTS)
 }
 
-/// Hints that are outside, the formula's, and own ones: vacant and live.
+/// Hints that are no identities, the formula's, and the stream's own: vacant and live.
 static HINTS_FETCHED_ONCE: &[&str] = &[
     "5 2 0 9 0\n => 0 added, 0 deleted, bad line 1 (missing 9); fetches 0",
     "5 2 0 9999999 0\n => 0 added, 0 deleted, bad line 1 (missing 9999999); fetches 0",
@@ -290,7 +291,7 @@ fn hints_that_are_not_foreign_are_fetched_once(rt: HostRuntime) -> Result<(), Fa
     have_reports(&rt, rt.alloc(), TWO_STREAMS, HINTS_FETCHED_ONCE)
 }
 
-/// The other stream publishes 6 never or right before some fetch, and may retire it at once.
+/// The other stream publishes 6 never or right before some fetch, and may retire it immediately.
 static FOREIGN_HINTS: &[&str] = &[
     "tries=0: 5 -2 0 6 0\n => 0 added, 0 deleted, bad line 1 (missing 6); fetches 1",
     "tries=0 published=1: 5 -2 0 6 0\n => 1 added, 0 deleted, ended; fetches 1",
@@ -319,7 +320,7 @@ fn a_foreign_hint_is_fetched_until_it_comes(rt: HostRuntime) -> Result<(), Fail>
     have_reports(&rt, rt.alloc(), TWO_STREAMS, FOREIGN_HINTS)
 }
 
-/// As many tries as there may be.
+/// The largest number of tries.
 static MOST_TRIES: &[&str] = &[
     "tries=1000000: 5 -2 0 6 0\n \
      => 0 added, 0 deleted, bad line 1 (missing 6); fetches 1000001, attempts 1000001",
@@ -335,7 +336,7 @@ fn a_hint_may_come_at_the_last_try(rt: HostRuntime) -> Result<(), Fail> {
     Ok(())
 }
 
-/// One retire for each own identity that is reached, and nothing for others.
+/// A deletion makes one retire for each own identity that it reaches, and no call for others.
 static DELETIONS: &[&str] = &[
     "5 d 0\n => 0 added, 0 deleted, ended; fetches 0",
     "5 d 1 6 0\n => 0 added, 2 deleted, ended; fetches 0",
@@ -358,10 +359,10 @@ static ROOMS: &[&str] = &[
     "room=1: 5 1 2 0 1 0\n => 0 added, 0 deleted, bad line 1 (no room); fetches 0",
     "room=2: 5 1 2 0 1 0\n => 1 added, 0 deleted, ended; fetches 1",
     "room=2: 5 1 2 0 1 0\n6 2 0 1 2 0\n => 1 added, 0 deleted, bad line 2 (no room); fetches 1",
-    // The empty clause takes none.
+    // The empty clause takes no room.
     "room=3: 5 1 2 0 1 0\n6 2 0 1 2 0\n7 0 6 3 4 0\n \
      => 3 added, 0 deleted, ended, empty, within; fetches 6",
-    // A retired clause gives none back.
+    // A retired clause gives no room back.
     "room=1: 5 2 0 1 2 0\n5 d 5 0\n6 2 0 1 2 0\n \
      => 1 added, 1 deleted, bad line 3 (no room); fetches 2, retires 1",
 ];
@@ -371,7 +372,7 @@ fn the_room_ends(rt: HostRuntime) -> Result<(), Fail> {
     have_reports(&rt, rt.alloc(), ONE_STREAM, ROOMS)
 }
 
-/// With two identities a stream, one stream has 5 and 6, and the first of two has 5 and 7.
+/// With two identities per stream, a single stream owns 5 and 6, and the first of two owns 5 and 7.
 static IDENTITIES: &[&str] = &[
     "streams=1: 4 2 0 1 2 0\n => 0 added, 0 deleted, bad line 1 (identity); fetches 0",
     "streams=1: 5 2 0 1 2 0\n => 1 added, 0 deleted, ended; fetches 2",

@@ -1,4 +1,4 @@
-//! Lines as they are judged, by the definitions alone.
+//! How lines are judged, proved from the definitions alone.
 ghost use Rattle.std.specs.Prelude.{◌≡◌, true, false, [], ◌∷◌, pos, negsuc};
 ghost use Rattle.lrup_text.specs.Lines.{Addition, Deletion, Import};
 ghost use Rattle.stream_check.specs.StreamContext.{is_within};
@@ -8,7 +8,8 @@ ghost use Rattle.stream_check_tests.specs.Worked.{first_stream, at_start, after_
 
 use stream_check::Fault;
 
-/// A clause is within a cube of its literals' complements, and not within one of its literals.
+/// A clause is within the cube of its literals' complements, but not within the cube of its
+/// literals.
 fn clauses_within_are_judged()
     ensures within { is_within (pos 1 ∷ negsuc 1 ∷ []) (pos 2 ∷ []) ≡ true }
     ensures itself { is_within (pos 2 ∷ []) (pos 2 ∷ []) ≡ false }
@@ -16,7 +17,8 @@ fn clauses_within_are_judged()
     ensures nothing { is_within [] [] ≡ true }
 {}
 
-/// A good addition, and its last event; and one whose hint after the conflict isn't fetched.
+/// A good addition, whose last event is its publish; and one whose hint after the conflict isn't
+/// fetched.
 fn additions_are_judged()
     ensures good { JudgesLine first_stream at_start (Addition 5 (pos 2 ∷ []) (1 ∷ 2 ∷ []))
         (first_found ∷ second_found ∷ unit_published ∷ []) Good }
@@ -28,7 +30,7 @@ fn additions_are_judged()
         [] (Bad 0 Fault.NoConflict) }
 {}
 
-/// The tests before the hints, in their order: a line that fails one makes no event.
+/// The tests before the hints, in order: a line that fails one makes no event.
 fn tests_are_judged()
     ensures foreign { JudgesLine first_stream at_start (Addition 6 (pos 3 ∷ []) [])
         [] (Bad 0 Fault.Identity) }
@@ -40,8 +42,8 @@ fn tests_are_judged()
         [] (Bad 0 Fault.NoRoom) }
 {}
 
-/// Hints that aren't found: one of another stream is fetched once more; one that is outside or was
-/// dropped isn't fetched.
+/// Hints that aren't found: another stream's is fetched once more; one that is no identity, or was
+/// dropped, isn't fetched.
 fn missing_hints_are_judged()
     ensures foreign { JudgesLine first_stream at_start (Addition 5 (pos 2 ∷ []) (6 ∷ []))
         (six_vacant ∷ six_vacant ∷ []) (Bad 0 (Fault.Missing 6)) }
@@ -67,7 +69,8 @@ fn deletions_are_judged()
         (Bad 0 (Fault.NotLive 9)) }
 {}
 
-/// Imports: the formula's are compared, another stream's are fetched once more, and none is added.
+/// Imports: a clause of the formula is compared; another stream's, while vacant, is fetched once
+/// more; and nothing is added.
 fn imports_are_judged()
     ensures good { JudgesLine first_stream at_start (Import 1 (pos 2 ∷ pos 1 ∷ pos 2 ∷ []))
         (first_found ∷ []) Good }

@@ -10,7 +10,7 @@ use Rattle.stream_check.specs.declared.progress.CheckStatus.TheVariants as statu
 use Rattle.stream_check.specs.Checker.{state_by, checker_state, Extends, FeedsChecker, EndsBy, Ends, ReportsEnd}
 use Rattle.stream_check.specs.CheckerValue.{Tally, report_of_tally, CheckerValue}
 use Rattle.stream_check.specs.Judging.{JudgesBlocks}
-use Rattle.stream_check.specs.Laws.{OverStays}
+use Rattle.stream_check.specs.Laws.{FinishedStays}
 use Rattle.stream_check.specs.Reaching.{CheckerState, Over, ReachesState}
 use Rattle.stream_check.specs.Stopping.{IsFullAtMemory}
 use Rattle.stream_check.specs.StreamParams.{StreamParams}
@@ -27,23 +27,23 @@ reaches_append c one two three xs ys front back first second bytes before left =
     (second (bytes ++ xs) (before ++ front) (first bytes before left)))
 
 -- a finished checker takes the rest, too
-over_takes : OverStays
+finished_takes : FinishedStays
     → (c : StreamParams) (old : CheckerState) (used rest : List ℕ) (blocks : List History) (v : CheckerValue) (free : ℕ) (ending : Ending)
     → v.ending ≡ Some ending → Extends c old used blocks (checker_state v free)
     → Extends c old (used ++ rest) blocks (checker_state v free)
-over_takes stays c old used rest blocks v free ending is reaches bytes before left =
+finished_takes stays c old used rest blocks v free ending is reaches bytes before left =
     let report = report_of_tally v.tally ending in
     let is_dropped : ℕ → Bool = is_among v.dropped.ids in
-    let over : checker_state v free ≡ Over report is_dropped = ap (state_by v free) is in
-    let taken = subst (ReachesState c (bytes ++ used) (before ++ blocks)) over (reaches bytes before left) in
+    let finished : checker_state v free ≡ Over report is_dropped = ap (state_by v free) is in
+    let taken = subst (ReachesState c (bytes ++ used) (before ++ blocks)) finished (reaches bytes before left) in
     let all = subst (λ (t : List ℕ). ReachesState c t (before ++ blocks) (Over report is_dropped)) (append_assoc bytes used rest) (
       stays c (bytes ++ used) rest (before ++ blocks) report taken.0,
       drops_longer c (bytes ++ used) rest (before ++ blocks) report is_dropped taken.1,
     ) in
-    subst (ReachesState c (bytes ++ (used ++ rest)) (before ++ blocks)) (sym over) all
+    subst (ReachesState c (bytes ++ (used ++ rest)) (before ++ blocks)) (sym finished) all
 
 -- a call that ends no line has reached the end of the piece, or the checker has finished
-pub stopped_takes : OverStays
+pub stopped_takes : FinishedStays
     → (status : CheckStatus) (old new : CheckerValue) (piece used rest : List ℕ) (c : StreamParams) (state : CheckerState)
     (blocks : List History) (free : ℕ)
     → (status ≡ statuses.Line → ⊥) → FeedsChecker status old new piece used → piece ≡ used ++ rest
@@ -53,12 +53,12 @@ stopped_takes stays statuses.More old new piece used rest c state blocks free ot
     subst (λ (t : List ℕ). Extends c state t blocks (checker_state new free)) status.1 reaches
 stopped_takes stays statuses.Over old new piece used rest c state blocks free other status split reaches =
     subst (λ (t : List ℕ). Extends c state t blocks (checker_state new free)) (sym split)
-    (over_takes stays c state used rest blocks new free status.0 status.1 reaches)
+    (finished_takes stays c state used rest blocks new free status.0 status.1 reaches)
 
 -- a call that reached the end of the piece, or finished the checker, ended no line
 pub no_line : (status : CheckStatus) → (status ≡ statuses.More) ⊎ (status ≡ statuses.Over) → status ≡ statuses.Line → ⊥
 no_line status (inl more) line = cc
-no_line status (inr over) line = cc
+no_line status (inr finished) line = cc
 
 -- what was taken so far, and then more with the same parameters
 pub reaches_more : (c d : StreamParams) (one two three : CheckerState) (xs ys all : List ℕ) (front back : List History) → d ≡ c
@@ -68,7 +68,8 @@ reaches_more c d one two three xs ys all front back same split first second =
     subst (λ (t : List ℕ). Extends c one t (front ++ back) three) (sym split)
     (reaches_append c one two three xs ys front back first (subst (λ (e : StreamParams). Extends e two ys back three) same second))
 
--- after the end or a failed read, a checker that was finished keeps its ending, and each checker keeps its counts and what it dropped
+-- after the end or a failed read, a checker that was finished keeps its ending, and each checker
+-- keeps its counts and what it dropped
 ends_by : (o : Option Ending) (end : StreamEnd) (v u : CheckerValue) → v.ending ≡ o → EndsBy o end v u
     → (u.ending ≡ Some (ending_with o end v)) × (u.tally ≡ v.tally) × (u.dropped ≡ v.dropped)
 ends_by None end v u is ends = (ends.2, ends.1, ends.4)
@@ -81,9 +82,9 @@ pub at_mark : (start v u : CheckerValue) (room free : ℕ) (bytes items : List �
     → Extends start.params (checker_state start room) bytes blocks (checker_state v free) → Ends end v u → ReportsEnd end v u
     → IfSome u.ending (λ ending. report ≡ report_of_tally u.tally ending) → IsFullAtMemory report.ending u.dropped
     → JudgesAtMark start room items blocks u.dropped report
-at_mark start v u room free bytes items blocks end report marked params left ends reports told full =
+at_mark start v u room free bytes items blocks end report marked params left ends reports known full =
     let by = ends_by v.ending end v u refl ends in
-    let tells = λ (e : Option Ending). IfSome e (λ ending. report ≡ report_of_tally u.tally ending) in
+    let says = λ (e : Option Ending). IfSome e (λ ending. report ≡ report_of_tally u.tally ending) in
     record {
       bytes = bytes;
       end = end;
@@ -94,14 +95,14 @@ at_mark start v u room free bytes items blocks end report marked params left end
         left = left;
         are = by.2;
         end = end;
-        reports = subst tells by.0 told ∙ ap (λ (t : Tally). report_of_tally t (ending_with v.ending end v)) by.1;
+        reports = subst says by.0 known ∙ ap (λ (t : Tally). report_of_tally t (ending_with v.ending end v)) by.1;
         full = full;
       };
       judged = λ fresh.
           let reached = subst (λ (c : StreamParams). ReachesState c bytes blocks (checker_state v free)) (sym params) (left [] [] fresh) in
           let judged = reports bytes blocks free reached in
           subst (λ (c : StreamParams). JudgesBlocks c bytes end blocks report) params
-          (subst (JudgesBlocks v.params bytes end blocks) (sym (subst tells judged.1 told)) judged.2);
+          (subst (JudgesBlocks v.params bytes end blocks) (sym (subst says judged.1 known)) judged.2);
     }
 
 -- if nothing was received, there was no mark

@@ -79,21 +79,21 @@ none_found view [] room found none is =
 none_found view (j ∷ jobs) room found none is = cc
 
 -- the ring of the stream after these failed
-behind : {A : Type 0} (before after : List A) (x : A) → slice_get (before ++ x ∷ after) (length before) ≡ Some x
-behind [] after x = refl
-behind (b ∷ before) after x = behind before after x
+following : {A : Type 0} (before after : List A) (x : A) → slice_get (before ++ x ∷ after) (length before) ≡ Some x
+following [] after x = refl
+following (b ∷ before) after x = following before after x
 
-pub ring_behind : {S : Type 0} (view : SourceView S) (before after jobs : List (StreamJobsValue S)) (job : StreamJobsValue S)
+pub ring_after : {S : Type 0} (view : SourceView S) (before after jobs : List (StreamJobsValue S)) (job : StreamJobsValue S)
     (found : StreamResultsValue S)
     → AreResults view before found → MissesMark view job.reader → before ++ job ∷ after ≡ jobs → IsFaultOf view jobs (Ring found)
-ring_behind {S} view before after jobs job found all missed whole =
+ring_after {S} view before after jobs job found all missed whole =
     let count : length before ≡ length found.passes =
     sym (ap length all.passes ∙ length-map all.found (λ one. one.pass) ∙ zip_count (Finishes view) before all.found all.finish) in
     subst (λ js. IsFaultOf view js (Ring found)) whole (
       subst (λ (n : ℕ). AreResults view (take n (before ++ job ∷ after)) found) count
           (subst (λ js. AreResults view js found) (sym (take-append_seam before (job ∷ after))) all),
       subst (λ (n : ℕ). IsSomeAnd (slice_get (before ++ job ∷ after) n) (λ j. MissesMark view j.reader)) count
-          (subst (λ one. IsSomeAnd one (λ j. MissesMark view j.reader)) (sym (behind before after job)) missed),
+          (subst (λ one. IsSomeAnd one (λ j. MissesMark view j.reader)) (sym (following before after job)) missed),
     )
 
 -- ---- the jobs of all streams

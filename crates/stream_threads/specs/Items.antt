@@ -30,7 +30,7 @@ pub record SendsAll (S : Type 0) (view : SourceView S) (first last : S)
     (items : List ℕ) : Type 0 where
   pub bytes : List ℕ
   pub end : StreamEnd
-  pub told : Consumes (view.left first) (view.left last) bytes
+  pub known : Consumes (view.left first) (view.left last) bytes
   pub ends : EndsSo end (view.left last) (view.has_failed last)
   pub read : ReadOut S view.reads end first bytes last
   pub sent : IsSentOf bytes end items

@@ -17,7 +17,7 @@ use lrup_text::PIECE;
 use rtrb::Consumer;
 use std::alloc::{AllocError, Global};
 use std::sync::{OnceLock, OnceToken, Wait};
-use stream_check::laws::over_stays;
+use stream_check::laws::finished_stays;
 use stream_check::{CheckStatus, Checker, DroppedIds, Gate, Report, RunParams};
 
 /// The maximum number of items that one pop takes, and of bytes that the checker is fed at once.
@@ -169,7 +169,7 @@ fn check_received<W: Wait, G: Gate, M: ClauseMap>(
             Received::Abandoned => return None,
         }
     }
-    // The loop has no end.
+    // Only a return ends the loop.
     unreachable!()
 }
 
@@ -186,7 +186,7 @@ fn take_all<G: Gate, M: ClauseMap>(checker: &mut Checker, gate: &mut G, map: &mu
 {
     // A law, with no effect at run time: the report of a finished checker stays right for any
     // further bytes.
-    over_stays();
+    finished_stays();
     let mut rest = piece;
     // Each good line uses at least one byte, so this many iterations suffice.
     for _ in 0..piece.len() {

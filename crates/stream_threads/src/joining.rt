@@ -108,7 +108,7 @@ fn result_of<R: Source + Drop>(mut sent: Sent<R>, checked: CheckedPass) -> Optio
 
 impl<'a, R: Source + Drop, G: Gate + Drop> Started<'a, R, G> {
     /// Waits until both threads have ended, and returns the stream's result, or `None` if no mark
-    /// came. `signalled` proves that the signal was to start.
+    /// came. `signalled` proves that the signal was set to start.
     fn join<T: Threads>(
         self,
         threads: &T,

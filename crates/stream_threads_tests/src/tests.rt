@@ -1,4 +1,4 @@
-// What the tests of the ring and those of the jobs have in common.
+// What the tests of the ring and of the jobs share.
 use std::fmt;
 use std::process::Abort;
 use std::sync::atomic::{AtomicU64, Ordering};
@@ -8,15 +8,15 @@ use std::time::{Clock, Duration};
 mod jobs;
 mod ring;
 
-/// Stops the test where two values differ: an assertion that is proved once for all tests.
+/// Stops the test if two values differ. As a function the assertion is proved only once.
 fn same<T: PartialEq + fmt::Debug + Drop>(rt: &impl Abort, value: T, wanted: T) {
     assert_eq!(rt; value, wanted);
 }
 
-/// How often a thread looks for what another does, before it gives up.
+/// How often a thread polls for another one before it gives up.
 const TURNS: u64 = 10_000_000;
 
-/// Waits until the counter is there, and says whether it was in time.
+/// Waits until the counter has this value; returns whether it got there in time.
 fn waits_for(counter: &AtomicU64, wanted: u64) -> bool {
     for _ in 0..TURNS {
         if counter.load(Ordering::SeqCst) >= wanted {

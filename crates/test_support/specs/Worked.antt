@@ -24,14 +24,15 @@ fourth = negsuc 0 ∷ negsuc 1 ∷ []
 abbrev pub four : Cnf
 four = record { vars = 2; clauses = first ∷ second ∷ third ∷ fourth ∷ [] }
 
--- the unit clause that the first two clauses show
+-- the unit clause that follows from the first two clauses
 abbrev pub unit : Clause
 unit = pos 2 ∷ []
 
 abbrev pub one_line : LayoutValue
 one_line = record { vars = 2; clauses = 4; literals = 8; streams = 1; lines = 1; room = 2 }
 
--- stream 1 publishes the unit clause under 5, retires it, and can then do neither again
+-- stream 1 publishes the unit clause under 5, retires it, and can then neither publish nor retire
+-- there
 abbrev pub calls : History
 calls =
     fetch 1 5 vacant

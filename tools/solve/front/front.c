@@ -1,4 +1,4 @@
-// The front: all of lrup-solve that is believed. It runs lrupd, the verified checker, on the user's
+// The front: all of lrup-solve that is trusted. It runs lrupd, the verified checker, on the user's
 // formula, and prints what lrupd's exit status says, or an assignment that it has evaluated.
 //
 //     front --+-- lrupd checks the proof; the probe, another lrupd, only reads the formula
@@ -8,16 +8,16 @@
 // anything, and gives lrupd that open file. It starts lrupd and the probe itself, and collects the
 // exit status of each through a pidfd, opened while only the front can wait for that child. Process
 // ids are never compared, and orphans are the supervisor's. Only an exit with lrupd's status sets
-// `verdict`, in one place, once. No other process gets the front's standard output. Of what comes
-// from lrup-engines it prints comments, in ASCII, and an assignment if that satisfies each clause.
-// The lines on which this rests are marked `trusted`. Whatever else others do can at worst prevent
-// an answer. It is assumed that they can't trace the front or lrupd, replace lrupd, or write to the
-// formula's file or the user's output (docs/SECURITY.md).
+// `verdict`, in one place. If a signal ends lrupd, another one may begin, at the formula's first
+// byte. No other process gets the front's standard output. From lrup-engines it prints comments, in
+// ASCII, and an assignment if that satisfies each clause. The lines on which this rests are marked
+// `trusted`. Others can at worst prevent an answer. It is assumed that they can't trace the front
+// or lrupd, replace lrupd, or write to the formula's file or the user's output (docs/SECURITY.md).
 //
 // lrup-engines is sent a line for each child that ended, and for a signal. It sends blocks of BLOCK
 // bytes, each a line that is filled up with zeros, and it answers --help and --version.
 //
-//     check STREAMS LINES ROOM TRIES PID FILE    for lrupd's command line, once; the streams are in
+//     check STREAMS LINES ROOM TRIES PID FILE    start lrupd, if there is none; the streams are in
 //                                                the folder that process PID has open as FILE
 //     v SIGNS      + or - for each variable that comes next
 //     model        the assignment is whole
@@ -62,7 +62,8 @@ static struct child {
     const char *name;
     int handle;         // -1: it isn't running
     int output;         // in memory, so that no full disk costs an answer
-    pid_t pid;          // 0: it wasn't started
+    off_t begins;       // there; before it are lines of one that a signal has ended
+    pid_t pid;          // 0: it wasn't started, or not since a signal ended it
     siginfo_t end;
 } children[CHILDREN] = { { .name = "supervisor", .handle = -1 }, { .name = "probe", .handle = -1 },
                          { .name = "lrupd", .handle = -1 } };
@@ -137,17 +138,17 @@ static const char *on_the_path(const char *name) {
     return NULL;
 }
 
-// The one that the user has named, or the one that is installed with this program.
+// The lrupd that the user has named, or the one that is installed with this program.
 static const char *find_program(const char *named, const char *name) {
     const char *found = named ? named : beside_this(name);
     if (found == NULL) found = beside_this(text("../libexec/lrupd/%s", name));
     if (found == NULL) found = name;
     if (strchr(found, '/') == NULL) found = on_the_path(found);     // trusted (name)
     if (found != NULL && is_program(found)) return found;
-    errx(1, "no %s that can be run: %s", name, named ? named : "not beside this, nor on the PATH");
+    errx(1, "no %s that can be run: %s", name, named ? named : "none beside this or on the PATH");
 }
 
-// For all processes the open file of this one, also once its path is another file's.
+// The open file's name for all processes, even once its path is another file's.
 static const char *name_of(int file) { return text("%s/fd/%d", self, file); }
 
 // A sealed copy of what can't be read twice. lrupd takes at most 2^28 literals and clauses, with
@@ -165,7 +166,7 @@ static int copied(int file, const char *path) {
     return copy;
 }
 
-// Where a path can't be opened lrup-engines says why.
+// If a path can't be opened, lrup-engines says why.
 static const char *open_input(const char *path) {
     struct stat found;
     bool is_standard = strcmp(path, "-") == 0;
@@ -233,7 +234,7 @@ static void stop_solving_within(long milliseconds) {
 
 static bool is_running(enum which which) { return children[which].handle >= 0; }
 
-// Only of a child that wasn't waited for: no other process can have its id yet.
+// Only for a child that hasn't been waited for: no other process can have its id yet.
 static void signal_group(enum which which, int number) {
     if (is_running(which)) kill(-children[which].pid, number);
 }
@@ -275,6 +276,8 @@ static void start_lrupd(enum which which, const struct request *request) {
     if (which == PROBE) words[count++] = "/dev/null";
     for (unsigned long k = 1; k <= request->streams; k++)
         words[count++] = text("%s/round-1.stream-%lu", folder, k);
+    children[which].begins = lseek(children[which].output, 0, SEEK_END);
+    if (children[which].begins < 0) err(1, "cannot find the end of lrupd's output");
     start(which, words, null, children[which].output, children[which].output);
 }
 
@@ -318,15 +321,16 @@ static bool exited_with(enum which which, int status) {
 static void set_verdict(int status, const char *line) {
     char bytes[64] = "";
     size_t length = strlen(line) + 1;
-    off_t size = lseek(children[LRUPD].output, 0, SEEK_END);
-    if (pread(children[LRUPD].output, bytes, length, size - (off_t)length) < 0) return;
+    off_t at = lseek(children[LRUPD].output, 0, SEEK_END) - (off_t)length;
+    if (pread(children[LRUPD].output, bytes, length, at) < 0) return;
     if (!exited_with(LRUPD, status)) return;                // trusted (exit)
     if (strcmp(bytes, text("%s\n", line)) != 0) return;     // trusted (last line): lrupd's own
+    if (at < children[LRUPD].begins) return;                // trusted (own line): no killed one's
     assert(verdict == NULL);
     verdict = line;
 }
 
-// Of a child whose handle says that it has ended.
+// Called once the child's handle says that it has ended.
 static void collect_end(enum which which) {
     struct child *child = &children[which];
     signal_group(which, SIGKILL);       // whatever it leaves in its group
@@ -338,7 +342,8 @@ static void collect_end(enum which which) {
     if (which == LRUPD && assume != NULL)
         set_verdict(UNDER_ASSUMPTIONS, "s UNSATISFIABLE UNDER ASSUMPTIONS");
     if (which == PROBE && !exited_with(PROBE, UNKNOWN)) stop_solving_within(GRACE);
-    if (which == LRUPD && !(verdict && options.core_or_lrat)) stop_solving_within(GRACE);
+    if (which == LRUPD && child->end.si_code != CLD_EXITED) child->pid = 0;     // may start again
+    else if (which == LRUPD && !(verdict && options.core_or_lrat)) stop_solving_within(GRACE);
     dprintf(told[1], "%s %d %d\n", child->name, child->end.si_code, child->end.si_status);
 }
 
@@ -373,7 +378,7 @@ static void await_event(void) {
         if (files[which].revents != 0) collect_end((enum which)which);
 }
 
-// The state that comes next. Each ends at `until` at the latest; SOLVING has that from --time.
+// Returns the next state. Each state ends at `until` at the latest; SOLVING gets that from --time.
 static enum state next(void) {
     switch (state) {
     case SOLVING:

@@ -1,4 +1,4 @@
-// The supervisor: neither verified nor believed, in a process of its own. It is the parent of
+// The supervisor: neither verified nor trusted, in a process of its own. It is the parent of
 // lrup-engines and of each process that lrup-engines leaves behind, and ends them all.
 #define _GNU_SOURCE
 #include "supervisor.h"

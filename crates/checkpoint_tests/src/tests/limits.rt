@@ -11,7 +11,7 @@ use std::fmt::Write;
 use std::test::Fail;
 use test_support::Paper;
 
-/// Saves the formula's first clause so many times.
+/// Saves `count` copies of the formula's first clause.
 fn save_copies<M: ClauseMap>(
     alloc: Global,
     desk: &mut M,
@@ -47,7 +47,8 @@ fn save_copies_at_first(
     save_copies(alloc, &mut map.desk(1), layout, count, paper)
 }
 
-/// The same, of a formula of one clause, where the first write fails: what that gives, the writes, and the bytes.
+/// The same for a formula of one clause, with a first write that fails. Returns the result, the
+/// number of writes and that of bytes.
 fn save_one_clause(
     alloc: Global,
     count: usize,
@@ -64,7 +65,8 @@ fn save_one_clause(
     Ok((saved, paper.writes, paper.bytes.len()))
 }
 
-/// As many clauses as a formula may have come to the first write, which fails here; one more doesn't.
+/// With the largest number of clauses `save` gets to the first write, which fails here; with one
+/// more it doesn't.
 #[test]
 fn clauses_have_a_limit(rt: HostRuntime) -> Result<(), Fail> {
     let most = Formula::MAX_CLAUSES as usize;
@@ -75,7 +77,7 @@ fn clauses_have_a_limit(rt: HostRuntime) -> Result<(), Fail> {
     Ok(())
 }
 
-/// A clause of as many literals as a formula's may have.
+/// A clause with the largest number of literals that a formula allows.
 fn longest_clause(alloc: Global) -> Result<String, AllocError> {
     let mut text = String::from_str(alloc, "p cnf 1048575 1\n")?;
     for variable in 1..=Formula::MAX_CLAUSE_LITERALS {

@@ -1,4 +1,5 @@
-//! What is saved of the worked formula where stream 1 published a clause, or retired it, and where not all is wanted.
+//! What `save` writes for the worked formula after stream 1 published a clause, or also retired it,
+//! and if not all clauses are wanted.
 ghost use Rattle.std.specs.Prelude.{◌≡◌, ◌||◌, false, nat_lt, IfOk};
 ghost use Rattle.lrup_model.specs.Layout.{Fits, IsStream};
 ghost use Rattle.lrup_model.specs.Plain.{formula_of};
@@ -14,7 +15,7 @@ use std::process::Abort;
 use std::test::Fail;
 use test_support::{Paper, four_clauses, lit};
 
-/// What one stream wants and what another one wants, of which each has dropped a range.
+/// Wants what either of two streams wants, each of which has dropped a range.
 #[derive(Clone, Copy)]
 struct Either(Except, Except);
 
@@ -26,12 +27,12 @@ impl Wanted for Either {
     }
 }
 
-/// What stream 1 does, and what is wanted then.
+/// What stream 1 does, and which clauses are wanted afterwards.
 #[derive(Clone, Copy)]
 struct Case {
-    /// The identity under which it publishes `2`, which the first two clauses show.
+    /// The identity under which it publishes `2`, which follows from the first two clauses.
     publishes: Option<Id>,
-    /// Does it retire that clause?
+    /// Whether it retires that clause.
     retires: bool,
     wanted: Either,
 }
@@ -52,7 +53,8 @@ fn act<M: ClauseMap>(desk: &mut M, case: &Case)
     }
 }
 
-/// Saves what is live and wanted then, and gives its formula if the run goes on.
+/// Lets stream 1 act, saves the live and wanted clauses, and returns their formula if the run
+/// continues.
 fn save_after(
     alloc: Global,
     map: &mut PlainMap,
@@ -87,7 +89,7 @@ fn open_worked(alloc: Global) -> Result<(PlainMap, Layout), Fail>
     Ok((map, layout))
 }
 
-/// Saves the worked formula's map onto a paper.
+/// Opens the worked formula's map, and saves it as `save_after` does.
 fn save_worked(
     alloc: Global,
     case: &Case,
@@ -102,7 +104,7 @@ fn save_worked(
     Ok(save_after(alloc, &mut map, &layout, case, goes_on, paper))
 }
 
-/// What is saved of a formula that was given.
+/// What `save` writes for the formula that an earlier save returned.
 fn text_of(alloc: Global, next: &Formula) -> Result<Vec<u8>, Fail> {
     let mut paper = Paper::new(alloc, 1_000, 0);
     save_formula(alloc, next, &mut paper)??;
@@ -121,7 +123,8 @@ fn clauses_of(alloc: Global, text: &str) -> Result<String, Fail> {
     Ok(clauses)
 }
 
-/// What stream 1 publishes, and whether it retires that; the ranges that it and another stream dropped; and what is saved.
+/// What stream 1 publishes, and whether it retires that; the ranges that it and another stream
+/// dropped; and the saved text.
 type Row = (Option<Id>, bool, Except, Except, &'static str);
 
 const FOUR: &str = "p cnf 2 4\n1 2 0\n-1 2 0\n1 -2 0\n-1 -2 0\n";
@@ -142,11 +145,11 @@ static ROWS: [Row; 12] = [
     (Some(5), false, ALL, ALL, WITH_5),
     (Some(6), false, ALL, ALL, WITH_6),
     (Some(5), true, ALL, ALL, FOUR),
-    // One of the streams has dropped the first clause, or both have.
+    // One of the streams has dropped the first clause; or both have.
     (Some(5), false, Except(1, 1), ALL, WITH_5),
     (Some(5), false, Except(1, 1), Except(1, 1), WITHOUT_1),
     (Some(6), false, Except(2, 3), Except(2, 3), WITH_1_4_6),
-    // Each has dropped another one besides.
+    // Each has also dropped clauses that the other keeps.
     (Some(6), false, Except(1, 3), Except(2, 6), WITH_1_4_6),
     (Some(5), false, Except(5, 6), Except(5, 6), FOUR),
     (
@@ -170,8 +173,9 @@ fn case_of(row: &Row) -> Case {
     }
 }
 
-/// Saves a case by writes of 7 bytes, of which this one fails, and none where that is 0. A run that goes on is given the clauses that
-/// were written, in the same order, but not under the same identities.
+/// Saves a row by writes of 7 bytes. Write number `fails_at` fails; if that is 0, none does. A run
+/// that continues gets the clauses that were written, in the same order, but not under the same
+/// identities.
 fn assert_saves(
     rt: &(impl Abort + AllocGlobal),
     row: &Row,
@@ -196,7 +200,7 @@ fn assert_saves(
     Ok(())
 }
 
-/// By writes of which each fails in turn, and at last none.
+/// Each write fails in turn, and finally none.
 #[test]
 fn what_is_live_and_wanted_is_written(rt: HostRuntime) -> Result<(), Fail> {
     for row in &ROWS {
@@ -209,7 +213,7 @@ fn what_is_live_and_wanted_is_written(rt: HostRuntime) -> Result<(), Fail> {
     Ok(())
 }
 
-/// What was saved is read again, without its last end of a line too, and no shorter beginning is.
+/// `parse` reads what was saved, even without the last LF, and refuses every shorter prefix.
 #[test]
 fn a_beginning_is_refused(rt: HostRuntime) {
     for row in &ROWS {
@@ -221,7 +225,8 @@ fn a_beginning_is_refused(rt: HostRuntime) {
     }
 }
 
-/// Where memory is refused, for the clips or for the formula, nothing is written, and the next call saves all.
+/// If memory is refused, for the clips or for the formula, nothing is written, and the next call
+/// saves everything.
 fn assert_made_again(rt: &(impl Abort + AllocGlobal), goes_on: bool) -> Result<(), Fail> {
     let row = (Some(6), false, ALL, ALL, WITH_6);
     let mut paper = Paper::new(rt.alloc(), 1_000, 0);
@@ -251,7 +256,7 @@ fn a_refused_save_can_be_made_again(rt: HostRuntime) -> Result<(), Fail> {
     assert_made_again(&rt, true)
 }
 
-/// The identities of the live clauses that are wanted, when stream 1 has acted.
+/// The identities of the live and wanted clauses after stream 1 has acted.
 fn live_ids<M: ClauseMap>(
     alloc: Global,
     desk: &mut M,
@@ -271,7 +276,7 @@ fn live_ids<M: ClauseMap>(
     Ok(Some(ids))
 }
 
-/// Those of the worked formula's map.
+/// The same for the worked formula's map.
 fn ids_at_first(
     alloc: Global,
     map: &mut PlainMap,
@@ -284,7 +289,8 @@ fn ids_at_first(
     live_ids(alloc, &mut map.desk(1), case, last)
 }
 
-/// Under which identity stream 1 publishes, what both streams dropped, up to which identity is looked, and what is live and wanted.
+/// The identity under which stream 1 publishes, what both streams dropped, the last identity that
+/// is fetched, and the identities of the live and wanted clauses.
 static LIVE: [(Id, Except, Id, Option<&[u64]>); 5] = [
     (5, ALL, 6, Some(&[1, 2, 3, 4, 5])),
     (6, ALL, 6, Some(&[1, 2, 3, 4, 6])),

@@ -1,5 +1,5 @@
-//! Interleavings that counters force: a thread goes on once the others have come as far, so each
-//! run meets them.
+//! Interleavings that counters force: a thread continues only after the others have got as far, so
+//! each run has them.
 ghost use Rattle.std.specs.Prelude.{◌≡◌, ◌<◌};
 ghost use Rattle.lrup_model.specs.History.{IsPublishable};
 ghost use Rattle.clause_store.specs.Passes.{store_of};
@@ -16,11 +16,11 @@ use std::thread::{Threads, for_each_mut, yield_now};
 use std::time::{Clock, Duration};
 use test_support::lit;
 
-/// How far the threads have come.
+/// How far the threads have got.
 #[derive(Drop)]
 struct Counters {
     arrived: AtomicU64,
-    /// What was published, or the last line that is hammered.
+    /// How many clauses are published; or, in the hammering, how many lines there are.
     other: AtomicU64,
 }
 
@@ -33,10 +33,10 @@ impl Counters {
     }
 }
 
-/// How often a thread looks for what another does, before it gives up.
+/// How often a thread polls for another one before it gives up.
 const TURNS: u32 = 10_000_000;
 
-/// Waits until the threads have counted this far, and says whether they did in time.
+/// Waits until the counter has this value; returns whether it got there in time.
 fn waits_for(counter: &AtomicU64, wanted: u64) -> bool {
     for _turn in 0..TURNS {
         if wanted <= counter.load(Ordering::SeqCst) {
@@ -47,16 +47,16 @@ fn waits_for(counter: &AtomicU64, wanted: u64) -> bool {
     false
 }
 
-/// Counts this thread, and waits until all of them were.
+/// Counts this thread, and waits until all threads were counted.
 fn arrives(counter: &AtomicU64, wanted: u64) -> bool {
     counter.fetch_add(1, Ordering::SeqCst);
     waits_for(counter, wanted)
 }
 
-/// How many lines each stream has here.
+/// How many lines each stream has in the races.
 const LINES: u64 = 1_000;
 
-/// Looks at the clause of each stream at a line: it is there, or isn't yet where it may be missing.
+/// Looks up the clause of each stream for a line: it is there, or may be missing if `may_miss`.
 fn look_at_line(rt: &impl Abort, store: &Store, pass: &mut Pass, line: u64, may_miss: bool)
     requires at { IsPassAt raced store.now pass.old }
     requires line { line < 1000 }
@@ -71,8 +71,8 @@ fn look_at_line(rt: &impl Abort, store: &Store, pass: &mut Pass, line: u64, may_
     }
 }
 
-/// Publishes the clause of each line when all others do, and looks at theirs: at once, and when
-/// all have published.
+/// Publishes the clause of each line at the same time as all others, and looks theirs up twice:
+/// immediately, and after all have published.
 fn publish_together(rt: &impl Abort, store: &Store, pass: &mut Pass, counters: &Counters)
     requires { IsPassAt raced store.now pass.old }
     ensures { store_of pass.new ≡ store.now }
@@ -91,7 +91,7 @@ fn publish_together(rt: &impl Abort, store: &Store, pass: &mut Pass, counters: &
     }
 }
 
-/// Publishes the clause of each line, and retires it once all others are there to fetch it.
+/// Publishes the clause of each line, and retires it once all others are about to fetch it.
 fn retire_together(rt: &impl Abort, store: &Store, pass: &mut Pass, counters: &Counters)
     requires { IsPassAt raced store.now pass.old }
     ensures { store_of pass.new ≡ store.now }
@@ -107,7 +107,7 @@ fn retire_together(rt: &impl Abort, store: &Store, pass: &mut Pass, counters: &C
     counters.arrived.fetch_add(1, Ordering::SeqCst);
 }
 
-/// Fetches the clause of each line when it is about to be retired, and finds it whole or retired.
+/// Fetches the clause of each line while it is being retired, and finds it whole or retired.
 fn fetch_together(rt: &impl Abort, store: &Store, pass: &mut Pass, counters: &Counters)
     requires { store_of pass.old ≡ store.now }
     ensures { store_of pass.new ≡ store.now }
@@ -133,8 +133,8 @@ fn finds_all_retired(rt: &impl Abort, store: &Store, pass: &mut Pass)
     }
 }
 
-/// The clause of an identity that the others hammer, one of two in turn: its literals lie in three
-/// words.
+/// The clause of an identity that the others hammer, alternately one of two; its literals take
+/// three words.
 fn six_literals(id: Id) -> [Lit; 6]
     ensures { IsPublishable raced result }
 {
@@ -156,8 +156,8 @@ fn publish_six(store: &Store, pass: &mut Pass, id: Id) -> Option<Published>
     Some(store.publish(pass, id, &six_literals(id)))
 }
 
-/// Fetches until the clause is live, and pauses once in many turns. Is it whole then? None where it
-/// never was live.
+/// Fetches until the clause is live, and pauses now and then. Returns whether the clause is then
+/// whole; `None` if it never became live.
 fn hammers(store: &Store, pass: &mut Pass, id: Id) -> Option<bool>
     requires { store_of pass.old ≡ store.now }
     ensures { store_of pass.new ≡ store.now }
@@ -178,10 +178,10 @@ fn hammers(store: &Store, pass: &mut Pass, id: Id) -> Option<bool>
     None
 }
 
-/// How many clauses are hammered at most.
+/// The maximum number of clauses in the hammering.
 const HAMMERED: u64 = 100_000;
 
-/// Have some seconds gone by since then? Not where the clock fails.
+/// Whether more than two seconds have passed since then; false if the clock fails.
 fn is_late(clock: &impl Clock, began: Option<Duration>) -> bool {
     match (clock.monotonic(), began) {
         (Ok(now), Some(then)) => now.as_secs() > then.as_secs().saturating_add(2),
@@ -189,8 +189,9 @@ fn is_late(clock: &impl Clock, began: Option<Duration>) -> bool {
     }
 }
 
-/// Publishes the clause of each line once eight others hammer at it. When it is late, it says that
-/// this line is the last one before its clause is there, so that each thread that finds it knows.
+/// Publishes the clause of each line once eight others hammer at it. When time is up, it announces
+/// this line as the last one before it publishes its clause, so every thread that finds the clause
+/// also knows that it was the last.
 fn publish_hammered<R: Abort + Clock>(rt: &R, store: &Store, pass: &mut Pass, counters: &Counters)
     requires { IsPassAt raced store.now pass.old }
     ensures { store_of pass.new ≡ store.now }
@@ -226,7 +227,7 @@ fn hammer_all(rt: &impl Abort, store: &Store, pass: &mut Pass, counters: &Counte
     }
 }
 
-/// What the streams do at the same time.
+/// What the streams do in a race.
 #[derive(Clone, Copy)]
 enum Play {
     Publish,
@@ -234,7 +235,7 @@ enum Play {
     PublishOrHammer,
 }
 
-/// A stream does its part of it.
+/// Plays one stream's part.
 fn take_part<R: Abort + Clock>(
     rt: &R,
     play: Play,
@@ -254,7 +255,7 @@ fn take_part<R: Abort + Clock>(
     }
 }
 
-/// Each stream does so in a thread of its own, and then all meet.
+/// Plays each stream's part in a thread of its own; afterwards all passes meet.
 fn play_together<R: Threads + Abort + Sync + Clock>(
     rt: &R,
     play: Play,
@@ -273,7 +274,8 @@ fn play_together<R: Threads + Abort + Sync + Clock>(
     store.meet_all(passes);
 }
 
-/// The same at a new store, for so many streams with this many identities and so much room each.
+/// The same at a new store, for a number of streams with this many identities and this much room
+/// each.
 fn play_at<R: Threads + Abort + Sync + Clock>(
     rt: &R,
     alloc: Global,
@@ -298,7 +300,7 @@ fn neighbours_are_published_at_once(rt: HostRuntime) -> Result<(), Fail> {
     Ok(())
 }
 
-/// A stream retires an identity and three others fetch it, at the same moment, a thousand times.
+/// A stream retires an identity while three others fetch it, a thousand times.
 #[test]
 fn a_retire_and_a_fetch_at_once(rt: HostRuntime) -> Result<(), Fail> {
     let counters = Counters::new(0);
@@ -309,8 +311,9 @@ fn a_retire_and_a_fetch_at_once(rt: HostRuntime) -> Result<(), Fail> {
 }
 
 /// Eight threads fetch as fast as they can while one publishes, for two to three seconds or until
-/// all is published. No gate can come between the stores of a clause's literals and the exchange
-/// that makes it live; each thread that finds it live reads the whole clause.
+/// all is published. No gate can stop a thread between the stores of a clause's literals and the
+/// exchange that makes it live, hence the speed; each thread that finds a clause live reads all of
+/// it.
 #[test]
 fn eight_threads_hammer(rt: HostRuntime) -> Result<(), Fail> {
     let counters = Counters::new(HAMMERED);

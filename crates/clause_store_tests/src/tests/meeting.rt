@@ -23,8 +23,8 @@ fn meet_both(store: &Store, first: &mut Pass, second: &mut Pass, third: &mut Pas
     store.meet(first, third);
 }
 
-/// It does so twice. By what `meet` promises and the laws, all three have then seen one history, and
-/// the others are fair.
+/// The first pass does so twice. By the contract of `meet` and the laws, all three have then seen
+/// one history, and the others are fair.
 fn meet_both_twice(store: &Store, first: &mut Pass, second: &mut Pass, third: &mut Pass)
     requires { AreOf store.now (first.old ∷ second.old ∷ third.old ∷ []) }
     ensures of { AreOf store.now (first.new ∷ second.new ∷ third.new ∷ []) }
@@ -37,7 +37,7 @@ fn meet_both_twice(store: &Store, first: &mut Pass, second: &mut Pass, third: &m
     meet_both(store, first, second, third);
 }
 
-/// Does the pass find the clauses of the three streams?
+/// The pass finds the clauses of all three streams.
 fn finds_three<R: Abort>(rt: &R, store: &Store, pass: &mut Pass)
     requires { store_of pass.old ≡ store.now }
 {
@@ -62,7 +62,7 @@ fn publish_three<R: Abort>(
     same(rt, publish_raced(store, third, 4), Some(Published::Done));
 }
 
-/// They do so, and the first meets both others twice. Each then finds all three.
+/// Three streams publish, and the first meets both others twice. Each then finds all three clauses.
 fn meet_as_three<R: Abort>(rt: &R, store: &Store, passes: &mut [Pass]) -> Result<(), Fail>
     requires { ArePassesAt raced store.now passes.old }
 {

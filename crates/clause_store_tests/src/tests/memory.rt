@@ -1,4 +1,4 @@
-//! What the calls of a store take of memory, which is nothing; and an opening that is refused.
+//! The calls of a store allocate nothing; and an opening that is refused memory can be repeated.
 ghost use Rattle.std.specs.Prelude.{◌≡◌, IfOk};
 ghost use Rattle.lrup_model.specs.Layout.{Fits};
 ghost use Rattle.clause_store.specs.Passes.{store_of, AreOf};
@@ -11,7 +11,7 @@ use std::alloc::{AllocError, Global};
 use std::process::Abort;
 use std::test::Fail;
 
-/// Reads the first pair of a live clause, where it has literals.
+/// Reads the first pair of a live clause, if it has literals.
 fn has_pair(store: &Store, pass: &mut Pass, id: Id) -> bool
     requires { IsPassAt raced store.now pass.old }
     ensures { IsPassAt raced store.now pass.new }
@@ -27,7 +27,7 @@ fn has_pair(store: &Store, pass: &mut Pass, id: Id) -> bool
     }
 }
 
-/// Each call of two passes once: the first publishes and retires, and the second finds and reads.
+/// Makes each call once: the first pass publishes and retires, and the second finds and reads.
 fn call_each<R: Abort>(rt: &R, store: &Store, first: &mut Pass, second: &mut Pass, id: Id)
     requires first { IsPassAt raced store.now first.old }
     requires second { IsPassAt raced store.now second.old }
@@ -59,14 +59,14 @@ fn call_often<R: Abort>(rt: &R, store: &Store, passes: &mut [Pass]) -> Result<()
     Ok(())
 }
 
-/// A store is opened, and called so often.
+/// Opens a store, and makes these calls.
 fn open_and_call<R: Abort>(rt: &R, alloc: Global) -> Result<(), Fail> {
     let (store, mut passes) = open_race(alloc, 2, 1_000, 2_000)?;
     call_often(rt, &store, passes.as_mut_slice())
 }
 
-/// No call of a pass takes memory: the last allocation is the test's own, after all calls. The gate
-/// refuses that one, and this test has to fail then.
+/// No call of a pass allocates: the last allocation is the test's own, after all calls. The gate
+/// refuses that one, and expects this test to fail.
 #[test]
 fn the_last_allocation_comes_after_all_calls(rt: HostRuntime) -> Result<(), Fail> {
     open_and_call(&rt, rt.alloc())?;
@@ -74,7 +74,7 @@ fn the_last_allocation_comes_after_all_calls(rt: HostRuntime) -> Result<(), Fail
     Ok(())
 }
 
-/// A store and its passes; a refused one is asked for once more.
+/// Opens a store and its passes, and tries once more if memory is refused.
 fn open_again(
     alloc: Global,
     formula: &Formula,
@@ -89,7 +89,7 @@ fn open_again(
     }
 }
 
-/// The same, without clauses and for two streams with one identity each.
+/// The same for a formula without clauses, and two streams with one identity each.
 fn open_empty(alloc: Global) -> Result<(Store, Vec<Pass>), Fail>
     ensures { IfOk result (λ opened. AreOf opened.0 opened.1.items) }
 {
@@ -101,7 +101,7 @@ fn open_empty(alloc: Global) -> Result<(Store, Vec<Pass>), Fail>
     Ok(open_again(alloc, &formula, layout)?)
 }
 
-/// There are two passes, and nothing was done by the second.
+/// There are two passes, and the second has published nothing.
 fn is_new<R: Abort>(rt: &R, store: &Store, passes: &mut [Pass]) -> Result<(), Fail>
     requires { AreOf store.now passes.old }
 {
@@ -117,22 +117,22 @@ fn is_new<R: Abort>(rt: &R, store: &Store, passes: &mut [Pass]) -> Result<(), Fa
     Ok(())
 }
 
-/// The gate refuses each allocation of this test in turn; the second opening then has memory.
+/// The gate refuses each allocation of this test in turn; the second opening then succeeds.
 #[test]
 fn a_refused_store_can_be_opened_again(rt: HostRuntime) -> Result<(), Fail> {
     let (store, mut passes) = open_empty(rt.alloc())?;
     is_new(&rt, &store, passes.as_mut_slice())
 }
 
-/// A store of 16 million words is opened and dropped.
+/// Opens a store of 16 million words, and drops it.
 fn open_large<R: Abort>(rt: &R, alloc: Global) -> Result<(), Fail> {
     let (store, passes) = open_race(alloc, 1, 1, 16_000_000)?;
     holds(rt, store.covers(2) && passes.len() == 1);
     Ok(())
 }
 
-/// Four such stores in turn. The gate gives this test memory for one and a half, so that what isn't
-/// given back would be missing at the next.
+/// Opens four such stores, one after the other. The gate gives this test memory for one and a half,
+/// so memory that isn't freed would be missing at the next.
 #[test]
 fn a_large_store_is_given_back(rt: HostRuntime) -> Result<(), Fail> {
     for _ in 0..4 {

@@ -1,39 +1,37 @@
 -- How far the rounds have come: definitions for contracts of private functions (this project's
 -- own).
-use Rattle.std.specs.Prelude.{◌≡◌, ◌≤◌, ◌+◌, ◌++◌, ◌∷◌, ◌⊎◌, ℕ, List, Option, None, length, map}
 use Rattle.std.specs.Option.{ForSome}
+use Rattle.std.specs.Prelude.{◌+◌, ◌∷◌, ◌≡◌, ◌⊎◌, List, None, Option, length}
 use Rattle.lrup_model.specs.Cube.{CubeValue}
 use Rattle.lrup_model.specs.Formula.{Cnf}
-use Rattle.lrup_text.specs.ReadOut.{SourceView}
-use Rattle.lrup_text.specs.Reads.{Gave, GaveAll}
-use Rattle.command_line.specs.Sizes.{HaveNoSizes, IsSizesText}
 use Rattle.command_line.specs.declared.sizes.Sizes.{Sizes}
 use Rattle.command_line.specs.declared.words.CommandLine.{CommandLine}
-use Rattle.command.specs.Commands.{AreAssumed, AreChecked, AreOpened, Deeds, FilesView, HasBrokenOff, IsRoundStartCause}
-use Rattle.command.specs.Commands.{Text, WasReadIn, assumed_at, created_path, run_params_by, sizes_of}
-use Rattle.command.specs.Paths.{sizes_path, stream_path}
-use Rattle.command.specs.Rounds.{AreRounds, AreSized, CarriesOn, IsBarred, IsNextCause, LeavesBehind, Round, RoundsEnd, SavesCheckpoint, WereRounds}
-use Rattle.command.specs.declared.fault.CommandFault.{CommandFault}
-use Rattle.command.specs.declared.fault.CommandFault.TheVariants as faults
+use Rattle.run_files.specs.Asked.{Text, created_path, run_params_by, sizes_of}
+use Rattle.run_files.specs.Causes.{IsRoundStartCause}
+use Rattle.run_files.specs.Files.{AreSized, Effects, FilesView}
+use Rattle.run_files.specs.Paths.{sizes_path, stream_path}
+use Rattle.run_files.specs.Saving.{SavesCheckpoint}
+use Rattle.command.specs.Commands.{AreChecked}
+use Rattle.command.specs.Rounds.{AreRounds, CarriesOn, IsBarred, IsNextCause, LeavesAtPath, Round, RoundsEnd, WereRounds}
 use Rattle.command.specs.declared.course.CheckedRound.{CheckedRound}
 use Rattle.command.specs.declared.course.RoundFault.{RoundFault}
 
 -- The streams of a round with this formula, opened as these readers, were checked, and `last` is
 -- what was found; `leaves` says what became of their clauses.
-pub record WasChecked (its : Deeds) (given : CommandLine) (cube : CubeValue) (formula : Cnf)
+pub record WasChecked (its : Effects) (given : CommandLine) (cube : CubeValue) (formula : Cnf)
     (readers : List its.Reader) (opened : its.State) (last : CheckedRound) (next : Option Cnf)
     (after : its.State) : Type 0 where
   pub count : length readers ≡ last.sizes.streams
   pub checked : AreChecked its.reading given.serial formula
       (run_params_by given cube formula last.sizes) readers last.reports.items
       last.verdict
-  pub leaves : LeavesBehind its
+  pub leaves : LeavesAtPath its
       (SavesCheckpoint its formula (run_params_by given cube formula last.sizes).layout
       checked.ran.run.history checked.dropped)
       last.verdict opened (created_path given.next last.number) last.unsaved next after
 
 -- the round that was checked in this way
-abbrev pub round_of : {its : Deeds} {given : CommandLine} {cube : CubeValue} (formula : Cnf)
+abbrev pub round_of : {its : Effects} {given : CommandLine} {cube : CubeValue} (formula : Cnf)
     (readers : List its.Reader) (opened : its.State) (last : CheckedRound) (next : Option Cnf)
     (after : its.State)
     → WasChecked its given cube formula readers opened last next after → Round its given cube
@@ -55,17 +53,17 @@ round_of formula readers opened last next after was = record {
 
 -- The round's streams were checked. The run continues with the next formula; or there is none, and
 -- the run doesn't continue.
-pub record WasFound (its : Deeds) (given : CommandLine) (cube : CubeValue) (formula : Cnf)
+pub record WasFound (its : Effects) (given : CommandLine) (cube : CubeValue) (formula : Cnf)
     (readers : List its.Reader) (opened : its.State) (last : CheckedRound) (next : Option Cnf)
     (after : its.State) : Type 0 where
   pub was : WasChecked its given cube formula readers opened last next after
   pub goes_on : ForSome next
       (CarriesOn (round_of formula readers opened last next after was))
-  pub over : next ≡ None → IsBarred (round_of formula readers opened last next after was)
+  pub finished : next ≡ None → IsBarred (round_of formula readers opened last next after was)
 
 -- The rounds up to this one were checked and left these files. The run continues if there is a next
 -- formula, and else it doesn't.
-pub record RoundsStand (its : Deeds) (given : CommandLine) (cube : CubeValue) (formula : Cnf)
+pub record RoundsSoFar (its : Effects) (given : CommandLine) (cube : CubeValue) (formula : Cnf)
     (first : its.State) (last : CheckedRound) (next : Option Cnf) (after : its.State) : Type 0 where
   pub current : Cnf
   pub readers : List its.Reader
@@ -77,14 +75,14 @@ pub record RoundsStand (its : Deeds) (given : CommandLine) (cube : CubeValue) (f
 
 -- No round follows this one in the folder: the sizes of the next round were read, and there is no
 -- file for its stream 1.
-abbrev pub IsAlone : (its : Deeds) → Text → CheckedRound → its.State → its.State → Type 0
+abbrev pub IsAlone : (its : Effects) → Text → CheckedRound → its.State → its.State → Type 0
 IsAlone its folder last before after =
     (sizes : Sizes) × (sized : its.State)
     × AreSized its (sizes_path folder (last.number + 1)) last.sizes before sizes sized
     × its.lacks sized (stream_path folder (last.number + 1) 1) after
 
 -- What the program keeps of its last round comes from this round.
-pub record IsOfRound {its : Deeds} {given : CommandLine} {cube : CubeValue} (last : CheckedRound)
+pub record IsOfRound {its : Effects} {given : CommandLine} {cube : CubeValue} (last : CheckedRound)
     (round : Round its given cube) : Type 0 where
   pub number : last.number ≡ round.number
   pub reports : last.reports.items ≡ round.reports
@@ -92,16 +90,16 @@ pub record IsOfRound {its : Deeds} {given : CommandLine} {cube : CubeValue} (las
   pub unsaved : last.unsaved ≡ round.unsaved
 
 -- The rounds ended with this one and left these files.
-pub record EndsAt (its : Deeds) (given : CommandLine) (cube : CubeValue) (formula : Cnf)
+pub record EndsAt (its : Effects) (given : CommandLine) (cube : CubeValue) (formula : Cnf)
     (first : its.State) (last : CheckedRound) (after : its.State) : Type 0 where
   pub round : Round its given cube
   pub before : List (Round its given cube)
   pub rounds : AreRounds formula first (round ∷ before)
   pub is : IsOfRound last round
-  pub over : RoundsEnd round after
+  pub finished : RoundsEnd round after
 
 -- The round after these has no report, for this cause, and the files are these.
-pub record FailsAfter (its : Deeds) (given : CommandLine) (cube : CubeValue) (formula : Cnf)
+pub record FailsAfter (its : Effects) (given : CommandLine) (cube : CubeValue) (formula : Cnf)
     (first : its.State) (failed : RoundFault) (after : its.State) : Type 0 where
   pub last : Round its given cube
   pub before : List (Round its given cube)
@@ -110,7 +108,7 @@ pub record FailsAfter (its : Deeds) (given : CommandLine) (cube : CubeValue) (fo
   pub cause : IsNextCause last failed.fault after
 
 -- The fault is one of round 1, after its streams were opened; or one of a later round.
-abbrev pub FailsAt : (its : Deeds) → CommandLine → CubeValue → Cnf → its.State
+abbrev pub FailsAt : (its : Effects) → CommandLine → CubeValue → Cnf → its.State
     → List its.Reader → its.State → RoundFault → its.State → Type 0
 FailsAt its given cube formula first readers opened failed after =
     ((failed.round ≡ 1)
@@ -125,38 +123,4 @@ pub record IsReported (files : FilesView) (given : CommandLine) (last : CheckedR
   pub before : List (Round files.its given cube)
   pub were : WereRounds files given cube round before
   pub is : IsOfRound last round
-  pub over : RoundsEnd round after
-
--- Reading a file up to its end gave these bytes. If its contents are known, they are these bytes.
-pub record GaveWhole {R : Type 0} (reading : SourceView R) (first : R)
-    (bytes : List ℕ) : Type 0 where
-  pub gave : GaveAll R reading.reads first bytes
-  pub told : ForSome (reading.left first) (λ all. all ≡ bytes)
-
--- Reading the file gave a text of these sizes.
-abbrev pub ReadsSizes : {R : Type 0} → SourceView R → R → Sizes → Type 0
-ReadsSizes reading first sizes =
-    (bytes : List ℕ) × GaveWhole reading first bytes × IsSizesText bytes sizes
-
--- why no sizes were read
-abbrev pub IsUnsized : {R : Type 0} → SourceView R → R → CommandFault → Type 0
-IsUnsized reading first faults.SizesUnread =
-    (broken : HasBrokenOff reading first) × (length broken.bytes ≤ 64)
-IsUnsized {R = R} reading first faults.Sizes =
-    ((bytes : List ℕ) × GaveWhole reading first bytes × HaveNoSizes bytes × (length bytes ≤ 64))
-    ⊎ ((bytes : List ℕ) × (last : R) × Gave R reading.reads first bytes last × (length bytes ≡ 64)
-    × ForSome (reading.left first) (λ all. (rest : List ℕ) × (all ≡ bytes ++ rest)))
-IsUnsized reading first faults.Memory = Unit {0}
-IsUnsized reading first fault = ⊥
-
--- A run has begun: the assumed literals were read, and then the streams of the command line were
--- opened.
-pub record HasBegun (files : FilesView) (given : CommandLine) (formula : Cnf) (cube : CubeValue)
-    (next : files.its.State) (readers : List files.its.Reader) (last : files.its.State) : Type 0
-  where
-    pub later : files.its.State
-    pub assumed : AreAssumed (WasReadIn files) formula.vars next (assumed_at given) cube later
-    pub opened : AreOpened files.its.opens later given.streams readers last
-    pub left : map files.its.reading.left readers
-        ≡ map files.tells given.streams
-    pub told : files.its.tells later ≡ files.tells
+  pub finished : RoundsEnd round after

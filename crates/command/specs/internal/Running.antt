@@ -1,23 +1,24 @@
 -- What the check of streams leaves: definitions for contracts of private functions (this project's
 -- own).
-use Rattle.std.specs.Prelude.{◌≡◌, Bool, false, List}
+use Rattle.std.specs.Prelude.{◌≡◌, Bool, List, false}
 use Rattle.lrup_model.specs.Formula.{Cnf}
 use Rattle.lrup_model.specs.Layout.{IsFault, IsStream, LayoutValue}
 use Rattle.lrup_text.specs.ReadOut.{SourceView}
-use Rattle.stream_check.specs.Streams.{RunParamsValue}
 use Rattle.stream_check.specs.DroppedIdsValue.{DroppedIdsValue}
+use Rattle.stream_check.specs.Streams.{RunParamsValue}
 use Rattle.stream_check.specs.declared.report.Report.{Report}
-use Rattle.portfolio.specs.RingStops.{StopsAtRing}
+use Rattle.run_outcome.specs.RingStops.{StopsAtRing}
 use Rattle.run_outcome.specs.Saving.{WereLeftBy, layout_left}
-use Rattle.run_outcome.specs.declared.saving.Clauses.{Clauses}
 use Rattle.run_outcome.specs.declared.outcome.Verdict.{Verdict}
-use Rattle.command.specs.Commands.{AreChecked, HasBrokenOff, HasNoFault}
-use Rattle.command.specs.declared.fault.CommandFault.{CommandFault}
-use Rattle.command.specs.declared.fault.CommandFault.TheVariants as faults
+use Rattle.run_outcome.specs.declared.saving.Clauses.{Clauses}
+use Rattle.run_files.specs.Causes.{HasNoFault}
+use Rattle.run_files.specs.declared.fault.CommandFault.{CommandFault}
+use Rattle.run_files.specs.declared.fault.CommandFault.TheVariants as faults
+use Rattle.command.specs.Commands.{AreChecked}
 
 -- The streams were checked. The run's history left these clauses, and its streams dropped these
 -- identities.
-pub record StandsBehind {R : Type 0} (view : SourceView R) (serial : Bool) (formula : Cnf)
+pub record IsCheckResult {R : Type 0} (view : SourceView R) (serial : Bool) (formula : Cnf)
     (run_params : RunParamsValue) (firsts : List R) (reports : List Report) (verdict : Verdict)
     (clauses : Clauses) (dropped : List DroppedIdsValue) : Type 0 where
   pub checked : AreChecked view serial formula run_params firsts reports verdict
@@ -44,9 +45,3 @@ IsRunCause view serial formula run_params readers (faults.Ring stream) =
     × StopsAtRing view formula run_params readers stream
 IsRunCause view serial formula run_params readers faults.Memory = Unit {0}
 IsRunCause view serial formula run_params readers fault = ⊥
-
--- why a file that was opened wasn't read to its end
-abbrev pub IsFailedRead : {R : Type 0} → SourceView R → R → CommandFault → Type 0
-IsFailedRead reading first faults.Unread = HasBrokenOff reading first
-IsFailedRead reading first faults.Memory = Unit {0}
-IsFailedRead reading first fault = ⊥

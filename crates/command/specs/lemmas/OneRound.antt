@@ -6,7 +6,8 @@ use Rattle.command_line.specs.CommandLine.{checkpoint_of, rounds_of}
 use Rattle.command_line.specs.declared.words.CommandLine.{CommandLine}
 use Rattle.command_line.specs.declared.words.Next.{Next}
 use Rattle.command_line.specs.declared.words.Next.TheVariants.{Checkpoint, Nothing, Rounds}
-use Rattle.command.specs.Commands.{Deeds, FilesView, Text, created_path}
+use Rattle.run_files.specs.Files.{Effects, FilesView}
+use Rattle.run_files.specs.Asked.{Text, created_path}
 use Rattle.command.specs.Rounds.{AreRounds, CarriesOn, Round, RoundsEnd, WereRounds}
 
 -- if the words ask for a checkpoint, it is the file that the round creates
@@ -20,12 +21,12 @@ creates_checkpoint (Rounds folder) path number is =
 -- Words that ask for no rounds.
 module _ {given : CommandLine} (once : rounds_of given.next ≡ None) where
   -- the run continues after no round
-  pub never_on : {its : Deeds} {cube : CubeValue} (round : Round its given cube) (next : Cnf)
+  pub never_on : {its : Effects} {cube : CubeValue} (round : Round its given cube) (next : Cnf)
       → CarriesOn round next → ⊥
   never_on round next on = let no : None ≡ Some on.folder = sym once ∙ on.asked in cc
 
   -- so there is only one round
-  is_alone : {its : Deeds} {cube : CubeValue} (formula : Cnf) (first : its.State)
+  is_alone : {its : Effects} {cube : CubeValue} (formula : Cnf) (first : its.State)
       (last : Round its given cube) (before : List (Round its given cube))
       → AreRounds formula first (last ∷ before) → before ≡ []
   is_alone formula first last [] rounds = refl
@@ -45,7 +46,7 @@ module _ {given : CommandLine} (once : rounds_of given.next ≡ None) where
       subst (WereRounds files given cube last) (was_alone files cube last before were) were
 
   -- and nothing is done to the files after the last round
-  pub is_over : {its : Deeds} {cube : CubeValue} (last : Round its given cube) (after : its.State)
+  pub is_over : {its : Effects} {cube : CubeValue} (last : Round its given cube) (after : its.State)
       → RoundsEnd last after → after ≡ last.after
   is_over last after (inl (barred, same)) = same
   is_over last after (inr (next, on, end)) = absurd (never_on last next on)

@@ -16,20 +16,21 @@ use Rattle.command_line.specs.declared.words.CommandLine.{CommandLine}
 use Rattle.command_line.specs.declared.words.Next.{Next}
 use Rattle.command_line.specs.declared.words.Next.TheVariants.{Checkpoint, Nothing, Rounds}
 use Rattle.stream_check.specs.DroppedIdsValue.{DroppedIdsValue}
-use Rattle.command.specs.Commands.{Deeds, Text, WasSavedBy, created_path}
-use Rattle.command.specs.Commands.{run_params_by}
-use Rattle.command.specs.Paths.{formula_path}
-use Rattle.command.specs.Rounds.{CarriesOn, ClosesSink, LeavesBehind, LeavesFile, Round, SavesCheckpoint}
+use Rattle.run_files.specs.Files.{Effects, WasSavedBy}
+use Rattle.run_files.specs.Asked.{Text, created_path, run_params_by}
+use Rattle.run_files.specs.Paths.{formula_path}
+use Rattle.command.specs.Rounds.{CarriesOn, LeavesAtPath, LeavesFile, Round}
+use Rattle.run_files.specs.Saving.{ClosesSink, SavesCheckpoint}
 
 -- A checkpoint of the formula was saved at the path; its formula is the next one, if there is one.
-pub record KeptAt (its : Deeds) (formula : Cnf) (before : its.State) (path : Text)
+pub record KeptAt (its : Effects) (formula : Cnf) (before : its.State) (path : Text)
     (next : Option Cnf) (after : its.State) : Type 0 where
   pub bytes : List ℕ
   pub checkpoint : IsCheckpoint formula bytes
   pub saved : WasSavedBy its before path bytes after
   pub next_is : ForSome next (λ made. made ≡ checkpoint.formula)
 
-module _ (its : Deeds) (f : Cnf) (layout : LayoutValue) (h : History) (dropped : List DroppedIdsValue) where
+module _ (its : Effects) (f : Cnf) (layout : LayoutValue) (h : History) (dropped : List DroppedIdsValue) where
   abbrev Saves : Result (Option Cnf) SaveFault → its.Output → its.Output → Type 0
   Saves = SavesCheckpoint its f layout h dropped
 
@@ -67,7 +68,7 @@ module _ (its : Deeds) (f : Cnf) (layout : LayoutValue) (h : History) (dropped :
 
   pub leaves_kept : (verdict : Verdict) (before after : its.State) (path : Text) (next : Option Cnf)
       → (verdict ≡ Unsatisfiable → ⊥)
-      → LeavesBehind its Saves verdict before (Some path) None next after
+      → LeavesAtPath its Saves verdict before (Some path) None next after
       → KeptAt its f before path next after
   leaves_kept Unsatisfiable before after path next unrefuted leaves = absurd (unrefuted refl)
   leaves_kept UnsatisfiableUnder before after path next unrefuted leaves = file_kept before after path next leaves
@@ -80,7 +81,7 @@ created_in Nothing folder number asked = absurd (let no : None ≡ Some folder =
 created_in (Checkpoint path) folder number asked = absurd (let no : None ≡ Some folder = asked in cc)
 created_in (Rounds other) folder number asked = ap (option_map (λ at. formula_path at (number + 1))) asked
 
-module _ {its : Deeds} {given : CommandLine} {cube : CubeValue} (round : Round its given cube) where
+module _ {its : Effects} {given : CommandLine} {cube : CubeValue} (round : Round its given cube) where
   -- a round whose verdict isn't 'unsatisfiable' and whose checkpoint was saved, saved it at the
   -- path of the file that it created
   pub kept : (path : Text) → created_path given.next round.number ≡ Some path
@@ -90,7 +91,7 @@ module _ {its : Deeds} {given : CommandLine} {cube : CubeValue} (round : Round i
       let layout = (run_params_by given cube round.formula round.sizes).layout in
       let h = round.checked.ran.run.history in
       let dropped = round.checked.dropped in
-      let Leaves : Option Text → Option SaveFault → Type 0 = λ o u. LeavesBehind its (SavesCheckpoint its round.formula layout h dropped)
+      let Leaves : Option Text → Option SaveFault → Type 0 = λ o u. LeavesAtPath its (SavesCheckpoint its round.formula layout h dropped)
       round.verdict round.opened o u round.next round.after in
       leaves_kept its round.formula layout h dropped round.verdict round.opened round.after path round.next unrefuted
       (subst (Leaves (Some path)) saved (subst (λ (o : Option Text). Leaves o round.unsaved) at round.leaves))

@@ -1,9 +1,10 @@
-//! What the definition of what words ask for says of a few words. Each follows from the definition alone, so a wrong one isn't proved.
+//! What a few words ask for, proved from the definition alone: if the definition were wrong, these
+//! proofs would fail.
 ghost use Rattle.std.specs.Prelude.{[], ◌∷◌, ℕ, List, Option, Some, codes};
 ghost use Rattle.command_line.specs.CommandLine.{AskFor, AskForBoth, AskForRounds, AskToSave};
 
-/// `--assume` has the word after it, and FORMULA is the first word that no option has. Words with a fault ask for nothing. A checkpoint
-/// is asked for by its own option alone, and so are rounds.
+/// `--assume` has the word after it, and FORMULA is the first word that no option has. Words with a
+/// fault ask for nothing. A checkpoint is asked for by its own option alone, and so are rounds.
 pub fn words_ask_for_files()
     ensures assumed { AskFor (codes "--assume" ∷ codes "a" ∷ codes "f" ∷ codes "s" ∷ [])
         (codes "f") (Some (codes "a")) }

@@ -41,7 +41,8 @@ static OUT_OF_RANGE: [&str; 7] = [
     "1 0 18446744073709551617\n",
 ];
 
-/// Texts with another spelling, other numbers of numbers, or something before or behind them.
+/// Texts with another spelling, with too few or too many numbers, or with something before or after
+/// them.
 static NO_SIZES: [&str; 34] = [
     "",
     "\n",
@@ -79,7 +80,7 @@ static NO_SIZES: [&str; 34] = [
     "\u{ff11} 0 0\n",
 ];
 
-/// Bytes that are no text in UTF-8.
+/// Bytes that aren't UTF-8.
 static NO_TEXT: [&[u8]; 3] = [b"\xff", b"\xff1 0 0\n", b"1 0 0\n\xff"];
 
 #[test]

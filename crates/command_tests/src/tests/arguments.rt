@@ -1,4 +1,5 @@
-//! Runs with the arguments that the system gives, the program's name first; and why it opened no file.
+//! Runs with the arguments that the system gives, the program's name first; and why a file wasn't
+//! opened.
 use super::*;
 use command::{OpenFault, command_with_arguments};
 use std::env::Args;
@@ -13,7 +14,7 @@ fn arguments_of(alloc: Global, texts: &[&str]) -> Result<Args, Fail> {
     Ok(arguments.into_iter())
 }
 
-/// The run over the four clauses, a proof of them and an empty stream ends so.
+/// Checks how a run over the four clauses, a refutation and an empty stream ends.
 fn assert_exits(rt: &impl Host, arguments: io::Result<Args>, wanted: Ends) {
     let alloc = rt.alloc();
     let mut files = Shelf::new(alloc, Setup::of(&[REFUTES, ""]));

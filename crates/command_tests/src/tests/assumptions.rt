@@ -1,4 +1,4 @@
-//! Runs under assumed literals: the worked rows, a text of each fault, and when their file is read.
+//! Runs under assumed literals: worked rows, a text for each fault, and when the file is read.
 use super::shelf::Thing::{self, Failing, Text};
 use super::*;
 
@@ -38,7 +38,7 @@ static REFUSED: [(&str, &str); 4] = [
     ("1000000000000000000 0\n", "too long"),
 ];
 
-/// No stream is looked for.
+/// No stream is opened.
 #[test]
 fn assumptions_that_are_refused(rt: HostRuntime) -> Result<(), Fail> {
     for &(assumed, fault) in &REFUSED {
@@ -51,7 +51,7 @@ fn assumptions_that_are_refused(rt: HostRuntime) -> Result<(), Fail> {
 
 const UNREAD: (u8, &str) = (5, "cannot read assumptions");
 
-/// What is at `a`, the words, the status and the cause, and what was opened.
+/// The file at `a`, the words, the status and the cause, and what was opened.
 static IN_ORDER: [(Thing, &str, (u8, &str), &str); 4] = [
     (Text(""), "--assume no f 1", UNREAD, "f no "),
     (Failing("-2 0\n", 1), "--assume a f 1", UNREAD, "f a "),

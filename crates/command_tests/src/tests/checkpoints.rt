@@ -1,19 +1,20 @@
-//! Runs that save their clauses, with `--checkpoint` and as round 1 of `--rounds`: what is created, written, kept and discarded, and
-//! what is said where it wasn't saved.
+//! Runs that save their clauses, with `--checkpoint` and as round 1 of `--rounds`: which files are
+//! created, written, kept and discarded, and the message if saving fails.
 use super::shelf::Thing::{self, Breaking, Failing, Full, Lost, Text};
 use super::*;
 
 /// Where the clauses are saved: at the path of a checkpoint, or as the formula of round 2.
 const NEW: &str = "d/round-2.cnf";
 
-/// What is done in a run of one stream.
+/// What a run of one stream does to the files.
 const DONE_KEPT: &str = "f 1 +d/round-2.cnf =d/round-2.cnf ";
 
 const DONE_DISCARDED: &str = "f 1 +d/round-2.cnf -d/round-2.cnf ";
-/// And after it, if there is no next round.
+/// And what it does after that, if there is no next round.
 const LOOKED_FOR: &str = "?d/round-2.sizes ?d/round-2.stream-1 ";
 
-/// The run of these words saves with either option, ends so and leaves this. With rounds the next one is looked for if this one goes on.
+/// Checks that a run of these words saves with either option, how it ends, and what it does to the
+/// files. With rounds, it looks for the next round's files if this round continues.
 fn assert_saves(
     rt: &impl Host,
     words: &str,
@@ -40,7 +41,8 @@ const DROPPED: &str = "1 added, 1 deleted, ended";
 
 const ONE_DELETED: &str = "0 added, 1 deleted, ended";
 
-/// The words, which name the files in the order of their openings; the streams, what is said of each, the status, and what is saved.
+/// The words, which name the files in the order of their openings; the streams, their lines in the
+/// report, the status, and the saved text.
 type Saved = (
     &'static str,
     &'static [&'static str],
@@ -55,7 +57,7 @@ fn assert_saved(rt: &impl Host, row: &Saved, goes_on: bool) -> Result<(), Fail> 
     let opened = words.replace(rt.alloc(), "--assume=", "")?;
     let closed = if status == 0 { '-' } else { '=' };
     let done = format!(in rt.alloc(); "{opened} +{NEW} {closed}{NEW} ")?;
-    // If this round goes on there is no next one, else there would be.
+    // Round 2 has a stream exactly if the run must not get there.
     let next: &[(&str, Thing)] = &[("d/round-2.stream-1", Text(""))];
     let setup = Setup::of(streams).with(if goes_on { &[] } else { next });
     let ends = (status, out.as_str(), "");
@@ -106,8 +108,8 @@ fn a_stream_whose_reading_fails_is_not_gone_on_with(rt: HostRuntime) -> Result<(
     assert_saves(&rt, "f 1", setup, (3, out.as_str(), ""), left, false)
 }
 
-/// So does the run of a stream that drops the first clause, with this at the path of the new file, where these writes of standard
-/// output and of standard error fail.
+/// The same for a stream that drops the first clause, with this at the new file's path, if these
+/// writes of standard output and standard error fail.
 fn assert_dropping(
     rt: &impl Host,
     thing: Thing,
@@ -142,13 +144,15 @@ const IS_LOST: Left = (DONE_KEPT, "", 64);
 
 const IS_EMPTY: Left = (DONE_DISCARDED, "", 0);
 
-/// What is at the new file's path, the writes that fail, what the run ends with, and what it leaves.
+/// What is at the new file's path, the writes that fail, how the run ends, and what it does to the
+/// files.
 static FAULTS: [(Thing, (usize, usize), Ends, Left); 6] = [
     (Text(""), (0, 0), NOT_CREATED, CREATING),
     (Full, (0, 0), NO_MEMORY, CREATING),
     (Lost, (0, 0), UNSAVED, IS_LOST),
     (Breaking(1), (1, 0), (7, "", BOTH), IS_EMPTY),
-    // Standard error fails in the line on the checkpoint: it says no more, and the status is the same.
+    // Standard error fails in the message about the checkpoint: no more is written there, and the
+    // status is the same.
     (Breaking(1), (0, 2), (9, REPORT, "lrupd: "), IS_EMPTY),
     (Breaking(1), (1, 2), (7, "", "lrupd: "), IS_EMPTY),
 ];
@@ -158,9 +162,9 @@ fn checkpoints_that_are_not_saved(rt: HostRuntime) -> Result<(), Fail> {
     for &(thing, fails_at, wanted, left) in &FAULTS {
         assert_dropping(&rt, thing, fails_at, wanted, left, false)?;
     }
-    // One is saved whose report isn't written.
+    // The checkpoint is saved even if the report can't be written.
     assert_dropping(&rt, Breaking(0), (1, 0), UNREPORTED, IS_KEPT, true)?;
-    // No stream is checked where the row would be too long.
+    // No stream is checked if the row would be too long.
     let setup = Setup::of(&[DROPS]);
     let ends = (2, "", "lrupd: row too long\n");
     assert_saves(
@@ -173,7 +177,7 @@ fn checkpoints_that_are_not_saved(rt: HostRuntime) -> Result<(), Fail> {
     )
 }
 
-/// The checkpoint fails at its first, second, .. and last write: what was written until then is discarded.
+/// Each write of the checkpoint fails in turn: what was written until then is discarded.
 #[test]
 fn checkpoints_that_break_at_a_write(rt: HostRuntime) -> Result<(), Fail> {
     for write in 1..=LESS.len().div_ceil(7) {

@@ -1,11 +1,13 @@
-//! A source of a device, and a sink over one, as the program makes them of its files and outputs: no call is made again.
+//! A source and a sink over a device, as the program makes them from its files and outputs: they
+//! repeat no call.
 ghost use Rattle.std.specs.Prelude.{◌≤◌, IfOk};
 
 use super::*;
 use lrup_text::{ReadFault, Reading, Sink, Source, WriteFault, Writing};
 use std::io;
 
-/// A device that moves as many bytes as it can, but at its first call this many at most, or it fails.
+/// A device whose first call moves at most this many bytes, or fails; later calls move as many as
+/// they can.
 #[derive(Drop)]
 struct Device {
     first: Result<usize, io::ErrorKind>,
@@ -43,7 +45,7 @@ impl io::Write for Device {
     }
 }
 
-/// A read of so many bytes answers so, and a write of them.
+/// Checks the result of a read and of a write of `count` bytes, and that each made one call.
 fn assert_once(
     rt: &impl Host,
     first: Result<usize, io::ErrorKind>,

@@ -1,4 +1,5 @@
-//! Runs over files that say exactly what each call does to them: what lies at the path of a checkpoint in the end.
+//! Runs over files whose contracts say exactly what each call does to them: what is at the
+//! checkpoint's path in the end.
 use super::*;
 use crate::exact_files::Closing::{self, Discarded, Kept, Lost, Open};
 use crate::exact_files::{ExactFiles, run_exactly};
@@ -13,8 +14,8 @@ const ROUNDS: &[&str] = &["--rounds", "dir", "f", "s1"];
 
 const NEXT: &str = "dir/round-2.cnf";
 
-/// What a run is given: the words, the stream, whether files get lost, and the write that fails. Then what it comes to: the status,
-/// and the path, the bytes and the closing of the last new file.
+/// What a run gets: the words, the stream, whether keeping a file fails, and the write that fails.
+/// Then its results: the status, and the path, the bytes and the closing of the last new file.
 type Row = (
     (&'static [&'static str], &'static str, bool, usize),
     (u8, &'static str, &'static str, Closing),

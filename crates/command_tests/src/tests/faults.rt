@@ -19,7 +19,7 @@ static REFUSED: [(&str, &str); 8] = [
     ("p cnf 16777216 0\n", "limit"),
 ];
 
-/// The stream isn't looked for.
+/// The stream isn't opened.
 #[test]
 fn formulas_that_are_refused(rt: HostRuntime) -> Result<(), Fail> {
     for &(formula, fault) in &REFUSED {
@@ -30,7 +30,7 @@ fn formulas_that_are_refused(rt: HostRuntime) -> Result<(), Fail> {
     Ok(())
 }
 
-/// The words, the status and the cause, and what was opened or asked for.
+/// The words, the status and the cause, and the paths that the program tried to open.
 static NOT_BEGUN: [(&str, (u8, &str), &str); 6] = [
     ("no 1", (5, "cannot read formula"), "no "),
     ("no no", (5, "cannot read formula"), "no "),
@@ -61,7 +61,7 @@ fn sixty_five_streams(rt: HostRuntime) -> Result<(), Fail> {
     )
 }
 
-/// The formula fails at its first, second, .. and last read, that of its end.
+/// Each read of the formula fails in turn, including the one that would find its end.
 #[test]
 fn a_formula_whose_reading_fails(rt: HostRuntime) -> Result<(), Fail> {
     for fails_at in 1..=FOUR.len().div_ceil(3) + 1 {
@@ -72,7 +72,7 @@ fn a_formula_whose_reading_fails(rt: HostRuntime) -> Result<(), Fail> {
     Ok(())
 }
 
-/// Six bytes of the first line are read, and the seventh isn't; the other stream is whole.
+/// The first stream's read fails after six bytes of its first line; the other stream is whole.
 #[test]
 fn a_stream_whose_reading_fails(rt: HostRuntime) -> Result<(), Fail> {
     let said = ["0 added, 0 deleted, read failed at line 1", ONE_ADDED];
@@ -80,7 +80,8 @@ fn a_stream_whose_reading_fails(rt: HostRuntime) -> Result<(), Fail> {
     assert_reports(&rt, "f 1 2", setup, &said, 3)
 }
 
-/// The path of a file that there is no memory for, and what was opened.
+/// The path of the file whose opening runs out of memory, and the paths that the program tried to
+/// open.
 static FULL: [(&str, &str); 3] = [("f", "f "), ("a", "f a "), ("1", "f a 1 ")];
 
 #[test]
@@ -93,7 +94,7 @@ fn memory_is_out_at_an_opening(rt: HostRuntime) -> Result<(), Fail> {
     Ok(())
 }
 
-/// Words that `clap` refuses, or that ask for help, and a part of what it says of them.
+/// Words that `clap` refuses, or that ask for help, and a part of its message.
 static USAGE: [(&[&str], &str); 5] = [
     (&[], "<FORMULA>"),
     (&["f"], "<STREAM>"),
@@ -102,14 +103,16 @@ static USAGE: [(&[&str], &str); 5] = [
     (&["--help"], "Usage: lrupd [OPTIONS] <FORMULA> <STREAM>..."),
 ];
 
-/// Whether this part is in the text, which is no line of the program's own; and how often its first line comes.
+/// Whether the text contains this part and isn't a message of the program itself; and how often its
+/// first line occurs.
 fn usage_of(text: &str, part: &str) -> (bool, usize) {
     let (first, _) = text.split_once('\n').unwrap_or(("", ""));
     let is_usage = text.contains(part) && !text.starts_with("lrupd: ");
     (is_usage, text.matches(first).count())
 }
 
-/// What `clap` says, with this part in it, goes out as it is and once, and no file is opened.
+/// Checks that the message from `clap`, which contains this part, is printed unchanged and once,
+/// and that no file is opened.
 fn assert_usage(rt: &impl Host, words: &[&str], part: &str) {
     let ran = run(rt, rt, words, ONE_EMPTY);
     let (status, out, err) = ran.ends();
@@ -131,14 +134,15 @@ fn reports_that_are_not_written(rt: HostRuntime) -> Result<(), Fail> {
     assert_unwritten(&rt, "f 1", ONE_EMPTY, whole.as_str(), said)
 }
 
-/// Words, the write of standard output that fails, and the status.
+/// The words, the write of standard output that fails, and the status.
 static UNSAID: [(&[&str], usize, u8); 3] = [
     (&["f"], 0, 2),
     (&["no", "1"], 0, 5),
     (&["f", "1"], 1, 7),
 ];
 
-/// A standard error that fails changes no status: seven bytes go out at each write before it fails.
+/// A failing standard error doesn't change the status: each write before the failing one takes
+/// seven bytes.
 #[test]
 fn faults_that_are_not_said(rt: HostRuntime) {
     for &(words, out_fails_at, status) in &UNSAID {

@@ -21,7 +21,7 @@ impl Reads {
     }
 }
 
-/// The formula's bytes, the most that come a read, and how many reads there are.
+/// The size of the formula's file, the most bytes that a read gives, and the number of reads.
 static READS: [(usize, usize, u64); 6] = [
     (39, 1, 40),
     (39, 2, 21),
@@ -31,8 +31,9 @@ static READS: [(usize, usize, u64); 6] = [
     (200_000, usize::MAX, 5),
 ];
 
-/// The reads of the four clauses' file, with a comment that makes it as long as this, from which at most so many bytes come a read: those of 65,536 bytes, and
-/// the others. The stream isn't there.
+/// Reads the four clauses, with a comment that makes the file this long, at most `most` bytes a
+/// read. Returns how many reads asked for 65,536 bytes, and how many for another number. There is
+/// no stream.
 fn reads_of(rt: &impl Host, bytes: usize, most: usize) -> Result<(u64, u64), Fail> {
     let mut formula = String::from_str(rt.alloc(), FOUR)?;
     formula.push('c')?;
@@ -53,7 +54,7 @@ fn reads_of(rt: &impl Host, bytes: usize, most: usize) -> Result<(u64, u64), Fai
     Ok((pieces, reads.others.load(Ordering::SeqCst)))
 }
 
-/// A terminal wants its end twice, if it is read again after it.
+/// Reading on after the end would make a user at a terminal type the end twice.
 #[test]
 fn a_formula_is_read_by_65536_bytes_and_up_to_its_end(rt: HostRuntime) -> Result<(), Fail> {
     for &(bytes, most, reads) in &READS {

@@ -1,8 +1,9 @@
-//! Runs that are refused memory, or a thread: each file that they create is closed.
+//! Runs that are refused memory or a thread close each file that they created.
 use super::shelf::Thing::{self, Text};
 use super::*;
 
-/// The option, the stream, those of round 2, and the status: in the one round and in the second the formula is refuted, or isn't.
+/// The option, the stream, the files of round 2, and the status: the formula is refuted or not, in
+/// the only round or in the second.
 static ENDING: [(&str, &str, &[(&str, Thing)], u8); 4] = [
     ("--checkpoint=ck", DROPS, &[], 3),
     ("--checkpoint=ck", REFUTES, &[], 0),
@@ -15,15 +16,15 @@ static ENDING: [(&str, &str, &[(&str, Thing)], u8); 4] = [
     ),
 ];
 
-/// Whether these are whole texts of clauses, one after the other. Where a stream has no memory for what it drops, it stops, and the first
-/// clause stays.
+/// Whether these are complete texts of formulas, one after the other. If a stream has no memory for
+/// what it drops, it stops, and the first clause stays.
 fn are_whole(kept: &str) -> bool {
     let rest = kept.strip_prefix(LESS).unwrap_or(kept);
     let rest = rest.strip_prefix(ALL).unwrap_or(rest);
     rest.strip_prefix(ALL).unwrap_or(rest).is_empty()
 }
 
-/// Whether this was the last that was done.
+/// Whether the last effect has this sign.
 fn is_last(done: &str, sign: &str) -> bool {
     match done.rsplit_once(sign) {
         None => false,
@@ -31,8 +32,9 @@ fn is_last(done: &str, sign: &str) -> bool {
     }
 }
 
-/// Whether a run whose status would be this may end so where one allocation or thread was refused. A file was discarded if the formula
-/// was refuted or no checkpoint could be saved, and none if a report says 'unknown' and all was saved.
+/// Whether a run whose status would be this may end like this after one allocation or thread was
+/// refused. A file was discarded if the formula was refuted or a checkpoint couldn't be saved; none
+/// was if a report says 'unknown' and everything was saved.
 fn may_end(ran: &Ran, in_rounds: bool, status: u8) -> bool {
     let (found, out, err) = ran.ends();
     let (done, kept, _) = ran.left();
@@ -46,11 +48,11 @@ fn may_end(ran: &Ran, in_rounds: bool, status: u8) -> bool {
         9 => is_unsaved && err.contains("checkpoint not written"),
         _ => false,
     };
-    // What was discarded comes last.
+    // Discarding a file is the last effect.
     is_right && are_whole(kept) && is_discarded == done.contains(" -")
 }
 
-/// To be run with each allocation failing in turn, and each thread.
+/// The gate runs this with each allocation and each thread refused in turn.
 #[test]
 fn memory_that_runs_out(rt: HostRuntime) {
     for way in &WAYS {

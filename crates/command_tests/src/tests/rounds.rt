@@ -1,4 +1,5 @@
-//! Rounds after the first: what is opened, looked for, created, kept and discarded, and what is said.
+//! Rounds after the first: which files are opened, looked for, created, kept and discarded, and the
+//! reports and messages.
 use super::shelf::Thing::{self, Breaking, Failing, Full, Lost, Refused, Text};
 use super::*;
 
@@ -14,30 +15,30 @@ const STREAM_OF_3: &str = "d/round-3.stream-1";
 /// The next formula of round 2.
 const NEXT: &str = "d/round-3.cnf";
 
-/// What is done in round 1.
+/// What round 1 does to the files.
 const FIRST: &str = "f 1 +d/round-2.cnf =d/round-2.cnf ";
-/// What is opened in round 2 of one stream, and of two.
+/// What round 2 opens, with one stream and with two.
 const OPENED: &str = "?d/round-2.sizes d/round-2.stream-1 ";
 
 const SIZED: &str = "d/round-2.sizes d/round-2.stream-1 d/round-2.stream-2 ";
-/// What is done to the next formula of round 2.
+/// What happens to the next formula of round 2.
 const KEPT: &str = "+d/round-3.cnf =d/round-3.cnf ";
 
 const DISCARDED: &str = "+d/round-3.cnf -d/round-3.cnf ";
 
-/// A run in rounds, and what comes of it.
+/// A run in rounds, and its results.
 #[derive(Clone, Copy)]
 struct Row<'a> {
-    /// Those after the option of rounds.
+    /// The words after the option `--rounds`.
     words: &'a str,
-    /// Those of round 1.
+    /// The streams of round 1.
     streams: &'a [&'a str],
     things: &'a [(&'a str, Thing<'a>)],
-    /// The last round's number, what is said of its streams, and the status.
+    /// The last round's number, its streams' lines in the report, and the status.
     ends: (u64, &'a [&'a str], u8),
-    /// What is done to the files, in parts.
+    /// The effects on the files, in parts.
     done: &'a [&'a str],
-    /// What is kept, one file after the other.
+    /// The bytes of the kept files, in order.
     kept: &'a [&'a str],
 }
 
@@ -50,7 +51,8 @@ const ROW: Row = Row {
     kept: &[ALL],
 };
 
-/// What round 2 of the second row saves: it goes on with the four of `LESS`, at the places 1 to 4, and drops the first.
+/// What round 2 of the second row saves: it continues with the four clauses of `LESS`, now 1 to 4,
+/// and drops the first.
 const LATER: &str = "p cnf 2 4
 c id 2
 1 -2 0
@@ -62,18 +64,19 @@ c id 5
 -2 0
 ";
 
-/// Two streams over the five clauses: right, if each may have three identities and four literals.
+/// Two streams over the five clauses, which are good if each stream has three identities and room
+/// for four literals.
 const MANY: &str = "6 1 0 5 3 0\n8 1 0 6 0\n10 0 8 5 4 0\n";
 
 const LONG: &str = "7 1 2 0 1 0\n9 -1 2 0 2 0\n";
 
-/// What is said of them if each may have two identities and three literals.
+/// Their lines in the report if each has two identities and room for three literals.
 const LIMITED: &[&str] = &[
     "2 added, 0 deleted, bad line 3 (identity)",
     "1 added, 0 deleted, bad line 2 (no room)",
 ];
 
-/// The five clauses, and what they add then.
+/// The five clauses, and those that these streams add within the smaller sizes.
 const EIGHT: &str = "p cnf 2 8\n1 2 0\n-1 2 0\n1 -2 0\n-1 -2 0\n2 0\n1 0\n1 2 0\n1 0\n";
 
 static ROWS: [Row; 6] = [
@@ -113,7 +116,8 @@ static ROWS: [Row; 6] = [
         done: &["f a 1 +d/round-2.cnf =d/round-2.cnf ", OPENED, KEPT],
         kept: &[FOUR, ALL],
     },
-    // These are limited by the words, and by the sizes of the round before, which had a file of them.
+    // These are limited by the words; or by the sizes of the round before, which had a file for
+    // them.
     Row {
         words: "--lines=2 --room=3 f 1 2",
         streams: &[ADDS, ""],
@@ -169,7 +173,7 @@ fn rounds_that_follow_each_other(rt: HostRuntime) -> Result<(), Fail> {
     Ok(())
 }
 
-/// 66 bytes. 22 reads give 64 of them, three at most each, and there is no other read.
+/// 66 bytes. At three bytes a read, 22 reads give the first 64, and no other read follows.
 const TOO_LONG: &str =
     "1 8 8\n1 8 8\n1 8 8\n1 8 8\n1 8 8\n1 8 8\n1 8 8\n1 8 8\n1 8 8\n1 8 8\n1 8 8\n";
 
@@ -179,7 +183,7 @@ const UNOPENED: &str = "cannot open stream 1";
 
 const ITS_SIZES: &str = "d/round-2.sizes ";
 
-/// What is there of round 2, the status and the cause, and what is done after round 1.
+/// The files of round 2, the status and the cause, and what is done to files after round 1.
 static FAULTS: [(&[(&str, Thing)], u8, &str, &str); 9] = [
     (&[(SIZES, Text("1 8\n"))], 2, "sizes", ITS_SIZES),
     (&[(SIZES, Failing(TOO_LONG, 23))], 2, "sizes", ITS_SIZES),
@@ -232,7 +236,7 @@ fn a_checkpoint_beside_rounds(rt: HostRuntime) -> Result<(), Fail> {
 
 const UNSAVED: &str = "lrupd: round 2: checkpoint not written\n";
 
-/// What becomes of the file of round 3, and what is done to it; which round doesn't follow.
+/// What is at the path of round 3's formula, and what is done to it. Round 3 doesn't follow.
 static NOT_SAVED: [(Thing, &str); 2] = [(Breaking(1), DISCARDED), (Lost, KEPT)];
 
 #[test]
@@ -253,7 +257,7 @@ const UNWRITTEN: &str = "lrupd: cannot write report\n";
 
 const NEITHER: &str = "lrupd: round 2: checkpoint not written\nlrupd: cannot write report\n";
 
-/// What becomes of the file of round 3, and what is said where the report isn't written.
+/// What is at the path of round 3's formula, and the messages if the report can't be written.
 static UNREPORTED: [(Thing, &str); 2] = [(Breaking(0), UNWRITTEN), (Lost, NEITHER)];
 
 #[test]

@@ -1,8 +1,8 @@
-//! The worked rows: words, formula and streams, and the report and the status that they end with.
+//! Worked rows: the words, the formula and the streams, and the report and the status of their run.
 use super::*;
 use test_support::Sleeps;
 
-/// A stream over the four clauses, how many additions and deletions it has, its bad line, and the reason.
+/// A stream over the four clauses, its good additions and deletions, its bad line, and the reason.
 type Bad = (&'static str, u64, u64, u64, &'static str);
 
 fn assert_bad(rt: &impl Host, words: &str, bad: Bad, status: u8) -> Result<(), Fail> {
@@ -55,7 +55,7 @@ fn bad_lines(rt: HostRuntime) -> Result<(), Fail> {
 
 const NOT_ITS_OWN: &str = "0 added, 0 deleted, bad line 1 (identity)";
 
-/// The words, the formula, the streams, what is said of each, and the status.
+/// The words, the formula, the streams, their lines in the report, and the status.
 static ENDED: [(&str, &str, &[&str], &[&str], u8); 6] = [
     ("f 1", FOUR, &[REFUTES], &[TWO_ADDED], 0),
     ("--room 1 f 1", FOUR, &["5 2 2 0 1 2 0\n"], &[ONE_ADDED], 3),
@@ -77,8 +77,7 @@ static ENDED: [(&str, &str, &[&str], &[&str], u8); 6] = [
     ),
 ];
 
-/// With files that come in pieces of one byte, of two, and whole: no file is as long as one read asks for, so a longer piece would
-/// be the whole one.
+/// Files come in pieces of one byte, in pieces of two, and whole; every file fits into one read.
 #[test]
 fn reports_and_verdicts(rt: HostRuntime) -> Result<(), Fail> {
     for &(words, formula, streams, said, status) in &ENDED {
@@ -98,8 +97,8 @@ const MISSING: &str = "0 added, 0 deleted, bad line 1 (missing 6)";
 
 const TWO_IN_STREAM_2: &str = "6 -2 0 3 4 0\n8 2 0 1 2 0\n";
 
-/// Stream 1 cites clauses of stream 2. With two threads for each it waits for them; on one thread its first line comes before them,
-/// however often it looks.
+/// Stream 1 cites clauses of stream 2. With two threads per stream it waits for them; on one thread
+/// its first line comes before them, no matter how often it looks.
 static CITED_EARLY: [(&str, &str, &[&str], &[&str], u8); 3] = [
     (
         "--tries=1000000",
@@ -135,14 +134,15 @@ fn serial_alone_is_on_one_thread(rt: HostRuntime) -> Result<(), Fail> {
     Ok(())
 }
 
-/// The words, stream 1, what is said, and what is opened.
+/// The words, stream 1, the lines in the report, and what is opened.
 static OPENED: [(&str, &str, &[&str], &str); 3] = [
     ("f 1 2", ADDS, &[ONE_ADDED, NOTHING], "f 1 2 "),
     ("f 1 1", ADDS, &[ONE_ADDED, NOT_ITS_OWN], "f 1 1 "),
     ("--assume 1 f 1", "0\n", &[MISSPELLED], "f 1 1 "),
 ];
 
-/// Each word opens its file, the formula's once: a file that two words name is two streams, and each reads all of it.
+/// Each word opens its file, and the formula's is opened once. A file that two words name is two
+/// streams, each of which reads all of it.
 #[test]
 fn each_word_opens_its_file(rt: HostRuntime) -> Result<(), Fail> {
     for &(words, stream, said, opened) in &OPENED {
@@ -156,7 +156,8 @@ fn each_word_opens_its_file(rt: HostRuntime) -> Result<(), Fail> {
 
 static SLEEPS: [(&str, u64); 3] = [("--tries=0", 0), ("--tries=3", 3), ("--tries=17", 17)];
 
-/// A hint that never comes is looked up as often again as `--tries` says, a microsecond later each time.
+/// A hint whose clause never comes is looked up again as often as `--tries` says, each time a
+/// microsecond later.
 #[test]
 fn tries_are_those_of_the_words(rt: HostRuntime) {
     for &(tries, sleeps) in &SLEEPS {

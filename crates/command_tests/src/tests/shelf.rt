@@ -1,4 +1,5 @@
-//! Files in memory, by path. As those of the machine they don't tell their bytes, and contracts allow them everything.
+//! Files in memory, by path. As with the machine's files, contracts don't know their bytes and
+//! allow them everything.
 ghost use Rattle.std.specs.Prelude.{◌≡◌, None, Some, false, true};
 ghost use Rattle.lrup_text.specs.Reads.{GivesLeft};
 
@@ -14,19 +15,19 @@ use test_support::{Paper, Pieces};
 #[derive(Clone, Copy)]
 pub(super) enum Thing<'a> {
     Text(&'a str),
-    /// A text of which this read fails, from 1 on.
+    /// A text whose read with this number, counted from 1, fails.
     Failing(&'a str, usize),
-    /// What isn't opened.
+    /// A file that can't be opened.
     Refused,
-    /// What there is no memory for, whether it is opened or created.
+    /// Opening or creating it runs out of memory.
     Full,
-    /// Nothing; a file that is created there fails at this write, from 1 on.
+    /// Nothing; a file that is created there fails at this write, counted from 1.
     Breaking(usize),
-    /// Nothing; a file that is created there isn't kept.
+    /// Nothing; keeping a file that is created there fails.
     Lost,
 }
 
-/// What a run is given besides its words.
+/// What a run gets besides its words.
 #[derive(Clone, Copy)]
 pub(super) struct Setup<'a> {
     /// At `f`.
@@ -66,12 +67,13 @@ impl<'a> Setup<'a> {
         Setup { streams, ..SETUP }
     }
 
-    /// And these things.
+    /// Also has these things.
     pub(super) fn with(self, things: &'a [(&'a str, Thing<'a>)]) -> Setup<'a> {
         Setup { things, ..self }
     }
 
-    /// And these writes of standard output and of standard error fail, from 1 on; 0 for none.
+    /// Also lets these writes of standard output and standard error fail, counted from 1; 0 for
+    /// none.
     pub(super) fn failing(self, out_fails_at: usize, err_fails_at: usize) -> Setup<'a> {
         Setup {
             out_fails_at,
@@ -107,7 +109,7 @@ pub(super) struct OpenFile<'a> {
 }
 
 impl<'a> OpenFile<'a> {
-    /// One of this text, of which this read fails, from 1 on; 0 for none.
+    /// An open file of this text, whose read with this number fails, counted from 1; 0 for none.
     pub(super) fn new(setup: &Setup<'a>, text: &'a str, fails_at: usize) -> OpenFile<'a>
         ensures left { result.text.left.now ≡ text.now }
         ensures running { result.text.failed ≡ false }
@@ -144,20 +146,21 @@ impl Source for OpenFile<'_> {
 pub(super) struct Shelf<'a> {
     alloc: Global,
     setup: Setup<'a>,
-    /// In order: a path for an opening, `?` before it where nothing was there, `+` for a creation, `=` for a keeping, `-` for a
-    /// discarding, each followed by a space.
+    /// The effects in order, as paths: with nothing before it for an opening, `?` if nothing was
+    /// found there, `+` for creating, `=` for keeping, `-` for discarding; each is followed by a
+    /// space.
     pub(super) done: String,
     /// The path of the file that was created last.
     new: String,
-    /// The bytes of the files that were kept, of one after the other.
+    /// The bytes of the kept files, in order.
     pub(super) kept: Vec<u8>,
-    /// How many bytes went to files that weren't.
+    /// How many bytes went to files that weren't kept.
     pub(super) unkept: usize,
-    /// How many files were created, and neither kept nor discarded.
+    /// How many files were created, but neither kept nor discarded.
     pub(super) unclosed: usize,
 }
 
-/// Notes that something was done to a path: the sign of what, and the path.
+/// Notes an effect: its sign, and the path.
 fn note(done: &mut String, sign: &str, path: &str) -> Result<(), OpenFault> {
     if done.push_str(sign).is_err() || done.push_str(path).is_err() || done.push(' ').is_err() {
         return Err(OpenFault::Memory);
@@ -166,7 +169,8 @@ fn note(done: &mut String, sign: &str, path: &str) -> Result<(), OpenFault> {
 }
 
 impl<'a> Shelf<'a> {
-    /// What a few rounds do is noted without taking memory, unless there is none now.
+    /// Reserves space, so that the effects of a few rounds are noted without allocating, unless the
+    /// allocation fails here.
     pub(super) fn new(alloc: Global, setup: Setup<'a>) -> Shelf<'a> {
         Shelf {
             alloc,
@@ -188,7 +192,7 @@ impl<'a> Shelf<'a> {
 impl<'a> Files for Shelf<'a> {
     type Input = OpenFile<'a>;
 
-    ghost tells = { λ _ _. None };
+    ghost contents = { λ _ _. None };
 
     ghost opens = { λ _ _ _ _. Unit {0} };
 

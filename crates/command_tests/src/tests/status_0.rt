@@ -1,6 +1,7 @@
-//! What status 0 says: of files that tell their bytes, and of a file that changes after its first opening.
+//! What status 0 means for files whose bytes contracts know, and for a file that changes after its
+//! first opening.
 ghost use Rattle.std.specs.Prelude.{◌≡◌, [], ◌∷◌, IsTrue, None, codes};
-ghost use Rattle.command.specs.declared.files.OpenFault.TheVariants.{NotOpened};
+ghost use Rattle.run_files.specs.declared.files.OpenFault.TheVariants.{NotOpened};
 ghost use Rattle.command_line.specs.CommandLine.{IsCommandLineOf};
 ghost use Rattle.command_line.specs.declared.words.CommandLine.{CommandLine};
 ghost use Rattle.dimacs.specs.FormulaText.{IsFormulaText};
@@ -16,7 +17,8 @@ use command_line::laws::plain_words;
 use lrup_text::WriteFault;
 use outcome_laws::laws::status_0_has_a_command_line;
 
-/// Whether the program ends with status 0. The formula's text is then one of a formula that no assignment satisfies.
+/// Whether the program ends with status 0. Then the formula's text is that of a formula that no
+/// assignment satisfies.
 fn refutes<T: Threads + Wait + Sync + Clock>(
     rt: &T,
     alloc: Global,
@@ -25,7 +27,8 @@ fn refutes<T: Threads + Wait + Sync + Clock>(
 ) -> bool
     // From `sound`.
     ensures sound { IsTrue result → (f : Cnf) × IsFormulaText formula.now f × IsUnsatisfiable f }
-    // From `ends`, by a law: and the words have a whole command line, whose FORMULA names the text.
+    // From `ends`, by a law: the words also give a whole command line, whose FORMULA names the
+    // text.
     ensures ends { IsTrue result → (given : CommandLine) × (f : Cnf)
         × IsCommandLineOf (codes "f" ∷ codes "s1" ∷ []) given
         × IsFormulaText formula.now f × IsUnsatisfiable f }
@@ -44,7 +47,8 @@ fn a_formula_whose_bytes_are_known(rt: HostRuntime) {
     same(&rt, refutes(&rt, rt.alloc(), FOUR, ""), false);
 }
 
-/// A file at every path: its first opening finds one text, each later one another. None is created.
+/// Every path has a file: its first opening finds one text, each later one another. Creating files
+/// fails.
 #[derive(Drop)]
 struct Changing<'a> {
     text: &'a str,
@@ -54,7 +58,7 @@ struct Changing<'a> {
 impl<'a> Files for Changing<'a> {
     type Input = OpenFile<'a>;
 
-    ghost tells = { λ _ _. None };
+    ghost contents = { λ _ _. None };
 
     ghost refuses = { λ _ _ _ _. ⊥ };
 
@@ -106,8 +110,8 @@ impl<'a> Machine for Changing<'a> {
     }
 }
 
-/// Whether the program ends with status 0, where one path names formula and stream. By its contract the text that the first opening
-/// found is then one of a formula that no assignment satisfies.
+/// Whether the program ends with status 0 if one path names formula and stream. By its contract the
+/// text that the first opening found is then that of a formula that no assignment satisfies.
 fn refutes_the_first<T: Threads + Wait + Sync + Clock>(
     rt: &T,
     alloc: Global,

@@ -1,4 +1,5 @@
-//! What `--watch` writes of streams that end and of rounds that begin, and how long the pauses between rounds are.
+//! What `--watch` writes when streams end and rounds begin, and how long the pauses between rounds
+//! are.
 ghost use Rattle.std.specs.Prelude.{None, false};
 
 use super::shelf::Thing::Text;
@@ -8,19 +9,19 @@ use std::io;
 use std::sync::atomic::{AtomicU64, AtomicUsize, Ordering};
 use std::time::Duration;
 
-/// What watchers take, and a clock that stands still but when a file is looked for.
+/// What watchers take, and a clock that moves only when a file is looked for.
 #[derive(Drop)]
 pub(super) struct WatchLog {
     watchers: AtomicU64,
-    /// The writes that are one whole line, and all writes.
+    /// The number of writes that were one whole line, and that of all writes.
     lines: AtomicU64,
     writes: AtomicU64,
-    /// Lines that are waited for, in order, each in a write of its own.
+    /// The expected lines, in order, each in a write of its own.
     awaited: &'static [&'static str],
-    /// How many of them came.
+    /// How many of them were written.
     came: AtomicUsize,
     micros: AtomicU64,
-    /// By how many microseconds the clock goes on then; none, if it doesn't know the time.
+    /// By how many microseconds the clock then moves; `None` if it fails.
     delay: Option<u64>,
 }
 
@@ -37,7 +38,7 @@ impl WatchLog {
         }
     }
 
-    /// A file is looked for.
+    /// Moves the clock, since a file is looked for.
     pub(super) fn go_on(&self) {
         let delay = self.delay.unwrap_or(0);
         self.micros.fetch_add(delay, Ordering::SeqCst);
@@ -54,7 +55,8 @@ impl WatchLog {
         }
     }
 
-    /// The watchers, the writes that were one whole line, and all writes; and how many came of the lines that were waited for.
+    /// The numbers of watchers, of writes that were one whole line, and of all writes; and how many
+    /// of the expected lines were written.
     fn counts(&self) -> ([u64; 3], usize) {
         let counts = [&self.watchers, &self.lines, &self.writes];
         (
@@ -79,7 +81,7 @@ impl Clock for WatchLog {
     fn sleep(&self, _duration: Duration) {}
 }
 
-/// A sink that takes all bytes, and notes them where there is a log.
+/// A sink that takes all bytes, and notes them if there is a log.
 #[derive(Clone, Copy)]
 pub(super) struct Watcher<'a> {
     log: Option<&'a WatchLog>,
@@ -111,7 +113,8 @@ impl Sink for Watcher<'_> {
     }
 }
 
-/// A first stream that ends and one with a bad line; and three rounds of one stream, of which the second drops a clause.
+/// A first stream that ends and a second with a bad line; and three rounds of one stream, the
+/// second of which drops a clause.
 const WATCHED: Setup = Setup {
     streams: &["", "6 6\n"],
     things: &[
@@ -126,7 +129,7 @@ const AT_ONCE: &[&str] = &[
     "lrupd: round 3: 4 clauses, 7 literals, paused for 0 ms\n",
 ];
 
-/// In each pause the clock goes on twice: the sizes are looked for, and stream 1.
+/// In each pause the clock moves twice: the sizes and stream 1 are looked for.
 const LATE: &[&str] = &[
     "lrupd: round 2: 4 clauses, 8 literals, paused for 2012 ms\n",
     "lrupd: round 3: 4 clauses, 7 literals, paused for 2012 ms\n",
@@ -144,22 +147,23 @@ s UNKNOWN
 
 const IN_3: &str = "c round 3\nc stream 1: 0 added, 0 deleted, ended\ns UNKNOWN\n";
 
-/// The words, the clock's delay, the lines that are waited for, and how many watchers and lines there are: those of each stream, and of
-/// each round after the first.
-static HEARD: [(&str, Option<u64>, &[&str], u64); 6] = [
-    ("f 1 2", Some(0), &[], 0),
-    ("--watch f 1 2", Some(0), &[], 2),
-    ("--rounds d f 1", Some(0), &[], 0),
-    ("--watch --rounds d f 1", Some(0), AT_ONCE, 5),
-    ("--watch --rounds d f 1", Some(1_006_499), LATE, 5),
-    ("--watch --rounds d f 1", None, TIMELESS, 5),
+/// The words, the clock's delay, the expected lines, and the number of lines and of watchers. There
+/// is a line for each stream, and one for each round after the first. Each line has a watcher, and so
+/// has each opening; in rounds these are also of sizes, and of a stream of round 4.
+static HEARD: [(&str, Option<u64>, &[&str], u64, u64); 6] = [
+    ("f 1 2", Some(0), &[], 0, 0),
+    ("--watch f 1 2", Some(0), &[], 2, 5),
+    ("--rounds d f 1", Some(0), &[], 0, 0),
+    ("--watch --rounds d f 1", Some(0), AT_ONCE, 5, 13),
+    ("--watch --rounds d f 1", Some(1_006_499), LATE, 5, 13),
+    ("--watch --rounds d f 1", None, TIMELESS, 5, 13),
 ];
 
-/// With the flag each line goes out by one write, without it nothing does.
+/// With the flag each line is one write; without it nothing is written.
 #[test]
 fn watchers_take_whole_lines(rt: HostRuntime) -> Result<(), Fail> {
     for way in &WAYS {
-        for &(words, delay, awaited, count) in &HEARD {
+        for &(words, delay, awaited, lines, watchers) in &HEARD {
             let words = words_after(rt.alloc(), way, words)?;
             let log = WatchLog::new(awaited, delay);
             let setup = Setup {
@@ -170,10 +174,11 @@ fn watchers_take_whole_lines(rt: HostRuntime) -> Result<(), Fail> {
             let out = if words.contains(&"2") { OF_TWO } else { IN_3 };
             let found = (words.as_slice(), ran.ends(), log.counts());
             let wanted = (3, out, "");
+            let counts = [watchers, lines, lines];
             same(
                 &rt,
                 found,
-                (words.as_slice(), wanted, ([count; 3], awaited.len())),
+                (words.as_slice(), wanted, (counts, awaited.len())),
             );
         }
     }

@@ -57,7 +57,7 @@ abbrev pub with_run : List ℕ → List (List ℕ) → List (List ℕ)
 with_run [] later = []
 with_run (byte ∷ bytes) later = (byte ∷ bytes) ∷ later
 
--- the token spells a count, and this is kept of it
+-- the token spells a count, of which this is kept
 pub record ReadsCount (text : List ℕ) (kept : ℕ) : Type 0 where
   pub count : is_count text ≡ true
   pub number : IsCapped kept (value text)

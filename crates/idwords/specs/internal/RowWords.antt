@@ -34,11 +34,11 @@ packed (l ∷ []) = literal_word l None ∷ []
 packed (l ∷ other ∷ clause) = literal_word l (Some other) ∷ packed clause
 
 -- the row has these words from this place on
-abbrev pub StandAt : List ℕ → ℕ → List ℕ → Type 0
-StandAt words place [] = Unit {0}
-StandAt words place (word ∷ more) =
-    (slice_index words place ≡ word) × StandAt words (place + 1) more
+abbrev pub OccurAt : List ℕ → ℕ → List ℕ → Type 0
+OccurAt words place [] = Unit {0}
+OccurAt words place (word ∷ more) =
+    (slice_index words place ≡ word) × OccurAt words (place + 1) more
 
 -- the row has the clause's literals from this place on, in their order
 abbrev pub LiesAt : List ℕ → ℕ → Clause → Type 0
-LiesAt words place clause = StandAt words place (packed clause)
+LiesAt words place clause = OccurAt words place (packed clause)

@@ -20,7 +20,7 @@ thread_stream thread = thread.view.caller.stream
 -- seen a prefix of the log, and its calls are its stream's events there and in the whole log; its
 -- clauses are stored where that prefix puts them, its top is after its clauses, and the words from
 -- there on have its draft, which fits into its room.
-pub record Stands (run_formula : Cnf) (run_layout : LayoutValue) (log : History) (words : List ℕ)
+pub record Agrees (run_formula : Cnf) (run_layout : LayoutValue) (log : History) (words : List ℕ)
     (thread : ThreadState) : Type 0 where
   pub formula : thread.view.caller.formula ≡ run_formula
   pub layout : thread.view.caller.layout ≡ run_layout
@@ -65,7 +65,7 @@ pub record Keeps (formula : Cnf) (layout : LayoutValue) (log : History) (words :
   pub texts : (id : ℕ) (stored : StoredClause)
       → stored_in (spelling_of formula layout log) id ≡ Some stored
       → LiesAt words stored.start stored.literals
-  pub threads : AllThreads (Stands formula layout log words) views
+  pub threads : AllThreads (Agrees formula layout log words) views
   pub once : (s : ℕ) → times s views ≤ 1
 
 -- the row fits some history

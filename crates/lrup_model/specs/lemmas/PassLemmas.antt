@@ -286,13 +286,13 @@ synced_once u v (x ∷ xs) (y ∷ ys) meets =
 synced_again : (h : History) (v w : View) (ys zs : List View) → v.seen ≡ h
     → AllByRecursion (λ y. (more : History) × (h ≡ y.seen ++ more)) ys → SyncInTurn v ys w zs
     → (w.seen ≡ h) × AllSaw h zs
-synced_again h v w [] [] here behind meets = (ap (λ (x : View). x.seen) meets ∙ here, tt)
-synced_again h v w [] (z ∷ zs) here behind meets = absurd meets
-synced_again h v w (y ∷ ys) [] here behind meets = absurd meets
-synced_again h v w (y ∷ ys) (z ∷ zs) here behind meets =
+synced_again h v w [] [] here following meets = (ap (λ (x : View). x.seen) meets ∙ here, tt)
+synced_again h v w [] (z ∷ zs) here following meets = absurd meets
+synced_again h v w (y ∷ ys) [] here following meets = absurd meets
+synced_again h v w (y ∷ ys) (z ∷ zs) here following meets =
     let met : SyncViews v y meets.0 z = meets.1 in
-    let stays : meets.0.seen ≡ h = met.longer behind.0.0 (here ∙ behind.0.1) ∙ here in
-    let rest = synced_again h meets.0 w ys zs stays behind.1 meets.2 in
+    let stays : meets.0.seen ≡ h = met.longer following.0.0 (here ∙ following.0.1) ∙ here in
+    let rest = synced_again h meets.0 w ys zs stays following.1 meets.2 in
     (rest.0, (met.one ∙ stays, rest.1))
 
 -- passes that meet in turn make no call, and the others are fair afterwards

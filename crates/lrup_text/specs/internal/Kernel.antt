@@ -1,12 +1,12 @@
 -- A whole line in a slice, read at once.
 use Rattle.std.specs.Prelude.{◌≡◌, ℕ, ◌-◌, ◌<◌, ◌≤◌, ℤ, List, [], ◌∷◌, ◌++◌, length, take, slice_index}
 use Rattle.std.specs.Fmt.{decimal}
-use Rattle.std.specs.List.{AllByRecursion, flat_map}
+use Rattle.std.specs.List.{AllByRecursion}
 use Rattle.lrup_text.specs.declared.kernel.Whole.{Whole}
 use Rattle.lrup_text.specs.Writing.{space}
 use Rattle.lrup_text.specs.internal.ByteNames.{zero_digit, line_feed}
-use Rattle.lrup_text.specs.Lines.{LineText, IsStreamNumber, IsStreamLiteral}
-use Rattle.lrup_text.specs.internal.Reading.{literals_text, items_text, line_of_parts, CanStandInLine}
+use Rattle.lrup_text.specs.Lines.{LineText, IsStreamNumber}
+use Rattle.lrup_text.specs.internal.Reading.{words_text, line_of_parts, CanOccurInLine}
 
 -- the last byte is LF
 abbrev pub EndsLine : List ℕ → Type 0
@@ -16,54 +16,39 @@ EndsLine line = (0 < length line) × (slice_index line (length line - 1) ≡ lin
 abbrev pub EndsWord : List ℕ → Type 0
 EndsWord text = (0 < length text) × (slice_index text (length text - 1) ≤ space)
 
--- numbers, with a space after each
-unfoldable pub numbers_text : List ℕ → List ℕ
-numbers_text numbers = flat_map (λ n. decimal n ++ space ∷ []) numbers
-
--- the text has a number from one place up to another
-pub record ReadsNumber (text : List ℕ) (start number end : ℕ) : Type 0 where
-  pub positive : IsStreamNumber number
+-- The text has a word from one place up to another. A word is spelled in some way, and a line has
+-- only some.
+pub record ReadsWord {A : Type 0} (spell : A → List ℕ) (Fits : A → Type 0) (text : List ℕ)
+    (start : ℕ) (word : A) (end : ℕ) : Type 0 where
+  pub fits : Fits word
   pub after : start < end
   pub inside : end < length text
-  pub is : take end text ≡ take start text ++ decimal number
+  pub is : take end text ≡ take start text ++ spell word
 
--- The text has literals from one place up to another. The buffer has them, too, after the first
--- ones.
-pub record ReadsLiterals (text : List ℕ) (start : ℕ) (old : List ℤ) (first : ℕ) (new : List ℤ)
-    (count end : ℕ) : Type 0 where
-  pub more : List ℤ
+abbrev pub ReadsNumber : List ℕ → ℕ → ℕ → ℕ → Type 0
+ReadsNumber = ReadsWord decimal IsStreamNumber
+
+-- The text has words from one place up to another, with a space after each. The buffer has them,
+-- too, after the first ones.
+pub record ReadsWords {A : Type 0} (spell : A → List ℕ) (Fits : A → Type 0) (text : List ℕ)
+    (start : ℕ) (old : List A) (first : ℕ) (new : List A) (count end : ℕ) : Type 0 where
+  pub more : List A
   pub few : count ≤ length new
-  pub lits : take count new ≡ take first old ++ more
-  pub each : AllByRecursion IsStreamLiteral more
+  pub words : take count new ≡ take first old ++ more
+  pub each : AllByRecursion Fits more
   pub inside : end ≤ length text
-  pub is : take end text ≡ take start text ++ literals_text more
+  pub is : take end text ≡ take start text ++ words_text spell more
 
--- the same for numbers
-pub record ReadsItems (text : List ℕ) (start : ℕ) (old : List ℕ) (first : ℕ) (new : List ℕ)
-    (count end : ℕ) : Type 0 where
-  pub more : List ℕ
-  pub few : count ≤ length new
-  pub ids : take count new ≡ take first old ++ more
-  pub each : AllByRecursion IsStreamNumber more
-  pub inside : end ≤ length text
-  pub is : take end text ≡ take start text ++ numbers_text more
-
--- this many items are there, followed by the end of the line
-pub record ReadsList (line : List ℕ) (start : ℕ) (ids : List ℕ) (count : ℕ) : Type 0 where
-  pub few : count ≤ length ids
-  pub each : AllByRecursion IsStreamNumber (take count ids)
-  pub text : line ≡ (take start line ++ items_text (take count ids))
-      ++ space ∷ zero_digit ∷ line_feed ∷ []
-
--- this many literals are there, followed by the end of an import
-pub record ReadsClause (line : List ℕ) (start : ℕ) (lits : List ℤ) (count : ℕ) : Type 0 where
-  pub few : count ≤ length lits
-  pub each : AllByRecursion IsStreamLiteral (take count lits)
-  pub text : line ≡ (take start line ++ space ∷ literals_text (take count lits))
+-- a space, this many words, and the end of the line
+pub record ReadsList {A : Type 0} (spell : A → List ℕ) (Fits : A → Type 0) (line : List ℕ)
+    (start : ℕ) (words : List A) (count : ℕ) : Type 0 where
+  pub few : count ≤ length words
+  pub each : AllByRecursion Fits (take count words)
+  pub text : line ≡ (take start line ++ space ∷ words_text spell (take count words))
       ++ zero_digit ∷ line_feed ∷ []
 
 -- the text is that of the line with this first number and with these lists in front of the buffers
 pub record IsWhole (line : List ℕ) (lits : List ℤ) (ids : List ℕ) (whole : Whole) : Type 0 where
-  pub kept : CanStandInLine whole.lead lits whole.literal_count ids whole.identity_count
+  pub kept : CanOccurInLine whole.lead lits whole.literal_count ids whole.identity_count
   pub text : LineText (line_of_parts whole.imports whole.deletes whole.lead
       (take whole.literal_count lits) (take whole.identity_count ids)) line

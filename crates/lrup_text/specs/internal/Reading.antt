@@ -3,11 +3,11 @@ use Rattle.std.specs.Prelude.{◌≡◌, ℕ, ◌<◌, ◌≤◌, ◌^◌, ℤ, 
 use Rattle.std.specs.Fmt.{decimal, signed_decimal}
 use Rattle.std.specs.List.{AllByRecursion, flat_map}
 use Rattle.std.specs.Prelude.{Option, Some, None, Ok, Err}
-use Rattle.lrup_text.specs.declared.machine.ParserState.{ParserState}
-use Rattle.lrup_text.specs.declared.machine.ParserState.TheVariants as states
-use Rattle.lrup_text.specs.declared.machine.ByteStep.{ByteStep}
-use Rattle.lrup_text.specs.declared.machine.ByteStep.TheVariants.{More, Done, Refused}
-use Rattle.lrup_text.specs.declared.machine.PartialLine.{PartialLine}
+use Rattle.lrup_text.specs.declared.partial_line.ParserState.{ParserState}
+use Rattle.lrup_text.specs.declared.partial_line.ParserState.TheVariants as states
+use Rattle.lrup_text.specs.declared.partial_line.ByteStep.{ByteStep}
+use Rattle.lrup_text.specs.declared.partial_line.ByteStep.TheVariants.{More, Done, Refused}
+use Rattle.lrup_text.specs.declared.partial_line.PartialLine.{PartialLine}
 use Rattle.lrup_text.specs.Writing.{space}
 use Rattle.lrup_text.specs.internal.ByteNames.{minus, zero_digit, letter_d, letter_i}
 use Rattle.lrup_text.specs.Faults.{IsRefused}
@@ -36,12 +36,15 @@ line_so_far partial =
     line_of_parts partial.imports partial.deletes partial.lead (literals_read partial)
     (identities_read partial)
 
--- literals with a space after each; items with a space before each
-unfoldable pub literals_text : List ℤ → List ℕ
-literals_text lits = flat_map (λ z. signed_decimal z ++ space ∷ []) lits
+-- words, with a space after each
+unfoldable pub words_text : {A : Type 0} → (A → List ℕ) → List A → List ℕ
+words_text spell words = flat_map (λ word. spell word ++ space ∷ []) words
 
-unfoldable pub items_text : List ℕ → List ℕ
-items_text items = flat_map (λ n. space ∷ decimal n) items
+abbrev pub literals_text : List ℤ → List ℕ
+literals_text lits = words_text signed_decimal lits
+
+abbrev pub numbers_text : List ℕ → List ℕ
+numbers_text numbers = words_text decimal numbers
 
 -- the text up to more literals; up to the list; up to more of its items
 abbrev pub clause_front : (imports : Bool) → ℕ → List ℤ → List ℕ
@@ -55,13 +58,13 @@ list_front false lead lits = clause_front false lead lits ++ zero_digit ∷ []
 abbrev pub item_front : PartialLine → List ℕ
 item_front partial =
     list_front partial.deletes partial.lead (literals_read partial)
-    ++ items_text (identities_read partial)
+    ++ space ∷ numbers_text (identities_read partial)
 
 -- the text up to the end of the line
 abbrev pub end_front : (imports deletes : Bool) → ℕ → List ℤ → List ℕ → List ℕ
 end_front true deletes lead lits ids = clause_front true lead lits ++ zero_digit ∷ []
 end_front false deletes lead lits ids =
-    (list_front deletes lead lits ++ items_text ids) ++ space ∷ zero_digit ∷ []
+    (list_front deletes lead lits ++ space ∷ numbers_text ids) ++ zero_digit ∷ []
 
 -- a literal as far as it was read
 abbrev pub literal_front : Bool → ℕ → List ℕ
@@ -80,8 +83,8 @@ pending_at states.Literal partial =
     clause_front partial.imports partial.lead (literals_read partial)
     ++ literal_front partial.negative partial.number
 pending_at states.List partial = list_front partial.deletes partial.lead (literals_read partial)
-pending_at states.Item partial = item_front partial ++ space ∷ []
-pending_at states.Number partial = item_front partial ++ space ∷ decimal partial.number
+pending_at states.Item partial = item_front partial
+pending_at states.Number partial = item_front partial ++ decimal partial.number
 pending_at states.LineEnd partial =
     end_front partial.imports partial.deletes partial.lead (literals_read partial)
     (identities_read partial)
@@ -120,7 +123,7 @@ pub record HasRoom (lits : List ℤ) (ids : List ℕ) : Type 0 where
   pub identities : length ids ≡ 65536
 
 -- the first number, and the literals and identities in front of the buffers, can be those of a line
-pub record CanStandInLine (first : ℕ) (lits : List ℤ) (literal_count : ℕ) (ids : List ℕ)
+pub record CanOccurInLine (first : ℕ) (lits : List ℤ) (literal_count : ℕ) (ids : List ℕ)
     (identity_count : ℕ) : Type 0 where
   pub lead : IsStreamNumber first
   pub few_literals : literal_count ≤ 65535
@@ -137,7 +140,7 @@ pub record FitsDigits (number digits : ℕ) : Type 0 where
 -- what is kept between two bytes
 pub record IsPartialLine (partial : PartialLine) : Type 0 where
   pub room : HasRoom partial.literals.items partial.identities.items
-  pub kept : CanStandInLine partial.lead partial.literals.items partial.literal_count
+  pub kept : CanOccurInLine partial.lead partial.literals.items partial.literal_count
       partial.identities.items partial.identity_count
   pub number : FitsDigits partial.number partial.digits
   pub roomy : IsRoomy partial.state partial

@@ -5,7 +5,7 @@ use Rattle.std.proofs.lemmas.List.Folds.{concat-append}
 use Rattle.std.specs.List.{concat}
 use Rattle.lrup_text.specs.Reads.{Gave, ReadsOf}
 
--- no reads gave no bytes
+-- without reads, no bytes were given
 pub gave_none : (S : Type 0) (reads : ReadsOf S) (first : S) → Gave S reads first [] first
 gave_none S reads first = record { pieces = []; calls = refl; whole = refl }
 

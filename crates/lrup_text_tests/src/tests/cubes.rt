@@ -7,7 +7,7 @@ use std::fmt::Write;
 use std::process::Abort;
 use std::test::Fail;
 
-/// The literal of this number, where the cube has it.
+/// Appends the literal of this number, if the cube has it.
 fn push_if_had(shown: &mut String, cube: &Cube, value: i64) -> Result<(), AllocError> {
     match Lit::new(value) {
         Some(literal) if cube.has(literal) => write!(shown, " {literal}"),
@@ -18,7 +18,7 @@ fn push_if_had(shown: &mut String, cube: &Cube, value: i64) -> Result<(), AllocE
 /// Literals that a cube may have.
 static LITERALS: [i64; 8] = [1, -1, 2, -2, 3, -3, 16_777_215, -16_777_215];
 
-/// Those of these literals that the cube has.
+/// Which of these literals the cube has.
 fn literals_shown(alloc: Global, cube: &Cube) -> Result<String, AllocError> {
     let mut shown = String::from_str(alloc, "cube")?;
     for &value in &LITERALS {
@@ -35,10 +35,10 @@ fn cube_shown(alloc: Global, text: &[u8], vars: u32) -> Result<String, AllocErro
     }
 }
 
-/// A text, over how many variables it is, and its cube or the fault.
+/// A text, the number of variables, and its cube or the fault.
 type Row<'a> = (&'a str, u32, &'a str);
 
-/// Reads the text of each row.
+/// Reads the text of each row, and compares the result.
 fn cubes_are(rt: &impl Abort, alloc: Global, rows: &[Row<'_>]) -> Result<(), AllocError> {
     for &(text, vars, wanted) in rows {
         let found = cube_shown(alloc, text.as_bytes(), vars)?;
@@ -47,8 +47,8 @@ fn cubes_are(rt: &impl Abort, alloc: Global, rows: &[Row<'_>]) -> Result<(), All
     Ok(())
 }
 
-/// Texts of cubes, and of none for each fault: the first that holds of a misspelled text, a number
-/// or list that is too long, and a variable that is out of range.
+/// Texts of cubes, and texts with each fault. If several hold, the first counts: spelling, then a
+/// number or list that is too long, then a variable out of range.
 static CUBES: &[Row] = &[
     ("-2 0\n", 2, "cube -2"),
     ("-2 1 -2 0\n", 2, "cube 1 -2"),
@@ -81,12 +81,13 @@ fn cubes_are_read(rt: HostRuntime) -> Result<(), AllocError> {
     cubes_are(&rt, rt.alloc(), CUBES)
 }
 
-/// Misspelled texts, parted by `|`; the last ones have a variable out of range before that shows.
+/// Misspelled texts, separated by `|`; in the last ones a variable is out of range before the
+/// misspelling shows.
 const MISSPELLED: &str = "|\n|-2 0|+2 0\n|-2 0\n0\n|-2 0\n\n|-2 0\r\n|-2  0\n| -2 0\n|-2 0 \n|\
     -2\t0\n|-2 00\n|02 0\n|-0 0\n|- 2 0\n|--2 0\n|-2 d 0\n|1,2 0\n|1 0 2 0\n|c\n-2 0\n|0\n-2 0\n|\
     3 0|3 x|3 02 1111111111111111111 0\n|999999999999999999";
 
-/// And each beginning of a cube's text.
+/// Also tries each proper prefix of a cube's text.
 #[test]
 fn misspelled_cubes(rt: HostRuntime) -> Result<(), Fail> {
     for text in MISSPELLED.split('|') {
@@ -101,7 +102,7 @@ fn misspelled_cubes(rt: HostRuntime) -> Result<(), Fail> {
     Ok(())
 }
 
-/// A literal, how often it comes, the text's end, and what it is.
+/// A literal, how often it is repeated, the text's end, and the result.
 static LONG: [(&str, usize, &str, &str); 10] = [
     ("1 ", 65_535, "0\n", "cube 1"),
     ("-1 ", 65_535, "0\n", "cube -1"),

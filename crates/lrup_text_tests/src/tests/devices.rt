@@ -1,4 +1,4 @@
-//! Devices that fail at one of their calls, and bytes that end.
+//! Devices that fail at one of their calls, and sources that end.
 ghost use Rattle.std.specs.Prelude.{◌≡◌, ◌++◌, ℕ, List, false, take, IfOk};
 
 use super::same;
@@ -8,7 +8,7 @@ use std::io;
 use std::process::Abort;
 use std::test::Fail;
 
-/// A device that moves all bytes it is given room for, and fails at one of its calls alone.
+/// A device that moves all bytes it is offered, and fails at exactly one of its calls.
 #[derive(Drop)]
 struct FailsOnce {
     calls: usize,
@@ -48,7 +48,7 @@ impl io::Write for FailsOnce {
     }
 }
 
-/// Reads until the device fails, at this of its calls.
+/// Reads until the device fails, at call number `fails_at`.
 fn read_until_it_fails(rt: &impl Abort, buffer: &mut [u8], fails_at: usize) {
     let mut source = Reading::new(FailsOnce::new(fails_at));
     for call in 1..=8usize {
@@ -77,7 +77,7 @@ fn failed_reads_are_not_repeated(rt: HostRuntime) -> Result<(), Fail> {
     Ok(())
 }
 
-/// One read of known bytes. Which ones it gives follows from what `Reading` says of `reads` alone.
+/// One read of known bytes. Which bytes it gives follows from the contract of `Reading` alone.
 fn read_once(bytes: &[u8], buffer: &mut [u8]) -> Result<usize, ReadFault>
     ensures { IfOk result (λ count. (rest : List ℕ)
         × (bytes.now ≡ take count buffer.new ++ rest)) }
@@ -94,7 +94,7 @@ fn a_read_gives_the_next_bytes(rt: HostRuntime) {
     }
 }
 
-/// How many bytes a reader of these gives, four at a time, and whether it failed.
+/// How many bytes a source over these gives, four at a time, and whether it failed.
 fn read_to_end(bytes: &[u8]) -> (usize, bool) {
     let mut source = Reading::new(bytes);
     let mut count = 0usize;
@@ -115,7 +115,7 @@ fn bytes_end_without_a_failure(rt: HostRuntime) {
     }
 }
 
-/// Writes until the device fails, at this of its calls.
+/// Writes until the device fails, at call number `fails_at`.
 fn write_until_it_fails(rt: &impl Abort, bytes: &[u8], fails_at: usize) {
     let mut sink = Writing::new(FailsOnce::new(fails_at));
     for call in 1..=8usize {
@@ -133,7 +133,7 @@ fn write_until_it_fails(rt: &impl Abort, bytes: &[u8], fails_at: usize) {
     same(rt, (failed, sink.into_inner().calls), (true, fails_at));
 }
 
-/// Bytes that are written.
+/// Bytes to write.
 static BYTES: [u8; 70_000] = [b'1'; 70_000];
 
 #[test]
@@ -145,7 +145,8 @@ fn failed_writes_are_not_repeated(rt: HostRuntime) {
     }
 }
 
-/// Writes a line to a device that fails at this of its calls, which are more than 300.
+/// Writes a line, which takes more than 300 calls, to a device that fails at call number
+/// `fails_at`.
 fn write_long(rt: &impl Abort, line: &Line, fails_at: usize) {
     let mut sink = Writing::new(FailsOnce::new(fails_at));
     let fails = write_fails(line, &mut sink);
@@ -169,7 +170,7 @@ fn long_lines_are_written_up_to_a_fault(rt: HostRuntime) {
     }
 }
 
-/// Writes these bytes through a buffer. Does the sink fail?
+/// Writes these bytes through a buffer, and returns whether the sink failed.
 fn put_fails<W: Sink>(bytes: &[u8], sink: &mut W) -> bool
     requires { W.has_failed sink.old ≡ false }
 {
@@ -177,10 +178,11 @@ fn put_fails<W: Sink>(bytes: &[u8], sink: &mut W) -> bool
     buffer.put(bytes, sink).is_err() || buffer.flush(sink).is_err()
 }
 
-/// More than two buffers.
+/// More bytes than two buffers hold.
 static MANY: [u8; 10_000] = [b'x'; 10_000];
 
-/// Writes them to a device that fails at this of its calls, and at none where that is 0.
+/// Writes these bytes to a device that fails at call number `fails_at`; if that is 0, it never
+/// does.
 fn put_many(rt: &impl Abort, fails_at: usize, calls: usize) {
     let mut sink = Writing::new(FailsOnce::new(fails_at));
     let fails = put_fails(&MANY, &mut sink);

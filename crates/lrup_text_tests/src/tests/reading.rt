@@ -1,11 +1,11 @@
-//! Texts in every cutting.
+//! Texts, cut at every place.
 use super::{Given, has_text, repeated, same};
 use lrup_text::{End, LineFault, LineReader};
 use std::alloc::{AllocError, Global};
 use std::process::Abort;
 use std::test::Fail;
 
-/// A text, how many bytes of it are used, and what these give.
+/// A text, how many of its bytes are used, and the result.
 type Row<'a> = (&'a str, usize, Given<'a>);
 
 /// Feeds a piece.
@@ -38,7 +38,7 @@ fn feed_bytes(rt: &impl Abort, reader: &mut LineReader, row: Row<'_>) {
     feed(rt, reader, &rest[..rest.len().min(1)], used.min(1), given);
 }
 
-/// How a stream of this text ends, after what it gave.
+/// What the end of the stream means after this result.
 fn end_after(text: &str, given: Given<'_>) -> End {
     match given {
         Given::Bad(fault) => End::Fault(fault),
@@ -47,7 +47,7 @@ fn end_after(text: &str, given: Given<'_>) -> End {
     }
 }
 
-/// Feeds a new reader a text in two pieces, or else byte by byte, and then the end.
+/// Feeds a new reader a text in two pieces, or byte by byte, and then ends the stream.
 fn feed_one_way(
     rt: &impl Abort,
     alloc: Global,
@@ -64,7 +64,7 @@ fn feed_one_way(
     Ok(())
 }
 
-/// Feeds a text in each cutting into two pieces, and byte by byte, and then the end.
+/// Feeds a text cut into two pieces at each place, and byte by byte, and ends the stream each time.
 pub(super) fn feed_every_way(
     rt: &impl Abort,
     alloc: Global,
@@ -96,7 +96,7 @@ static LINES: &[Row] = &[
     ("5 i 2 0\n6 0", 8, Given::Import(5, &[2])),
     ("5 i 0\n", 6, Given::Import(5, &[])),
     ("5 i -2 0\n", 9, Given::Import(5, &[-2])),
-    // As written: a literal may repeat, and its complement may follow.
+    // The reader keeps repeated literals, and a literal with its complement.
     ("1 i 2 1 2 -2 0\n", 15, Given::Import(1, &[2, 1, 2, -2])),
     (
         "999999999999999999 i 10 -999999999999999999 0\n",
@@ -111,7 +111,7 @@ const TOO_LONG: Given = Given::Bad(LineFault::TooLong);
 
 const RAT_HINT: Given = Given::Bad(LineFault::RatHint);
 
-/// Texts of no line, where that shows, and why.
+/// Texts that begin no line, how many bytes it takes to know that, and why.
 static FAULTY: &[Row] = &[
     ("\n", 1, SPELLING),
     ("05 2 0 0\n", 1, SPELLING),
@@ -128,7 +128,7 @@ static FAULTY: &[Row] = &[
     ("5 -1111111111111111111111111111111111111111", 22, TOO_LONG),
 ];
 
-/// The same of imports.
+/// The same for imports.
 static FAULTY_IMPORTS: &[Row] = &[
     ("5 i -0", 6, SPELLING),
     ("5 i 2 0 1", 8, SPELLING),
@@ -188,7 +188,8 @@ fn unfinished_lines_need_more(rt: HostRuntime) -> Result<(), Fail> {
     Ok(())
 }
 
-/// A beginning, a part and an end, how often the part comes, and what is used and given.
+/// A beginning, a part and an end, how often the part is repeated, how many bytes are used, and the
+/// result.
 type LongRow = (
     (&'static str, &'static str, &'static str),
     usize,
@@ -231,7 +232,7 @@ static LONG_LINES: &[LongRow] = &[
     ),
 ];
 
-/// At once, cut after 65,536 bytes, and byte by byte.
+/// Feeds each text in one piece, cut after 65,536 bytes, and byte by byte.
 #[test]
 fn lines_have_limits(rt: HostRuntime) -> Result<(), Fail> {
     for &(parts, count, used, given) in LONG_LINES {
@@ -277,7 +278,8 @@ fn kinds_follow_one_another(rt: HostRuntime) -> Result<(), Fail> {
     Ok(())
 }
 
-/// A piece, how much of it is used, what that gives, and how the stream would end then.
+/// A piece, how many of its bytes are used, the result, and what the end of the stream would then
+/// mean.
 type Step = (&'static str, usize, Given<'static>, End);
 
 const CLEAN: End = End::Clean;

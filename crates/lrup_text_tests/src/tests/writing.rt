@@ -9,13 +9,13 @@ use std::process::Abort;
 use std::test::Fail;
 use test_support::Paper;
 
-/// The greatest number of a stream.
+/// The largest number of a stream.
 const MOST: u64 = 999_999_999_999_999_999;
 
-/// The variable of that number.
+/// The same as a literal.
 const LAST: i64 = 999_999_999_999_999_999;
 
-/// Lines, and whether they have a text.
+/// Lines, and whether each has a text.
 static FITTING: &[(Given, bool)] = &[
     (Given::Add(MOST, &[LAST], &[1]), true),
     (Given::Add(1, &[-LAST], &[MOST]), true),
@@ -54,14 +54,14 @@ fn lines_within_limits_fit(rt: HostRuntime) -> Result<(), Fail> {
     Ok(())
 }
 
-/// Writes a line, if it fits. Does the sink fail?
+/// Writes a line, if it has a text, and returns whether the sink failed.
 pub(super) fn write_fails<W: Sink>(line: &Line, sink: &mut W) -> bool
     requires { W.has_failed sink.old ≡ false }
 {
     line.fits() && write_line(line, sink).is_err()
 }
 
-/// Writes a line three bytes at a time to a sink that fails at this of its writes.
+/// Writes a line three bytes at a time to a sink that fails at write number `fails_at`.
 fn write_in_threes(rt: &impl Abort, alloc: Global, line: &Line, text: &[u8], fails_at: usize) {
     let mut paper = Paper::new(alloc, 3, fails_at);
     let fails = write_fails(line, &mut paper);
@@ -84,7 +84,7 @@ static WRITTEN: &[(&str, Given)] = &[
     ),
 ];
 
-/// The sink fails at each write in turn, and at none. The text is read again.
+/// The sink fails at each write in turn, and then at none. The written text is read back.
 #[test]
 fn lines_are_written(rt: HostRuntime) -> Result<(), Fail> {
     for &(text, given) in WRITTEN {
@@ -97,7 +97,7 @@ fn lines_are_written(rt: HostRuntime) -> Result<(), Fail> {
     Ok(())
 }
 
-/// Numbers where one more digit begins, and the greatest.
+/// Numbers around a change in their number of digits, and the largest.
 static NUMBERS: [u64; 12] = [
     0,
     9,
@@ -113,7 +113,8 @@ static NUMBERS: [u64; 12] = [
     u64::MAX,
 ];
 
-/// Literals where one more digit begins, 0, the variables' limit, and the least number.
+/// Literals around a change in their number of digits, 0, the largest variable, and the least
+/// number.
 static LITERALS: [i64; 10] = [
     0,
     1,
@@ -127,12 +128,12 @@ static LITERALS: [i64; 10] = [
     i64::MIN,
 ];
 
-/// What is written of them, after a front of any length.
+/// Their text, which doesn't depend on what the buffer already holds.
 const NUMBERS_AND_LITERALS: &[u8] = b"\
 0 9 10 99 100 999 1000 9999 10000 99999999 100000000 18446744073709551615 \
 0 1 -1 -10 9999 -10000 16777215 -16777215 100000000 -9223372036854775808 ";
 
-/// Puts the numbers, each with a blank after it.
+/// Puts the numbers, each with a space after it.
 fn put_numbers<W: Sink>(
     rt: &impl Abort,
     buffer: &mut WriteBuffer,
@@ -160,7 +161,7 @@ fn put_literals<W: Sink>(
     buffer.flush(sink)
 }
 
-/// Writes these bytes, and puts the numbers and the literals.
+/// Puts these bytes, the numbers and the literals.
 fn write_after<W: Sink>(rt: &impl Abort, front: &[u8], sink: &mut W) -> Result<(), WriteFault>
     requires { W.has_failed sink.old ≡ false }
 {
@@ -171,17 +172,17 @@ fn write_after<W: Sink>(rt: &impl Abort, front: &[u8], sink: &mut W) -> Result<(
     put_literals(rt, &mut buffer, sink)
 }
 
-/// What is written then.
+/// What `write_after` writes.
 fn written_after(rt: &impl Abort, alloc: Global, front: &[u8]) -> Result<Vec<u8>, WriteFault> {
     let mut sink = Writing::new(Vec::new(alloc));
     write_after(rt, front, &mut sink)?;
     Ok(sink.into_inner())
 }
 
-/// What fills the front of a buffer.
+/// Bytes to fill the front of a buffer with.
 static FRONT: [u8; 4_097] = [b'x'; 4_097];
 
-/// Numbers and literals at each place near the end of a buffer of 4,096 bytes.
+/// Puts numbers and literals at each place near the end of a buffer of 4,096 bytes.
 #[test]
 fn numbers_are_written(rt: HostRuntime) -> Result<(), Fail> {
     for held in 4_000..4_100usize {

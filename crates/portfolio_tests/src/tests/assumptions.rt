@@ -17,7 +17,7 @@ fn cube_of(alloc: Global, values: &[i64]) -> Result<Cube, Fail> {
     Ok(cube)
 }
 
-/// An addition whose clause is within the cube, and a line that is bad.
+/// The reports of a stream that adds a clause within the cube, and of one whose first line is bad.
 const WITHIN: Said = (1, 0, UnsatisfiableUnder, Ended);
 
 const BAD: Said = (0, 0, Unknown, Bad(1, Fault::NoConflict));
@@ -26,7 +26,7 @@ const UNIT: &str = "5 2 0 1 2 0\n";
 
 const SECOND: &str = "6 2 0 1 2 0\n";
 
-/// The assumed literals, the streams, and what is said of them.
+/// The assumed literals, the streams, and their reports.
 static ROWS: [(&[i64], &[&str], &[Said]); 13] = [
     (&[-2], &[UNIT], &[WITHIN]),
     (&[-2, 1, -2], &[UNIT], &[WITHIN]),
@@ -36,13 +36,13 @@ static ROWS: [(&[i64], &[&str], &[Said]); 13] = [
     (&[1, -1], &["5 1 0 1 3 0\n"], &[WITHIN]),
     (&[1, -1], &["5 -1 0 2 4 0\n"], &[WITHIN]),
     (&[-2], &["5 2 0 1 2 0\n6 0 5 3 4 0\n"], &[REFUTES]),
-    // A bad line takes nothing back.
+    // A bad line doesn't undo what earlier lines did.
     (
         &[-2],
         &["5 2 0 1 2 0\n6 1 0 1 0\n"],
         &[(1, 0, UnsatisfiableUnder, Bad(2, Fault::NoConflict))],
     ),
-    // The clause within the cube and the empty clause may be of different streams, and of any.
+    // Any stream may add the clause within the cube, and any the empty clause.
     (&[-2], &[UNIT, SECOND], &[WITHIN, WITHIN]),
     (&[-2], &["5 2 0 1 0\n", SECOND], &[BAD, WITHIN]),
     (

@@ -37,7 +37,7 @@ impl Gate for Notes<'_> {
         }
     }
 
-    fn when_over(&mut self, stream: u64, _report: &Report) {
+    fn when_finished(&mut self, stream: u64, _report: &Report) {
         if let Ok(line) = format!(in self.alloc; "{stream} is over\n") {
             self.tape.note(line.as_bytes());
         }
@@ -67,7 +67,7 @@ const MISSING: [&str; 2] = ["5 0 6 0\n", ""];
 
 const SAID_OF_MISSING: [Said; 2] = [(0, 0, Unknown, Bad(1, Fault::Missing(6))), NOTHING];
 
-/// Tries, two streams, what is said of them, and their calls.
+/// Tries, two streams, their reports, and the calls of their gates.
 static CALLS: [(u64, [&str; 2], [Said; 2], [&str; 2]); 2] = [
     (
         0,
@@ -90,7 +90,8 @@ static CALLS: [(u64, [&str; 2], [Said; 2], [&str; 2]); 2] = [
     ),
 ];
 
-/// Each stream's gate gets each fetch and each publish of that stream, in order, and its end once.
+/// Each stream's gate is called for each fetch and each publish of that stream, in order, and once
+/// at its end.
 #[test]
 fn gates_get_the_calls_of_their_streams(rt: HostRuntime) -> Result<(), Fail> {
     for mode in BOTH {
@@ -108,7 +109,7 @@ fn gates_get_the_calls_of_their_streams(rt: HostRuntime) -> Result<(), Fail> {
     Ok(())
 }
 
-/// Turns go round, stream 1 first, and take one line each.
+/// Turns are round-robin, from stream 1 on, and take one line each.
 #[test]
 fn serial_takes_a_line_of_each_stream(rt: HostRuntime) -> Result<(), Fail> {
     let tape = Tape::new(rt.alloc(), 200)?;
@@ -122,7 +123,7 @@ fn serial_takes_a_line_of_each_stream(rt: HostRuntime) -> Result<(), Fail> {
     Ok(())
 }
 
-/// Stream 1 ends after three tries more.
+/// Runs with these gates: stream 1 fetches a hint that never comes, and three times more.
 fn pauses_in_vain<T: Machine, G: Gate + Send + Drop>(
     rt: &T,
     mode: Mode,
@@ -134,7 +135,7 @@ fn pauses_in_vain<T: Machine, G: Gate + Send + Drop>(
     says(rt, mode, &found, &SAID_OF_MISSING)
 }
 
-/// The gates sleep by a clock that counts the sleeps, and by the system's.
+/// The gates sleep on a clock that counts the sleeps, and on the system's.
 #[test]
 fn a_pause_sleeps_before_later_attempts(rt: HostRuntime) -> Result<(), Fail> {
     for mode in BOTH {
@@ -148,7 +149,8 @@ fn a_pause_sleeps_before_later_attempts(rt: HostRuntime) -> Result<(), Fail> {
     Ok(())
 }
 
-/// A run that reports each stream on its tape. Each sleep moves the clock by two milliseconds.
+/// A run whose gates report each stream on a tape of its own. Each sleep moves the clock by two
+/// milliseconds.
 fn run_watched<T: Machine, R: Source + Send + Drop>(
     rt: &T,
     mode: Mode,
@@ -167,7 +169,7 @@ fn run_watched<T: Machine, R: Source + Send + Drop>(
     Ok(run_in(rt, mode, &cube, options, readers, gates)?)
 }
 
-/// Tries, streams, the reads that fail, what is said of the streams, and what is written of each.
+/// Tries, streams, the reads that fail, the streams' reports, and what is written for each stream.
 type Watched<'a> = (u64, &'a [&'a str], &'a [usize], &'a [Said], &'a [&'a str]);
 
 static WATCHED: [Watched; 2] = [
@@ -182,7 +184,8 @@ lrupd: stream 1: 0 added, 0 deleted, bad line 1 (missing 6)\n",
             "lrupd: stream 2: 0 added, 0 deleted, ended\n",
         ],
     ),
-    // One stream ends, a read of the second fails, and the third goes on after its bad line.
+    // The first stream ends, a read of the second fails, and the third has more lines after a bad
+    // one.
     (
         0,
         &[
@@ -204,7 +207,7 @@ lrupd: stream 1: 0 added, 0 deleted, bad line 1 (missing 6)\n",
     ),
 ];
 
-/// Each stream writes on a tape of its own, a line a write.
+/// Each stream writes to a tape of its own, one line per write.
 #[test]
 fn each_end_is_reported_once(rt: HostRuntime) -> Result<(), Fail> {
     for mode in BOTH {
@@ -226,7 +229,7 @@ fn each_end_is_reported_once(rt: HostRuntime) -> Result<(), Fail> {
     Ok(())
 }
 
-/// All streams report on one tape at once, and each line is whole.
+/// All streams report on one tape at the same time, and each line stays whole.
 #[test]
 fn sixty_four_streams(rt: HostRuntime) -> Result<(), Fail> {
     let alloc = rt.alloc();

@@ -1,4 +1,4 @@
-//! Gates and readers that hold their threads until others have come as far.
+//! Gates and readers that hold their threads until others have got as far.
 ghost use Rattle.std.specs.Prelude.{◌≡◌, None, false, IfOk};
 ghost use Rattle.std.specs.List.{AllByRecursion};
 
@@ -13,17 +13,17 @@ use std::thread::yield_now;
 use stream_check::{Gate, Report};
 use test_support::Pieces;
 
-/// The stream, identity and attempt of a fetch; of a publish with attempt 0. With identity 0 it is
-/// a read of the stream, and its number, or with attempt 0 the end of the stream.
+/// The stream, identity and attempt of a fetch; with attempt 0, a publish. With identity 0 it is a
+/// read of the stream, and its number; with attempt 0 too, the end of the stream.
 type Call = [u64; 3];
 
-/// A thread at the first call waits until the second was made that often.
+/// A thread waits at the first call until the second was made this many times.
 pub(super) type Hold = (Call, Call, u64);
 
-/// How often a thread looks before it gives up.
+/// How often a thread polls before it gives up.
 const TURNS: u64 = 10_000_000;
 
-/// Holds threads at calls, and counts the calls that are awaited and the waits that were in vain.
+/// Holds threads at calls, and counts the calls that are waited for and the waits that timed out.
 #[derive(Drop)]
 pub(super) struct Holds<'a> {
     holds: &'a [Hold],
@@ -40,18 +40,18 @@ impl<'a> Holds<'a> {
         })
     }
 
-    /// How many waits were in vain.
+    /// How many waits timed out.
     pub(super) fn late(&self) -> u64 {
         self.late.load(Ordering::SeqCst)
     }
 
-    /// How often the call was made that the first hold awaits.
+    /// How often the call was made that the first hold waits for.
     pub(super) fn made(&self) -> u64 {
         let first = self.made.first();
         first.map_or(0, |count| count.load(Ordering::SeqCst))
     }
 
-    /// Counts a call, and holds its thread.
+    /// Counts a call, and holds its thread if a hold says so.
     fn call(&self, call: Call) {
         for ((_, awaited, _), made) in self.holds.iter().zip(&self.made) {
             if *awaited == call {
@@ -66,7 +66,7 @@ impl<'a> Holds<'a> {
     }
 }
 
-/// Waits until the counter is there, and says whether it was in time.
+/// Waits until the counter has this value; returns whether it got there in time.
 fn comes_to(counter: &AtomicU64, wanted: u64) -> bool {
     for _ in 0..TURNS {
         if counter.load(Ordering::SeqCst) >= wanted {
@@ -90,12 +90,12 @@ impl Gate for HoldingGate<'_> {
         self.0.call([stream, id, 0]);
     }
 
-    fn when_over(&mut self, stream: u64, _report: &Report) {
+    fn when_finished(&mut self, stream: u64, _report: &Report) {
         self.0.call([stream, 0, 0]);
     }
 }
 
-/// Gives one text a read, where an empty one is an end, and holds its thread before it does.
+/// Gives one text per read, after holding its thread; an empty text is the end.
 #[derive(Drop)]
 pub(super) struct HoldingReader<'a> {
     texts: &'static [&'static str],
@@ -125,7 +125,7 @@ impl Source for HoldingReader<'_> {
     }
 }
 
-/// A reader of each stream's texts.
+/// A reader for each stream's texts.
 pub(super) fn holding_readers<'a>(
     alloc: Global,
     streams: &[&'static [&'static str]],
@@ -145,7 +145,7 @@ pub(super) fn holding_readers<'a>(
     Ok(readers)
 }
 
-/// A run with threads whose gates hold them. No wait is in vain.
+/// A run with threads that its gates hold. Fails if a wait timed out.
 pub(super) fn run_held<'a, T: Machine>(
     rt: &T,
     options: Options,

@@ -1,4 +1,4 @@
-//! Threads at work at once: gates and readers hold some until others have come as far.
+//! Interleavings of threads: gates and readers hold some threads until others have got as far.
 use super::holding::{Hold, HoldingGate, Holds, holding_readers, run_held};
 use super::{
     ADDS, BOTH, CITING, Machine, Mode, REFUTES, Said, defaults, options, run_with, same, says,
@@ -9,14 +9,15 @@ use std::test::Fail;
 use stream_check::Ending::{Bad, Ended};
 use stream_check::Fault;
 
-/// Stream 1 asks for 6 once stream 2 has published it.
+/// Stream 1 fetches 6 only after stream 2 has published it.
 #[test]
 fn a_held_stream_finds_the_others_clause(rt: HostRuntime) -> Result<(), Fail> {
     let found = run_held(&rt, defaults(), &CITING, &[([1, 6, 1], [2, 6, 0], 1)])?;
     says(&rt, CITING, &found, &[REFUTES, ADDS])
 }
 
-/// Each first fetch waits for the other stream's, which one thread for both would do in vain.
+/// Each stream's first fetch waits for the other's, which would time out if one thread checked
+/// both.
 #[test]
 fn workers_one_after_the_other(rt: HostRuntime) -> Result<(), Fail> {
     let holds = [([1, 1, 1], [2, 3, 1], 1), ([2, 3, 1], [1, 1, 1], 1)];
@@ -35,7 +36,8 @@ const EIGHT: [&str; 8] = [
     "12 2 0 1 2 0\n",
 ];
 
-/// Each first fetch waits for all others. A stream has one identity and room for one literal.
+/// Each stream's first fetch waits for those of all others. A stream has one identity and room for
+/// one literal.
 #[test]
 fn eight_threads_are_at_work_at_once(rt: HostRuntime) -> Result<(), Fail> {
     let mut holds = Vec::new(rt.alloc());
@@ -48,7 +50,7 @@ fn eight_threads_are_at_work_at_once(rt: HostRuntime) -> Result<(), Fail> {
     says(&rt, EIGHT, &found, &[ADDS; 8])
 }
 
-/// A run whose readers give these texts, and are held, too, says this of its streams.
+/// Checks the reports of a run whose readers give these texts, and are held, too.
 fn held_says<T: Machine>(
     rt: &T,
     mode: Mode,
@@ -64,7 +66,7 @@ fn held_says<T: Machine>(
     Ok(())
 }
 
-/// The second line of stream 1 comes only once the last lines of streams 2 and 3 were checked.
+/// The second line of stream 1 comes only after the last lines of streams 2 and 3 were checked.
 #[test]
 fn a_blocked_reader_holds_up_no_other(rt: HostRuntime) -> Result<(), Fail> {
     let streams: [&'static [&'static str]; 3] = [
@@ -85,7 +87,7 @@ fn reads_and_checks_on_one_thread(rt: HostRuntime) -> Result<(), Fail> {
     held_says(&rt, Mode::Threads, &[stream], &holds, &[REFUTES])
 }
 
-/// The gate hears of a bad line before the ends of its stream and of another come.
+/// The gate gets the report of a bad line before its stream or the other one ends.
 #[test]
 fn a_bad_line_is_reported_while_streams_are_open(rt: HostRuntime) -> Result<(), Fail> {
     let streams: [&'static [&'static str]; 2] = [&["6 6\n5 2 0 1 2 0\n"], &["6 -2 0 3 4 0\n"]];
@@ -97,13 +99,13 @@ fn a_bad_line_is_reported_while_streams_are_open(rt: HostRuntime) -> Result<(), 
     Ok(())
 }
 
-/// Streams, tries, holds, and what is said of the streams.
+/// Streams, tries, holds, and the streams' reports.
 type Row<'a> = (&'a [&'a str], u64, &'a [Hold], &'a [Said]);
 
 /// The first deletes a clause that the second cites.
 const RETIRING: [&str; 2] = ["5 2 0 1 2 0\n5 d 5 0\n7 2 0 1 2 0\n", "6 0 5 3 4 0\n"];
 
-/// What is said of them where the second finds the clause, and where it finds it retired.
+/// Their reports if the second finds the clause live, and if it finds it retired.
 const FOUND: [Said; 2] = [(2, 1, Unknown, Ended), (1, 0, Unsatisfiable, Ended)];
 
 const RETIRED: [Said; 2] = [
@@ -118,7 +120,7 @@ const NEIGHBOURS: [&str; 3] = [
     "7 2 0 5 0\n10 -2 0 6 0\n13 0 5 6 0\n",
 ];
 
-/// A hundred runs whose gates hold them so say this of their streams.
+/// Checks the reports of a hundred runs with these holds.
 fn always_says<T: Machine>(rt: &T, row: Row<'_>) -> Result<(), Fail> {
     let (streams, tries, holds, said) = row;
     for _ in 0..100 {
@@ -128,8 +130,8 @@ fn always_says<T: Machine>(rt: &T, row: Row<'_>) -> Result<(), Fail> {
     Ok(())
 }
 
-/// Stream 1 has asked for 6 in vain before stream 2 begins, and asks again once it is published.
-/// The last wait ends at once; it requires that attempt 1 came before.
+/// Stream 1 finds 6 vacant before stream 2 begins, and fetches it again once it is published. The
+/// last wait ends immediately; it checks that attempt 1 came before.
 static SECOND_TRY: Row = (
     &CITING,
     1,
@@ -166,7 +168,7 @@ fn retired_before_it_was_found(rt: HostRuntime) -> Result<(), Fail> {
     always_says(&rt, RETIRED_FIRST)
 }
 
-/// The first two wait at their last fetch for each other, and the third until both published.
+/// The first two wait for each other at their last fetch, and the third until both have published.
 static AT_ONCE: Row = (
     &NEIGHBOURS,
     0,
@@ -184,7 +186,7 @@ fn neighbours_publish_at_once(rt: HostRuntime) -> Result<(), Fail> {
     always_says(&rt, AT_ONCE)
 }
 
-/// One retires the clause as the other fetches it: it is found, or found retired.
+/// One stream retires the clause while the other fetches it, and finds it live or retired.
 #[test]
 fn a_retire_and_a_fetch_at_once(rt: HostRuntime) -> Result<(), Fail> {
     let holds = [([2, 5, 1], [1, 5, 0], 1), ([1, 5, 0], [2, 5, 1], 1)];
@@ -200,7 +202,7 @@ fn a_retire_and_a_fetch_at_once(rt: HostRuntime) -> Result<(), Fail> {
     Ok(())
 }
 
-/// Each cites what the next one has published, and the last what the first has.
+/// Each stream cites what the next one has published, and the last cites the first's clause.
 const RING: [&str; 8] = [
     "5 2 0 1 2 0\n13 2 0 6 0\n",
     "6 2 0 1 2 0\n14 2 0 7 0\n",

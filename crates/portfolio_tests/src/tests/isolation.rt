@@ -1,4 +1,4 @@
-//! A stream that cites none of its neighbours has one report, by runs and by their contracts.
+//! A stream that cites no other stream has one report: in runs, and by their contracts.
 ghost use Rattle.std.specs.Prelude.{◌≡◌, [], Some, false, true, codes, length, map, IfOk};
 ghost use Rattle.std.specs.List.{AllByRecursion};
 ghost use Rattle.stream_check.specs.Excuses.{OutOfMemory, IsExcused};
@@ -46,9 +46,9 @@ fn two_readers<'a>(
     Ok(readers)
 }
 
-/// A run with threads. By its contract alone the first stream has one report, the verdict is that
-/// of an order of the lines where no stream found live what is retired in the end, and a stream
-/// that ran out of memory had no room left.
+/// A run with threads. From its contract alone: the first stream has one report; if no stream found
+/// a clause live that is retired in the end, the verdict is that of an order of the lines; and a
+/// stream that ran out of memory had no room left.
 fn run_in_threads<'a, T: Machine>(
     rt: &T,
     first: &'a str,
@@ -92,7 +92,7 @@ fn run_on_one_thread<'a, T: Machine>(
     Ok(outcome)
 }
 
-/// The first report, where no read of the first reader failed.
+/// The first report; an error if a read of the first reader failed.
 fn first_report(reports: &[Report], readers: &[Pieces<'_>]) -> Result<Report, Fail>
     ensures report { IfOk result (λ report. IsOfStream reports.now 1 report) }
     ensures failed { IfOk result (λ _. IsOfStream (map (λ r. r.failed) readers.now) 1 false) }
@@ -103,7 +103,7 @@ fn first_report(reports: &[Report], readers: &[Pieces<'_>]) -> Result<Report, Fa
     }
 }
 
-/// What is said of the row's first stream beside this neighbour: the report that it may have alone.
+/// The report of the row's first stream beside this neighbour: the one that it may have alone.
 fn said_beside<T: Machine>(rt: &T, mode: Mode, neighbour: &str) -> Result<Report, Fail>
     ensures { IfOk result (λ report. ¬ IsExcused OutOfMemory report
         → IsOnlyReport first_bytes report) }
@@ -120,7 +120,8 @@ fn said_beside<T: Machine>(rt: &T, mode: Mode, neighbour: &str) -> Result<Report
     }
 }
 
-/// What two runs say of it. That this is one report follows from the contracts of runs alone.
+/// The first stream's report in two runs. That it is the same follows from the contracts of runs
+/// alone.
 fn said_in_two_runs<T: Machine>(
     rt: &T,
     one_run: (Mode, &str),
@@ -155,8 +156,8 @@ fn one_report_beside_each_neighbour(rt: HostRuntime) -> Result<(), Fail> {
     Ok(())
 }
 
-/// Streams on one thread, and what is said of the first two. Two that cite only each other are as
-/// beside no third; one that imports a clause changes with its neighbour.
+/// Streams on one thread, and the reports of the first two. A third stream doesn't matter to two
+/// that cite only each other; a stream that imports a clause depends on its neighbour.
 static NEIGHBOURS: [(&[&str], [Said; 2]); 6] = [
     (&[CITES_6, "6 -2 0 3 4 0\n", ""], [REFUTES, ADDS]),
     (&[CITES_6, "6 -2 0 3 4 0\n", "\n"], [REFUTES, ADDS]),
@@ -193,7 +194,7 @@ fn two_streams_beside_a_third(rt: HostRuntime) -> Result<(), Fail> {
     Ok(())
 }
 
-/// A refutation, and a beginning of it.
+/// A refutation, and a prefix of it.
 #[test]
 fn the_verdict_is_that_of_an_order(rt: HostRuntime) -> Result<(), Fail> {
     for (first, wanted) in [(FIRST, Unsatisfiable), ("5 2 0 1 2 0\n", Unknown)] {

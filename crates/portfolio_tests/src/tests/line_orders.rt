@@ -1,5 +1,5 @@
-//! Runs with threads have the reports of some order of the lines, checked on one thread. They
-//! need not where a clause is deleted that another stream has cited.
+//! Runs with threads have the reports of some order of the lines, checked on one thread. This may
+//! fail if a clause is deleted that another stream has cited.
 ghost use Rattle.std.specs.Prelude.{◌≡◌, ◌≤◌, length};
 ghost use Rattle.lrup_model.specs.Event.{History};
 ghost use Rattle.lrup_model.specs.Layout.{IsStream};
@@ -20,7 +20,7 @@ use stream_check::Ending::{Bad, Ended};
 use stream_check::laws::ready_beside;
 use stream_check::{Checker, Fault, Report};
 
-/// Feeds bytes through the end of a line, or all of them, and says how many.
+/// Feeds bytes through the end of a line, or all of them, and returns how many were used.
 fn take_line<M: ClauseMap>(checker: &mut Checker, map: &mut M, bytes: &[u8]) -> usize
     requires { IsReadyAt checker.old (M.caller_view map.old) }
     ensures ready { IsReadyAt checker.new (M.caller_view map.new) }
@@ -31,7 +31,7 @@ fn take_line<M: ClauseMap>(checker: &mut Checker, map: &mut M, bytes: &[u8]) -> 
     checker.feed(map, &mut Open, bytes).used
 }
 
-/// The same of stream `s`, at its desk.
+/// The same for stream `s`, at its desk.
 fn take_at(map: &mut PlainMap, s: u64, checker: &mut Checker, bytes: &[u8]) -> usize
     requires stream { IsStream map.old.layout s }
     requires ready { IsReadyAt checker.old (plain_caller_view map.old s) }
@@ -76,7 +76,7 @@ impl Two {
         take_at(&mut self.map, 2, &mut self.second, bytes)
     }
 
-    /// What is said of both, where each was read whole or is over.
+    /// The reports of both, if each was read whole or is finished.
     fn end(&mut self, first_whole: bool, second_whole: bool) -> Option<[Report; 2]> {
         if !first_whole && !self.first.is_over() || !second_whole && !self.second.is_over() {
             return None;
@@ -90,7 +90,7 @@ impl Two {
     }
 }
 
-/// The reports where this is the order of the lines, by streams. None if a line is left.
+/// The reports if streams take lines in this order; `None` if a line is left.
 fn said_in(
     alloc: Global,
     lines: u64,
@@ -112,17 +112,17 @@ fn said_in(
     Ok(two.end(first.is_empty(), second.is_empty()))
 }
 
-/// Whose line is next, and what is said of both streams then.
+/// The stream of each line in turn, and the reports of both streams.
 type Order = (&'static [u64], [Said; 2]);
 
-/// What is said of two streams where all comes in time, where 6 comes too late, and where 5 does.
+/// The reports of two streams if all clauses come in time, if 6 comes too late, and if 5 does.
 const IN_TIME: [Said; 2] = [REFUTES, ADDS];
 
 const SIX_LATE: [Said; 2] = [(1, 0, Unknown, Bad(2, Fault::Missing(6))), ADDS];
 
 const FIVE_LATE: [Said; 2] = [REFUTES, (1, 0, Unknown, Bad(2, Fault::Missing(5)))];
 
-/// In each order of their lines this is said of the streams.
+/// Checks the streams' reports for each of these orders of their lines.
 fn orders_say<T: Machine>(rt: &T, streams: [&str; 2], orders: &[Order]) -> Result<(), Fail> {
     for &(order, [first, second]) in orders {
         let said = said_in(rt.alloc(), 2, 0, streams, order)?;
@@ -132,7 +132,7 @@ fn orders_say<T: Machine>(rt: &T, streams: [&str; 2], orders: &[Order]) -> Resul
     Ok(())
 }
 
-/// A hundred runs with threads each say what is said in one of these orders.
+/// Checks that each of a hundred runs with threads has the reports of one of these orders.
 fn runs_have_an_order<T: Machine>(
     rt: &T,
     streams: [&str; 2],
@@ -188,16 +188,17 @@ fn orders_of_importing(rt: HostRuntime) -> Result<(), Fail> {
     runs_have_an_order(&rt, IMPORTING, &ORDERS_OF_IMPORTING)
 }
 
-/// The first deletes a clause that the second has found by then.
+/// The first deletes a clause that the second may have found before.
 const DELETING: [&str; 2] = ["5 2 0 1 2 0\n5 d 5 0\n7 -2 0 3 4 0\n", "6 0 5 7 0\n"];
 
-/// The same, where the second has imported it too.
+/// The same, but the second also imports the clause.
 const DELETING_IMPORTED: [&str; 2] = [
     "5 2 0 1 2 0\n5 d 5 0\n7 -2 0 3 4 0\n",
     "5 i 2 0\n6 0 5 7 0\n",
 ];
 
-/// Stream 2 finds 5 once it is published. Then stream 1 waits until 7 is asked for, and 2 for 7.
+/// Stream 2 finds 5 once it is published. Then stream 1 waits until stream 2 fetches 7, and stream
+/// 2 until 7 is published.
 static FINDS_BOTH: [Hold; 3] = [
     ([2, 5, 1], [1, 5, 0], 1),
     ([1, 5, 0], [2, 7, 1], 1),
@@ -206,7 +207,7 @@ static FINDS_BOTH: [Hold; 3] = [
 
 const DELETES: Said = (2, 1, Unknown, Ended);
 
-/// What is said where the second stream's line has this fault.
+/// The reports if the second stream's line has this fault.
 const MISSES_5: [Said; 2] = [DELETES, (0, 0, Unknown, Bad(1, Fault::Missing(5)))];
 
 const MISSES_7: [Said; 2] = [DELETES, (0, 0, Unknown, Bad(1, Fault::Missing(7)))];
@@ -217,7 +218,8 @@ const MISSES_7_LATER: [Said; 2] = [DELETES, (0, 0, Unknown, Bad(2, Fault::Missin
 
 const FINDS_5_RETIRED_LATER: [Said; 2] = [DELETES, (0, 0, Unknown, Bad(2, Fault::Retired(5)))];
 
-/// The second stream finds 5 before it is deleted, and 7 after that, as in no order of the lines.
+/// The second stream finds 5 before it is deleted, and 7 after that, which no order of the lines
+/// allows.
 fn no_order_says_so<T: Machine>(rt: &T, streams: [&str; 2], orders: &[Order]) -> Result<(), Fail> {
     let found = run_held(rt, options(0, 2, 16), &streams, &FINDS_BOTH)?;
     says(
@@ -259,14 +261,14 @@ fn a_deleted_clause_that_was_imported(rt: HostRuntime) -> Result<(), Fail> {
     no_order_says_so(&rt, DELETING_IMPORTED, &ORDERS_OF_DELETING_IMPORTED)
 }
 
-/// Numbers that look random, and are the same each time.
+/// Pseudo-random numbers, the same in each run.
 #[derive(Drop)]
 struct Dice {
     state: u64,
 }
 
 impl Dice {
-    /// One of these.
+    /// One of these numbers.
     fn pick(&mut self, numbers: &[u64]) -> u64 {
         self.state ^= self.state << 13;
         self.state ^= self.state >> 7;
@@ -277,7 +279,7 @@ impl Dice {
     }
 }
 
-/// Three lines under these identities: additions, deletions of clauses of the formula or another
+/// Three lines with these identities: additions, deletions of clauses of the formula or another
 /// stream, and imports of the latter. They may be bad.
 fn small_stream(
     alloc: Global,
@@ -306,7 +308,7 @@ fn small_stream(
     Ok(text)
 }
 
-/// Whose line is next, by the binary digits of a number.
+/// The stream of each line in turn, from the binary digits of a number.
 fn order_of(digits: u64) -> [u64; 6] {
     let mut order = [1; 6];
     let mut left = digits;
@@ -339,7 +341,7 @@ fn has_order(
     Ok(false)
 }
 
-/// Runs of two streams with threads have an order of lines.
+/// Runs of two streams with threads have the reports of some order of lines.
 #[test]
 fn runs_of_small_streams_have_an_order(rt: HostRuntime) -> Result<(), Fail> {
     let mut dice = Dice {

@@ -1,5 +1,5 @@
-//! Runs of which `make sweep` refuses each allocation and each start of a thread in turn. A test
-//! that fails there gives the run's fault, or its reports.
+//! Runs in which `make sweep` refuses each allocation and each start of a thread in turn. A test
+//! that then fails shows the run's fault, or its reports.
 use super::{
     ADDS, APART, Machine, Mode, Open, REFUTES, Said, defaults, readers_of, reports, run_with,
 };
@@ -8,7 +8,7 @@ use std::test::Fail;
 use stream_check::Ending::Bad;
 use stream_check::Fault;
 
-/// The run says this of these streams, or the test fails with its reports.
+/// Checks the reports of a run; if they differ, the test fails and shows them.
 fn says_or_fails<T: Machine>(
     rt: &T,
     mode: Mode,
@@ -24,7 +24,7 @@ fn says_or_fails<T: Machine>(
     Err(found.reports.into())
 }
 
-/// A stream that drops a clause of the formula and cites it then, and one beside it.
+/// A stream that drops a clause of the formula and then cites it, and another stream.
 const DROPS: [&str; 2] = ["5 d 1 0\n5 2 0 1 2 0\n", "6 -2 0 3 4 0\n"];
 
 const DROPPED: Said = (0, 1, Unknown, Bad(2, Fault::Dropped(1)));
@@ -35,7 +35,7 @@ fn two_streams_by_threads(rt: HostRuntime) -> Result<(), Fail> {
 }
 
 #[test]
-fn two_streams_by_turns(rt: HostRuntime) -> Result<(), Fail> {
+fn two_streams_on_one_thread(rt: HostRuntime) -> Result<(), Fail> {
     says_or_fails(&rt, Mode::Serial, &APART, &[REFUTES, ADDS])
 }
 
@@ -45,7 +45,7 @@ fn a_dropped_clause_by_threads(rt: HostRuntime) -> Result<(), Fail> {
 }
 
 #[test]
-fn a_dropped_clause_by_turns(rt: HostRuntime) -> Result<(), Fail> {
+fn a_dropped_clause_on_one_thread(rt: HostRuntime) -> Result<(), Fail> {
     says_or_fails(&rt, Mode::Serial, &DROPS[..1], &[DROPPED])
 }
 
@@ -55,6 +55,6 @@ fn a_dropped_clause_beside_another_by_threads(rt: HostRuntime) -> Result<(), Fai
 }
 
 #[test]
-fn a_dropped_clause_beside_another_by_turns(rt: HostRuntime) -> Result<(), Fail> {
+fn a_dropped_clause_beside_another_on_one_thread(rt: HostRuntime) -> Result<(), Fail> {
     says_or_fails(&rt, Mode::Serial, &DROPS, &[DROPPED, ADDS])
 }

@@ -10,8 +10,8 @@ use stream_check::Ending::{self, Bad, Ended, ReadFailed};
 use stream_check::{Fault, Report};
 use test_support::Paper;
 
-/// The text goes to paper that takes that many bytes at once. Where a write fails, a beginning of
-/// the text went out, and no write follows.
+/// Writes the text to a sink that takes this many bytes per write. If a write fails, a prefix of
+/// the text was written, and no write follows.
 fn writes<T: Machine>(
     rt: &T,
     reports: &[Report],
@@ -78,7 +78,7 @@ static FAULTS: [(Fault, &str); 16] = [
     (Fault::Differs(u64::MAX), "differs 18446744073709551615"),
 ];
 
-/// A report of one stream has this line, with each verdict.
+/// Checks the line of a stream's report, with each verdict.
 fn writes_line<T: Machine>(rt: &T, said: Said, line: &str) -> Result<(), Fail> {
     for &(verdict, words) in &VERDICTS {
         let text = format!(in rt.alloc(); "c stream 1: {line}\ns {words}\n")?;
@@ -131,7 +131,7 @@ fn reports_of_two_streams(rt: HostRuntime) -> Result<(), Fail> {
     Ok(())
 }
 
-/// 64 lines of 75 or 76 bytes fill the buffer, and break at any write.
+/// 64 lines of 75 or 76 bytes fill the buffer several times; each write fails in turn.
 #[test]
 fn long_reports(rt: HostRuntime) -> Result<(), Fail> {
     let most = u64::MAX;

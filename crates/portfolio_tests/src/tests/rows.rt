@@ -1,4 +1,5 @@
-//! Runs of both kinds: streams that are cut or fail after any byte, long ones, no layout; turns.
+//! Runs of both kinds: streams that end or fail after any byte, long streams, sizes without a
+//! layout; and turns.
 use super::holding::{Hold, Holds, holding_readers};
 use super::{
     ADDS, APART, BOTH, CITING, Machine, Mode, NOTHING, Open, REFUTATION, REFUTES, Said, defaults,
@@ -13,7 +14,7 @@ use std::test::Fail;
 use stream_check::Ending::{Bad, Ended, ReadFailed};
 use stream_check::Fault;
 
-/// Streams, and what is said of them.
+/// Streams, and their reports.
 static ROWS: [(&[&str], &[Said]); 3] = [
     (&[REFUTATION], &[REFUTES]),
     (&APART, &[REFUTES, ADDS]),
@@ -23,7 +24,7 @@ static ROWS: [(&[&str], &[Said]); 3] = [
     ),
 ];
 
-/// A run that always answered want of memory, or a ring's fault at an end, would fail these.
+/// These fail if a run always reports that memory ran out, or that a ring failed at a stream's end.
 #[test]
 fn always_a_fault(rt: HostRuntime) -> Result<(), Fail> {
     for mode in BOTH {
@@ -36,7 +37,8 @@ fn always_a_fault(rt: HostRuntime) -> Result<(), Fail> {
     Ok(())
 }
 
-/// Both kinds of run say this of the stream. With threads it is read to its end or failing read.
+/// Checks the stream's report in both kinds of run. With threads it is read to its end or to the
+/// read that fails.
 fn one_says<T: Machine>(
     rt: &T,
     options: Options,
@@ -61,7 +63,7 @@ fn one_says<T: Machine>(
     Ok(())
 }
 
-/// What is said of the first bytes of the refutation, at their end and at a read that fails.
+/// The reports of a prefix of the refutation: if the stream ends there, and if a read fails there.
 fn said_of_cut(bytes: usize) -> [Said; 2] {
     let truncated = Fault::Text(LineFault::Truncated);
     match bytes {
@@ -93,7 +95,7 @@ fn cut_anywhere(rt: HostRuntime) -> Result<(), Fail> {
     Ok(())
 }
 
-/// A text that often.
+/// A text, repeated.
 fn repeated(alloc: Global, text: &str, times: usize) -> Result<String, Fail> {
     let mut all = String::new(alloc);
     for _ in 0..times {
@@ -102,7 +104,8 @@ fn repeated(alloc: Global, text: &str, times: usize) -> Result<String, Fail> {
     Ok(all)
 }
 
-/// The most literals, all of them one, in room for one; the most hints, the first of them bad.
+/// The largest number of literals, all the same, with room for one; and the largest number of
+/// hints, the first of them bad.
 #[test]
 fn longest_lines(rt: HostRuntime) -> Result<(), Fail> {
     let alloc = rt.alloc();
@@ -116,7 +119,7 @@ fn longest_lines(rt: HostRuntime) -> Result<(), Fail> {
     Ok(())
 }
 
-/// The most bytes of a read, around the size of a ring.
+/// The most bytes that a read gives, around the size of a ring.
 const SIZES: [usize; 6] = [1, 2, 65_535, 65_536, 65_537, usize::MAX];
 
 #[test]
@@ -132,7 +135,8 @@ fn long_bytes(rt: HostRuntime) -> Result<(), Fail> {
     Ok(())
 }
 
-/// All lines count that came whole, however the bytes came. At first no read fails.
+/// All lines that came whole are counted, no matter how the bytes were divided. In the first run no
+/// read fails.
 #[test]
 fn many_lines_before_a_failing_read(rt: HostRuntime) -> Result<(), Fail> {
     let mut text = String::new(rt.alloc());
@@ -154,8 +158,8 @@ fn many_lines_before_a_failing_read(rt: HostRuntime) -> Result<(), Fail> {
     Ok(())
 }
 
-/// What each stream's reads give, where no text is its end, and how many there are. What comes
-/// later would change the report.
+/// What each stream's reads give, where an empty text is an end; how many of them are made; and the
+/// report. A read after the end would change it.
 static GROWING: [(&'static [&'static str], usize, Said); 4] = [
     (&["5 2 0 1 2 0\n", "", "9 0 5 3 4 0\n"], 2, ADDS),
     (&["6 -2 0 3 4 0\n", "", "6 6\n"], 2, ADDS),
@@ -182,7 +186,7 @@ fn no_read_after_the_first_end(rt: HostRuntime) -> Result<(), Fail> {
     Ok(())
 }
 
-/// How many streams there are, the identities of each, and the fault.
+/// The number of streams, the identities of each, and the fault.
 static LAYOUTS: [(usize, u64, Option<LayoutFault>); 5] = [
     (0, 1, Some(LayoutFault::BadStreamCount)),
     (1, 1, None),
@@ -212,16 +216,16 @@ fn no_layout_no_read(rt: HostRuntime) -> Result<(), Fail> {
     Ok(())
 }
 
-/// Lines cite lines that come in time if stream 1 is first, and each turn takes one line.
+/// Each cited line comes in time if stream 1 is first and each turn takes one line.
 static TURNS: [(&[&str], &[Said]); 3] = [
-    // With two lines a turn, line 2 of the first stream would miss 6.
+    // With two lines per turn, line 2 of the first stream would miss 6.
     (&CITING, &[REFUTES, ADDS]),
     // In reverse, each stream but the first would miss the clause of the one before it.
     (
         &["5 2 0 1 2 0\n", "6 2 0 5 0\n", "7 2 0 6 0\n"],
         &[ADDS, ADDS, ADDS],
     ),
-    // Each line cites the line before it, of the other stream.
+    // Each line cites the one before it, which is the other stream's.
     (
         &[
             "5 2 0 1 2 0\n7 2 0 6 0\n9 2 0 8 0\n",
@@ -243,7 +247,7 @@ fn serial_takes_streams_whole(rt: HostRuntime) -> Result<(), Fail> {
     Ok(())
 }
 
-/// A stream, and how many of its bytes are read, and one more if its end is, too.
+/// A stream, and how many of its bytes are read, plus one if its end is read, too.
 static NEEDED: [(&str, usize); 5] = [
     ("5 2 0 1 0\n5 2 0 1 2 0\n", 10),
     ("5 2 0 1 2 0\n7 0 5 3 0\n9 2 0 1 2 0\n", 22),
@@ -252,7 +256,8 @@ static NEEDED: [(&str, usize); 5] = [
     (REFUTATION, 25),
 ];
 
-/// A stream is read through the byte that ended it, and a whole one once more.
+/// A stream is read through the byte that makes it bad; a good stream is read once more, for its
+/// end.
 #[test]
 fn nothing_is_read_after_a_bad_line(rt: HostRuntime) -> Result<(), Fail> {
     for &(stream, needed) in &NEEDED {

@@ -1,4 +1,4 @@
-//! What is live after a run, saved, and a second run over it.
+//! Saves the clauses that are live after a run, and starts a second run from them.
 ghost use Rattle.std.specs.Prelude.{◌≡◌, false};
 ghost use Rattle.std.specs.List.{AllByRecursion};
 
@@ -12,7 +12,8 @@ use stream_check::Ending::Ended;
 use stream_check::Report;
 use test_support::{Paper, Pieces, four_clauses};
 
-/// Saves what is live after a run over the four clauses, and gives its formula if the run goes on.
+/// Saves the clauses that are live after a run over the four clauses, and returns their formula if
+/// the run continues.
 fn saved_after<'a, T: Machine>(
     rt: &T,
     mode: Mode,
@@ -36,7 +37,7 @@ fn saved_after<'a, T: Machine>(
                 dropped,
                 ..
             } = outcome;
-            // No call needs the run's formula any more.
+            // Saving doesn't need the run's formula any more.
             drop(formula);
             if passes.is_empty() {
                 return Err("no pass".into());
@@ -51,7 +52,7 @@ fn saved_after<'a, T: Machine>(
     }
 }
 
-/// The reports of a second run, of one stream over the formula that was given.
+/// The reports of a second run, of one stream over the next formula.
 fn reports_of_next<T: Machine>(rt: &T, next: &Formula, stream: &str) -> Result<Vec<Report>, Fail> {
     let alloc = rt.alloc();
     let readers = readers_of(alloc, &[stream], 7)?;
@@ -69,7 +70,7 @@ const WITH_5: &str = "p cnf 2 5\n1 2 0\n-1 2 0\n1 -2 0\n-1 -2 0\n2 0\n";
 
 const WITHOUT_1: &str = "p cnf 2 4\nc id 2\n-1 2 0\nc id 3\n1 -2 0\nc id 4\n-1 -2 0\nc id 5\n2 0\n";
 
-/// Streams, the text that is saved, and a stream that refutes its formula, if it isn't empty.
+/// Streams, the saved text, and a stream that refutes its formula, or an empty text.
 static SAVED: [(&[&str], &str, &str); 9] = [
     (
         &APART,
@@ -84,7 +85,7 @@ static SAVED: [(&[&str], &str, &str); 9] = [
     ),
     // A clause that wasn't added isn't saved.
     (&["", "5 2 0 1 2 0\n"], FOUR, ""),
-    // What all streams dropped is left out, also before a bad line.
+    // Clauses that all streams dropped are left out, even if a bad line follows.
     (&["5 2 0 1 2 0\n7 d 1 0\n"], WITHOUT_1, "5 0 4 2 3 0\n"),
     (
         &["5 2 0 1 2 0\n5 d 1 0\n", "6 d 1 0\n"],
@@ -96,7 +97,8 @@ static SAVED: [(&[&str], &str, &str); 9] = [
         WITHOUT_1,
         "5 0 4 2 3 0\n",
     ),
-    // What a stream keeps stays: one drops a clause, each drops another, or one of the other.
+    // A clause stays if one stream keeps it: only one drops a clause; each drops a different one;
+    // one drops a clause of the other.
     (&["5 2 0 1 2 0\n5 d 1 0\n", ""], WITH_5, "6 0 5 3 4 0\n"),
     (&["5 d 1 0\n", "6 d 2 0\n"], FOUR, ""),
     (
@@ -106,7 +108,7 @@ static SAVED: [(&[&str], &str, &str); 9] = [
     ),
 ];
 
-/// The text is saved, whether the run goes on or not, and the stream refutes the next formula.
+/// The text is saved whether the run continues or not, and the stream refutes the next formula.
 #[test]
 fn what_is_live_is_saved(rt: HostRuntime) -> Result<(), Fail> {
     for mode in BOTH {

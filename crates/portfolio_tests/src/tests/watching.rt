@@ -1,4 +1,4 @@
-//! Gates that report progress, by a clock and sinks of the tests' own.
+//! Gates that report progress, with clocks and sinks made for the tests.
 ghost use Rattle.std.specs.Prelude.{None};
 
 use self::Step::{Adds, Asks, Breaks, Later, Mended, Over};
@@ -14,7 +14,7 @@ use std::test::Fail;
 use std::time::{Clock, Duration};
 use stream_check::{Ending, Fault, Gate};
 
-/// A clock that tests move, and that goes on at each sleep.
+/// A clock that tests move; each sleep moves it, too.
 #[derive(Drop)]
 pub(super) struct Hand {
     millis: AtomicU64,
@@ -54,7 +54,7 @@ impl Clock for Hand {
     }
 }
 
-/// What sinks wrote, each write in one piece, in any order where they write at once.
+/// What sinks wrote, each write in one piece; simultaneous writes are in any order.
 #[derive(Drop)]
 pub(super) struct Tape {
     writes: AtomicU64,
@@ -63,7 +63,7 @@ pub(super) struct Tape {
 }
 
 impl Tape {
-    /// A tape with room for that many bytes.
+    /// A tape with room for this many bytes.
     pub(super) fn new(alloc: Global, most: usize) -> Result<Tape, AllocError> {
         Ok(Tape {
             writes: AtomicU64::new(0),
@@ -97,7 +97,7 @@ impl Tape {
     }
 }
 
-/// A sink onto a tape, until a write of some number, from 1 on, fails; none where that is 0.
+/// A sink onto a tape. Write number `fails_at`, counted from 1, fails; if that is 0, none does.
 #[derive(Clone, Copy)]
 pub(super) struct Pen<'a> {
     tape: &'a Tape,
@@ -140,21 +140,21 @@ impl Sink for Pen<'_> {
 /// What happens to the gate of stream 3.
 #[derive(Clone, Copy, Debug, PartialEq)]
 enum Step {
-    /// The clock goes on by these milliseconds.
+    /// The clock moves by this many milliseconds.
     Later(u64),
     /// The clock fails from now on.
     Breaks,
-    /// It doesn't any more.
+    /// The clock works again.
     Mended,
-    /// The stream asks for 555: the number of the first attempt, and how many there are.
+    /// The stream fetches 555: the number of the first attempt, and how many attempts it makes.
     Asks(u64, u64),
-    /// It publishes that many clauses.
+    /// It publishes this many clauses.
     Adds(u64),
     /// It ends.
     Over,
 }
 
-/// Does to a gate what happens.
+/// Applies the steps to a gate.
 fn take_steps<G: Gate>(gate: &mut G, clock: &Hand, steps: &[Step]) {
     for step in steps {
         match *step {
@@ -175,13 +175,13 @@ fn take_steps<G: Gate>(gate: &mut G, clock: &Hand, steps: &[Step]) {
             }
             Over => {
                 let missing = Ending::Bad(28, Fault::Missing(555));
-                gate.when_over(3, &report((27, 0, Unknown, missing)));
+                gate.when_finished(3, &report((27, 0, Unknown, missing)));
             },
         }
     }
 }
 
-/// What a gate reports at these steps, and in how many writes. The write of this number fails.
+/// What a gate reports for these steps, and in how many writes. Write number `fails_at` fails.
 fn reported(
     alloc: Global,
     is_alone: bool,
@@ -205,10 +205,10 @@ const OVER: &str = "lrupd: stream 3: 27 added, 0 deleted, bad line 28 (missing 5
 
 const COUNTED: &str = "lrupd: stream 3: 128 added\n";
 
-/// Steps, and the lines that are written at them, each by one write.
+/// Steps, and the lines written for them, each by one write.
 static ROWS: [(&[Step], &str); 14] = [
     (&[Over], OVER),
-    // A hint that has been looked up again for a second, or for less.
+    // A hint that has been vacant for less than a second, or for a second.
     (&[Asks(1, 2), Later(1_000), Asks(3, 1_021)], ""),
     (&[Asks(1, 2), Later(1_000), Asks(3, 1_022)], WAITS),
     (
@@ -221,9 +221,9 @@ static ROWS: [(&[Step], &str); 14] = [
         ],
         "",
     ),
-    // From the second attempt on.
+    // The time counts from the second attempt on.
     (&[Asks(1, 1), Later(1_000), Asks(2, 1_023)], ""),
-    // Once for each look-up.
+    // A wait is reported once for each hint.
     (&[Asks(1, 2), Later(1_000), Asks(3, 9_000)], WAITS),
     (
         &[
@@ -236,7 +236,8 @@ static ROWS: [(&[Step], &str); 14] = [
         ],
         "lrupd: stream 3: waits for 555\nlrupd: stream 3: waits for 555\n",
     ),
-    // The count, ten seconds after the first look, and then after the last line.
+    // The count is reported ten seconds after the first look at the clock, and then ten after the
+    // last report.
     (&[Adds(64), Later(9_999), Adds(64), Later(1), Adds(63)], ""),
     (
         &[Adds(64), Later(10_000), Adds(704), Later(9_999), Adds(64)],
@@ -246,7 +247,7 @@ static ROWS: [(&[Step], &str); 14] = [
         &[Adds(64), Later(99_000), Adds(64), Later(10_000), Adds(64)],
         "lrupd: stream 3: 128 added\nlrupd: stream 3: 192 added\n",
     ),
-    // Nothing was added since, so nothing is written.
+    // Nothing is added later, so nothing is reported.
     (&[Adds(64), Later(99_000)], ""),
     // A clock that fails.
     (
@@ -323,7 +324,8 @@ fn nothing_is_written_after_a_failed_write(rt: HostRuntime) -> Result<(), Fail> 
     Ok(())
 }
 
-/// The gate that it holds gets each call, with a sink and without, where nothing is written.
+/// A watch passes each call on to its inner gate, with a sink or without; without one it writes
+/// nothing.
 #[test]
 fn a_watch_passes_calls_on(rt: HostRuntime) -> Result<(), Fail> {
     for writes in [0, 1] {

@@ -5,8 +5,8 @@ use Rattle.stream_check.specs.declared.report.Report.{Report}
 use Rattle.run_outcome.specs.ReportText.{line_after}
 
 -- the line for a finished stream
-abbrev pub over_line : ℕ → Report → List ℕ
-over_line s report = line_after (codes "lrupd: stream ") s report
+abbrev pub finished_line : ℕ → Report → List ℕ
+finished_line s report = line_after (codes "lrupd: stream ") s report
 
 -- the line for a stream that has waited for the clause of an identity
 abbrev pub wait_line : ℕ → ℕ → List ℕ

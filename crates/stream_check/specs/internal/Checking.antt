@@ -51,7 +51,7 @@ abbrev pub found_by : CallerView → Result ClipValue Fault → Result Clause Fa
 found_by view (Ok clip) = Ok (clip_clause view clip)
 found_by view (Err fault) = Err fault
 
--- the result of an addition's hints: they show its clause, or there is a fault
+-- the result of an addition's hints: they derive its clause, or there is a fault
 abbrev pub Shows : StreamParams → (ℕ → Bool) → Cnf → Clause → List ℕ → History
     → Result (Unit {0}) Fault
     → Type 0

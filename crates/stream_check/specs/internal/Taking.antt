@@ -1,4 +1,4 @@
--- What a checker is after a line (this project's own).
+-- A checker after a line (this project's own).
 use Rattle.std.specs.Prelude.{◌≡◌, ◌+◌, ◌++◌, ℕ, List, [], length, None, Result, Ok, Err}
 use Rattle.lrup_model.specs.Event.{History}
 use Rattle.lrup_model.specs.CallerView.{CallerView, IsVacantAbove}
@@ -16,7 +16,7 @@ use Rattle.stream_check.specs.Checker.{IsViewOf, going_of}
 use Rattle.stream_check.specs.internal.Checking.{AreDropped}
 use Rattle.stream_check.specs.internal.CheckerInside.{StreamStateValue, context_at, deleted_at, KeepsLines, value_of}
 
--- what is held, with this text read of the next line and this much room left
+-- what an unfinished checker holds, if this was read of the next line and this much room is left
 abbrev pub hold : StreamStateValue → List ℕ → ℕ → GoingState
 hold state pending free = going_of (value_of state pending None) free
 

@@ -1,4 +1,4 @@
--- The laws of a caller's view, for a clause map whose moves are all that their events tell.
+-- The laws of a caller's view, for a clause map whose moves are determined by their events.
 use Rattle.std.specs.Prelude.{◌≡◌, ◌+◌, ◌++◌, ℕ, [], ◌∷◌}
 use Rattle.std.specs.List.{AllByRecursion}
 use Rattle.std.proofs.Common.{refl, sym, ap, subst, ◌∙◌, arith}

@@ -21,7 +21,7 @@ fn clauses_within_the_cube_are_reported(rt: HostRuntime) -> Result<(), Fail> {
     have_reports(&rt, rt.alloc(), ONE_STREAM, WITHIN)
 }
 
-/// What a good line added stays said, whatever follows; a bad line adds nothing.
+/// What a good line added stays in the report, whatever follows; a bad line adds nothing.
 static LATER_LINES: &[&str] = &[
     "cube=-2: 5 2 0 1 2 0\n6 1 0 1 3 0\n => 2 added, 0 deleted, ended, within; fetches 4",
     "cube=-2: 5 2 0 1 2 0\n6 1 0 1 0\n \

@@ -1,4 +1,4 @@
-//! The end of a stream, and a read that fails: the gate gets the report once.
+//! At the end of a stream, or at a failed read, the gate gets the report once.
 use super::same;
 use lrup_model::{Cube, Id, Layout};
 use lrup_text::StreamEnd;
@@ -20,20 +20,20 @@ impl Gate for LastReport {
 
     fn after_publish(&mut self, _stream: u64, _id: Id) {}
 
-    fn when_over(&mut self, stream: u64, report: &Report) {
+    fn when_finished(&mut self, stream: u64, report: &Report) {
         self.calls = self.calls.saturating_add(1);
         self.stream = stream;
         self.ending = Some(report.ending);
     }
 }
 
-/// A checker at no map.
+/// A checker without a map.
 fn new_checker(alloc: Global) -> Result<Checker, Fail> {
     let layout = Layout::new(2, 4, 8, 1, 9, 9)?;
     Ok(Checker::new(alloc, 1, &layout, &Cube::empty(alloc), 0)?)
 }
 
-/// The checker is over, with an ending before its first line.
+/// Checks that the checker is finished, with this ending and no good line.
 fn has_ended(rt: &impl Abort, checker: &Checker, ending: Ending) {
     let wanted = Report {
         added: 0,
@@ -46,7 +46,7 @@ fn has_ended(rt: &impl Abort, checker: &Checker, ending: Ending) {
     same(rt, checker.report(), wanted);
 }
 
-/// Finishes a checker in two ways, of which the first counts.
+/// Finishes a checker twice; the first ending counts.
 fn finish_twice(rt: &impl Abort, checker: &mut Checker, ends: [StreamEnd; 2], ending: Ending) {
     let mut gate = LastReport {
         calls: 0,

@@ -41,7 +41,7 @@ fn another_clause_differs(rt: HostRuntime) -> Result<(), Fail> {
     have_reports(&rt, rt.alloc(), ONE_STREAM, OTHER_CLAUSES)
 }
 
-/// Identity, literal, dropped, missing: the first test that fails decides.
+/// The first test that fails decides: identity, literal, dropped, missing.
 static BAD_IMPORTS: &[&str] = &[
     "5 i 2 0\n => 0 added, 0 deleted, bad line 1 (identity); fetches 0",
     "5 i 3 0\n => 0 added, 0 deleted, bad line 1 (identity); fetches 0",
@@ -90,7 +90,7 @@ static FOREIGN: &[&str] = &[
      0 added, 0 deleted, bad line 1 (differs 6); fetches 1 | 1 added, 0 deleted, ended; fetches 2",
     "tries=0: 2 6 -2 0 3 4 0\n|1 8 i -2 0\n => \
      0 added, 0 deleted, bad line 1 (missing 8); fetches 1 | 1 added, 0 deleted, ended; fetches 2",
-    // It may be cited, and its owner may retire it.
+    // The importer may cite it, and its owner may retire it.
     "2 6 -2 0 3 4 0\n|1 6 i -2 0\n5 2 0 1 2 0\n7 0 5 6 0\n => \
      2 added, 0 deleted, ended, empty, within; fetches 5 | 1 added, 0 deleted, ended; fetches 2",
     "2 6 -2 0 3 4 0\n|1 6 i -2 0\n|2 6 d 6 0\n|1 6 i -2 0\n => \
@@ -102,7 +102,7 @@ fn a_foreign_clause_is_compared(rt: HostRuntime) -> Result<(), Fail> {
     are_judged(&rt, rt.alloc(), FOREIGN)
 }
 
-/// A tautology, 1, and the empty clause, 2.
+/// The formula of a tautology, clause 1, and the empty clause, 2.
 fn odd_formula(alloc: Global) -> Result<Formula, AllocError> {
     let mut formula = Formula::new(alloc, 1);
     formula.push(&[lit(1), lit(-1)])?;
@@ -110,7 +110,7 @@ fn odd_formula(alloc: Global) -> Result<Formula, AllocError> {
     Ok(formula)
 }
 
-/// Their map.
+/// The map of that formula.
 fn open_odd(alloc: Global) -> Result<PlainMap, Fail>
     ensures { IfOk result IsPlainOpened }
 {
@@ -119,7 +119,7 @@ fn open_odd(alloc: Global) -> Result<PlainMap, Fail>
     open_formula(alloc, &formula, &layout)
 }
 
-/// What is said of a stream over them.
+/// The report of a stream over that formula.
 fn judged_odd(alloc: Global, lines: &str) -> Result<String, Fail> {
     let mut map = open_odd(alloc)?;
     let mut checker = checker_at(alloc, &map, 1, 0)?;
@@ -153,14 +153,14 @@ fn tautologies_and_empty_clauses_are_imported(rt: HostRuntime) -> Result<(), Fai
     Ok(())
 }
 
-/// How often `1` comes in an import of clause 1, what comes last, and what is said.
+/// How often an import of clause 1 repeats `1`, what comes last, and the report's ending.
 static LONG_IMPORTS: &[(usize, &str, &str)] = &[
     (65_534, " -1 0\n", "ended; fetches 1"),
     (65_534, " 1 0\n", "bad line 1 (differs 1); fetches 1"),
     (65_535, " -1 0\n", "bad line 1 (too long); fetches 0"),
 ];
 
-/// As many literals as a line may have, and one more.
+/// Imports with the largest number of literals of a line, and with one more.
 #[test]
 fn long_imports_are_compared(rt: HostRuntime) -> Result<(), Fail> {
     for &(count, last, said) in LONG_IMPORTS {

@@ -22,7 +22,7 @@ pub enum Late {
     Never,
     /// Right before this fetch of stream 1, counted from 1.
     Published(u64),
-    /// As above, and it is retired at once.
+    /// The same, and stream 2 retires it immediately.
     Retired(u64),
 }
 
@@ -34,9 +34,9 @@ struct Events {
     retires: u64,
 }
 
-/// Calls in their order, each as two digits, up to nine of them: what it is, and its identity. 1 to
-/// 4 come before an attempt to fetch, by its number; 5 is a fetch, 6 a publish, 7 comes after it, 8
-/// is a retire, 9 another stream's.
+/// Up to nine calls in order, two digits each: the kind, and the identity. 1 to 4 are the gate's
+/// calls before a fetch, by the number of the attempt; 5 is a fetch, 6 a publish, 7 the gate's call
+/// after it, 8 a retire, and 9 would be the gate's call after another stream's publish.
 #[derive(Drop)]
 struct Log {
     calls: AtomicU64,
@@ -77,12 +77,12 @@ impl Gate for NotingGate<'_> {
     }
 }
 
-/// Stream 1's place at a map. It notes and counts the calls of stream 1.
+/// Stream 1's view of a map, as a clause map that notes and counts its calls.
 #[derive(Drop)]
 struct LateMap<'a> {
     log: &'a Log,
     map: PlainMap,
-    /// What is left of stream 1's room.
+    /// The room that stream 1 has left.
     room: u64,
     late: Late,
     events: Events,
@@ -197,7 +197,7 @@ impl ClauseMap for LateMap<'_> {
     ghost moves_are_step = { λ a b es moves. moves };
 }
 
-/// Stream 1's place at a map that was just opened.
+/// Opens a map, and makes stream 1's view of it.
 fn open_late<'a>(alloc: Global, options: Options<'_>, log: &'a Log) -> Result<LateMap<'a>, Fail>
     ensures { IfOk result (λ late. IsPlainOpened late.map) }
 {
@@ -218,7 +218,7 @@ fn open_late<'a>(alloc: Global, options: Options<'_>, log: &'a Log) -> Result<La
     })
 }
 
-/// What is said of a stream that comes in pieces of one length, and its events.
+/// The report of a stream that comes in pieces of one length, and its events.
 fn feed_late<G: Gate>(
     alloc: Global,
     options: Options<'_>,
@@ -234,7 +234,8 @@ fn feed_late<G: Gate>(
     Ok((checker.report(), map.events))
 }
 
-/// The same in words. Each fetch is the gate's call, and each publish is, and adds a clause.
+/// The same as text. Checks that the gate was called for each fetch and each publish, and that each
+/// publish was counted as an addition.
 pub fn judged(
     alloc: Global,
     options: Options<'_>,
@@ -260,7 +261,7 @@ fn calls_of(alloc: Global, options: Options<'_>, lines: &str) -> Result<u64, Fai
     Ok(log.calls())
 }
 
-/// When 6 comes, the lines, and the calls as a `Log` has them.
+/// When 6 is published, the lines, and the calls as in `Log`.
 static CALLS: [(Late, &str, u64); 3] = [
     (Late::Never, "5 2 0 1 2 0\n5 d 5 0\n", 11_51_12_52_65_75_85),
     (Late::Never, "5 -2 0 6 0\n", 16_56_26_56_36_56_46_56),
@@ -269,7 +270,7 @@ static CALLS: [(Late, &str, u64); 3] = [
 
 /// The gate is called right before each fetch, and right after each publish.
 #[test]
-fn the_gate_stands_between_the_calls_of_the_map(rt: HostRuntime) -> Result<(), Fail> {
+fn the_gate_is_called_between_the_calls_of_the_map(rt: HostRuntime) -> Result<(), Fail> {
     for &(late, lines, calls) in &CALLS {
         let options = Options {
             late,

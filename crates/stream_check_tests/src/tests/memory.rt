@@ -1,5 +1,5 @@
-//! Where memory runs out. With ample memory it never does. These tests are also run with one
-//! allocation of each refused, by `rt try --test --fail-alloc N`.
+//! Streams that run out of memory. Normally they don't: `rt try --test --fail-alloc N` runs these
+//! tests with one allocation refused.
 ghost use Rattle.std.specs.Prelude.{IsSome, IsTrue};
 ghost use Rattle.lrup_model.specs.Layout.{IsStream};
 ghost use Rattle.lrup_model.specs.Plain.{plain_caller_view};
@@ -13,18 +13,18 @@ use std::process::Abort;
 use std::test::Fail;
 use stream_check::{CheckStatus, Checker, Ending, Report};
 
-/// The first line is an addition, with three literals, and takes no memory. Each other deletes one
-/// identity more that is kept, and the second an own one before it: where line `L` is the one that
-/// is refused memory, `L - 1` identities were deleted before.
+/// The first line, an addition of three literals, takes no memory. Each later line drops one more
+/// identity, and the second retires an own one before that. So if line `L` is refused memory, `L -
+/// 1` identities were deleted before.
 const LINES: &str = "5 1 2 1 0 1 0\n5 d 5 1 0\n\
     5 d 2 0\n5 d 3 0\n5 d 4 0\n5 d 6 0\n5 d 8 0\n5 d 10 0\n5 d 12 0\n5 d 14 0\n5 d 16 0\n\
     5 d 18 0\n5 d 20 0\n5 d 22 0\n5 d 24 0\n5 d 26 0\n5 d 28 0\n5 d 30 0\n5 d 32 0\n5 d 34 0\n";
 
-/// Feeds a line, of which all is used. Is the checker over then?
+/// Feeds a line, all of which is used, and returns whether the checker is then finished.
 fn feed_line<R: Abort, M: ClauseMap>(rt: &R, checker: &mut Checker, map: &mut M, line: &str) -> bool
     requires { IsReadyAt checker.old (M.caller_view map.old) }
     ensures ready { IsReadyAt checker.new (M.caller_view map.new) }
-    ensures over { IsTrue result → IsSome checker.new.ending }
+    ensures finished { IsTrue result → IsSome checker.new.ending }
 {
     let progress = checker.feed(map, &mut NO_CALLS, line.as_bytes());
     let is_over = checker.is_over();
@@ -38,14 +38,14 @@ fn feed_line<R: Abort, M: ClauseMap>(rt: &R, checker: &mut Checker, map: &mut M,
     is_over
 }
 
-/// Feeds these lines, each alone. If the checker is over early, it has used the whole line.
+/// Feeds these lines one by one. If the checker is finished early, it has used the whole line.
 fn feed_lines<R: Abort, M: ClauseMap>(rt: &R, checker: &mut Checker, map: &mut M)
     requires { IsReadyAt checker.old (M.caller_view map.old) }
     ensures { IsSome checker.new.ending }
 {
     for line in LINES.split_inclusive('\n') {
         if feed_line(rt, checker, map, line) {
-            stays_over(rt, checker, map);
+            stays_finished(rt, checker, map);
             break;
         }
     }
@@ -53,26 +53,26 @@ fn feed_lines<R: Abort, M: ClauseMap>(rt: &R, checker: &mut Checker, map: &mut M
 }
 
 /// A further line changes nothing.
-fn stays_over<R: Abort, M: ClauseMap>(rt: &R, checker: &mut Checker, map: &mut M)
+fn stays_finished<R: Abort, M: ClauseMap>(rt: &R, checker: &mut Checker, map: &mut M)
     requires ready { IsReadyAt checker.old (M.caller_view map.old) }
-    requires over { IsSome checker.old.ending }
+    requires finished { IsSome checker.old.ending }
 {
     let said = checker.report();
     let more = fed_more(checker, map);
     same(rt, (more, checker.report()), ((0, CheckStatus::Over), said));
 }
 
-/// How much of a further line is used, and what its status is then.
+/// How many bytes of a further line are used, and with what status.
 fn fed_more<M: ClauseMap>(checker: &mut Checker, map: &mut M) -> (usize, CheckStatus)
     requires ready { IsReadyAt checker.old (M.caller_view map.old) }
-    requires over { IsSome checker.old.ending }
+    requires finished { IsSome checker.old.ending }
     ensures { IsSome checker.new.ending }
 {
     let more = checker.feed(map, &mut NO_CALLS, b"7 2 0 1 2 0\n");
     (more.used, more.status)
 }
 
-/// What a checker says of a stream of these lines.
+/// A checker's report for a stream of these lines.
 fn said_at_desk<R: Abort>(rt: &R, map: &mut PlainMap, checker: &mut Checker) -> Report
     requires stream { IsStream map.old.layout 1 }
     requires ready { IsReadyAt checker.old (plain_caller_view map.old 1) }
@@ -81,14 +81,14 @@ fn said_at_desk<R: Abort>(rt: &R, map: &mut PlainMap, checker: &mut Checker) -> 
     checker.report()
 }
 
-/// What is said of a stream of these lines.
+/// The report for a stream of these lines.
 fn said_of_lines(rt: &impl Abort, alloc: Global) -> Result<Report, Fail> {
     let mut map = open_map(alloc, 2, 15, 2)?;
     let mut checker = checker_at(alloc, &map, 1, 0)?;
     Ok(said_at_desk(rt, &mut map, &mut checker))
 }
 
-/// One addition was good, and this many identities were deleted before the stream ended so.
+/// The report of one good addition and this many deleted identities, with this ending.
 fn ends_after(deleted: u64, ending: Ending) -> Report {
     Report {
         added: 1,
@@ -99,7 +99,7 @@ fn ends_after(deleted: u64, ending: Ending) -> Report {
     }
 }
 
-/// What came before a refused growth stays counted, its own line's identities too.
+/// What came before a refused growth stays counted, including earlier identities of the same line.
 #[test]
 fn a_refused_growth_ends_the_reading(rt: HostRuntime) -> Result<(), Fail> {
     let said = said_of_lines(&rt, rt.alloc())?;
@@ -111,7 +111,7 @@ fn a_refused_growth_ends_the_reading(rt: HostRuntime) -> Result<(), Fail> {
     Ok(())
 }
 
-/// This one fails where a growth is refused, and so shows that one was.
+/// This test fails if a growth is refused, which shows that one was.
 #[test]
 fn every_growth_has_memory(rt: HostRuntime) -> Result<(), Fail> {
     let said = said_of_lines(&rt, rt.alloc())?;

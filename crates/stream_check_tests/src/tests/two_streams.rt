@@ -86,7 +86,7 @@ impl Two {
         );
     }
 
-    /// Feeds a piece of the stream whose number it has in front, as `1 5 d 0`.
+    /// Feeds a piece to the stream whose number precedes it, as in `1 5 d 0`.
     fn feed(&mut self, turn: &str) -> Result<(), Fail> {
         match turn.split_once(' ') {
             Some(("1", piece)) => self.feed_first(piece.as_bytes()),
@@ -96,7 +96,7 @@ impl Two {
         Ok(())
     }
 
-    /// Ends both streams. What is said of them then?
+    /// Ends both streams, and returns their reports.
     fn end(&mut self) -> Result<[Report; 2], Fail> {
         self.first.end();
         self.second.end();
@@ -107,7 +107,7 @@ impl Two {
     }
 }
 
-/// What is said of two streams whose pieces come in these turns, which are parted by `|`.
+/// The reports of two streams whose pieces come in these turns, which are separated by `|`.
 fn judged(alloc: Global, options: Options<'_>, turns: &str) -> Result<String, Fail> {
     let mut two = Two::open(alloc, options)?;
     for turn in turns.split('|') {
@@ -119,7 +119,7 @@ fn judged(alloc: Global, options: Options<'_>, turns: &str) -> Result<String, Fa
     Ok(format!(in alloc; "{first} | {second}")?)
 }
 
-/// The two streams of each row have their reports and calls.
+/// Checks the reports and the calls of the two streams of each row.
 pub fn are_judged(rt: &impl Abort, alloc: Global, rows: &[&str]) -> Result<(), Fail> {
     for row in rows {
         let (options, turns, reports) = parts(TWO_STREAMS, row)?;
@@ -132,7 +132,7 @@ pub fn are_judged(rt: &impl Abort, alloc: Global, rows: &[&str]) -> Result<(), F
 static FOUND: &[&str] = &[
     "tries=0: 2 6 -2 0 3 4 0\n|1 5 2 0 1 2 0\n7 0 5 6 0\n => \
      2 added, 0 deleted, ended, empty, within; fetches 4 | 1 added, 0 deleted, ended; fetches 2",
-    // A line is checked at its end: the publish may come between two pieces of it.
+    // A line is checked only when it ends, so the publish may come between two of its pieces.
     "tries=0: 1 5 -2 0 6|2 6 -2 0 3 4 0\n|1  0\n => \
      1 added, 0 deleted, ended; fetches 1 | 1 added, 0 deleted, ended; fetches 2",
 ];
@@ -176,13 +176,14 @@ static DROPPED_BY_ONE: &[&str] = &[
      2 added, 1 deleted, ended, empty, within; fetches 5",
 ];
 
-/// What one stream drops is live for the other, before and after its publish: nothing was retired.
+/// A clause that one stream drops stays live for the other, whether it is published before or after
+/// that: nothing is retired.
 #[test]
 fn a_foreign_deletion_drops_for_one_stream(rt: HostRuntime) -> Result<(), Fail> {
     are_judged(&rt, rt.alloc(), DROPPED_BY_ONE)
 }
 
-/// Room isn't shared; and the second stream's identities are 6 and 8.
+/// Streams don't share room; and the second stream's identities are 6 and 8.
 static EACH_ITS_OWN: &[&str] = &[
     "1 5 1 2 0 1 0\n7 2 0 1 2 0\n|2 6 1 2 0 1 0\n => \
      1 added, 0 deleted, bad line 2 (no room); fetches 1 | 1 added, 0 deleted, ended; fetches 1",

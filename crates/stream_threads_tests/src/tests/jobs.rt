@@ -1,5 +1,5 @@
-//! The two jobs of a stream, in two threads: that they do come to a report, that no line waits for the next one, and that nobody
-//! is left asleep, which no contract says.
+//! The two jobs of a stream, in two threads. No contract says what these tests show: that they
+//! reach a report, that no line waits for the next one, and that no thread is left asleep.
 ghost use Rattle.std.specs.Prelude.{◌≡◌, ◌<◌, ◌≤◌, [], None, Some, false, IfOk, IfSome};
 ghost use Rattle.lrup_model.specs.Layout.{IsStream};
 ghost use Rattle.lrup_model.specs.Plain.{plain_caller_view};
@@ -37,7 +37,7 @@ impl Gate for Open {
     fn after_publish(&mut self, _stream: u64, _id: Id) {}
 }
 
-/// What a checking thread is given: its job, and the map of the four clauses, with which stream 1 is alone.
+/// What a checking thread gets: its job, and a map of the four clauses for stream 1 alone.
 #[derive(Drop)]
 struct Checking<G: Gate + Drop> {
     map: PlainMap,
@@ -46,7 +46,7 @@ struct Checking<G: Gate + Drop> {
     ghost ready: { IsReadyAt job.checker (plain_caller_view map 1) },
 }
 
-/// The two jobs of a stream, with room for so many lines.
+/// The two jobs of a stream, with this many identities.
 fn open_pair<R: Source + Drop, G: Gate + Drop>(
     alloc: Global,
     reader: R,
@@ -64,7 +64,8 @@ fn open_pair<R: Source + Drop, G: Gate + Drop>(
     Ok((reading, Checking { map, job }))
 }
 
-/// Sets the signal, and checks what comes, at the map's desk. None where it says to leave.
+/// Sets the signal, and checks what is received, at the map's desk; `None` if the signal says to
+/// leave.
 fn check<W: Wait, G: Gate + Drop>(
     wait: &W,
     signal: &OnceLock<bool>,
@@ -80,7 +81,7 @@ fn check<W: Wait, G: Gate + Drop>(
     check_on_signal(wait, signal, job, &mut desk).ok()
 }
 
-/// Reads and sends all. None where it says to leave.
+/// Waits for the signal, reads everything and sends it; `None` if the signal says to leave.
 fn read<W: Wait, R: Source + Drop>(
     wait: &W,
     signal: &OnceLock<bool>,
@@ -91,7 +92,8 @@ fn read<W: Wait, R: Source + Drop>(
     read_on_signal(wait, signal, reading).ok()
 }
 
-/// Both jobs, each in a thread of its own. What is said of the stream, and its reader. None where it says to leave.
+/// Runs both jobs, each in a thread of its own. Returns the stream's report and its reader; `None`
+/// if the signal says to leave.
 fn run_pair<T: Threads + Wait + Sync, R: Source + Send + Drop, G: Gate + Send + Drop>(
     rt: &T,
     go: bool,
@@ -128,7 +130,8 @@ fn report(added: u64, deleted: u64, ending: Ending) -> Report {
     }
 }
 
-/// What is said of a text that comes so many bytes a read, and whose read of some number fails.
+/// The report of a text that comes at most `most` bytes a read, and whose read number `fails_at`
+/// fails.
 fn said_of<T: Threads + Wait + Sync>(
     rt: &T,
     alloc: Global,
@@ -141,7 +144,7 @@ fn said_of<T: Threads + Wait + Sync>(
     Ok(said)
 }
 
-/// The pair says this of the text.
+/// Checks the report of a text.
 fn says<T: Threads + Wait + Sync + Abort>(
     rt: &T,
     alloc: Global,
@@ -159,10 +162,11 @@ fn says<T: Threads + Wait + Sync + Abort>(
     Ok(())
 }
 
-/// The refutation of the four clauses.
+/// A refutation of the four clauses.
 const REFUTATION: &str = "5 2 0 1 2 0\n6 0 5 3 4 0\n";
 
-/// The most bytes a read, the read that fails, and what is said: additions, whether one is empty, and the ending.
+/// The most bytes per read, the read that fails, and the report: additions, whether one is empty,
+/// and the ending.
 static READS: [(usize, usize, u64, bool, Ending); 7] = [
     (1, 0, 2, true, Ending::Ended),
     (2, 0, 2, true, Ending::Ended),
@@ -173,11 +177,11 @@ static READS: [(usize, usize, u64, bool, Ending); 7] = [
     (1, 1, 0, false, Ending::ReadFailed(1)),
 ];
 
-/// Whole, at its end, and where a read fails after the first line or after the last.
+/// The stream ends, or a read fails after the first line or after the last.
 #[test]
 fn a_refutation(rt: HostRuntime) -> Result<(), Fail> {
     for &(most, fails_at, added, empty, ending) in &READS {
-        // The empty clause, and no other, lies within a cube of no literals.
+        // Only the empty clause is within the empty cube.
         let wanted = Report {
             empty,
             within: empty,
@@ -188,15 +192,15 @@ fn a_refutation(rt: HostRuntime) -> Result<(), Fail> {
     Ok(())
 }
 
-/// Of line 1.
+/// The report of a stream whose first line has this fault.
 fn bad_line(fault: LineFault) -> Report {
     report(0, 0, Ending::Bad(1, Fault::Text(fault)))
 }
 
-/// The most bytes a read, around the size of a ring.
+/// The most bytes per read, around the size of a ring.
 static SIZES: [usize; 5] = [1, 2, 65_535, 65_536, 65_537];
 
-/// The pair says this of the text, however its bytes come.
+/// Checks the report of a text with reads of each size.
 fn says_at_each_size<T: Threads + Wait + Sync + Abort>(
     rt: &T,
     alloc: Global,
@@ -227,7 +231,7 @@ fn many_lines(rt: HostRuntime) -> Result<(), Fail> {
     says_at_each_size(&rt, rt.alloc(), &text, report(20_000, 0, Ending::Ended))
 }
 
-/// Counts reads and publishes, and waits that were in vain.
+/// Counts reads, publishes, and waits that timed out.
 #[derive(Drop)]
 struct Counters {
     reads: AtomicU64,
@@ -280,7 +284,7 @@ impl Source for Counted<'_> {
     }
 }
 
-/// Holds the first fetch until the reader was asked a second time.
+/// Holds the first fetch until the second read.
 #[derive(Clone, Copy)]
 struct HoldsForRead<'a> {
     counters: &'a Counters,
@@ -294,7 +298,7 @@ impl Gate for HoldsForRead<'_> {
     fn after_publish(&mut self, _stream: u64, _id: Id) {}
 }
 
-/// A thread that reads and checks by turns would never read the second line.
+/// One thread that alternates between reading and checking would never read the second line.
 #[test]
 fn reads_and_checks_on_one_thread(rt: HostRuntime) -> Result<(), Fail> {
     let counters = Counters::new();
@@ -339,9 +343,9 @@ fn both_see_the_signal(rt: HostRuntime) -> Result<(), Fail> {
     Ok(())
 }
 
-/// Told to leave, neither reads a byte nor checks one.
+/// If the signal says to leave, no byte is read or checked.
 #[test]
-fn told_to_leave(rt: HostRuntime) -> Result<(), Fail> {
+fn asked_to_leave(rt: HostRuntime) -> Result<(), Fail> {
     let counters = Counters::new();
     let reader = Counted {
         pieces: Pieces::new(REFUTATION, 12, 0),
@@ -353,7 +357,8 @@ fn told_to_leave(rt: HostRuntime) -> Result<(), Fail> {
     Ok(())
 }
 
-/// Gives a line once the one before was published. At the first ones it pauses before, so that the checking thread sleeps.
+/// Gives each line once the one before was published. Before the first few lines it pauses, so that
+/// the checking thread falls asleep.
 #[derive(Drop)]
 struct Steps<'a, C: Clock> {
     clock: &'a C,
@@ -404,7 +409,8 @@ impl Gate for CountsPublishes<'_> {
     }
 }
 
-/// What is said of so many lines, each of which comes once the one before was published, and how many waits were in vain.
+/// The report of these lines, each of which comes once the one before was published, and how many
+/// waits timed out.
 fn step_through<T: Threads + Wait + Clock + Sync>(
     rt: &T,
     alloc: Global,
@@ -436,7 +442,7 @@ fn ten_thousand_lines(alloc: Global) -> Result<Vec<String>, Fail> {
     Ok(lines)
 }
 
-/// No line waits for the next one to be checked.
+/// Each line is checked without waiting for the next one.
 #[test]
 fn each_line_is_checked_before_the_next_comes(rt: HostRuntime) -> Result<(), Fail> {
     let lines = ten_thousand_lines(rt.alloc())?;
@@ -445,7 +451,7 @@ fn each_line_is_checked_before_the_next_comes(rt: HostRuntime) -> Result<(), Fai
     Ok(())
 }
 
-/// A first line, and then so many bytes of LF.
+/// A first line, and then this many LF bytes.
 #[derive(Drop)]
 struct Endless {
     head: &'static [u8],
@@ -480,7 +486,7 @@ impl Source for Endless {
     }
 }
 
-/// After a bad line the stream is read to its end all the same, so that whoever writes it never stands still.
+/// After a bad line the stream is still read to its end, so that its writer never blocks.
 #[test]
 fn a_hundred_megabytes_after_a_bad_line(rt: HostRuntime) -> Result<(), Fail> {
     let reader = Endless {
@@ -494,13 +500,13 @@ fn a_hundred_megabytes_after_a_bad_line(rt: HostRuntime) -> Result<(), Fail> {
     Ok(())
 }
 
-/// Drops its job after a pause, as where its thread isn't started.
+/// Drops its job after a pause, as happens if its thread can't be started.
 fn leave<C: Clock, R: Source + Drop>(clock: &C, reading: ReadingJob<R>) {
     pause(clock);
     drop(reading);
 }
 
-/// What is said of a stream whose reading job goes.
+/// The report of a stream whose reading job is dropped.
 fn said_of_one_that_goes<T: Threads + Wait + Clock + Sync>(
     rt: &T,
     alloc: Global,
@@ -516,7 +522,8 @@ fn said_of_one_that_goes<T: Threads + Wait + Clock + Sync>(
     Ok(checked.report)
 }
 
-/// The checking thread sleeps at an empty ring, and is woken by the other end as it goes. Nothing is said of the stream.
+/// The checking thread sleeps at an empty ring, and the other end wakes it when it is dropped. The
+/// stream has no report.
 #[test]
 fn a_reading_job_that_goes(rt: HostRuntime) -> Result<(), Fail> {
     for _ in 0..100 {
@@ -526,7 +533,7 @@ fn a_reading_job_that_goes(rt: HostRuntime) -> Result<(), Fail> {
     Ok(())
 }
 
-/// The jobs of a refutation; where the first attempt has no memory, those of a second.
+/// The jobs of a refutation; if the first attempt runs out of memory, it is repeated.
 fn jobs_again(
     alloc: Global,
     layout: &Layout,
@@ -544,7 +551,7 @@ fn jobs_again(
     }
 }
 
-/// They and their map.
+/// These jobs and their map.
 fn open_again(alloc: Global) -> Result<(ReadingJob<Pieces<'static>>, Checking<Open>), Fail>
     ensures { IfOk result (λ both. IsPair both.0.sender.producer both.1.job.receiver.consumer) }
 {
@@ -554,7 +561,7 @@ fn open_again(alloc: Global) -> Result<(ReadingJob<Pieces<'static>>, Checking<Op
     Ok((reading, Checking { map, job }))
 }
 
-/// The gate runs this test with each allocation of the jobs refused, one after the other; the second attempt then has memory.
+/// The gate refuses each allocation of the jobs in turn; the second attempt then succeeds.
 #[test]
 fn refused_jobs_can_be_made_again(rt: HostRuntime) -> Result<(), Fail> {
     let (reading, checking) = open_again(rt.alloc())?;

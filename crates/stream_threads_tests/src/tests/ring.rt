@@ -1,4 +1,5 @@
-//! Two threads at the two ends of a ring: what no contract says is that bytes come at all, and that an end which sleeps is woken.
+//! Two threads at the two ends of a ring. No contract says what these tests show: that bytes arrive
+//! at all, and that a sleeping end is woken.
 ghost use Rattle.std.specs.Prelude.{◌≡◌, ◌<◌, [], None, false, length};
 ghost use Rattle.rtrb.specs.Ring.{sent};
 
@@ -13,7 +14,7 @@ use std::thread::{Threads, join};
 use std::time::Clock;
 use stream_threads::{Received, Receiver, Sender, halves_agree, ring};
 
-/// The byte at a place of a stream: any of the 256.
+/// The byte at a place of a stream; all 256 values occur.
 fn byte_at(place: u64) -> u8 {
     (place.wrapping_mul(0x9e37_79b9_7f4a_7c15) >> 56) as u8
 }
@@ -25,7 +26,7 @@ fn fill(piece: &mut [u8], place: u64) {
     }
 }
 
-/// How many bytes of a piece aren't those of the stream from this place on.
+/// How many bytes of a piece differ from the stream's from this place on.
 fn wrong_bytes(piece: &[u8], place: u64) -> u64 {
     let mut wrong = 0u64;
     for i in 0..piece.len() {
@@ -36,7 +37,8 @@ fn wrong_bytes(piece: &[u8], place: u64) -> u64 {
     wrong
 }
 
-/// A stream of so many bytes, so many a read, and then its end or a read that fails.
+/// A stream of a given length, with at most `most` bytes per read, and then its end or a read that
+/// fails.
 #[derive(Drop)]
 struct Stream {
     place: u64,
@@ -92,13 +94,13 @@ struct Sizes {
     popped: usize,
 }
 
-/// The most bytes of a read.
+/// The most bytes that a read asks for.
 const PIECE: usize = 65_536;
 
 /// The most items of a push.
 const PUSH_BATCH: usize = 4_096;
 
-/// Sends all, and says how the reader ended.
+/// Sends everything, and returns how the reader ended.
 fn send<W: Wait, R: Source>(
     wait: &W,
     mut sender: Sender,
@@ -114,14 +116,14 @@ fn send<W: Wait, R: Source>(
     sender.send_all(wait, reader, &mut piece, &mut items[..pushed])
 }
 
-/// What came: so many bytes, of which so many were wrong.
+/// How many bytes arrived, and how many of them were wrong.
 #[derive(Clone, Copy, Debug, PartialEq, Eq)]
 struct Heard {
     count: u64,
     wrong: u64,
 }
 
-/// Counts what comes, for the other thread too. One that is late pauses each time before it receives.
+/// Counts what arrives, also for the other thread. If it is late, it pauses before it receives.
 #[derive(Drop)]
 struct Ear<'a> {
     heard: Heard,
@@ -148,7 +150,7 @@ impl Ear<'_> {
     }
 }
 
-/// Receives up to the mark, and says which end that tells. None where no mark came.
+/// Receives up to the mark, and returns the ending that it means; `None` if no mark came.
 fn hear_all<T: Wait + Clock>(
     rt: &T,
     receiver: &mut Receiver,
@@ -175,7 +177,7 @@ fn hear_all<T: Wait + Clock>(
     unreachable!()
 }
 
-/// The same, by pops of so many items.
+/// The same, with pops of at most this many items.
 fn hear<T: Wait + Clock>(
     rt: &T,
     alloc: Global,
@@ -188,7 +190,7 @@ fn hear<T: Wait + Clock>(
     Ok(hear_all(rt, &mut receiver, &mut items, &mut bytes, ear))
 }
 
-/// Sends what is read in one thread, and receives it in another: how it ended for both.
+/// Reads and sends in one thread, and receives in another. Returns the ending on both sides.
 fn exchange<T: Threads + Wait + Clock + Sync, R: Source + Send>(
     rt: &T,
     alloc: Global,
@@ -207,10 +209,10 @@ fn exchange<T: Threads + Wait + Clock + Sync, R: Source + Send>(
     Ok((end, mark?))
 }
 
-/// How a stream ended for its sender, what came, and how it ended for the receiver.
+/// How a stream ended for its sender, what arrived, and how it ended for the receiver.
 type Came = (StreamEnd, (Heard, Option<StreamEnd>));
 
-/// Sends a stream, and receives it, maybe late.
+/// Sends a stream, and receives it, possibly late.
 fn through<T: Threads + Wait + Clock + Sync>(
     rt: &T,
     alloc: Global,
@@ -229,7 +231,7 @@ fn through<T: Threads + Wait + Clock + Sync>(
 /// Whether the read after the last byte fails, and how the stream then ends.
 static ENDS: [(bool, StreamEnd); 2] = [(false, StreamEnd::Ended), (true, StreamEnd::Failed)];
 
-/// The stream comes whole, with its mark.
+/// Checks that the stream arrives whole, with its mark.
 fn comes_through<T: Threads + Wait + Clock + Sync + Abort>(
     rt: &T,
     alloc: Global,
@@ -258,10 +260,10 @@ const STANDARD: Sizes = Sizes {
 
 static COUNTS: [usize; 6] = [0, 1, 2, 65_535, 65_536, 65_537];
 
-/// How many bytes come a read, at most.
+/// The most bytes that a read gives.
 static MOST_A_READ: [usize; 4] = [1, 2, 65_535, 65_536];
 
-/// Of these lengths, with an end or a read that fails after the last byte.
+/// Streams of these lengths, with an end or a failed read after the last byte.
 #[test]
 fn streams_come_through(rt: HostRuntime) -> Result<(), Fail> {
     for count in &COUNTS {
@@ -272,7 +274,8 @@ fn streams_come_through(rt: HostRuntime) -> Result<(), Fail> {
     comes_through(&rt, rt.alloc(), STANDARD, 3_000_000, 60_000)
 }
 
-/// Rings with room for few items, and one with room for many where each push and pop is of one.
+/// Rings with room for few items, and one with room for many, whose pushes and pops take one item
+/// each.
 static FEW_ITEMS: [Sizes; 4] = [
     Sizes {
         ring: 1,
@@ -296,7 +299,7 @@ static FEW_ITEMS: [Sizes; 4] = [
     },
 ];
 
-/// How many bytes are sent through each of them.
+/// How many bytes are sent through each of these rings.
 static FEW_BYTES_AND_MANY: [usize; 7] = [0, 1, 2, 3, 4, 5, 10_000];
 
 #[test]
@@ -309,7 +312,8 @@ fn streams_come_through_small_rings(rt: HostRuntime) -> Result<(), Fail> {
     Ok(())
 }
 
-/// Gives a byte once the one before was received. At the first ones it pauses before, so that the receiver sleeps.
+/// Gives each byte once the one before was received. Before the first few bytes it pauses, so that
+/// the receiver falls asleep.
 #[derive(Drop)]
 struct Steps<'a, C: Clock> {
     clock: &'a C,
@@ -348,7 +352,8 @@ impl<C: Clock> Source for Steps<'_, C> {
     }
 }
 
-/// Sends so many bytes, each once the one before was received. Whether one came late, and what came.
+/// Sends bytes, each once the one before was received. Returns whether one was late, and what
+/// arrived.
 fn step_through<T: Threads + Wait + Clock + Sync>(
     rt: &T,
     alloc: Global,
@@ -371,10 +376,11 @@ fn step_through<T: Threads + Wait + Clock + Sync>(
     Ok((steps.late, (ear.heard, mark)))
 }
 
-/// The size of a ring, how many bytes are sent, and at how many of them the sender pauses.
+/// The size of a ring, how many bytes are sent, and before how many of them the sender pauses.
 static WOKEN: [(usize, u64, u64); 3] = [(65_536, 300, 300), (1, 300, 300), (65_536, 100_000, 0)];
 
-/// A wake-up that is lost at an empty ring is mended by the next byte, so the next one comes only when this one was received.
+/// The next byte would hide a wake-up that was lost at an empty ring, so each byte comes only after
+/// the one before was received.
 #[test]
 fn a_receiver_that_sleeps_is_woken(rt: HostRuntime) -> Result<(), Fail> {
     for &(ring, count, pauses) in &WOKEN {
@@ -423,7 +429,7 @@ fn a_sender_that_sleeps_is_woken(rt: HostRuntime) -> Result<(), Fail> {
     Ok(())
 }
 
-/// Puts so many bytes into the ring, and goes after a pause, without a mark.
+/// Pushes this many bytes, and after a pause drops its end without a mark.
 fn go<C: Clock>(clock: &C, mut sender: Sender, count: u64) {
     for place in 0..count {
         if sender.producer.push(u16::from(byte_at(place))).is_err() {
@@ -433,7 +439,7 @@ fn go<C: Clock>(clock: &C, mut sender: Sender, count: u64) {
     pause(clock);
 }
 
-/// What comes of a sender that puts so many bytes into the ring and goes.
+/// What arrives from a sender that pushes this many bytes and is then dropped.
 fn heard_of_one_that_goes<T: Threads + Wait + Clock + Sync>(
     rt: &T,
     alloc: Global,
@@ -450,7 +456,7 @@ fn heard_of_one_that_goes<T: Threads + Wait + Clock + Sync>(
     Ok((ear.heard, mark?))
 }
 
-/// The receiver sleeps, and is woken by a sender that goes.
+/// The receiver sleeps, and a sender that is dropped wakes it.
 #[test]
 fn a_sender_that_goes_wakes_the_receiver(rt: HostRuntime) -> Result<(), Fail> {
     for round in 0..200u64 {
@@ -461,7 +467,7 @@ fn a_sender_that_goes_wakes_the_receiver(rt: HostRuntime) -> Result<(), Fail> {
     Ok(())
 }
 
-/// The gate runs this test with each of its allocations refused, one after the other; the second attempt then has memory.
+/// The gate refuses each allocation of this test in turn; the second attempt then succeeds.
 #[test]
 fn a_refused_ring_can_be_made_again(rt: HostRuntime) -> Result<(), Fail> {
     let (mut sender, mut receiver) = match ring(rt.alloc(), 4) {

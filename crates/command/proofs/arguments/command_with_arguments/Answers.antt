@@ -3,8 +3,9 @@ use Rattle.std.specs.Process.{exit_status}
 use Rattle.clap.specs.Walk.{texts}
 use Rattle.command_line.specs.CommandLine.{HaveFault}
 use Rattle.command.specs.Arguments.{words_after_name}
-use Rattle.command.specs.Commands.{CheckpointEntailed, CheckpointLeftEmpty, NameUnsatisfiable, NameUnsatisfiableUnder, Text, WasRead}
-use Rattle.command.specs.Commands.{WasSaved, change, files_view}
+use Rattle.command.specs.Commands.{CheckpointEntailed, CheckpointLeftEmpty, NameUnsatisfiable, NameUnsatisfiableUnder, change}
+use Rattle.run_files.specs.Asked.{Text}
+use Rattle.run_files.specs.Files.{WasRead, WasSaved, files_view}
 use Rattle.command.specs.Rounds.{ProgramEnds, RoundsEntailed}
 use Rattle.command.proofs.ArgumentLemmas.{and_arguments, of_arguments, out_of_memory}
 use Rattle.command.proofs.WordLemmas.{read_all}
@@ -38,7 +39,8 @@ same_words g c =
     read_all texts (map string_bytes) c.deref-2.result.now c.in-Ok-words_of.words.items c.deref.result.now
     c.in-Ok-after_name.arguments.items _ c.deref-2.ensures.value c.in-Ok-words_of.ensures c.deref.ensures.value c.in-Ok-after_name.ensures
 
--- what holds for the words and for the status of `command` holds for the arguments and for the exit status
+-- what holds for the words and for the status of `command` holds for the arguments and for the exit
+-- status
 carried : (g : Given.Over) (c : goal.After-drop-arguments-2 g) (P : List Text → ℕ → Type 0)
     → P (texts c.deref-2.result.now) c.command-status.result
     → IfOk c.args.arguments (λ given. P (words_after_name given) (exit_status c.from-2.result))
@@ -46,13 +48,13 @@ carried g c P = of_arguments c.args.arguments c.in-Ok.arguments _ c.in-Ok.is (sa
 
 pub returns-clause-sound : goal.returns-clause-sound
 returns-clause-sound g c zero =
-    let Read = WasRead g.F.Files.opens g.F.Input.Source.reads (g.F.Files.tells c.args.files.now) in
+    let Read = WasRead g.F.Files.opens g.F.Input.Source.reads (g.F.Files.contents c.args.files.now) in
     and_arguments c.args.arguments c.in-Ok.arguments _ c.in-Ok.is (same_words g c) (NameUnsatisfiable _ Read c.args.files.now)
     (c.command-status.ensures.sound (sym c.from-2.ensures ∙ zero))
 
 pub returns-clause-sound_under : goal.returns-clause-sound_under
 returns-clause-sound_under g c eight =
-    let Read = WasRead g.F.Files.opens g.F.Input.Source.reads (g.F.Files.tells c.args.files.now) in
+    let Read = WasRead g.F.Files.opens g.F.Input.Source.reads (g.F.Files.contents c.args.files.now) in
     and_arguments c.args.arguments c.in-Ok.arguments _ c.in-Ok.is (same_words g c) (NameUnsatisfiableUnder _ Read c.args.files.now)
     (c.command-status.ensures.sound_under (sym c.from-2.ensures ∙ eight))
 
@@ -67,7 +69,7 @@ returns-clause-ends g c =
 pub returns-clause-saved : goal.returns-clause-saved
 returns-clause-saved g c =
     let first = c.args.files.now in
-    let Read = WasRead g.F.Files.opens g.F.Input.Source.reads (g.F.Files.tells first) in
+    let Read = WasRead g.F.Files.opens g.F.Input.Source.reads (g.F.Files.contents first) in
     let Save = WasSaved g.F.Machine.creates g.F.Output.Sink.written g.F.Machine.keeps in
     carried g c (λ words status. CheckpointEntailed g.F.Files.opens Read Save first words c.command-status.new.files status)
     c.command-status.ensures.saved

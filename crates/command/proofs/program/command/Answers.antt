@@ -1,6 +1,8 @@
 use Rattle.std.proofs.Common.{ℕ, List, Option, inl, inr, refl, rules, subst, sym}
 use Rattle.clap.specs.Walk.{texts}
-use Rattle.command.specs.Commands.{FilesView, SinkTook, Text, WasReadIn, change, files_view}
+use Rattle.run_files.specs.Files.{FilesView, WasReadIn, files_view}
+use Rattle.command.specs.Commands.{SinkTook, change}
+use Rattle.run_files.specs.Asked.{Text}
 use Rattle.command.specs.Rounds.{ProgramEnds}
 use Rattle.command.proofs.CheckingLemmas.{names_unsatisfiable, names_unsatisfiable_under}
 use Rattle.command.proofs.EntailedLemmas.{all_entailed}
@@ -20,7 +22,7 @@ returns-in-Ok-clause-sound_under g c eight =
     let asked = c.in-Ok.asked in
     let files = files_view g.F.Files g.F.Machine g.F.Input.Source g.F.Output.Sink c.args.files.now in
     let next = c.read_asked.new.files in
-    names_unsatisfiable_under files (texts c.args.words.now) asked.line asked.formula.items next (g.F.Files.tells next)
+    names_unsatisfiable_under files (texts c.args.words.now) asked.line asked.formula.items next (g.F.Files.contents next)
     c.in-Ok.ensures.stays c.in-Ok.ensures.line c.in-Ok.ensures.bytes (c.check_formula.ensures.sound_under eight)
 
 pub returns-in-Ok-clause-ends : goal.returns-in-Ok-clause-ends
@@ -30,7 +32,7 @@ returns-in-Ok-clause-ends g c =
     let first = c.args.files.now in
     let next = c.read_asked.new.files in
     let view : (Text → Option (List ℕ)) → FilesView =
-    λ t. record (files_view g.F.Files g.F.Machine g.F.Input.Source g.F.Output.Sink first) { tells = t } in
+    λ t. record (files_view g.F.Files g.F.Machine g.F.Input.Source g.F.Output.Sink first) { contents = t } in
     let output =
     change g.O.Sink c.args.out.now c.check_formula.new.out in
     let errors =

@@ -1,7 +1,7 @@
 use Rattle.std.specs.Fmt.{decimal}
 use Rattle.std.specs.Prelude.{codes}
 use Rattle.lrup_text.specs.lemmas.WritingLemmas.{at_err, breaks_more, breaks_then, puts_then, writes_from_empty}
-use Rattle.command.proofs.WritingLemmas.{starts_empty}
+use Rattle.run_files.specs.lemmas.ListLemmas.{starts_empty}
 use Rattle.command.proofs.program.write_number.Goals as goal
 
 pub returns-in_err-put-clause-text : goal.returns-in_err-put-clause-text

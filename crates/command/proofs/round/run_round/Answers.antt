@@ -1,20 +1,20 @@
 use Rattle.std.proofs.Common.{None, ◌≡◌, ◌<◌, ◌+◌, arith, length, refl, subst, true}
-use Rattle.command.specs.Commands.{created_path, deeds_of, run_params_by}
-use Rattle.command.specs.Paths.{formula_path}
-use Rattle.command.specs.Rounds.{SavesCheckpoint}
+use Rattle.run_files.specs.Asked.{created_path, run_params_by}
+use Rattle.run_files.specs.Files.{effects_of}
+use Rattle.run_files.specs.Paths.{formula_path}
+use Rattle.run_files.specs.Saving.{ClosesCheckpoint, SavesCheckpoint}
 use Rattle.command.specs.internal.Running.{IsRunCause}
-use Rattle.command.specs.internal.Saving.{ClosesCheckpoint}
 use Rattle.command.specs.lemmas.SavedLemmas.{created_in}
 use Rattle.run_outcome.specs.Outcomes.{run_params_of}
 use Rattle.stream_check.specs.Streams.{RunParamsValue}
 use Rattle.command.proofs.CheckingLemmas.{run_start, some_given}
 use Rattle.command.proofs.RoundLemmas.{barred_by, folder_of, run_params_same, some_streams}
-use Rattle.command.proofs.SavingLemmas.{RanAndLeft, creates_some, leaves_behind, left_moved, left_unused}
+use Rattle.command.proofs.SavingLemmas.{RanAndLeft, creates_some, leaves_at_path, left_moved, left_unused}
 use Rattle.command.proofs.round.run_round.Goals as goal
 
 pub returns-in-Err-clause-cause : goal.returns-in-Err-clause-cause
 returns-in-Err-clause-cause g c before created =
-    let its = deeds_of g.F.Files g.F.Machine g.F.Input.Source g.F.Output.Sink in
+    let its = effects_of g.F.Files g.F.Machine g.F.Input.Source g.F.Output.Sink in
     let line = c.args.course.now.line.now in
     let cube = c.args.course.now.cube.now in
     let round = c.args.round in
@@ -30,7 +30,7 @@ returns-in-Err-clause-cause g c before created =
 
 pub returns-clause-found : goal.returns-clause-found
 returns-clause-found g c before created =
-    let its = deeds_of g.F.Files g.F.Machine g.F.Input.Source g.F.Output.Sink in
+    let its = effects_of g.F.Files g.F.Machine g.F.Input.Source g.F.Output.Sink in
     let line = c.args.course.now.line.now in
     let cube = c.args.course.now.cube.now in
     let round = c.args.round in
@@ -42,14 +42,14 @@ returns-clause-found g c before created =
     let run = c.in-Ok.run' in
     let closed = c.close_checkpoint-closed in
     let after = closed.new.files in
-    let stands = c.in-Ok.ensures.stands in
-    let h = stands.checked.ran.run.history in
+    let result_is = c.in-Ok.ensures.result_is in
+    let h = result_is.checked.ran.run.history in
     let Ran = RanAndLeft its f readers run.reports.items run.verdict before closed.result.unsaved closed.result.next after in
     let ran : Ran line.serial (run_params_of c.args.options cube f (length readers)) path = record {
-      checked = stands.checked;
-      leaves = leaves_behind its _ run.verdict before mid after path output closed.result.unsaved closed.result.next created
-          (left_moved stands (λ p dropped. ClosesCheckpoint its (SavesCheckpoint its f p h dropped) run.verdict mid output
-          closed.result.unsaved closed.result.next after) (rw c.deref-2.ensures.value at (closed.ensures.closes f h stands.has)));
+      checked = result_is.checked;
+      leaves = leaves_at_path its _ run.verdict before mid after path output closed.result.unsaved closed.result.next created
+          (left_moved result_is (λ p dropped. ClosesCheckpoint its (SavesCheckpoint its f p h dropped) run.verdict mid output
+          closed.result.unsaved closed.result.next after) (rw c.deref-2.ensures.value at (closed.ensures.closes f h result_is.has)));
     } in
     let params = run_params_same f line cube cube c.args.options round.sizes (length readers) c.requires.options refl c.requires.count in
     let left : Ran line.serial (run_params_by line cube f round.sizes) path =
@@ -68,7 +68,8 @@ returns-clause-found g c before created =
             unsaved = some_given (λ _. closed.result.unsaved ≡ None) is closed.ensures.saved;
             next_is = is;
           };
-      over = λ none. rw c.deref.ensures.value at (barred_by line.next run.verdict closed.result.unsaved _ c.may_continue-goes_on.result may
+      finished = λ none. rw c.deref.ensures.value at
+          (barred_by line.next run.verdict closed.result.unsaved _ c.may_continue-goes_on.result may
           (λ folder asked goes_on. closed.ensures.none
           (creates_some its before mid path output (formula_path folder (round.number + 1)) created
           (created_in line.next folder round.number asked)) goes_on none));
@@ -76,5 +77,5 @@ returns-clause-found g c before created =
 
 pub invariant_of-last : goal.invariant_of-last
 invariant_of-last g c =
-    let some : 0 < length c.args.round.readers.items = some_streams _ c.in-Ok.ensures.stands.checked.layout in
+    let some : 0 < length c.args.round.readers.items = some_streams _ c.in-Ok.ensures.result_is.checked.layout in
     record { some = omega (arith, some, c.requires.count) }

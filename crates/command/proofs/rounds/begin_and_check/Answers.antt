@@ -1,10 +1,13 @@
 use Rattle.std.proofs.Common.{◌∙◌, ℕ, ap, inl, inr, map, refl, sym}
 use Rattle.command_line.specs.declared.sizes.Sizes.{Sizes}
-use Rattle.command.specs.Commands.{IsFormulaAt, deeds_of, files_view, from_first}
-use Rattle.command.specs.Rounds.{IsCauseIn, StreamsOpened}
+use Rattle.run_files.specs.Files.{IsFormulaAt, StreamsOpened, effects_of, files_view, from_first}
+use Rattle.command.specs.Rounds.{IsCauseIn}
 use Rattle.command.specs.internal.RoundProgress.{IsReported}
-use Rattle.command.proofs.CheckingLemmas.{if_err, if_ok, start_cause}
-use Rattle.command.proofs.RoundLemmas.{ends_sound, ends_sound_under, opened_count}
+use Rattle.run_files.specs.lemmas.ResultLemmas.{if_err}
+use Rattle.command.proofs.CheckingLemmas.{if_ok}
+use Rattle.run_files.specs.lemmas.CauseLemmas.{start_cause}
+use Rattle.command.proofs.RoundLemmas.{ends_sound, ends_sound_under}
+use Rattle.run_files.specs.lemmas.OpeningLemmas.{opened_count}
 use Rattle.command.proofs.rounds.begin_and_check.Given as given
 use Rattle.command.proofs.rounds.begin_and_check.Goals as goal
 
@@ -23,11 +26,11 @@ check_rounds-requires-clause-sizes g c κs lives =
     ap make count
 
 -- the streams of round 1 were opened
-opened : (g : given.Over) (c : goal.After-drop-line-2 g) → StreamsOpened (deeds_of g.F.Files g.F.Machine g.F.Input.Source g.F.Output.Sink)
+opened : (g : given.Over) (c : goal.After-drop-line-2 g) → StreamsOpened (effects_of g.F.Files g.F.Machine g.F.Input.Source g.F.Output.Sink)
     c.in-Ok.ensures.begun.later c.args.asked.line.streams c.in-Ok.begun.readers.items c.begin.new.files
 opened g c =
     let of = c.in-Ok.ensures.begun in
-    record { opened = of.opened; left = of.left ∙ ap (λ t. map t c.args.asked.line.streams) (sym of.told) }
+    record { opened = of.opened; left = of.left ∙ ap (λ t. map t c.args.asked.line.streams) (sym of.known) }
 
 pub returns-clause-reported : goal.returns-clause-reported
 returns-clause-reported g c words first good at =
@@ -48,17 +51,17 @@ returns-clause-reported g c words first good at =
         is_formula = is_formula;
         later = of.later;
         assumed = of.assumed;
-        told = of.told;
+        known = of.known;
         rounds = ends.rounds;
       };
       is = ends.is;
-      over = ends.over;
+      finished = ends.finished;
     })
-    (c.check_rounds.ensures.over of.later (opened g c))
+    (c.check_rounds.ensures.finished of.later (opened g c))
 
 pub returns-clause-sound : goal.returns-clause-sound
 returns-clause-sound g c =
-    let its = deeds_of g.F.Files g.F.Machine g.F.Input.Source g.F.Output.Sink in
+    let its = effects_of g.F.Files g.F.Machine g.F.Input.Source g.F.Output.Sink in
     let begun = c.in-Ok.begun in
     let later = c.in-Ok.ensures.begun.later in
     if_ok c.check_rounds.result _ _
@@ -66,11 +69,11 @@ returns-clause-sound g c =
       begun.formula,
       c.in-Ok.ensures.formula,
       ends_sound its c.args.asked.line begun.cube begun.formula later c.refutes_back.ensures last c.check_rounds.new.files ends is,
-    )) (c.check_rounds.ensures.over later (opened g c))
+    )) (c.check_rounds.ensures.finished later (opened g c))
 
 pub returns-clause-sound_under : goal.returns-clause-sound_under
 returns-clause-sound_under g c =
-    let its = deeds_of g.F.Files g.F.Machine g.F.Input.Source g.F.Output.Sink in
+    let its = effects_of g.F.Files g.F.Machine g.F.Input.Source g.F.Output.Sink in
     let begun = c.in-Ok.begun in
     let of = c.in-Ok.ensures.begun in
     if_ok c.check_rounds.result _ _
@@ -82,7 +85,7 @@ returns-clause-sound_under g c =
       of.assumed,
       ends_sound_under its c.args.asked.line begun.cube begun.formula of.later c.refutes_back_under.ensures last c.check_rounds.new.files
           ends is,
-    )) (c.check_rounds.ensures.over of.later (opened g c))
+    )) (c.check_rounds.ensures.finished of.later (opened g c))
 
 pub returns-clause-cause : goal.returns-clause-cause
 returns-clause-cause g c words first good at =
@@ -111,7 +114,7 @@ returns-clause-cause g c words first good at =
           is_formula = is_formula;
           later = of.later;
           assumed = of.assumed;
-          told = of.told;
+          known = of.known;
           rounds = later.rounds;
         };
         number_is = later.number;

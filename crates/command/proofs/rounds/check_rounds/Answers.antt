@@ -2,96 +2,97 @@ use Rattle.std.proofs.Common.{◌+◌, ◌∙◌, ℕ, arith, Ok, Option, ap, in
 use Rattle.lrup_model.specs.Formula.{Cnf}
 use Rattle.command_line.specs.CommandLine.{rounds_of}
 use Rattle.command_line.specs.declared.sizes.Sizes.{Sizes}
-use Rattle.command.specs.Commands.{IsRoundStartCause, deeds_of}
-use Rattle.command.specs.internal.RoundProgress.{RoundsStand}
-use Rattle.command.proofs.RoundLemmas.{ends_alone, ends_barred, ends_high, ends_without, fails_after, once_of, stands_first}
+use Rattle.run_files.specs.Causes.{IsRoundStartCause}
+use Rattle.run_files.specs.Files.{effects_of}
+use Rattle.command.specs.internal.RoundProgress.{RoundsSoFar}
+use Rattle.command.proofs.RoundLemmas.{ends_alone, ends_barred, ends_high, ends_without, fails_after, once_of, agrees_first}
 use Rattle.command.proofs.rounds.check_rounds.Goals as goal
 
 -- the words ask for no rounds
 pub returns-in_default : goal.returns-in_default
 returns-in_default g c =
-    let its = deeds_of g.F.Files g.F.Machine g.F.Input.Source g.F.Output.Sink in
+    let its = effects_of g.F.Files g.F.Machine g.F.Input.Source g.F.Output.Sink in
     let of = c.in-Ok.ensures in
     let checked = c.in-Ok.checked in
     let round = c.args.round in
     let line = c.args.course.now.line.now in
     let cube = c.args.course.now.cube.now in
     record {
-      over = λ first opened.
+      finished = λ first opened.
           ends_alone its line cube round.formula first checked.last checked.next c.check_round.new.files
           (once_of line.next c.in_default.not-Rounds)
-          (stands_first its line cube round.formula first checked.last checked.next c.args.files.now c.check_round.new.files
+          (agrees_first its line cube round.formula first checked.last checked.next c.args.files.now c.check_round.new.files
           round.readers.items (of.number ∙ c.requires.one) opened of.found (of.sizes ∙ c.requires.sizes));
       cause = λ first opened. tt;
     }
 
 pub loop-number-init : goal.loop-number-init
 loop-number-init g c =
-    let its = deeds_of g.F.Files g.F.Machine g.F.Input.Source g.F.Output.Sink in
+    let its = effects_of g.F.Files g.F.Machine g.F.Input.Source g.F.Output.Sink in
     let of = c.in-Ok.ensures in
     let checked = c.in-Ok.checked in
     let round = c.args.round in
     record {
-      stands = λ first opened.
-          stands_first its c.args.course.now.line.now c.args.course.now.cube.now round.formula first checked.last checked.next
+      so_far = λ first opened.
+          agrees_first its c.args.course.now.line.now c.args.course.now.cube.now round.formula first checked.last checked.next
           c.args.files.now c.check_round.new.files round.readers.items (of.number ∙ c.requires.one) opened of.found
           (of.sizes ∙ c.requires.sizes);
       number = omega (arith, of.number, c.requires.one);
     }
 
 -- the run doesn't continue after the last round
-pub returns-in-None-clause-over : goal.returns-in-None-clause-over
-returns-in-None-clause-over g c first opened =
-    let its = deeds_of g.F.Files g.F.Machine g.F.Input.Source g.F.Output.Sink in
+pub returns-in-None-clause-finished : goal.returns-in-None-clause-finished
+returns-in-None-clause-finished g c first opened =
+    let its = effects_of g.F.Files g.F.Machine g.F.Input.Source g.F.Output.Sink in
     let line = c.args.course.now.line.now in
     let cube = c.args.course.now.cube.now in
     let now = c.loop-number in
     let formula = c.args.round.formula in
     ends_barred its line cube formula first now.last now.files
-    (subst (λ (n : Option Cnf). RoundsStand its line cube formula first now.last n now.files) c.in-None.is
-    (now.invariant.stands first opened))
+    (subst (λ (n : Option Cnf). RoundsSoFar its line cube formula first now.last n now.files) c.in-None.is
+    (now.invariant.so_far first opened))
 
 -- there is no next round
-pub returns-in-Ok-None-clause-over : goal.returns-in-Ok-None-clause-over
-returns-in-Ok-None-clause-over g c first opened =
-    let its = deeds_of g.F.Files g.F.Machine g.F.Input.Source g.F.Output.Sink in
+pub returns-in-Ok-None-clause-finished : goal.returns-in-Ok-None-clause-finished
+returns-in-Ok-None-clause-finished g c first opened =
+    let its = effects_of g.F.Files g.F.Machine g.F.Input.Source g.F.Output.Sink in
     let line = c.args.course.now.line.now in
     let cube = c.args.course.now.cube.now in
     let now = c.loop-number in
     let formula = c.args.round.formula in
     ends_without its line cube formula first now.last c.in-Some.formula now.files c.next_round.new.files c.in-Rounds.folder.now
     (ap rounds_of c.in-Rounds.is)
-    (subst (λ (n : Option Cnf). RoundsStand its line cube formula first now.last n now.files) c.in-Some.is
-    (now.invariant.stands first opened))
-    (c.next_round.ensures.over (c.in-Ok-None.is ∙ ap Ok c.in-Ok-None.field-0-is))
+    (subst (λ (n : Option Cnf). RoundsSoFar its line cube formula first now.last n now.files) c.in-Some.is
+    (now.invariant.so_far first opened))
+    (c.next_round.ensures.finished (c.in-Ok-None.is ∙ ap Ok c.in-Ok-None.field-0-is))
 
 -- the next round has no report
 pub returns-in-Err-next_round-clause-cause : goal.returns-in-Err-next_round-clause-cause
 returns-in-Err-next_round-clause-cause g c first opened =
-    let its = deeds_of g.F.Files g.F.Machine g.F.Input.Source g.F.Output.Sink in
+    let its = effects_of g.F.Files g.F.Machine g.F.Input.Source g.F.Output.Sink in
     let line = c.args.course.now.line.now in
     let cube = c.args.course.now.cube.now in
     let now = c.loop-number in
     let formula = c.args.round.formula in
     inr (fails_after its line cube formula first now.last c.in-Some.formula now.files
     c.next_round.new.files _ c.in-Rounds.folder.now (ap rounds_of c.in-Rounds.is)
-    (subst (λ (n : Option Cnf). RoundsStand its line cube formula first now.last n now.files) c.in-Some.is
-    (now.invariant.stands first opened))
+    (subst (λ (n : Option Cnf). RoundsSoFar its line cube formula first now.last n now.files) c.in-Some.is
+    (now.invariant.so_far first opened))
     c.in-Err-next_round.ensures.cause now.invariant.number)
 
 -- the next round's number would be too high
-pub returns-clause-over : goal.returns-clause-over
-returns-clause-over g c first opened =
-    let its = deeds_of g.F.Files g.F.Machine g.F.Input.Source g.F.Output.Sink in
+pub returns-clause-finished : goal.returns-clause-finished
+returns-clause-finished g c first opened =
+    let its = effects_of g.F.Files g.F.Machine g.F.Input.Source g.F.Output.Sink in
     let now = c.loop-number in
     ends_high its c.args.course.now.line.now c.args.course.now.cube.now c.args.round.formula first now.last now.next now.files
-    (now.invariant.stands first opened)
+    (now.invariant.so_far first opened)
     (omega (arith, now.invariant.number, c.loop-number-test.false))
 
 -- round 1 has no report
 pub returns-in-Err-clause-cause : goal.returns-in-Err-clause-cause
 returns-in-Err-clause-cause g c first opened =
-    let its = deeds_of g.F.Files g.F.Machine g.F.Input.Source g.F.Output.Sink in
+    let its = effects_of g.F.Files g.F.Machine g.F.Input.Source g.F.Output.Sink in
     let line = c.args.course.now.line.now in
     let cube = c.args.course.now.cube.now in
     let round = c.args.round in
@@ -103,15 +104,15 @@ returns-in-Err-clause-cause g c first opened =
 -- one round after another
 pub loop-number-preserved : goal.loop-number-preserved
 loop-number-preserved g c =
-    let its = deeds_of g.F.Files g.F.Machine g.F.Input.Source g.F.Output.Sink in
+    let its = effects_of g.F.Files g.F.Machine g.F.Input.Source g.F.Output.Sink in
     let line = c.args.course.now.line.now in
     let cube = c.args.course.now.cube.now in
     let now = c.loop-number in
     let formula = c.args.round.formula in
     let next = c.in-Ok-Some in
     record {
-      stands = λ first opened. next.ensures.stands formula first
-          (subst (λ (n : Option Cnf). RoundsStand its line cube formula first now.last n now.files) c.in-Some.is
-          (now.invariant.stands first opened)) next.found next.field-0-is;
+      so_far = λ first opened. next.ensures.so_far formula first
+          (subst (λ (n : Option Cnf). RoundsSoFar its line cube formula first now.last n now.files) c.in-Some.is
+          (now.invariant.so_far first opened)) next.found next.field-0-is;
       number = ap (λ (n : ℕ). n + 1) (sym (next.ensures.number next.found next.field-0-is));
     }

@@ -1,15 +1,14 @@
 use Rattle.std.proofs.Common.{◌∙◌, inl, inr, subst, sym, ℕ}
 use Rattle.command_line.specs.declared.sizes.Sizes.{Sizes}
-use Rattle.command.specs.Paths.{sizes_path, stream_paths}
-use Rattle.command.specs.Commands.{deeds_of}
-use Rattle.command.specs.Rounds.{AreSized, StreamsOpened}
-use Rattle.command.specs.internal.RoundProgress.{RoundsStand}
-use Rattle.command.proofs.RoundLemmas.{for_some, stands_next}
+use Rattle.run_files.specs.Paths.{sizes_path, stream_paths}
+use Rattle.run_files.specs.Files.{AreSized, StreamsOpened, effects_of}
+use Rattle.command.specs.internal.RoundProgress.{RoundsSoFar}
+use Rattle.command.proofs.RoundLemmas.{for_some, agrees_next}
 use Rattle.command.proofs.rounds.next_round.Goals as goal
 
-pub returns-in-Ok-clause-stands : goal.returns-in-Ok-clause-stands
-returns-in-Ok-clause-stands g c formula first stands =
-    let its = deeds_of g.F.Files g.F.Machine g.F.Input.Source g.F.Output.Sink in
+pub returns-in-Ok-clause-so_far : goal.returns-in-Ok-clause-so_far
+returns-in-Ok-clause-so_far g c formula first so_far =
+    let its = effects_of g.F.Files g.F.Machine g.F.Input.Source g.F.Output.Sink in
     let line = c.args.course.now.line.now in
     let cube = c.args.course.now.cube.now in
     let folder = c.args.folder.now in
@@ -22,9 +21,9 @@ returns-in-Ok-clause-stands g c formula first stands =
     let Sized : ℕ → Sizes → Type 0 = λ n s. AreSized its (sizes_path folder n) c.args.last.now.sizes before s sized in
     let Opened : ℕ → Sizes → Type 0 = λ n s. StreamsOpened its sized (stream_paths folder n s.streams) readers opened in
     let are : Opened c.args.number c.in_ok-sizes.sizes = rw c.in-Ok-Some.field-0-is at c.in-Ok-Some.ensures.opened in
-    for_some (λ x. RoundsStand its line cube formula first x.last x.next c.check_round.new.files) found
-    (stands_next its line cube formula first c.args.last.now found.last c.args.formula found.next before sized opened
-    c.check_round.new.files readers folder c.requires.folder (of.number ∙ c.requires.after) stands
+    for_some (λ x. RoundsSoFar its line cube formula first x.last x.next c.check_round.new.files) found
+    (agrees_next its line cube formula first c.args.last.now found.last c.args.formula found.next before sized opened
+    c.check_round.new.files readers folder c.requires.folder (of.number ∙ c.requires.after) so_far
     (subst (λ (n : ℕ). Sized n found.last.sizes) (sym of.number) (subst (Sized c.args.number) (sym of.sizes) c.in_ok-sizes.ensures.sized))
     (subst (λ (n : ℕ). Opened n found.last.sizes) (sym of.number) (subst (Opened c.args.number) (sym of.sizes) are))
     of.found)
@@ -32,7 +31,7 @@ returns-in-Ok-clause-stands g c formula first stands =
 -- the fault came after the streams of the round were opened
 pub returns-in-Err-check_round-clause-cause : goal.returns-in-Err-check_round-clause-cause
 returns-in-Err-check_round-clause-cause g c =
-    let its = deeds_of g.F.Files g.F.Machine g.F.Input.Source g.F.Output.Sink in
+    let its = effects_of g.F.Files g.F.Machine g.F.Input.Source g.F.Output.Sink in
     let sized = c.sizes_of_round.new.files in
     let sizes = c.in_ok-sizes.sizes in
     let opened = c.open_round.new.files in

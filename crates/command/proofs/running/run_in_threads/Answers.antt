@@ -6,11 +6,12 @@ use Rattle.stream_check.specs.Readings.{readers_view}
 use Rattle.stream_check.specs.SequentialConsistency.{HaveOneHistory, seen_by}
 use Rattle.run_outcome.specs.Outcomes.{run_params_of}
 use Rattle.command.specs.internal.Running.{IsRunCause}
-use Rattle.command.proofs.CheckingLemmas.{err_given, has_layout, run_cause}
+use Rattle.run_files.specs.lemmas.ResultLemmas.{err_given}
+use Rattle.command.proofs.CheckingLemmas.{has_layout, run_cause}
 use Rattle.command.proofs.running.run_in_threads.Goals as goal
 
-pub returns-clause-stands : goal.returns-clause-stands
-returns-clause-stands g c =
+pub returns-clause-result_is : goal.returns-clause-result_is
+returns-clause-result_is g c =
     let outcome = c.in_ok-outcome.outcome in
     let found = c.in_ok-outcome.ensures in
     let f = c.args.formula.now in

@@ -34,9 +34,9 @@ pub returns-else-is_end-clause-fault : goal.returns-else-is_end-clause-fault
 returns-else-is_end-clause-fault c =
     let read = c.loop-first.invariant in
     literals_fault c.args.text.now read.0 c.loop-first.count c.loop-first.rest.now Spelling read.1
-    (λ before stands. subst (λ (t : List ℕ). IsTextFault IsCubeLine (before ++ t) Spelling)
+    (λ before occurs. subst (λ (t : List ℕ). IsTextFault IsCubeLine (before ++ t) Spelling)
     (sym (c.in-Some.ensures.cases.0 ∙ ap (λ b. b ∷ c.in-Some.after.now) c.if-first-eq48.true))
-    (wrong_end before c.loop-first.count c.in-Some.after.now stands read.1.few
+    (wrong_end before c.loop-first.count c.in-Some.after.now occurs read.1.few
     (λ is. true≢false (sym (c.is_end.ensures.1 is) ∙ c.if-is_end.false))))
 
 pub returns-then-count-eq-MAX_LITERALS-clause-fault :
@@ -46,9 +46,9 @@ returns-then-count-eq-MAX_LITERALS-clause-fault c =
     let fault = c.after_most.result in
     spelling_fault c.args.vars c.args.text.now fault
     (literals_fault c.args.text.now read.0 c.loop-first.count c.loop-first.rest.now fault read.1
-    (λ before stands. subst (λ (t : List ℕ). IsTextFault IsCubeLine (before ++ t) fault) (sym c.in-Some.ensures.cases.0)
+    (λ before occurs. subst (λ (t : List ℕ). IsTextFault IsCubeLine (before ++ t) fault) (sym c.in-Some.ensures.cases.0)
     (c.after_most.ensures before c.in-Some.after.now
-    (subst (λ n. EndsAtSpot before (BeforeLiteral true n)) c.if-count-eq-MAX_LITERALS.true stands))))
+    (subst (λ n. EndsAtSpot before (BeforeLiteral true n)) c.if-count-eq-MAX_LITERALS.true occurs))))
 
 pub returns-in_err-literal-clause-fault : goal.returns-in_err-literal-clause-fault
 returns-in_err-literal-clause-fault c =
@@ -58,8 +58,8 @@ returns-in_err-literal-clause-fault c =
     let few : c.loop-first.count < 65535 = omega (arith, read.1.few, c.if-count-eq-MAX_LITERALS.false) in
     rw (p.1, p.2) (spelling_fault c.args.vars c.args.text.now fault
     (literals_fault c.args.text.now read.0 c.loop-first.count c.loop-first.rest.now fault read.1
-    (λ before stands. subst (λ (t : List ℕ). IsTextFault IsCubeLine (before ++ t) fault) (sym c.in-Some.ensures.cases.0)
-    (c.in_err-literal.ensures.fault before c.loop-first.count few stands))))
+    (λ before occurs. subst (λ (t : List ℕ). IsTextFault IsCubeLine (before ++ t) fault) (sym c.in-Some.ensures.cases.0)
+    (c.in_err-literal.ensures.fault before c.loop-first.count few occurs))))
 
 pub loop-first-preserved : goal.loop-first-preserved
 loop-first-preserved c =
@@ -81,6 +81,6 @@ pub returns-clause-fault : goal.returns-clause-fault
 returns-clause-fault c =
     let read = c.loop-first.invariant in
     literals_fault c.args.text.now read.0 c.loop-first.count c.loop-first.rest.now Spelling read.1
-    (λ before stands. subst (λ (t : List ℕ). IsTextFault IsCubeLine (before ++ t) Spelling)
+    (λ before occurs. subst (λ (t : List ℕ). IsTextFault IsCubeLine (before ++ t) Spelling)
     (sym (nil_from_length c.loop-first.rest.now c.in_default.ensures.cases))
-    (too_short before (BeforeLiteral true c.loop-first.count) stands read.1.few))
+    (too_short before (BeforeLiteral true c.loop-first.count) occurs read.1.few))

@@ -24,8 +24,8 @@ pub returns-then-not-is_digit-clause-fault : goal.returns-then-not-is_digit-clau
 returns-then-not-is_digit-clause-fault c =
     let k = c.loop-byte.digits in
     digits_fault c.args.first c.args.after.now c.loop-byte.number k c.loop-byte.rest.now Spelling c.loop-byte.invariant
-    (λ read n few stands. subst (λ (t : List ℕ). IsTextFault IsCubeLine (read ++ t) Spelling) (sym c.in-Some.ensures.cases.0)
-    (misspelled read (InLiteral true k n) c.in-Some.field-0-0.now c.in-Some.next.now stands (c.loop-byte.invariant.fits.few, few)
+    (λ read n few occurs. subst (λ (t : List ℕ). IsTextFault IsCubeLine (read ++ t) Spelling) (sym c.in-Some.ensures.cases.0)
+    (misspelled read (InLiteral true k n) c.in-Some.field-0-0.now c.in-Some.next.now occurs (c.loop-byte.invariant.fits.few, few)
     (λ signed. literal_blocks signed true k n c.in-Some.field-0-0.now (λ low high. let wrong = c.if-not-is_digit.ensures.1 (
       low,
       high,
@@ -37,8 +37,8 @@ returns-then-digits-eq-MAX_DIGITS-clause-fault c =
     let digit = c.is_digit.ensures.0 c.if-not-is_digit.false in
     digits_fault c.args.first c.args.after.now c.loop-byte.number c.loop-byte.digits c.loop-byte.rest.now TooLong c.loop-byte.invariant
     (subst (λ k. IsRestFault (InLiteral true k) c.loop-byte.rest.now TooLong) (sym c.if-digits-eq-MAX_DIGITS.true)
-    (λ read n few stands. subst (λ (t : List ℕ). IsTextFault IsCubeLine (read ++ t) TooLong) (sym c.in-Some.ensures.cases.0)
-    (too_long read (InLiteral true 18 n) c.in-Some.field-0-0.now c.in-Some.next.now stands (omega arith, few)
+    (λ read n few occurs. subst (λ (t : List ℕ). IsTextFault IsCubeLine (read ++ t) TooLong) (sym c.in-Some.ensures.cases.0)
+    (too_long read (InLiteral true 18 n) c.in-Some.field-0-0.now c.in-Some.next.now occurs (omega arith, few)
     (literal_exceeds true n c.in-Some.field-0-0.now few digit))))
 
 pub overflow_mul-number : goal.overflow_mul-number
@@ -75,6 +75,6 @@ pub returns-clause-fault : goal.returns-clause-fault
 returns-clause-fault c =
     let k = c.loop-byte.digits in
     digits_fault c.args.first c.args.after.now c.loop-byte.number k c.loop-byte.rest.now Spelling c.loop-byte.invariant
-    (λ read n few stands. subst (λ (t : List ℕ). IsTextFault IsCubeLine (read ++ t) Spelling)
+    (λ read n few occurs. subst (λ (t : List ℕ). IsTextFault IsCubeLine (read ++ t) Spelling)
     (sym (nil_from_length c.loop-byte.rest.now c.in_default.ensures.cases))
-    (too_short read (InLiteral true k n) stands (c.loop-byte.invariant.fits.few, few)))
+    (too_short read (InLiteral true k n) occurs (c.loop-byte.invariant.fits.few, few)))

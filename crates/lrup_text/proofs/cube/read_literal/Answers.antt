@@ -14,8 +14,8 @@ returns-in_err-number-clause-fault c =
     (rest_fault (BeforeLiteral true) (AfterMinus true) 45 c.args.after.now fault (λ n. body_minus true n) c.in_err-number.ensures.fault))
 
 pub returns-then-not-begins_number-clause-fault : goal.returns-then-not-begins_number-clause-fault
-returns-then-not-begins_number-clause-fault c read n few stands =
-    misspelled read (BeforeLiteral true n) c.args.first c.args.after.now stands (omega (arith, few))
+returns-then-not-begins_number-clause-fault c read n few occurs =
+    misspelled read (BeforeLiteral true n) c.args.first c.args.after.now occurs (omega (arith, few))
     (λ signed. body_blocks signed true n c.args.first c.requires c.if-first-eq45.false
     (λ low high. let wrong = c.if-not-begins_number.ensures.1 (low, high) in cc) (λ none adds. cc))
 

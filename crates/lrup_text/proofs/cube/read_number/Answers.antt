@@ -10,14 +10,14 @@ use Rattle.lrup_text.proofs.Steps.{minus_blocks, minus_digit}
 use Rattle.lrup_text.proofs.cube.read_number.Goals as goal
 
 pub returns-in_default-clause-fault : goal.returns-in_default-clause-fault
-returns-in_default-clause-fault c read n few stands =
+returns-in_default-clause-fault c read n few occurs =
     subst (λ (t : List ℕ). IsTextFault IsCubeLine (read ++ t) Spelling) (sym (nil_from_length c.args.text.now c.in_default.ensures.cases))
-    (too_short read (AfterMinus true n) stands few)
+    (too_short read (AfterMinus true n) occurs few)
 
 pub returns-then-not-begins_number-clause-fault : goal.returns-then-not-begins_number-clause-fault
-returns-then-not-begins_number-clause-fault c read n few stands =
+returns-then-not-begins_number-clause-fault c read n few occurs =
     subst (λ (t : List ℕ). IsTextFault IsCubeLine (read ++ t) Spelling) (sym c.in-Some.ensures.cases.0)
-    (misspelled read (AfterMinus true n) c.in-Some.field-0-0.now c.in-Some.after.now stands few
+    (misspelled read (AfterMinus true n) c.in-Some.field-0-0.now c.in-Some.after.now occurs few
     (λ signed. minus_blocks signed true n c.in-Some.field-0-0.now (λ low high. let wrong = c.if-not-begins_number.ensures.1 (
       low,
       high,

@@ -10,6 +10,6 @@ returns-then-line-mark-eq-LETTER_D c =
 
 pub returns : goal.returns
 returns c =
-    whole_import c.args.line.now c.read_clause.new.out c.args.identities.now c.args.lead c.args.end c.in_ok-literal_count.literal_count
-    (c.read_clause.auto.out ∙ c.requires.literals) c.requires.number c.requires.space c.requires.inside c.if-line-mark-ne-LETTER_I.false
+    whole_import c.args.line.now c.read_list-2.new.out c.args.identities.now c.args.lead c.args.end c.in_ok-literal_count.literal_count
+    (c.read_list-2.auto.out ∙ c.requires.literals) c.requires.number c.requires.space c.requires.inside c.if-line-mark-ne-LETTER_I.false
     c.in_ok-literal_count.ensures

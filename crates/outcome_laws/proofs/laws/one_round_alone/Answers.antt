@@ -1,4 +1,4 @@
-use Rattle.command.specs.Commands.{files_view}
+use Rattle.run_files.specs.Files.{files_view}
 use Rattle.outcome_laws.proofs.AloneLemmas.{one_round_alone}
 use Rattle.outcome_laws.proofs.laws.one_round_alone.Goals as goal
 

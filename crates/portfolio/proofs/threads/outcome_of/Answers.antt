@@ -2,7 +2,7 @@ use Rattle.std.proofs.Common.{◌≡◌, ◌∙◌, List, length, drop, sym, ap,
 use Rattle.lrup_model.specs.Pass.{AreSynced}
 use Rattle.clause_store.specs.Passes.{ShareHistory, PassValue, views}
 use Rattle.stream_threads.specs.Jobs.{StreamResultsValue}
-use Rattle.run_outcome.specs.lemmas.ListLemmas.{written_back}
+use Rattle.stream_check.specs.lemmas.ListLemmas.{written_back}
 use Rattle.portfolio.proofs.threads.outcome_of.Goals as goal
 
 pub returns-clause-synced : goal.returns-clause-synced

@@ -4,7 +4,7 @@ use Rattle.stream_check.specs.lemmas.TurnLemmas.{lines_beside, lines_pushed}
 use Rattle.stream_check.specs.Turns.{line_count}
 use Rattle.run_laws_tests.proofs.worked.lines_go_round.Goals as goal
 
--- one line is one more of its stream's
+-- a line is one more line of its stream
 one_more : (order : List ℕ) (s t : ℕ) → line_count t (order ++ s ∷ []) ≤ line_count t order + 1
 one_more order s t = elim (cases_eq s t) [
   | inl same ↦ subst (λ u. line_count u (order ++ s ∷ []) ≤ line_count u order + 1) same (omega (arith, lines_pushed order s))
@@ -19,10 +19,13 @@ after_both t = elim (cases_eq 2 t) [
 
 pub returns-clause-round : goal.returns-clause-round
 returns-clause-round c = (
-  (λ t. ((λ behind. omega arith), (λ ahead. omega arith))),
+  (λ t. ((λ following. omega arith), (λ ahead. omega arith))),
   (
-    (λ t. ((λ behind. omega (arith, lines_beside [] 1 t (λ is. omega (arith, is, behind)))), (λ ahead. omega (arith, one_more [] 1 t)))),
-    ((λ t. ((λ behind. omega (arith, after_both t)), (λ ahead. omega (arith, after_both t)))), tt),
+    (λ t. (
+      (λ following. omega (arith, lines_beside [] 1 t (λ is. omega (arith, is, following)))),
+      (λ ahead. omega (arith, one_more [] 1 t)),
+    )),
+    ((λ t. ((λ following. omega (arith, after_both t)), (λ ahead. omega (arith, after_both t)))), tt),
   ),
 )
 

@@ -11,6 +11,6 @@ returns c cube tries observed observation reports report more run at entry says 
     (codes "5 2 0 1 2 0\n6 0 5 3 4 0\n") more refutation observed observation reports report
     four_is_cnf (record { vars = refl; clauses = refl; literals = refl }) (omega arith, omega arith)
     refutation_is_valid run at entry says) [
-      | inl tells ↦ inl (tells.added, tells.empty refl)
+      | inl shows ↦ inl (shows.added, shows.empty refl)
       | inr cut ↦ inr cut
     ]

@@ -32,7 +32,7 @@ returns-in-More g c =
     let free = (g.M.ClauseMap.caller_view end).room in
     let used = c.feed-progress.result.used in
     let rest = c.loop.rest.now in
-    let whole = stopped_takes c.over_stays.ensures c.feed-progress.result.status c.loop.checker v rest (take used rest) (drop used rest)
+    let whole = stopped_takes c.finished_stays.ensures c.feed-progress.result.status c.loop.checker v rest (take used rest) (drop used rest)
     c.loop.checker.params (checker_state c.loop.checker (g.M.ClauseMap.caller_view mid).room) fed.0 free
     (no_line c.feed-progress.result.status c.in-More.is) c.feed-progress.ensures.status (sym (take-append-drop used rest)) fed.3 in
     record {

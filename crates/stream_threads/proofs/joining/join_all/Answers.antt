@@ -4,7 +4,7 @@ use Rattle.std.proofs.lemmas.List.{map-append}
 use Rattle.std.specs.Vec.Iter.{into_iter_items}
 use Rattle.stream_check.specs.Readings.{readers_view}
 use Rattle.stream_threads.specs.internal.Workers.{StartedValue}
-use Rattle.stream_threads.proofs.ThreadLemmas.{found_more, moved_more, ring_behind}
+use Rattle.stream_threads.proofs.ThreadLemmas.{found_more, moved_more, ring_after}
 use Rattle.stream_threads.proofs.joining.join_all.Goals as goal
 
 pub loop-started-preserved : goal.loop-started-preserved
@@ -33,5 +33,5 @@ returns-in_default-clause-fault g c =
     let jobs = λ (one : StartedValue g.row.R.Denot). one.jobs in
     let rest = into_iter_items c.next.new.self in
     let whole : now.yielded ++ one ∷ rest ≡ c.args.all.items = rw (← c.in-Some.ensures.steps.0) now.invariant.whole in
-    ring_behind (readers_view g.R.Source) (map jobs now.yielded) (map jobs rest) _ one.jobs now.found now.invariant.found
+    ring_after (readers_view g.R.Source) (map jobs now.yielded) (map jobs rest) _ one.jobs now.found now.invariant.found
     c.in_default.ensures (sym (map-append jobs now.yielded (one ∷ rest)) ∙ ap (map jobs) whole)

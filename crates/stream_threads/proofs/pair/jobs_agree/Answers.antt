@@ -13,7 +13,7 @@ returns-clause-read g c first sent = (
   refl,
   (
     record {
-      consumes = subst (Consumes _ _) (sym (append-nil sent.bytes)) sent.told;
+      consumes = subst (Consumes _ _) (sym (append-nil sent.bytes)) sent.known;
       ends = sent.ends;
       needed = λ out. refl;
     },
@@ -28,7 +28,7 @@ returns-clause-judged g c first v room blocks dropped report sent marked fresh =
       refl,
       (
         record {
-          consumes = subst (Consumes _ _) (sym (append-nil sent.bytes)) sent.told;
+          consumes = subst (Consumes _ _) (sym (append-nil sent.bytes)) sent.known;
           ends = sent.ends;
           needed = λ out. refl;
         },

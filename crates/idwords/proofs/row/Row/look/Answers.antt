@@ -23,10 +23,10 @@ pub invariant_of-seat : goal.invariant_of-seat
 invariant_of-seat c =
     let token = c.seat.inside.token in
     let new = c.load.new.seat in
-    let told = c.load.ensures.2 (first_thread token.me.0) (ap (λ (m : Me ℕ (List ThreadState)). m.0) c.seat.invariant.one) in
-    seated_call token.table_id new.table_id token.me new.me c.seat.inside.top c.seat.inside.drafted c.seat.inside.room told.0 _
+    let known = c.load.ensures.2 (first_thread token.me.0) (ap (λ (m : Me ℕ (List ThreadState)). m.0) c.seat.invariant.one) in
+    seated_call token.table_id new.table_id token.me new.me c.seat.inside.top c.seat.inside.drafted c.seat.inside.room known.0 _
     c.seat.invariant
-    c.load.ensures.0 told.1 told.2 told.3.calls refl refl told.3.top told.3.draft
+    c.load.ensures.0 known.1 known.2 known.3.calls refl refl known.3.top known.3.draft
 
 pub returns-clause-shows : goal.returns-clause-shows
 returns-clause-shows c = search rules

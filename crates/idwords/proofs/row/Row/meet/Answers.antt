@@ -110,18 +110,18 @@ pub invariant_of-first : goal.invariant_of-first
 invariant_of-first c =
     let token = c.first.inside.token in
     let left = c.split_seat.new.seat in
-    let told = now c in
+    let known = now c in
     seated_on token.table_id left.table_id token.me left.me c.first.inside.top c.first.inside.drafted c.first.inside.room
     (first_thread left.me.0) [] c.first.invariant
-    (c.split_seat.ensures.0 ∙ c.load.ensures.0 ∙ c.join_seat.ensures.0) (ap (λ (m : Me ℕ (List ThreadState)). m.0) told.1)
-    (ap (λ (m : Me ℕ (List ThreadState)). m.1) told.1)
-    told.0.meets.first told.0.meets.fair refl told.0.top told.0.draft
+    (c.split_seat.ensures.0 ∙ c.load.ensures.0 ∙ c.join_seat.ensures.0) (ap (λ (m : Me ℕ (List ThreadState)). m.0) known.1)
+    (ap (λ (m : Me ℕ (List ThreadState)). m.1) known.1)
+    known.0.meets.first known.0.meets.fair refl known.0.top known.0.draft
 
 pub invariant_of-second : goal.invariant_of-second
 invariant_of-second c =
     let token = c.second.inside.token in
     let right = c.split_seat.result in
-    let told = now c in
+    let known = now c in
     let first : c.first.inside.token.table_id ≡ c.self.inside.table.shared.table_id = ap (λ (s : SeatValue). s.table) c.first.view_is
     ∙ c.requires.first ∙ sym c.self.view_is in
     let second : token.table_id ≡ c.self.inside.table.shared.table_id = ap (λ (s : SeatValue). s.table) c.second.view_is ∙ c.requires.second
@@ -129,9 +129,9 @@ invariant_of-second c =
     seated_on token.table_id right.table_id token.me right.me c.second.inside.top c.second.inside.drafted c.second.inside.room
     (first_thread right.me.0) [] c.second.invariant
     (c.split_seat.ensures.3 ∙ c.load.ensures.0 ∙ c.join_seat.ensures.0 ∙ first ∙ sym second)
-    (ap (λ (m : Me ℕ (List ThreadState)). m.0) told.2)
-    (ap (λ (m : Me ℕ (List ThreadState)). m.1) told.2)
-    told.0.meets.second told.0.meets.fair' refl told.0.top' told.0.draft'
+    (ap (λ (m : Me ℕ (List ThreadState)). m.0) known.2)
+    (ap (λ (m : Me ℕ (List ThreadState)). m.1) known.2)
+    known.0.meets.second known.0.meets.fair' refl known.0.top' known.0.draft'
 
 pub returns-clause-within : goal.returns-clause-within
 returns-clause-within c = (now c).0.within
@@ -141,10 +141,10 @@ returns-clause-within_too c = (now c).0.within'
 
 pub returns-clause-tops : goal.returns-clause-tops
 returns-clause-tops c =
-    let told = (now c).0 in
-    (told.top ∙ ap (λ (s : SeatValue). s.top) c.first.view_is, told.top' ∙ ap (λ (s : SeatValue). s.top) c.second.view_is)
+    let known = (now c).0 in
+    (known.top ∙ ap (λ (s : SeatValue). s.top) c.first.view_is, known.top' ∙ ap (λ (s : SeatValue). s.top) c.second.view_is)
 
 pub returns-clause-drafts : goal.returns-clause-drafts
 returns-clause-drafts c =
-    let told = (now c).0 in
-    (told.draft ∙ ap (λ (s : SeatValue). s.draft) c.first.view_is, told.draft' ∙ ap (λ (s : SeatValue). s.draft) c.second.view_is)
+    let known = (now c).0 in
+    (known.draft ∙ ap (λ (s : SeatValue). s.draft) c.first.view_is, known.draft' ∙ ap (λ (s : SeatValue). s.draft) c.second.view_is)

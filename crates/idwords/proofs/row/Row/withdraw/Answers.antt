@@ -38,12 +38,12 @@ compare_exchange-requires c =
     let new = c.load-found.new.seat in
     let v : ThreadState = first_thread token.me.0 in
     let one = step {S = ℕ} shared.table_id.slots c.args.id found (found + 1) none in
-    let told = c.load-found.ensures.2 v (ap (λ (m : Me ℕ (List ThreadState)). m.0) c.seat.invariant.one) in
+    let known = c.load-found.ensures.2 v (ap (λ (m : Me ℕ (List ThreadState)). m.0) c.seat.invariant.one) in
     let live : word_state found ≡ 1 = sym c.state.ensures ∙ c.if-state-ne-LIVE.false in
-    let stays : told.0 ≡ v = told.3.live live in
+    let stays : known.0 ≡ v = known.3.live live in
     let me : new.me ≡ (v ∷ [], []) = ap₂ (λ (vs : List ThreadState) (slots : List (ℕ × ℕ)). (vs, slots))
-    (told.1 ∙ ap (λ (u : ThreadState). u ∷ []) stays)
-    (told.2 ∙ ap (λ (m : Me ℕ (List ThreadState)). m.1) c.seat.invariant.one) in
+    (known.1 ∙ ap (λ (u : ThreadState). u ∷ []) stays)
+    (known.2 ∙ ap (λ (m : Me ℕ (List ThreadState)). m.1) c.seat.invariant.one) in
     let owns : Owns v.view.caller.layout (thread_stream v) c.args.id =
     subst (λ (s : SeatValue). Owns s.view.caller.layout s.view.caller.stream c.args.id) (sym c.seat.view_is) c.requires.owns in
     let table : token.table_id ≡ shared.table_id = ap (λ (s : SeatValue). s.table) c.seat.view_is ∙ c.requires.row ∙ sym c.self.view_is in
@@ -55,29 +55,29 @@ compare_exchange-requires c =
     (λ u n w. Retires c.args.id u w)
     (Changes (λ id u _ w. Retires id u w) one) new.table_id shared.table_id new.me v me (c.load-found.ensures.0 ∙ table)
     (omega (arith, who.identity))
-    (retires v new.id c.args.id found owns told.3.own live) (changes (λ id u _ w. Retires id u w) one)
+    (retires v new.id c.args.id found owns known.3.own live) (changes (λ id u _ w. Retires id u w) one)
 
 pub invariant_of-seat : goal.invariant_of-seat
 invariant_of-seat c =
     let token = c.seat.inside.token in
     let new = c.load-found.new.seat in
-    let told = c.load-found.ensures.2 (first_thread token.me.0) (ap (λ (m : Me ℕ (List ThreadState)). m.0) c.seat.invariant.one) in
-    let none = told.3.none (λ live. c.if-state-ne-LIVE.true (c.state.ensures ∙ live)) in
-    seated_call token.table_id new.table_id token.me new.me c.seat.inside.top c.seat.inside.drafted c.seat.inside.room told.0 _
+    let known = c.load-found.ensures.2 (first_thread token.me.0) (ap (λ (m : Me ℕ (List ThreadState)). m.0) c.seat.invariant.one) in
+    let none = known.3.none (λ live. c.if-state-ne-LIVE.true (c.state.ensures ∙ live)) in
+    seated_call token.table_id new.table_id token.me new.me c.seat.inside.top c.seat.inside.drafted c.seat.inside.room known.0 _
     c.seat.invariant
-    c.load-found.ensures.0 told.1 told.2 none.calls refl refl none.top none.draft
+    c.load-found.ensures.0 known.1 known.2 none.calls refl refl none.top none.draft
 
 pub invariant_of-seat-2 : goal.invariant_of-seat-2
 invariant_of-seat-2 c =
     let token = c.seat.inside.token in
     let new = c.compare_exchange.new.seat in
     let v : ThreadState = first_thread token.me.0 in
-    let told = c.load-found.ensures.2 v (ap (λ (m : Me ℕ (List ThreadState)). m.0) c.seat.invariant.one) in
-    let stays : told.0 ≡ v = told.3.live (sym c.state.ensures ∙ c.if-state-ne-LIVE.false) in
-    let done = c.compare_exchange.ensures.2 v (told.1 ∙ ap (λ (u : ThreadState). u ∷ []) stays) in
+    let known = c.load-found.ensures.2 v (ap (λ (m : Me ℕ (List ThreadState)). m.0) c.seat.invariant.one) in
+    let stays : known.0 ≡ v = known.3.live (sym c.state.ensures ∙ c.if-state-ne-LIVE.false) in
+    let done = c.compare_exchange.ensures.2 v (known.1 ∙ ap (λ (u : ThreadState). u ∷ []) stays) in
     seated_call token.table_id new.table_id token.me new.me c.seat.inside.top c.seat.inside.drafted c.seat.inside.room done.0 _
     c.seat.invariant
-    (c.compare_exchange.ensures.0 ∙ c.load-found.ensures.0) done.1 (done.2 ∙ told.2) done.3.calls refl refl done.3.top done.3.draft
+    (c.compare_exchange.ensures.0 ∙ c.load-found.ensures.0) done.1 (done.2 ∙ known.2) done.3.calls refl refl done.3.top done.3.draft
 
 pub returns-then-state-ne-LIVE-clause-calls : goal.returns-then-state-ne-LIVE-clause-calls
 returns-then-state-ne-LIVE-clause-calls c = search rules

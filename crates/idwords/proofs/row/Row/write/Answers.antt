@@ -60,7 +60,7 @@ store-requires c =
     (written_at v token.id c.args.first c.args.second place word c.requires.even
     (omega (arith, c.requires.room)) c.pair_word-word.ensures.first c.pair_word-word.ensures.second at
     (sym c.pair_word-word.ensures.word))
-    (λ v n w told. stores one v word w told)
+    (λ v n w known. stores one v word w known)
 
 pub invariant_of-seat : goal.invariant_of-seat
 invariant_of-seat c =
@@ -68,17 +68,17 @@ invariant_of-seat c =
     let new = c.store.new.seat in
     let v : ThreadState = first_thread token.me.0 in
     let pair = pair_of c.args.first c.args.second in
-    let told = c.store.ensures.2 v (ap (λ (m : Me ℕ (List ThreadState)). m.0) c.seat.invariant.one) in
+    let known = c.store.ensures.2 v (ap (λ (m : Me ℕ (List ThreadState)). m.0) c.seat.invariant.one) in
     let grown =
-    told.3 c.args.first c.args.second c.pair_word-word.ensures.first c.pair_word-word.ensures.second c.pair_word-word.ensures.word in
+    known.3 c.args.first c.args.second c.pair_word-word.ensures.first c.pair_word-word.ensures.second c.pair_word-word.ensures.word in
     let count : c.if-is_some.seat ≡ length pair = elim c.if-is_some.branch [
       | then-is_some w ↦ w.seat-is ∙ sym (two_literals c.args.first c.args.second (sym c.is_some.ensures ∙ w.if-is_some.true))
       | else-is_some w ↦ w.seat-is ∙ sym (one_literal c.args.first c.args.second (sym c.is_some.ensures ∙ w.if-is_some.false))
     ] in
     let here : v ≡ thread_of c.args.seat.now = ap thread_of c.seat.view_is in
     seated_write token.table_id new.table_id token.me new.me c.seat.inside.top c.seat.inside.drafted c.seat.inside.room c.if-is_some.seat
-    pair told.0 c.seat.invariant
-    c.store.ensures.0 told.1 told.2 grown count
+    pair known.0 c.seat.invariant
+    c.store.ensures.0 known.1 known.2 grown count
     (omega (
       arith,
       c.requires.room,

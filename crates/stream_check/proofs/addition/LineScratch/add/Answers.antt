@@ -12,7 +12,7 @@ use Rattle.stream_check.specs.internal.Checking.{IsFetch}
 use Rattle.stream_check.specs.internal.CheckerInside.{context_at}
 use Rattle.stream_check.specs.lemmas.EventLemmas.{found_all}
 use Rattle.stream_check.proofs.AddLemmas.{owns_at, still_at, room_stays, clause_is, shown_is, publishable, still_vacant, published_is}
-use Rattle.stream_check.proofs.AddLemmas.{fails_before, fails_behind, valid_is}
+use Rattle.stream_check.proofs.AddLemmas.{fails_before, fails_after, valid_is}
 use Rattle.stream_check.proofs.addition.LineScratch.add.Goals as goal
 
 pub returns-in_err-admit-clause-judged : goal.returns-in_err-admit-clause-judged
@@ -42,7 +42,7 @@ returns-in_err-try_hints-clause-judged g c =
     rw (given.1, given.2) (
       shown.0,
       shown.1,
-      (refl, fails_behind s st c.args.id c.args.lits.now shown.0 fault _ c.admit.new.self.marks admits fails),
+      (refl, fails_after s st c.args.id c.args.lits.now shown.0 fault _ c.admit.new.self.marks admits fails),
     )
 
 pub try_hints-requires-clause-ready : goal.try_hints-requires-clause-ready

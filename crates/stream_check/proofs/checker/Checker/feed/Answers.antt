@@ -16,7 +16,7 @@ use Rattle.stream_check.specs.Checker.{checker_state, Extends}
 use Rattle.stream_check.specs.internal.Taking.{hold, ending_of}
 use Rattle.stream_check.specs.lemmas.ReportLemmas.{reaches_still}
 use Rattle.stream_check.proofs.TakeLemmas.{reaches_good, reaches_stopped, reaches_refused}
-use Rattle.stream_check.proofs.FeedLemmas.{some_of, none_of, feeds_line, feeds_more, front_cut, line_cut, feeds_over}
+use Rattle.stream_check.proofs.FeedLemmas.{some_of, none_of, feeds_line, feeds_more, front_cut, line_cut, feeds_finished}
 use Rattle.stream_check.proofs.checker.Checker.feed.Goals as goal
 
 pub returns-then-is_some-clause-left : goal.returns-then-is_some-clause-left
@@ -29,9 +29,9 @@ returns-then-is_some-clause-left g c = (
 
 pub returns-then-is_some-clause-status : goal.returns-then-is_some-clause-status
 returns-then-is_some-clause-status g c =
-    let over = some_of c.self.inside.ending (sym c.is_some.ensures ∙ c.if-is_some.true) in
-    let now : c.args.self.now.ending ≡ Some over.0 = sym (ap (λ (v : CheckerValue). v.ending) c.self.view_is) ∙ over.1 in
-    (over.0, now, λ none. absurd (let e : None ≡ Some over.0 = sym none ∙ now in cc))
+    let finished = some_of c.self.inside.ending (sym c.is_some.ensures ∙ c.if-is_some.true) in
+    let now : c.args.self.now.ending ≡ Some finished.0 = sym (ap (λ (v : CheckerValue). v.ending) c.self.view_is) ∙ finished.1 in
+    (finished.0, now, λ none. absurd (let e : None ≡ Some finished.0 = sym none ∙ now in cc))
 
 pub returns-in-NeedMore-clause-left : goal.returns-in-NeedMore-clause-left
 returns-in-NeedMore-clause-left g c =
@@ -151,7 +151,7 @@ returns-in-Err-clause-left g c =
     (Over (report_of_tally (tally_at n) e) (is_among n.dropped.ids)))
     (sym (c.ending.ensures ∙ ap (λ (k : ℕ). ending_of k c.in-Err.stop) c.line.ensures))
     (reaches_stopped h n p.room q.room read (take used piece) (line_of line) taken.0 c.in-Err.stop gives.2 taken.2) in
-    let left = feeds_over h read (take used piece) (taken.0 ∷ []) p.room c.self.inside.ending
+    let left = feeds_finished h read (take used piece) (taken.0 ∷ []) p.room c.self.inside.ending
     (report_of_tally (tally_at n) c.ending.result) (is_among n.dropped.ids) none stopped in
     rw c.notify_gate.ensures (
       taken.0 ∷ [],
@@ -188,7 +188,7 @@ returns-in-Fault-clause-left g c =
     let none = none_of c.self.inside.ending (sym c.is_some.ensures ∙ c.if-is_some.false) in
     let gives : Feeds (Ok read) piece used (statuses.Fault fault) = subst (λ (s : ReaderState). Feeds s piece used (statuses.Fault fault))
     (c.self.invariant.reads none) (subst (λ (t : ReaderStatus). Feeds r piece used t) c.in-Fault.is c.feed-fed.ensures.gives) in
-    let left = feeds_over h read (take used piece) [] p.room c.self.inside.ending report (is_among h.dropped.ids) none
+    let left = feeds_finished h read (take used piece) [] p.room c.self.inside.ending report (is_among h.dropped.ids) none
     (subst (λ (n : ℕ). Extends h.params (Going (hold h read p.room)) (take used piece) []
     (Over (report_of_tally (tally_at h) (endings.Bad n (faults.Text fault))) (is_among h.dropped.ids))) (sym c.line-in-Fault.ensures)
     (reaches_refused h p.room read (take used piece) fault gives.2)) in

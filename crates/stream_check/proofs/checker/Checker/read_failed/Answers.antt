@@ -4,18 +4,18 @@ use Rattle.lrup_text.specs.declared.device.StreamEnd.TheVariants as stream_ends
 use Rattle.stream_check.specs.CheckerValue.{CheckerValue}
 use Rattle.stream_check.specs.internal.CheckerInside.{read_of, value_of}
 use Rattle.stream_check.specs.Checker.{Ends, ReportsEnd}
-use Rattle.stream_check.proofs.FeedLemmas.{some_of, none_of, ends_over, reports_over, ends_now, reports_now}
+use Rattle.stream_check.proofs.FeedLemmas.{some_of, none_of, ends_finished, reports_finished, ends_now, reports_now}
 use Rattle.stream_check.proofs.checker.Checker.read_failed.Goals as goal
 
 pub returns-then-is_some-clause-ends : goal.returns-then-is_some-clause-ends
 returns-then-is_some-clause-ends c =
-    let over = some_of c.self.inside.ending (sym c.is_some.ensures ∙ c.if-is_some.true) in
-    ends_over stream_ends.Failed c.args.self.now over.0 (sym (ap (λ (v : CheckerValue). v.ending) c.self.view_is) ∙ over.1)
+    let finished = some_of c.self.inside.ending (sym c.is_some.ensures ∙ c.if-is_some.true) in
+    ends_finished stream_ends.Failed c.args.self.now finished.0 (sym (ap (λ (v : CheckerValue). v.ending) c.self.view_is) ∙ finished.1)
 
 pub returns-then-is_some-clause-reports : goal.returns-then-is_some-clause-reports
 returns-then-is_some-clause-reports c =
-    let over = some_of c.self.inside.ending (sym c.is_some.ensures ∙ c.if-is_some.true) in
-    reports_over stream_ends.Failed c.args.self.now over.0 (sym (ap (λ (v : CheckerValue). v.ending) c.self.view_is) ∙ over.1)
+    let finished = some_of c.self.inside.ending (sym c.is_some.ensures ∙ c.if-is_some.true) in
+    reports_finished stream_ends.Failed c.args.self.now finished.0 (sym (ap (λ (v : CheckerValue). v.ending) c.self.view_is) ∙ finished.1)
 
 pub returns-clause-ends : goal.returns-clause-ends
 returns-clause-ends c =

@@ -18,7 +18,7 @@ loop-preserved g c =
       working = read.failed;
       room = search rules;
       small = grind (arith, common_steps);
-      told = rw c.push_bytes.ensures.sent (Consumes-trans _ _ _ _ _ c.loop.invariant.told read.bytes.0);
+      known = rw c.push_bytes.ensures.sent (Consumes-trans _ _ _ _ _ c.loop.invariant.known read.bytes.0);
       gave = gave_more _ g.R.Source.reads _ _ _ _ _ _ _ c.loop.invariant.gave read.reads (omega (arith, given)) c.push_bytes.ensures.sent;
     }
 
@@ -26,7 +26,7 @@ pub returns-in-Err-clause-sent : goal.returns-in-Err-clause-sent
 returns-in-Err-clause-sent g c = record {
   bytes = sent c.loop.self.producer;
   end = stream_ends.Failed;
-  told = Consumes-kept _ _ _ _ c.loop.invariant.told c.in-Err.ensures.bytes;
+  known = Consumes-kept _ _ _ _ c.loop.invariant.known c.in-Err.ensures.bytes;
   ends = c.in-Err.ensures.failed;
   read = record { last = c.loop.reader; given = c.loop.invariant.gave; ends = (_, c.in-Err.ensures.reads) };
   sent = record { small = c.loop.invariant.small; items_are = c.push_all-in-Err.ensures.sent };

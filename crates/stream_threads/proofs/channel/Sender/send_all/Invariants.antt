@@ -12,6 +12,6 @@ invariant-loop g l = record {
   working : g.R.Source.has_failed l.reader ≡ false;
   room : (0 < length l.piece) × (0 < length l.items);
   small : All (λ b. b < 256) (sent l.self.producer);
-  told : Consumes (g.R.Source.left l.initial.reader) (g.R.Source.left l.reader) (sent l.self.producer);
+  known : Consumes (g.R.Source.left l.initial.reader) (g.R.Source.left l.reader) (sent l.self.producer);
   gave : Gave g.row.R.Denot g.R.Source.reads l.initial.reader (sent l.self.producer) l.reader;
 }

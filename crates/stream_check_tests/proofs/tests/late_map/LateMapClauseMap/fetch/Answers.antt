@@ -8,6 +8,6 @@ returns-clause-event c =
     let desk = c.desk-desk.ensures in
     let late = c.call_late.new.map in
     let left = c.drop-desk.new.self.0 in
-    let told = desk_fetched c.desk-desk.result c.fetch-answer.new.self late left 1 c.args.id c.fetch-answer.result
+    let known = desk_fetched c.desk-desk.result c.fetch-answer.new.self late left 1 c.args.id c.fetch-answer.result
     c.fetch-answer.ensures.event desk.map_now desk.stream c.drop-desk.ensures in
-    step_then (plain_caller_view c.args.self.now.map 1) (plain_caller_view late 1) (plain_caller_view left 1) _ c.call_late.ensures told
+    step_then (plain_caller_view c.args.self.now.map 1) (plain_caller_view late 1) (plain_caller_view left 1) _ c.call_late.ensures known

@@ -1,6 +1,0 @@
-use Rattle.std.proofs.Common.{◌≡◌, map, string_bytes}
-use Rattle.command.specs.Paths.{stream_paths}
-use Rattle.command.proofs.rounds.stream_paths.Given as goal
-
-abbrev pub invariant-loop-before : goal.invariant-loop-before
-invariant-loop-before l = map string_bytes l.paths.items ≡ stream_paths l.folder l.fn.number l.before

@@ -1,9 +1,0 @@
-use Rattle.std.proofs.Common.{◌-◌, length}
-use Rattle.lrup_text.specs.internal.Kernel.{ReadsLiterals}
-use Rattle.lrup_text.proofs.kernel.read_literals.Given as goal
-
-abbrev pub invariant-loop-at : goal.invariant-loop-at
-invariant-loop-at l = ReadsLiterals l.text l.start l.fn.out l.first l.out l.count l.at
-
-abbrev pub decreases-loop-at : goal.decreases-loop-at
-decreases-loop-at l = length l.text - l.at

@@ -1,0 +1,9 @@
+pub mod Paths
+pub mod Asked
+pub mod Files
+pub mod Saving
+pub mod Faults
+pub mod FaultSources
+pub mod Causes
+pub mod internal
+pub mod lemmas

@@ -1,0 +1,3 @@
+-- Definitions for contracts of private functions.
+pub mod Reading
+pub mod Watching

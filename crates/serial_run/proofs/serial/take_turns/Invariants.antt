@@ -1,7 +1,0 @@
-use Rattle.stream_check.specs.Readings.{readers_view}
-use Rattle.serial_run.specs.internal.Turns.{SerialStep}
-use Rattle.serial_run.proofs.serial.take_turns.Given as goal
-
-abbrev pub invariant-loop : goal.invariant-loop
-invariant-loop g l =
-    SerialStep (readers_view g.R.Source) 0 l.initial.map l.initial.workers 0 l.map l.workers

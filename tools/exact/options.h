@@ -1,0 +1,42 @@
+// Unverified: reads the words of a command line, by a table of the options. lrup-solve's front has
+// a table of its own, since it is believed.
+#ifndef OPTIONS_H
+#define OPTIONS_H
+
+#include <stdbool.h>
+
+#include "errors.h"
+#include "lists.h"
+
+#ifdef __cplusplus
+extern "C" {
+#endif
+
+typedef LIST_OF(const char *) Texts;
+
+// An option that has neither flag, value nor values ends the reading, as --help.
+typedef struct {
+    const char *name;           // without --; NULL if it has a letter alone, and then it comes last
+    char letter;                // 0: none
+    bool *flag;                 // becomes true
+    const char **value;         // becomes the value
+    Texts *values;              // gets each value of an option that may be given several times
+} Option;
+
+// Puts other words, and those after --, into `files`. Returns the name of an option that ended the
+// reading, or NULL. `refusing` must not return.
+const char *options_read(const Option *options, int count, char **words, Texts *files,
+                         bool last_counts, void (*refusing)(const char *cause, const char *word));
+
+// The same for a program that prints its help for the row below, refuses a value that is given
+// twice, and reads no standard input for -.
+#define HELP_AND_VERSION { .name = "help", .letter = 'h' }, { .name = "version" }, { .name = NULL }
+const Texts *arguments_read(const char *program, const char *help, const Option *options, int count,
+                            char **words);
+_Noreturn void refuse(const char *cause, const char *word);     // prints how it is used; status 2
+
+#ifdef __cplusplus
+}
+#endif
+
+#endif
