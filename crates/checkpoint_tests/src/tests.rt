@@ -115,16 +115,21 @@ fn long_text(alloc: Global) -> Result<String, AllocError> {
     Ok(text)
 }
 
-/// 1,000 clauses fill the buffer again and again.
+/// 1,000 clauses fill the buffer again and again. Before write number `fails_at` the others wrote a
+/// prefix, in nearly full pieces of 4,096 bytes.
 #[test]
 fn a_long_text_breaks_at_any_write(rt: HostRuntime) -> Result<(), Fail> {
     let text = long_text(rt.alloc())?;
     let formula = parse(rt.alloc(), text.as_bytes())?;
     saves(&rt, &formula, usize::MAX, 0, Ok(()), text.as_bytes())?;
     for fails_at in 1..=text.len().div_ceil(4_096) {
-        let went = (fails_at - 1).saturating_mul(4_096).min(text.len());
-        let (fault, beginning) = (SaveFault::Unwritten, &text.as_bytes()[..went]);
-        saves(&rt, &formula, usize::MAX, fails_at, Err(fault), beginning)?;
+        let mut paper = Paper::new(rt.alloc(), usize::MAX, fails_at);
+        let saved = save_formula(rt.alloc(), &formula, &mut paper)?;
+        let is_prefix = text.as_bytes().starts_with(paper.bytes.as_slice());
+        let pieces = paper.bytes.len().div_ceil(4_096);
+        let found = (saved, paper.failed(), is_prefix, pieces);
+        let fault = Err(SaveFault::Unwritten);
+        same(&rt, found, (fault, true, true, fails_at - 1));
     }
     Ok(())
 }
