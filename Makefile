@@ -34,8 +34,8 @@ OPTIONS ?= --tries 1000000
 .PHONY: run build install built install-solve no-solve uninstall examples live checkpoints \
 	rounds demo solver exact trim explain solve solver-test filter-test trim-test building \
 	peers hol explain-test solve-test days neighbours sweep leaks instructions quotes \
-	promises pages test toolchain c-and-python libcadical beside-it mpicxx help try deb dist \
-	quick edits packages warnings builds shown quotes-test
+	promises pages test toolchain c-and-python libcadical libmd beside-it mpicxx help try deb \
+	dist quick edits packages warnings builds shown quotes-test
 
 help:
 	@awk -f gate/help.awk $(firstword $(MAKEFILE_LIST))
@@ -165,24 +165,26 @@ $(SOLVER): $(call in_order,$(OBJECTS),$(wildcard examples/solver/*.c) $(SHARED_W
 $(EXACT): $(call in_order,$(OBJECTS),$(wildcard tools/exact/*.c))
 	@$(call LINK,$(CC),$(CFLAGS))
 $(TRIM): $(call in_order,$(OBJECTS),$(wildcard tools/trim/*.c) $(FILTER))
-	@$(call LINK,$(CC),$(CFLAGS))
+	@$(call LINK,$(CC),$(CFLAGS),-lmd)
 $(EXPLAIN): $(call in_order,$(OBJECTS),$(wildcard tools/explain/*.c) tools/trim/lines.c $(FILTER))
-	@$(call LINK,$(CC),$(CFLAGS))
+	@$(call LINK,$(CC),$(CFLAGS),-lmd)
 $(SOLVE): $(call in_order,$(SOLVE_OBJECTS),$(wildcard tools/solve/front/*.c))
 	@$(call LINK,$(CC),$(CFLAGS))
 $(ENGINES): $(call in_order,$(SOLVE_OBJECTS),$(ALONE) $(wildcard tools/solve/*.c) $(FILTER))
-	@$(call LINK,$(CXX),$(CXXFLAGS) -pthread,-lcadical)
+	@$(call LINK,$(CXX),$(CXXFLAGS) -pthread,-lcadical -lmd)
 WITH_MPI := $(filter-out tools/solve/alone.cpp,$(wildcard tools/solve/*.cpp tools/solve/*.c))
 $(ENGINES)-mpi: $(call in_order,$(SOLVE_OBJECTS),$(WITH_MPI) $(FILTER))
-	@$(call LINK,OMPI_CXX="$(CXX)" mpicxx,$(CXXFLAGS) -pthread,-lcadical)
+	@$(call LINK,OMPI_CXX="$(CXX)" mpicxx,$(CXXFLAGS) -pthread,-lcadical -lmd)
 
+$(OBJECTS)/tools/trim/lines.o: | libmd
 $(OBJECTS)/%.o: %.c $(OBJECTS)/flags
 	@mkdir -p $(dir $@) && $(COMPILE_C) -I tools/exact -MMD -MP -c -o $@ $<
 $(SOLVE_OBJECTS)/%.o: %.c $(SOLVE_OBJECTS)/flags
 	@mkdir -p $(dir $@) && $(COMPILE_C) -MMD -MP -c -o $@ $<
-$(SOLVE_OBJECTS)/tools/solve/mpi_%.o: tools/solve/mpi_%.cpp $(SOLVE_OBJECTS)/flags | mpicxx libcadical
+$(SOLVE_OBJECTS)/tools/solve/mpi_%.o: tools/solve/mpi_%.cpp $(SOLVE_OBJECTS)/flags \
+	| mpicxx libcadical libmd
 	@mkdir -p $(dir $@) && OMPI_CXX="$(CXX)" mpicxx $(COMPILE_CXX) -MMD -MP -c -o $@ $<
-$(SOLVE_OBJECTS)/%.o: %.cpp $(SOLVE_OBJECTS)/flags | libcadical
+$(SOLVE_OBJECTS)/%.o: %.cpp $(SOLVE_OBJECTS)/flags | libcadical libmd
 	@mkdir -p $(dir $@) && $(CXX) $(COMPILE_CXX) -MMD -MP -c -o $@ $<
 
 # What --help prints, from the manual pages.
@@ -214,7 +216,7 @@ C_SOURCES := $(wildcard $(addsuffix /*.c,$(IN_C) tools/solve tools/solve/front t
 C_HEADERS := $(wildcard $(addsuffix /*.h,$(IN_C))) \
 	$(addprefix tools/solve/,shared.h test_hooks.h front/supervisor.h)
 STRICT = -std=c11 $(WARNINGS) -Werror -O2 -fsyntax-only -I tools/exact -I $(OBJECTS) -x c
-warnings: c-and-python $(HELPS) ## check: C compiles without a warning, and each header by itself
+warnings: c-and-python libmd $(HELPS) ## check: C compiles without a warning, and each header by itself
 	@for compiler in $(firstword $(CC)) clang; do command -v $$compiler > /dev/null || continue; \
 	$$compiler $(STRICT) $(C_SOURCES) || exit 1; \
 	for file in $(C_HEADERS); do \
@@ -364,3 +366,7 @@ libcadical:
 	{ echo "make solve needs a C++ compiler: no command '$(firstword $(CXX))' is on the PATH"; exit 1; }
 	@$(CXX) -E -x c++ -include cadical.hpp /dev/null > /dev/null 2>&1 || \
 	{ echo "make solve needs CaDiCaL as a library: in Debian the package libcadical-dev"; exit 1; }
+
+libmd:
+	@$(CC) $(CPPFLAGS) -E -x c -include sha256.h /dev/null > /dev/null 2>&1 || \
+	{ echo "make trim, explain and solve need libmd: in Debian the package libmd-dev"; exit 1; }

@@ -249,7 +249,7 @@ def compiled(program: Path, sources: Sequence[Path], *flags: str, by: Sequence[s
     """Builds the program atomically, since other scripts may build it and run it at the same
     time."""
     new = program.with_name(f"{program.name}-{os.getpid()}")
-    subprocess.run([*(by or compiler()), *flags, "-o", str(new), *map(str, sources)], check=True)
+    subprocess.run([*(by or compiler()), "-o", str(new), *map(str, sources), *flags], check=True)
     new.replace(program)
     return program
 
@@ -288,11 +288,12 @@ def sources_of(tool: str) -> List[Path]:
 
 
 def sanitized_trim() -> None:
-    for_tests(SANITIZED_TRIM, sources_of("trim"))
+    for_tests(SANITIZED_TRIM, sources_of("trim"), "-lmd")
 
 
 def sanitized_explain() -> None:
-    for_tests(SANITIZED_EXPLAIN, [*sources_of("explain"), ROOT / "tools" / "trim" / "lines.c"])
+    sources = [*sources_of("explain"), ROOT / "tools" / "trim" / "lines.c"]
+    for_tests(SANITIZED_EXPLAIN, sources, "-lmd")
 
 
 def words_given(usage: Optional[str], least: int = 1, most: int = 1) -> List[str]:

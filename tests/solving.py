@@ -249,7 +249,7 @@ def build(target: str, for_tests: bool) -> Optional[str]:
                 continue
             out, err, status = run(["make", "-s", "-C", ROOT, target, f"SOLVE={path.relative_to(ROOT)}", f"CFLAGS={flags}",
                                     f"CXXFLAGS={flags}"], limit=600)
-            if status and re.search("libcadical-dev|libopenmpi-dev", out + err):
+            if status and re.search("libcadical-dev|libmd-dev|libopenmpi-dev", out + err):
                 return (out + err).splitlines()[0]
             if status or re.search(r"warning: .*\[-W", err):
                 sys.exit(out + err)

@@ -164,7 +164,6 @@ void Checker::open_streams(const std::vector<int> &files) {
         streams.push_back({ file, -1, next + ".stream-" + std::to_string(streams.size() + 1) });
         create_pipe(streams.back().path);
         streams.back().name = streams.back().path.substr(next.rfind('/') + 1);
-        digest_begin(&streams.back().digest);
     }
     for (const Stream &stream : streams) opener.ask(stream.path);
 }
@@ -245,7 +244,7 @@ bool Checker::feed(size_t number, uint64_t bytes, bool drop) {
         if (stream.is_full) break;
         if (count < 0 && errno != EINTR) close_file(stream.pipe);       // lrupd has ended
         if (count > 0) stream.fed += uint64_t(count);
-        if (count > 0 && keeps_digests) digest_add(&stream.digest, piece.data(), size_t(count));
+        if (count > 0 && keeps_digests) stream.digest.add(piece.data(), size_t(count));
     }
     if (drop && stream.fed - stream.dropped > DROPPED) {
         fallocate(stream.file, FALLOC_FL_PUNCH_HOLE | FALLOC_FL_KEEP_SIZE, 0, off_t(stream.fed / PAGE * PAGE));
@@ -256,12 +255,10 @@ bool Checker::feed(size_t number, uint64_t bytes, bool drop) {
 
 void Checker::end_stream(size_t number) {
     Stream &stream = streams[number];
-    char text[DIGEST_DIGITS + 1];
     if (stream.pipe < 0) return;
     close_file(stream.pipe);
     if (!keeps_digests) return;
-    digest_end(&stream.digest, text);
-    digests.push_back(text + ("  " + stream.name));
+    digests.push_back(stream.digest.end() + "  " + stream.name);
     stream.has_digest = true;
 }
 

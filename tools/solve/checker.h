@@ -6,7 +6,7 @@
 
 #include <poll.h>
 
-#include "../exact/digest.h"
+#include "digest.h"
 #include "solve.h"
 
 const int UNKNOWN_STATUS = 3, UNSAVED_STATUS = 9;       // lrupd's statuses

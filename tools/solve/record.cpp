@@ -13,15 +13,17 @@
 #include <sys/statvfs.h>
 #include <unistd.h>
 
-#include "../exact/digest.h"
+#include "../exact/errors.h"
 #include "../exact/folder.h"
 #include "../exact/packed.h"
+#include "digest.h"
 #include "solve.h"
 
 namespace {
 
 const double ENDING = 10;       // seconds that an earlier run's processes have to end
 const useconds_t PAUSE = 20000;
+const size_t PIECE = 1 << 16;
 
 std::string record_name;        // absolute, with a slash
 
@@ -394,20 +396,21 @@ uint64_t free_bytes() {
     return fstatvfs(record_folder, &found) == 0 ? uint64_t(found.f_bavail) * found.f_frsize : 0;
 }
 
-// The digests of an open file, and of a text.
+// The digests of an open file, read to its end, and of a text.
 std::string digest_of(int file, const std::string &path) {
-    char digest[DIGEST_DIGITS + 1];
-    digest_file(file, path.c_str(), digest);
-    return digest;
+    static char bytes[PIECE];
+    Digest digest;
+    for (ssize_t count; (count = read(file, bytes, PIECE)) != 0;) {
+        if (count > 0) digest.add(bytes, size_t(count));
+        else if (errno != EINTR) stop("%s: %s", path.c_str(), strerror(errno));
+    }
+    return digest.end();
 }
 
 std::string digest_of(const std::string &text) {
-    char found[DIGEST_DIGITS + 1];
     Digest digest;
-    digest_begin(&digest);
-    digest_add(&digest, text.data(), text.size());
-    digest_end(&digest, found);
-    return found;
+    digest.add(text.data(), text.size());
+    return digest.end();
 }
 
 // A line in sha256sum's form, which begins with a backslash if bytes of the name are escaped.

@@ -10,7 +10,7 @@
 #include <sys/stat.h>
 #include <unistd.h>
 
-#include "../exact/digest.h"
+#include "digest.h"
 #include "saved.h"
 #include "teams.h"
 
@@ -171,18 +171,15 @@ std::string written(const std::string &path, int file, bool is_whole) {
 // Copies the checkpoint, and finds its digest.
 std::string copy_checkpoint(int file, const std::string &path, std::string &digest) {
     static char bytes[PIECE];
-    char text[DIGEST_DIGITS + 1];
     Digest found;
     int copy = create_if_possible(unfinished(path));
     bool is_whole = copy >= 0;
-    digest_begin(&found);
     for (ssize_t count = 1; is_whole && count > 0;) {
         count = read(file, bytes, PIECE);
         is_whole = count >= 0 && write_all(copy, bytes, size_t(count));
-        if (count > 0) digest_add(&found, bytes, size_t(count));
+        if (count > 0) found.add(bytes, size_t(count));
     }
-    digest_end(&found, text);
-    digest = text;
+    digest = found.end();
     return written(path, copy, is_whole);
 }
 

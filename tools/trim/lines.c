@@ -12,7 +12,8 @@
 #include <sys/wait.h>
 #include <unistd.h>
 
-#include "../exact/digest.h"
+#include <sha256.h>
+
 #include "../exact/errors.h"
 #include "../exact/packed.h"
 #include "../exact/stream.h"
@@ -234,16 +235,15 @@ const char *record_file(const char *folder, size_t round, const char *kind, uint
 
 // The digest is as sha256sum writes it, which puts \ before the line if the file's name is unusual.
 void record_check(const char *folder, const char *formula) {
-    char path[LONGEST_PATH], kept[DIGEST_DIGITS + 2] = "", found[DIGEST_DIGITS + 1];
+    char path[LONGEST_PATH], found[SHA256_DIGEST_STRING_LENGTH], kept[sizeof found + 1] = "";
     size_t length = (size_t)snprintf(path, sizeof path, "%s/formula.sha256", folder);
     if (length >= sizeof path || !is_there(path)) return;
     int file = file_open(path, &length);
     if (read(file, kept, sizeof kept - 1) < 0) stop("%s: %s", path, strerror(errno));
     close(file);
-    file = file_open(formula, &length);
-    digest_file(file, formula, found);
-    close(file);
-    if (strncmp(kept + (kept[0] == '\\'), found, DIGEST_DIGITS) != 0)
+    file_check(formula);
+    if (!SHA256_File(formula, found)) stop("%s: %s", formula, strerror(errno));
+    if (strncmp(kept + (kept[0] == '\\'), found, sizeof found - 1) != 0)
         stop("%s isn't the formula of %s, or was changed since: its digest isn't that of %s",
              formula, folder, path);
 }
