@@ -451,7 +451,12 @@ def miter(name: str, change: Optional[Tuple[str, str]], status: int, work: Path)
     formula = work / "formula.cnf"
     made = run(["sh", MITERS / "miter.sh", written(text, work, "circuits.v"), formula])
     want(made.status, 0, f"{made.out}{made.err}the status of miter.sh")
-    want_answer(solve([formula]), status, formula)
+    answer = solve([formula])
+    want_answer(answer, status, formula)
+    if status == 10:
+        said = run([MITERS / "show.awk", formula, "-"], answer.out).out
+        one, other = (line.split(" = ")[1] for line in said.splitlines() if "." in line)
+        want(one == other, False, f"whether the outputs are the same, which are\n{said}")
 
 
 # The documents.

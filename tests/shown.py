@@ -160,6 +160,9 @@ def scripts() -> Iterator[Row]:
         yield f"acl2.py {formula}", refused, "acl2.py", [formula, "none"], b"", f"acl2.py: FORMULA or PROOF can't be read: {cause}", 1
     for words in ([], ["x.v"]):
         yield f"miter.sh {words}", refused, "miter/miter.sh", words, b"", "usage: miter.sh FILE.v FORMULA", 2
+    for given in (b"s UNSATISFIABLE\n", b""):
+        yield (f"show.awk, {given!r}", refused, "miter/show.awk", [str(EXAMPLES / "bmc.cnf"), "-"], given,
+               "show.awk: the answer has no assignment", 1)
     for words in ([], ["3", "3"], ["3", "1", "9"], ["3", "x", "9"]):
         yield f"waerden.py {words}", refused, "cubes/waerden.py", words, b"", "usage: waerden.py K L N, with 2 or more for K and L", 2
     for words in ([], ["5"], ["x", "formula.cnf"], ["5", "a", "b"]):

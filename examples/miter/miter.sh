@@ -1,7 +1,9 @@
 #!/bin/sh
 # miter.sh FILE.v FORMULA: asks, as DIMACS CNF, whether the modules `one` and `other` of the file
-# ever differ. Needs `yosys`, whose own solver gets at most a second, since only the formula is
-# needed.
+# ever differ. Needs `yosys`. Comments name the bits of inputs and outputs, for show.awk.
 [ $# -eq 2 ] || { echo "usage: miter.sh FILE.v FORMULA" >&2; exit 2; }
-exec yosys -q -p "read_verilog $1; hierarchy; proc; miter -equiv -flatten -make_outputs one other miter; hierarchy -top miter; flatten;
-techmap; opt; sat -timeout 1 -dump_cnf $2 -prove trigger 0 miter"
+circuit=$(yosys -q -p "read_verilog $1; hierarchy; proc;
+miter -equiv -flatten -make_outputs one other miter; hierarchy -top miter; flatten; techmap; opt;
+aigmap; write_aiger -ascii -symbols") || exit
+printf '%s\n' "$circuit" | sed 's/ in_/ /; s/ gold_/ one./; s/ gate_/ other./' |
+    awk -v output=trigger -f "$(dirname "$0")/aiger2cnf.awk" > "$2"
