@@ -27,6 +27,12 @@ SHARED_WITH_SOLVER := $(addprefix tools/exact/,errors.c formula.c lists.c litera
 ALONE := $(filter-out $(wildcard tools/solve/mpi*.cpp),$(wildcard tools/solve/*.cpp))
 # Tests of programs build this first; 'make examples BUILT= PROGRAM=path' tests another program.
 BUILT ?= build
+# Debian's pytest, with which the tests of programs run: two rows more at once than there are cores,
+# since most of them wait now and then.
+PYTEST ?= pytest-3
+AT_ONCE := $(shell expr $$(nproc) + 2)
+rows_of = @$(PYTEST) -n $(AT_ONCE) --dist loadgroup --program $(PROGRAM) \
+	$(addsuffix .py,$(addprefix tests/test_,$(1)))
 FORMULA ?= examples/bmc.cnf
 STREAMS ?= $(addprefix examples/bmc-four.,1 2 3 4)
 OPTIONS ?= --tries 1000000
@@ -35,7 +41,7 @@ OPTIONS ?= --tries 1000000
 	rounds demo solver exact trim explain solve solver-test filter-test trim-test building \
 	peers hol explain-test solve-test days neighbours sweep leaks instructions quotes \
 	promises pages test toolchain c-and-python libcadical beside-it mpicxx help try deb dist \
-	quick edits packages warnings builds shown quotes-test
+	quick edits packages warnings builds shown quotes-test pytest
 
 help:
 	@awk -f gate/help.awk $(firstword $(MAKEFILE_LIST))
@@ -220,14 +226,14 @@ warnings: c-and-python $(HELPS) ## check: C compiles without a warning, and each
 	for file in $(C_HEADERS); do \
 	$$compiler $(STRICT) -D_POSIX_C_SOURCE=200809L -include $$file /dev/null || exit 1; done; done
 
-quotes-test: c-and-python ## check: that wrong quotes on the pages are refused
-	@python3 tests/quotes.py
+quotes-test: pytest ## check: that wrong quotes on the pages are refused
+	$(call rows_of,quotes)
 
 builds: c-and-python ## check: C and C++ are compiled with the given flags, and again after a change
 	@python3 tests/builds.py
 
-shown: $(BUILT) solver exact trim explain ## check: run the commands that the pages show, and compare their output
-	@python3 tests/shown.py $(PROGRAM)
+shown: $(BUILT) solver exact trim explain pytest ## check: run the commands that the pages show, and compare their output
+	$(call rows_of,shown)
 
 solver-test: $(BUILT) solver ## check: streams of one to eight example solvers, and of some that are killed
 	@python3 tests/example_solver.py $(PROGRAM) $(SOLVER)
@@ -337,7 +343,7 @@ TESTS := lrup_solve_rounds sweep filter_mutants lrup_solve lrup_solve_solvers lr
 	lrup_solve_trusted lrup_check leaks filter_chains filter_streams filter_solvers \
 	checkpoints rounds examples solver-test instructions neighbours live warnings builds \
 	shown quotes-test
-SIDE_BY_SIDE := --output-sync=target -j $(shell expr $$(nproc) + 2)
+SIDE_BY_SIDE := --output-sync=target -j $(AT_ONCE)
 test: SHELL := /bin/bash
 test: toolchain pages solver exact trim explain ## check: the gate, 25 to 100 minutes: every proof, edit and test; has to pass before a push
 	@$(MAKE) -n BUILT= MPI= $(TESTS) > /dev/null
@@ -354,6 +360,10 @@ toolchain:
 c-and-python:
 	@for command in $(firstword $(CC)) python3; do command -v $$command > /dev/null || \
 	{ echo "make demo and make test need a C compiler and Python 3: no command '$$command' is on the PATH"; exit 1; }; done
+
+pytest: c-and-python
+	@command -v $(firstword $(PYTEST)) > /dev/null || \
+	{ echo "tests of programs need pytest: no command '$(firstword $(PYTEST))' is on the PATH; make packages installs it"; exit 1; }
 
 mpicxx:
 	@command -v mpicxx > /dev/null || \

@@ -1,7 +1,7 @@
-"""Shared by the tests of programs: runs, files and pipes, builds, and counting what passed.
+"""Shared by the tests of programs: runs, files and pipes, builds, and rows.
 
 A test is a row: a name, a function and its arguments. The function also gets a folder of its own,
-as the last argument."""
+as the last argument. pytest runs the rows; conftest.py has its options."""
 import contextlib
 import fcntl
 import functools
@@ -22,7 +22,10 @@ import termios
 import threading
 import time
 from pathlib import Path
-from typing import IO, Any, Callable, Iterable, Iterator, List, Mapping, NamedTuple, Optional, Sequence, Tuple, Union
+from typing import (IO, Any, Callable, Iterable, Iterator, List, Mapping, NamedTuple, NoReturn,
+                    Optional, Sequence, Tuple, Union)
+
+import pytest
 
 TESTS = Path(__file__).resolve().parent
 ROOT = TESTS.parent
@@ -35,6 +38,11 @@ TRIM = ROOT / "tools" / "trim" / "out" / "lrup-trim"
 SANITIZED_TRIM = TRIM.with_name("lrup-trim-sanitized")
 EXPLAIN = ROOT / "tools" / "explain" / "out" / "lrup-explain"
 SANITIZED_EXPLAIN = EXPLAIN.with_name("lrup-explain-sanitized")
+# The options of conftest.py. COUNT is of random rows; without it each file has its own.
+PROGRAM = os.path.abspath(sys.argv[1]) if len(sys.argv) > 1 else ""
+FLAGS = sys.argv[2] if len(sys.argv) > 2 else "-O2"
+COUNT: Optional[int] = None
+FIRST, SEED, MINUTES = 0, 1, 0.0
 LIMIT = 300  # seconds after which a run counts as hanging, even on a slow and busy machine
 FOUR = "p cnf 2 4\n1 2 0\n-1 2 0\n1 -2 0\n-1 -2 0\n"
 # The first bytes of files that these programs unpack.
@@ -53,8 +61,7 @@ Row = Tuple[Any, ...]
 Pieces = Iterable[Union[bytes, float]]
 
 
-class Failure(Exception):
-    pass
+Failure = AssertionError
 
 
 class Skipped(Exception):
@@ -73,8 +80,9 @@ class Ran(NamedTuple):
 
 
 def want(found: Any, wanted: Any, what: str) -> None:
-    if found != wanted:
-        raise Failure(f"{what}: expected\n{str(wanted)[:2000]}\nbut found\n{str(found)[:2000]}")
+    __tracebackhide__ = True
+    assert found == wanted, (f"{what}: expected\n{str(wanted)[:2000]}\n"
+                             f"but found\n{str(found)[:2000]}")
 
 
 # Running programs.
@@ -254,6 +262,21 @@ def compiled(program: Path, sources: Sequence[Path], *flags: str, by: Sequence[s
     return program
 
 
+@contextlib.contextmanager
+def alone(lock: Path) -> Iterator[IO[str]]:
+    """One worker builds, and the others wait."""
+    lock.parent.mkdir(parents=True, exist_ok=True)
+    with lock.open("a+") as file:
+        fcntl.flock(file, fcntl.LOCK_EX)
+        file.seek(0)
+        yield file
+
+
+def is_newer(program: Path, sources: Iterable[Path]) -> bool:
+    return program.exists() and all(program.stat().st_mtime > path.stat().st_mtime
+                                    for path in sources)
+
+
 SANITIZE = ["-std=c11", "-O1", "-g", "-fsanitize=address,undefined,pointer-overflow", "-fno-sanitize-recover=all"]
 SANITIZING = {"ASAN_OPTIONS": "exitcode=99", "UBSAN_OPTIONS": "exitcode=99:print_stacktrace=1"}     # environment variables
 
@@ -271,15 +294,24 @@ def sanitizer() -> List[str]:
 
 
 def for_tests(program: Path, sources: Iterable[Path], *flags: str) -> Path:
-    """A build that checks its invariants, and reports undefined behaviour if the compiler can."""
-    program.parent.mkdir(exist_ok=True)
-    checked = ["-DCHECKED", "-I", str(ROOT / "out" / "objects")]
-    checked += SANITIZE if sanitizer() else ["-std=c11", "-O1"]
-    return compiled(program, sorted(sources), *checked, *flags, by=sanitizer())
+    """A build that checks its invariants, and reports undefined behaviour if the compiler can. It
+    is built if it is out of date, or was built by another command."""
+    sources, helps = sorted(sources), ROOT / "out" / "objects"
+    words = ["-DCHECKED", "-I", str(helps), *(SANITIZE if sanitizer() else ["-std=c11", "-O1"]), *flags]
+    folders = {helps, *(path.parent for path in sources)}
+    with alone(program.with_name(f"{program.name}.lock")) as lock:
+        command = shlex.join([*(sanitizer() or compiler()), *words])
+        headers = [path for folder in folders for path in folder.glob("*.h")]
+        if lock.read() != command or not is_newer(program, [*sources, *headers]):
+            compiled(program, sources, *words, by=sanitizer())
+            lock.truncate(0)
+            lock.write(command)
+    return program
 
 
-def sanitized_filter() -> None:
-    for_tests(SANITIZED, EXACT.glob("*.c"))
+@functools.lru_cache(maxsize=None)
+def sanitized_filter() -> Path:
+    return for_tests(SANITIZED, EXACT.glob("*.c"))
 
 
 def sources_of(tool: str) -> List[Path]:
@@ -287,12 +319,14 @@ def sources_of(tool: str) -> List[Path]:
     return [*(ROOT / "tools" / tool).glob("*.c"), *(path for path in EXACT.glob("*.c") if path.name not in ("main.c", "chain.c"))]
 
 
-def sanitized_trim() -> None:
-    for_tests(SANITIZED_TRIM, sources_of("trim"))
+@functools.lru_cache(maxsize=None)
+def sanitized_trim() -> Path:
+    return for_tests(SANITIZED_TRIM, sources_of("trim"))
 
 
-def sanitized_explain() -> None:
-    for_tests(SANITIZED_EXPLAIN, [*sources_of("explain"), ROOT / "tools" / "trim" / "lines.c"])
+@functools.lru_cache(maxsize=None)
+def sanitized_explain() -> Path:
+    return for_tests(SANITIZED_EXPLAIN, [*sources_of("explain"), ROOT / "tools" / "trim" / "lines.c"])
 
 
 def words_given(usage: Optional[str], least: int = 1, most: int = 1) -> List[str]:
@@ -365,11 +399,26 @@ def with_memory(function: Callable[..., None], *arguments: Any) -> None:
     function(*arguments)
 
 
-# Counting.
+# Rows.
+
+
+def tested(rows: Iterable[Row]) -> Callable[[Row, Path], None]:
+    """A test that pytest runs for each row."""
+    @pytest.mark.parametrize("row", [pytest.param(row, id=row[0]) for row in rows])
+    def test(row: Row, work: Path) -> None:
+        __tracebackhide__ = True
+        _, function, *arguments = row
+        function(*arguments, work)
+    return test
 
 
 def has_packages() -> bool:
     return bool(os.environ.get("CI"))
+
+
+def lacking(why: str) -> NoReturn:
+    """Skips a row whose package is missing. In CI, which installs all packages, the row fails."""
+    (pytest.fail if has_packages() else pytest.skip)(why)
 
 
 def needs(command: str) -> None:

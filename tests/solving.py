@@ -17,11 +17,12 @@ import time
 from pathlib import Path
 from typing import Any, Dict, List, Mapping, Optional, Sequence, Tuple
 
-from harness import ROOT, VERDICTS, Failure, Ran, Row, dimacs, left_out, random_clauses, run, run_all, until, want, written
+import pytest
+
+from harness import (FLAGS, PROGRAM, ROOT, VERDICTS, Failure, Ran, Row, dimacs, lacking, left_out,
+                     random_clauses, run, run_all, until, want, written)
 from proof_forms import read_formula
 
-PROGRAM = os.path.abspath(sys.argv[1]) if len(sys.argv) > 1 else ""
-FLAGS = sys.argv[2] if len(sys.argv) > 2 else "-O2"
 COMPILERS = [os.environ.get(name, "") for name in ("CC", "CXX")]
 OUT = ROOT / "tools" / "solve" / "out" / re.sub(r"\W+", "", "".join(["tested", *COMPILERS, FLAGS]))
 SOLVE, TESTED = OUT / "lrup-solve", OUT / "tested" / "lrup-solve"
@@ -254,6 +255,18 @@ def build(target: str, for_tests: bool) -> Optional[str]:
             if status or re.search(r"warning: .*\[-W", err):
                 sys.exit(out + err)
     return None
+
+
+# Marks of files: their rows need the first build, or both. A row is tried three times, since
+# solvers race with each other and with signals.
+LRUP_SOLVE = [pytest.mark.usefixtures("lrup_solve"), pytest.mark.flaky(reruns=2)]
+FOR_TESTS = [pytest.mark.usefixtures("solve_for_tests"), pytest.mark.flaky(reruns=2)]
+
+
+def built(target: str, for_tests: bool) -> None:
+    cause = build(target, for_tests)
+    if cause:
+        lacking(f"all of lrup-{target}: {cause}")
 
 
 def run_built(rows: Sequence[Row], title: str = "", target: str = "solve", for_tests: bool = True) -> int:

@@ -1,17 +1,12 @@
-#!/usr/bin/env python3
 """Runs gate/quotes.py on wrong pages.
 
-    quotes.py
-
-In a copy of the pages, each row replaces a text. Failures are shown; the last line is 'N passed, M
-failed', and the status is 1 if a row failed. """
+In a copy of the pages, each row replaces a text."""
 import shutil
 import sys
 from pathlib import Path
 from typing import List
 
-sys.dont_write_bytecode = True
-from harness import ROOT, Row, run, run_all, want
+from harness import ROOT, Row, run, tested, want
 
 PAGE = "AUDIT.md"
 COMMENT, TYPE = "-- no assignment satisfies all clauses of the formula\n", "IsUnsatisfiable : Cnf → Type 0\n"
@@ -58,4 +53,4 @@ def rows() -> List[Row]:
             ("a wrong clause", refused, "result ≡ 0 → Name", "result ≡ 3 → Name", ["doesn't have 'result ≡ 3"])]
 
 
-sys.exit(run_all(rows()))
+test_row = tested(rows())

@@ -1,25 +1,21 @@
-#!/usr/bin/env python3
 """Runs the commands that pages show, in order, with one shell and one folder for each page.
-
-    shown.py PROGRAM [FLAGS]
 
 A command comes after '$ ' in a block that is indented by four spaces or more. If its line ends with
 a backslash, a bar or '&&', it continues in the next one. The text below is its expected output,
 standard error, too: a line '..' stands for any lines, and in a line with lrup-solve's times each
 number for any other. If there is no text, any output is fine. Some commands aren't run, since they
 would prove the program: see NOT_RUN. Then the examples' scripts get wrong arguments, files and
-answers. Failures are shown; the last line is 'N passed, M failed'."""
+answers."""
 import os
 import re
 import shutil
 import subprocess
-import sys
 from pathlib import Path
 from typing import Iterator, List, NamedTuple, Sequence, Tuple
 
-sys.dont_write_bytecode = True
-from harness import EXAMPLES, EXPLAIN, FILTER, LRUP_CHAIN, ROOT, TRIM, Failure, Row, generated, missing, needs, run, want
-from solving import PROGRAM, SOLVE, run_built
+from harness import (EXAMPLES, EXPLAIN, FILTER, LRUP_CHAIN, ROOT, TRIM, Row, generated, lacking,
+                     needs, run, tested, want)
+from solving import LRUP_SOLVE, PROGRAM, SOLVE
 
 LIMIT = 120  # seconds for a page
 NOT_RUN = ["make try", "make install PREFIX=$HOME/.local", "sudo make packages && make test"]
@@ -86,7 +82,7 @@ def shown(name: str, files: Sequence[str], packages: Sequence[str], work: Path) 
         if package != "python3-z3":
             needs(package)
         elif run(["/usr/bin/python3", "-c", "import z3"]).status:
-            missing("there is no module z3", work)
+            lacking("there is no module z3")
     for file in files:
         words, _, place = file.partition(" > ")
         if words.startswith("examples/"):
@@ -103,11 +99,11 @@ def shown(name: str, files: Sequence[str], packages: Sequence[str], work: Path) 
     done = run(["bash", "-c", script], limit=LIMIT, cwd=work, env=surroundings, stderr=subprocess.STDOUT)
     pieces = re.split(r"\n-- \d+\n", done.out)
     if len(pieces) != len(commands) + 1:
-        raise Failure(f"{len(pieces) - 1} commands of {len(commands)} ended:\n{done.out[-2000:]}")
+        raise AssertionError(f"{len(pieces) - 1} commands of {len(commands)} ended:\n{done.out[-2000:]}")
     for command, said in zip(commands, pieces):
         if command.wanted and not re.fullmatch(pattern(command.wanted), said + "\n" * (said != "" and not said.endswith("\n"))):
             wanted = "\n".join(command.wanted)
-            raise Failure(f"line {command.line}, $ {command.text}: expected\n{wanted}\nbut found\n{said[:2000]}")
+            raise AssertionError(f"line {command.line}, $ {command.text}: expected\n{wanted}\nbut found\n{said[:2000]}")
 
 
 PROGRAMS = {"lrupd": Path(PROGRAM), "lrup-solve": SOLVE, "lrup-check": SOLVE.with_name("lrup-check"),
@@ -122,7 +118,7 @@ def all_known() -> List[Row]:
 
 
 def unknown(text: str, work: Path) -> None:
-    raise Failure(f"no page shows {text}")
+    raise AssertionError(f"no page shows {text}")
 
 
 # Scripts of examples with wrong input: one line on standard error, and nothing on standard output.
@@ -180,4 +176,5 @@ def rows() -> List[Row]:
     return [(name, shown, name, files, packages) for name, files, packages in PAGES] + all_known() + list(scripts())
 
 
-sys.exit(run_built(rows(), for_tests=False))
+pytestmark = LRUP_SOLVE
+test_row = tested(rows())
