@@ -109,21 +109,19 @@ uninstall: ## use: remove what make install installs below PREFIX
 
 # Compares standard output, standard error and the status; also checks two groups of streams
 # separately.
-examples: $(BUILT) c-and-python ## check: compare what the program answers on the examples, and on some hundred small runs
-	@python3 tests/program_answers.py $(PROGRAM)
-	@python3 tests/program_groups.py $(PROGRAM)
+examples: $(BUILT) pytest ## check: compare what the program answers on the examples, and on some hundred small runs
+	$(call rows_of,program_answers program_groups)
 
 live: $(BUILT) c-and-python ## check: four recorded solvers, line by line through pipes, checked while they run
 	@python3 tests/program_live.py $(PROGRAM)
 
-checkpoints: $(BUILT) solver ## check: what --checkpoint saves, lrup-chain, and streams that are cut into rounds
-	@python3 tests/program_checkpoints.py $(PROGRAM)
+checkpoints: $(BUILT) solver pytest ## check: what --checkpoint saves, lrup-chain, and streams that are cut into rounds
+	$(call rows_of,program_checkpoints)
 	@python3 tests/lrup_chain.py $(PROGRAM)
 	@python3 tests/example_chain.py $(PROGRAM) $(SOLVER)
 
-rounds: $(BUILT) c-and-python ## check: runs in rounds: each end and fault, sizes, pipes, and what is saved
-	@python3 tests/program_rounds.py $(PROGRAM)
-	@python3 tests/program_rounds_alone.py $(PROGRAM)
+rounds: $(BUILT) pytest ## check: runs in rounds: each end and fault, sizes, pipes, and what is saved
+	$(call rows_of,program_rounds program_rounds_alone)
 
 demo: build solver ## try: four solvers that share clauses, checked while they run
 	@python3 examples/solver/demo.py $(PROGRAM) $(SOLVER)
@@ -269,15 +267,15 @@ SEED ?= $(shell date +%s)
 days: $(BUILT) exact c-and-python ## check: kill processes of lrup-solve for MINUTES=60, and resume from what they saved
 	@python3 tests/lrup_solve_days.py $(PROGRAM) -O2 $(SEED) $(MINUTES)
 
-neighbours: $(BUILT) c-and-python ## check: hostile streams never change the report on a good proof
-	@python3 tests/program_neighbours.py $(PROGRAM)
+neighbours: $(BUILT) pytest ## check: hostile streams never change the report on a good proof
+	$(call rows_of,program_neighbours)
 
 sweep: $(BUILT) c-and-python ## check: runs with each allocation, read, write and thread refused in turn
 	@python3 tests/program_refusals.py $(PROGRAM) $(RT)
 
 # Skipped without valgrind, like make instructions.
-leaks: $(BUILT) c-and-python ## measure: memory leaks, by valgrind
-	@python3 tests/program_leaks.py $(PROGRAM)
+leaks: $(BUILT) pytest ## measure: memory leaks, by valgrind
+	$(call rows_of,program_leaks)
 
 instructions: $(BUILT) c-and-python ## measure: how many instructions lines take, by valgrind, against the recorded figures
 	@python3 gate/instructions.py $(PROGRAM)

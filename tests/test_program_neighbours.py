@@ -1,23 +1,18 @@
-#!/usr/bin/env python3
 """Runs the program on a good proof of some thousand lines beside hostile neighbours, one after the
 other.
 
-    program_neighbours.py PROGRAM
-
 The proof cites no other stream, so its line in the report has to be the same each time, with
 threads and with --serial: that beside an empty stream. For some neighbours their line is known,
-too. Failures are shown; the last line is 'N passed, M failed', and the status is 1 if a run
-failed."""
+too."""
 import os
 import random
 import subprocess
-import sys
 import time
 from pathlib import Path
 from typing import Any, Callable, Iterator, List, NamedTuple, Optional, Union
 
-sys.dont_write_bytecode = True
-from harness import LIMIT, Pieces, Row, example, feed, piped, run_all, started, want, words_given, written
+from harness import (LIMIT, PROGRAM, Pieces, Row, example, feed, piped, started, tested, want,
+                     written)
 
 FORMULA = example("bmc.cnf")
 CLAUSES = 533
@@ -135,9 +130,4 @@ def rows(program: str) -> Iterator[Row]:
             yield f"{options or 'threads'}, {neighbour.name}", beside, program, options.split(), neighbour, proof, wanted
 
 
-def main() -> int:
-    program, = words_given(__doc__)
-    return run_all([*rows(program)], "neighbours: ")
-
-
-sys.exit(main())
+test_row = tested(rows(PROGRAM))

@@ -1,9 +1,5 @@
-#!/usr/bin/env python3
-"""Runs the program on the rows below, and compares standard output, standard error and the status.
-
-    program_answers.py PROGRAM
-
-Failures are shown; the last line is 'N passed, M failed', and the status is 1 if a row failed."""
+"""Runs the program on the rows below, and compares standard output, standard error and the
+status."""
 import re
 import socket
 import subprocess
@@ -11,9 +7,8 @@ import sys
 from pathlib import Path
 from typing import Dict, Iterator, List, Tuple
 
-sys.dont_write_bytecode = True
-from harness import (FOUR, ROOT, Failure, Pieces, Row, Wanted, Words, answered, answers, example, report, run_all, started, want,
-                     with_memory, words_given, written)
+from harness import (FOUR, PROGRAM, ROOT, Pieces, Row, Wanted, Words, answered, answers, example,
+                     report, started, tested, want, with_memory, written)
 
 sys.path.append(str(ROOT / "gate"))
 import interface
@@ -327,7 +322,7 @@ def usage(program: str, words: List[str], work: Path) -> None:
     want((out, status), ("", 2), "the output and the status")
     lines = err.splitlines()
     if not lines or lines.count(lines[0]) != 1 or any(line.startswith("lrupd: ") for line in lines):
-        raise Failure(f"expected one usage message, but found\n{err}")
+        raise AssertionError(f"expected one usage message, but found\n{err}")
 
 
 def help_text(program: str, work: Path) -> None:
@@ -339,7 +334,7 @@ def help_text(program: str, work: Path) -> None:
          "the options in --help")
     sizes, words = (" ".join(interface.words_in(text)) for text in (interface.part(interface.MANUAL, "sizes"), err))
     if sizes not in words:
-        raise Failure(f"wanted '{sizes}' in\n{err}")
+        raise AssertionError(f"wanted '{sizes}' in\n{err}")
 
 
 def many_watched(program: str, work: Path) -> None:
@@ -376,9 +371,4 @@ def rows(program: str) -> Iterator[Row]:
         yield f"a write for each line of {' '.join(words)}", watched_line_by_line, program, words, lines
 
 
-def main() -> int:
-    program, = words_given(__doc__)
-    return run_all([*rows(program)])
-
-
-sys.exit(main())
+test_row = tested(rows(PROGRAM))

@@ -1,19 +1,16 @@
-#!/usr/bin/env python3
 """Runs the program with --rounds, and each of these rounds separately, with --checkpoint on the
 checkpoint before: the last report is that of the last run, and each file has the same bytes.
 
-    program_rounds_alone.py PROGRAM
-
-Recorded streams are cut into rounds, and random ones are derived on the way, with some wrong lines.
-Failures are shown; the last line is 'N passed, M failed', and the status is 1 if a row failed."""
+Recorded streams are cut into rounds, and random ones are derived on the way, with some wrong
+lines."""
 import random
 import shutil
 import sys
 from pathlib import Path
 from typing import Iterator, List, NamedTuple, Optional, Sequence, Tuple
 
-sys.dont_write_bytecode = True
-from harness import EXAMPLES, Ran, Row, dimacs, example, random_clauses, run, run_all, want, words_given, written
+from harness import (EXAMPLES, PROGRAM, Ran, Row, dimacs, example, random_clauses, run, tested,
+                     want, written)
 from proof_forms import Clause, read_formula
 from rounds import first_words, saved_name, stream_name
 
@@ -167,9 +164,4 @@ def rows(program: str) -> Iterator[Row]:
             yield f"random rounds, {seed}{kind}", random_rounds, seed, program, way
 
 
-def main() -> int:
-    program, = words_given(__doc__)
-    return run_all([*rows(program)])
-
-
-sys.exit(main())
+test_row = tested(rows(PROGRAM))

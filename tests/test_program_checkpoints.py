@@ -1,23 +1,18 @@
-#!/usr/bin/env python3
 """Runs the program with --checkpoint, and compares its answers and checkpoints.
-
-    program_checkpoints.py PROGRAM
 
 Rows have the file's bytes; for recorded streams they follow from the rules. If nothing may be
 created, nothing is touched; if saving fails, there is still a report. A checkpoint is a formula
-that the program accepts; a part of it, as a full disk leaves it, isn't. Failures are shown; the
-last line is 'N passed, M failed', and ', K skipped' if the machine doesn't allow a test. The status
-is 1 if a row failed."""
+that the program accepts; a part of it, as a full disk leaves it, isn't."""
 import os
 import shutil
-import sys
 from pathlib import Path
 from typing import Dict, Iterator, List, Optional, Sequence, Tuple
 
-sys.dont_write_bytecode = True
+import pytest
+
 from checkpoints import MOST_CLAUSES, live, most_clauses, printed, variables_of, want_checkpoint
-from harness import (FOUR, Failure, Ran, Row, Skipped, Wanted, answered, answers, example, held, report, run, run_all, run_by_another,
-                     want, with_memory, within, words_given, written)
+from harness import (FOUR, PROGRAM, Ran, Row, Wanted, answered, answers, example, held, report, run,
+                     run_by_another, tested, want, with_memory, within, written)
 
 WAYS = ["", "--serial"]
 ONE, TWO = "5 2 0 1 2 0\n", "5 2 0 1 2 0\n6 0 5 3 4 0\n"
@@ -200,7 +195,7 @@ def torn(program: str, way: List[str], limit: Optional[int], work: Path) -> None
         path.parent.mkdir()
         mount = ["mount", "-t", "tmpfs", "-o", "size=4096", "none", path.parent]
         if not shutil.which("mount") or run(mount).status:
-            raise Skipped("no file system can be mounted")
+            pytest.skip("no file system can be mounted")
         words[-3] = str(path)
     try:
         found = run([program, *words], cwd=work, preexec_fn=lambda: within(limit))
@@ -210,7 +205,7 @@ def torn(program: str, way: List[str], limit: Optional[int], work: Path) -> None
             run(["umount", path.parent])
     want(found, Ran(report([NOTHING], 3), NOT_WRITTEN, 9), "the answer")
     if not 0 < len(left) < len(whole) or not whole.encode().startswith(left):
-        raise Failure(f"{len(left)} bytes are left, which aren't a part of the checkpoint")
+        raise AssertionError(f"{len(left)} bytes are left, which aren't a part of the checkpoint")
     again = run([program, written(left, work, "torn"), "/dev/null"])
     want((again.out, again.err[:24], again.status), ("", "lrupd: formula refused: ", 4), "the message on them")
 
@@ -292,9 +287,4 @@ def rows(program: str) -> Iterator[Row]:
     yield "a clause too many", with_memory, refused, "lrupd: checkpoint refused: limit\n", 1, program
 
 
-def main() -> int:
-    program, = words_given(__doc__)
-    return run_all([*rows(program)])
-
-
-sys.exit(main())
+test_row = tested(rows(PROGRAM))

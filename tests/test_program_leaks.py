@@ -1,18 +1,9 @@
-#!/usr/bin/env python3
 """Runs the program under valgrind: each block of memory has to be freed, and no invalid memory
-used.
-
-    program_leaks.py PROGRAM
-
-It prints 'skipped' if valgrind isn't installed. The last line is 'leaks: N passed, M failed', and
-the status is 1 if a run failed."""
-import shutil
-import sys
+used."""
 from pathlib import Path
 from typing import Iterator, List, Tuple
 
-sys.dont_write_bytecode = True
-from harness import Row, example, left_out, run, run_all, want, words_given, written
+from harness import PROGRAM, Row, example, needs, run, tested, want, written
 from rounds import ONE, TWO, Texts, first_words, round_files
 
 VALGRIND = ["valgrind", "--quiet", "--error-exitcode=99", "--leak-check=full", "--show-leak-kinds=all",
@@ -43,6 +34,7 @@ ROUNDS: List[Tuple[int, Texts, str]] = [
 
 
 def gives_back(program: str, status: int, words: List[object], work: Path) -> None:
+    needs("valgrind")
     found = run([*VALGRIND, program, *words], cwd=work)
     want(found.status, status, f"{found.out}{found.err}the status")
 
@@ -63,11 +55,4 @@ def rows(program: str) -> Iterator[Row]:
     yield "--help", gives_back, program, 2, ["--help"]
 
 
-def main() -> int:
-    program, = words_given(__doc__)
-    if not shutil.which("valgrind"):
-        return left_out("no leak is looked for, since no command 'valgrind' is on the PATH")
-    return run_all([*rows(program)], "leaks: ")
-
-
-sys.exit(main())
+test_row = tested(rows(PROGRAM))

@@ -1,25 +1,19 @@
-#!/usr/bin/env python3
 """Runs the program with --rounds, and compares its answers and checkpoints.
-
-    program_rounds.py PROGRAM
 
 Each row runs with threads and with --serial. Rounds end by each verdict, by wrong lines, and by
 each fault, in the first one and in later ones; sizes are spelled in each wrong way; streams and
-sizes are files and pipes, and a checkpoint is replaced between two rounds. Failures are shown; the
-last line is 'N passed, M failed', and ', K skipped' if the machine doesn't allow a test. The status
-is 1 if a row failed."""
+sizes are files and pipes, and a checkpoint is replaced between two rounds."""
 import re
 import shutil
 import subprocess
-import sys
 import time
 from pathlib import Path
 from typing import Any, Callable, Dict, Iterator, List, Mapping, Optional, Sequence, Tuple
 
-sys.dont_write_bytecode = True
 from checkpoints import MOST_CLAUSES, most_clauses, printed
-from harness import (FOUR, LIMIT, Pieces, Ran, Row, Wanted, answered, answers, dimacs, held, piped, read_from, run, run_all,
-                     run_by_another, started, until, waiting, want, with_memory, within, words_given, written)
+from harness import (FOUR, LIMIT, PROGRAM, Pieces, Ran, Row, Wanted, answered, answers, dimacs,
+                     held, piped, read_from, run, run_by_another, started, tested, until, waiting,
+                     want, with_memory, within, written)
 from rounds import ONE, SAVED, TWO, Texts, fault, first_words, last, round_files, saved_name, stream_name
 
 WAYS = ["", "--serial"]
@@ -732,9 +726,4 @@ def rows(program: str) -> Iterator[Row]:
         yield f"{which} may not be read", without_leave, which, cause, program
 
 
-def main() -> int:
-    program, = words_given(__doc__)
-    return run_all([*rows(program)])
-
-
-sys.exit(main())
+test_row = tested(rows(PROGRAM))
