@@ -116,9 +116,7 @@ live: $(BUILT) c-and-python ## check: four recorded solvers, line by line throug
 	@python3 tests/program_live.py $(PROGRAM)
 
 checkpoints: $(BUILT) solver pytest ## check: what --checkpoint saves, lrup-chain, and streams that are cut into rounds
-	$(call rows_of,program_checkpoints)
-	@python3 tests/lrup_chain.py $(PROGRAM)
-	@python3 tests/example_chain.py $(PROGRAM) $(SOLVER)
+	$(call rows_of,program_checkpoints lrup_chain example_chain)
 
 rounds: $(BUILT) pytest ## check: runs in rounds: each end and fault, sizes, pipes, and what is saved
 	$(call rows_of,program_rounds program_rounds_alone)
@@ -227,27 +225,27 @@ warnings: c-and-python $(HELPS) ## check: C compiles without a warning, and each
 quotes-test: pytest ## check: that wrong quotes on the pages are refused
 	$(call rows_of,quotes)
 
-builds: c-and-python ## check: C and C++ are compiled with the given flags, and again after a change
-	@python3 tests/builds.py
+builds: pytest ## check: C and C++ are compiled with the given flags, and again after a change
+	$(call rows_of,builds)
 
 shown: $(BUILT) solver exact trim explain pytest ## check: run the commands that the pages show, and compare their output
 	$(call rows_of,shown)
 
-solver-test: $(BUILT) solver ## check: streams of one to eight example solvers, and of some that are killed
-	@python3 tests/example_solver.py $(PROGRAM) $(SOLVER)
+solver-test: $(BUILT) solver pytest ## check: streams of one to eight example solvers, and of some that are killed
+	$(call rows_of,example_solver)
 
 FILTER_TESTS := filter_rounds filter_mutants filter_chains filter_streams filter_solvers
 .PHONY: $(FILTER_TESTS)
 filter-test: $(FILTER_TESTS) ## check: the filter, also in rounds, with solvers on the PATH, and on 10,000 mutated proofs
 
-$(FILTER_TESTS): $(BUILT) exact
-	@python3 tests/$@.py $(PROGRAM)
+$(FILTER_TESTS): $(BUILT) exact pytest
+	$(call rows_of,$@)
 
-trim-test: $(BUILT) solver exact trim ## check: lrup-trim, on 300 random runs in rounds, and on garbled streams
-	@python3 tests/trim.py $(PROGRAM)
+trim-test: $(BUILT) solver exact trim pytest ## check: lrup-trim, on 300 random runs in rounds, and on garbled streams
+	$(call rows_of,trim)
 
-explain-test: $(BUILT) solver explain ## check: lrup-explain against lrupd, on 2,000 faulty streams and 1,000 mutated proofs
-	@python3 tests/explain.py $(PROGRAM)
+explain-test: $(BUILT) solver explain pytest ## check: lrup-explain against lrupd, on 2,000 faulty streams and 1,000 mutated proofs
+	$(call rows_of,explain)
 
 # Skipped without CaDiCaL's library, and those of --mpi without MPI. With MPI= only their quick rows
 # run, as in the gate.

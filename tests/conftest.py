@@ -17,7 +17,7 @@ def pytest_addoption(parser: pytest.Parser) -> None:
     given.addoption("--program", default=program, help="the lrupd that is tested")
     given.addoption("--flags", default="-O2", help="for lrup-solve's compilers, as "
                     "'-O1 -g -fsanitize=thread'")
-    given.addoption("--count", type=int, help="how many random rows a file has")
+    given.addoption("--count", type=int, help="how many random rows, or mutants, a file has")
     given.addoption("--first", type=int, default=0, help="the first mutant of a proof")
     given.addoption("--seed", type=int, default=1, help="of the formulas of test_lrup_solve_days")
     given.addoption("--minutes", type=float, default=0, help="for test_lrup_solve_days")

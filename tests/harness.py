@@ -30,7 +30,7 @@ import pytest
 TESTS = Path(__file__).resolve().parent
 ROOT = TESTS.parent
 EXAMPLES = ROOT / "examples"
-GENERATOR = EXAMPLES / "solver" / "generate.py"
+SOLVER, GENERATOR = EXAMPLES / "solver" / "out" / "solver", EXAMPLES / "solver" / "generate.py"
 LRUP_CHAIN = ROOT / "tools" / "lrup-chain"
 EXACT = ROOT / "tools" / "exact"
 FILTER, SANITIZED = EXACT / "out" / "exact", EXACT / "out" / "exact-sanitized"
@@ -410,6 +410,11 @@ def tested(rows: Iterable[Row]) -> Callable[[Row, Path], None]:
         _, function, *arguments = row
         function(*arguments, work)
     return test
+
+
+# A mark of rows that run again if they take too long beside others.
+AGAIN_IF_LATE = pytest.mark.flaky(
+    reruns=1, condition="getattr(sys, 'last_type', type).__name__ == 'TimeoutExpired'")
 
 
 def has_packages() -> bool:

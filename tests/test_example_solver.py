@@ -1,27 +1,20 @@
-#!/usr/bin/env python3
 """Runs the example solver on small formulas with one to eight streams, and the program on its
 streams.
-
-    example_solver.py PROGRAM SOLVER
 
 Each report has to say that each stream ended, with the additions and deletions that the solver
 printed; if the formula is unsatisfiable, the status has to be 0. If nothing is shared, the streams
 also go to files, whose report has to be the same with --serial. Imports change none of this; all
 imports of a run also make a stream of their own, and a garbled import is added to another one. Then
-solvers are killed midway: each stream ends, or is truncated. Failures are shown; the last line is
-'N passed, M failed', and the status is 1 if a run failed."""
-import os
+solvers are killed midway: each stream ends, or is truncated."""
 import re
 import select
 import subprocess
-import sys
 import time
 from pathlib import Path
 from typing import IO, List, Optional, Tuple
 
-sys.dont_write_bytecode = True
-from harness import (LIMIT, VERDICTS, Failure, Row, generated, held, piped, run, run_all, started, until, want, words_given,
-                     written)
+from harness import (LIMIT, PROGRAM, SOLVER, VERDICTS, Row, generated, held, piped, run, started,
+                     tested, until, want, written)
 
 OPTIONS = ["--tries", "1000000"]
 LARGE = OPTIONS + ["--lines", "1000000", "--room", "10000000"]
@@ -71,7 +64,7 @@ def judge_solver(said: str, status: Optional[int], answer: int, path: Path) -> T
         true = {line.split()[1] for line in said.splitlines() if line.startswith("v ")}
         for clause in clauses_of(path):
             if not true & set(clause):
-                raise Failure(f"the assignment doesn't satisfy {clause}")
+                raise AssertionError(f"the assignment doesn't satisfy {clause}")
     ended = [line + ", ended" for line in said.splitlines() if line.startswith("c stream")]
     wanted = 0 if answer == UNSATISFIABLE else 3
     return "\n".join([*ended, VERDICTS[wanted], ""]), wanted
@@ -151,7 +144,7 @@ def killed(program: str, solver: List[str], words: str, streams: int, seconds: f
     *lines, verdict = out.splitlines()
     pattern = r"c stream \d+: [1-9]\d* added, \d+ deleted, (ended|bad line \d+ \(truncated\))"
     if len(lines) != streams or not all(re.fullmatch(pattern, line) for line in lines) or verdict != VERDICTS[3]:
-        raise Failure(f"a solver was killed, and the report is\n{out}")
+        raise AssertionError(f"a solver was killed, and the report is\n{out}")
 
 
 def rows(program: str, solver: str) -> List[Row]:
@@ -171,9 +164,4 @@ def rows(program: str, solver: str) -> List[Row]:
     return found
 
 
-def main() -> int:
-    program, solver = words_given(__doc__, 2, 2)
-    return run_all(rows(program, os.path.abspath(solver)))
-
-
-sys.exit(main())
+test_row = tested(rows(PROGRAM, str(SOLVER)))

@@ -1,40 +1,36 @@
-#!/usr/bin/env python3
 """Runs the filter with --rounds beside lrupd --rounds, with rows so small that proofs take many
 rounds.
-
-    filter_rounds.py PROGRAM
 
 Recorded proofs in each form, and those of CaDiCaL and CryptoMiniSat if they are on the PATH: each
 run has to end with status 0, with as many additions as the proof has, and leave only an empty file.
 Then proofs that are truncated, have a wrong line, or continue after the empty clause; formulas
 without clauses, or with no room in a row; folders that aren't empty; and either side killed at any
 time. Neither may wait for the other forever. The filter is also built for tests, with
--fsanitize=address,undefined if the compiler can. Failures are shown; the last line is 'N passed, M
-failed', and ', K skipped' if something is missing. The status is 1 if a run failed."""
+-fsanitize=address,undefined if the compiler can."""
 import contextlib
+import functools
 import os
 import re
 import shlex
-import shutil
 import signal
 import subprocess
-import sys
 import threading
 import time
 from pathlib import Path
 from typing import IO, Dict, Iterator, List, NamedTuple, Optional, Sequence, Set, Tuple, Union
 
-sys.dont_write_bytecode = True
-from harness import (EXACT, FILTER, FOUR, LIMIT, LRUP_CHAIN, SANITIZE, SANITIZED, SANITIZING, Failure, Row, added, dimacs, example,
-                     for_tests, generated, missing, needs, piped, report, run, run_all, sanitized_filter, sanitizer, started, until,
-                     unwatched, waiting, want, watched_ends, words_given, written)
+import pytest
+
+from harness import (EXACT, FILTER, FOUR, LIMIT, LRUP_CHAIN, PROGRAM, SANITIZE, SANITIZING, Row,
+                     added, dimacs, example, for_tests, generated, lacking, needs, piped, report,
+                     run, sanitized_filter, sanitizer, started, tested, until, unwatched, waiting,
+                     want, watched_ends, written)
 from proof_forms import FORMS, Step, read_formula, read_steps
 from rounds import last
 from solving import in_place_of_lrupd, of_process
 
-PROGRAM, = words_given(__doc__)
 Text = Union[str, bytes]
-LARGEST, WORDS = FILTER.parent / "exact-largest-row", 4000      # a build in which lrupd's largest row has WORDS words
+WORDS = 4000    # of lrupd's largest row, in a build
 GONE = "the reader of standard output, which runs lrupd, ended before it read "
 
 
@@ -142,7 +138,7 @@ def want_added(checked: Checked, count: int, form: str) -> None:
     propagation finds it."""
     is_whole = "LRAT" in form or form == "FRAT with hints"
     if not (count if is_whole else 1) <= checked.added() <= count:
-        raise Failure(f"{checked.added()} additions of all rounds, and the proof has {count}")
+        raise AssertionError(f"{checked.added()} additions of all rounds, and the proof has {count}")
 
 
 def recorded(name: str, stream: str, memory: str, least: int, most: int, form: str, is_named: bool, program: Path, work: Path) -> None:
@@ -153,6 +149,14 @@ def recorded(name: str, stream: str, memory: str, least: int, most: int, form: s
         return want((checked.filter_status, checked.status, checked.added()), (1, 3, 0), "the end, where the form isn't clear")
     want_refuted(checked, least, most, work)
     want_added(checked, count, form)
+
+
+def sanitized(name: str, stream: str, memory: str, least: int, most: int, form: str,
+              work: Path) -> None:
+    """The same by the build for tests."""
+    if not sanitizer():
+        lacking(f"the C compiler doesn't build with {SANITIZE[3]}")
+    recorded(name, stream, memory, least, most, form, True, sanitized_filter(), work)
 
 
 # The solver's command, the form if it has to be given, the generator's arguments, the memory, the
@@ -239,20 +243,21 @@ def wrong(form: str, at: int, work: Path) -> None:
     count = sum(step.kind == "a" for step in steps[:at])
     want((checked.added(), len(checked.rounds) > 2), (count, True), "additions before it, in more than two rounds")
     if not checked.filter_said.startswith(f"lrup-exact: {place}: no conflict"):
-        raise Failure(f"wanted a word on {place}, and not\n{checked.filter_said}")
+        raise AssertionError(f"wanted a word on {place}, and not\n{checked.filter_said}")
 
 
-def largest_row() -> None:
-    for_tests(LARGEST, EXACT.glob("*.c"), f"-DMOST_WORDS={WORDS}")
+@functools.lru_cache(maxsize=None)
+def largest_row() -> Path:
+    return for_tests(FILTER.parent / "exact-largest-row", EXACT.glob("*.c"), f"-DMOST_WORDS={WORDS}")
 
 
 def no_room(work: Path) -> None:
     """At the start, and for carried clauses: only if lrupd makes no larger row."""
     said = "leave{} no room in a row of " + f"{8 * WORDS} bytes\n"
-    checked = check(generated("random 400 1", work), "", [], work, LARGEST)
+    checked = check(generated("random 400 1", work), "", [], work, largest_row())
     want((checked, left(work)), (Checked([], "", "", None, f"lrup-exact: the formula {said.format('s')}", 1), []), "the end")
     proof = "".join(line for line in example("bmc.lrup").read_text().splitlines(True) if " d " not in line)
-    checked = check(example("bmc.cnf"), proof, ["--memory", "20K"], work, LARGEST)
+    checked = check(example("bmc.cnf"), proof, ["--memory", "20K"], work, largest_row())
     found = re.fullmatch(r"lrup-exact: line (\d+): the clauses that the solver has " + said.format(""), checked.filter_said)
     want((checked.status, checked.filter_status, found and int(found[1])), (3, 1, checked.added() + 1), checked.filter_said)
     (work / "d" / f"round-{len(checked.rounds) + 1}.cnf").unlink()
@@ -403,7 +408,7 @@ def lrupd_ends(body: str, status: int, awaited: int, work: Path) -> None:
     checked = check(example("bmc.cnf"), proof, ["--memory", "48K", "--format", word], work, lrupd=lrupd)
     want((checked.status, checked.filter_status), (status, 1), "the ends")
     if not re.fullmatch("lrup-exact: (byte [0-9]+: )?" + gone(awaited), checked.filter_said):
-        raise Failure(f"wanted '{gone(awaited)}', and not\n{checked.filter_said}")
+        raise AssertionError(f"wanted '{gone(awaited)}', and not\n{checked.filter_said}")
     want(left(work), [], "files that are left")
 
 
@@ -457,7 +462,7 @@ def lrupd_killed(work: Path) -> None:
         said, status, filter_said, filter_status = sides.ends()
     want((said, status, filter_status), ("", -signal.SIGKILL, 1), f"the ends, after\n{filter_said}")
     if not re.fullmatch(rf"lrup-exact: (cannot write the stream: Broken pipe|byte \d+: {GONE}d/round-\d+\.stream-1)\n", filter_said):
-        raise Failure(f"the filter's message: {filter_said}")
+        raise AssertionError(f"the filter's message: {filter_said}")
 
 
 def filter_killed(by: int, work: Path) -> None:
@@ -542,13 +547,10 @@ def rows_of_recorded() -> Iterator[Row]:
 
 
 def rows_sanitized() -> Iterator[Row]:
-    if not sanitizer():
-        yield "the filter, sanitized", missing, f"the C compiler doesn't build with {SANITIZE[3]}"
-        return
-    sanitized_filter()
     for form in FORMS:
-        yield f"{form}, sanitized", recorded, "pigeonhole.cnf", "pigeonhole.lrup", "3K", 3, 15, form, True, SANITIZED
-    yield "bmc.lrup, sanitized", recorded, "bmc.cnf", "bmc.lrup", "48K", 5, 50, "binary DRAT", True, SANITIZED
+        yield (f"{form}, sanitized", sanitized, "pigeonhole.cnf", "pigeonhole.lrup", "3K", 3, 15,
+               form)
+    yield ("bmc.lrup, sanitized", sanitized, "bmc.cnf", "bmc.lrup", "48K", 5, 50, "binary DRAT")
 
 
 EMPTY = "p cnf 2 2\n1 2 0\n0\n"
@@ -560,7 +562,6 @@ FEW = [("no clauses", "p cnf 0 0\n", "", 3, ""), ("no clauses, and a step", "p c
 
 
 def rows() -> List[Row]:
-    largest_row()
     found: List[Row] = [*rows_of_recorded(), *rows_sanitized()]
     for command, form, words, *rest in SOLVED:
         for live in (False, True):
@@ -588,4 +589,5 @@ def rows() -> List[Row]:
     return [*found, ("nobody reads", nobody), ("without a pipe", without_a_pipe), ("a signal that is ignored", ignored)]
 
 
-sys.exit(run_all(rows(), tries=3))      # killing one side is a race
+pytestmark = pytest.mark.flaky(reruns=2)    # killing one side is a race
+test_row = tested(rows())

@@ -1,18 +1,14 @@
-#!/usr/bin/env python3
 """Runs lrup-explain, and compares what it says with what lrupd says about the same streams.
 
-    explain.py PROGRAM [COUNT [MUTANTS]]
-
-COUNT is 2,000: faulty streams of one to five solvers. Hints are left out, doubled and reordered,
-literals get wrong signs, deletions and imports are inserted; or bytes are garbled. MUTANTS is
-1,000: mutants of filter_mutants.py, most of which are no proofs in this form. For each stream,
-fault and line have to be those of lrupd --serial; with threads, too, if no stream deletes what
-others cite. Each chain that is offered has to be right: with it instead of the line's hints, lrupd
-accepts the line. If only hints are wrong, a chain has to be offered. While streams are rewritten
-and truncated, it still ends. lrup-explain is built for tests, with -fsanitize=address,undefined if
-the compiler can; three of four runs on faulty streams use the normal build. Failures are shown; the
-last line is 'N passed, M failed', and ', K skipped' if something is missing. The status is 1 if a
-run failed."""
+Faulty streams (2,000, or --count) of one to five solvers. Hints are left out, doubled and
+reordered, literals get wrong signs, deletions and imports are inserted; or bytes are garbled. Then
+1,000 mutants, or --count, of test_filter_mutants.py, most of which are no proofs in this form. For
+each stream, fault and line have to be those of lrupd --serial; with threads, too, if no stream
+deletes what others cite. Each chain that is offered has to be right: with it instead of the line's
+hints, lrupd accepts the line. If only hints are wrong, a chain has to be offered. While streams are
+rewritten and truncated, it still ends. lrup-explain is built for tests, with
+-fsanitize=address,undefined if the compiler can; three of four runs on faulty streams use the
+normal build."""
 import functools
 import os
 import random
@@ -23,14 +19,12 @@ import tempfile
 from pathlib import Path
 from typing import Callable, Dict, List, NamedTuple, Optional, Sequence, Set, Tuple
 
-PROGRAM = os.path.abspath(sys.argv[1]) if len(sys.argv) > 1 else ""
-
-sys.dont_write_bytecode = True
 from faulty import SOLVER, garbled_text, refuted, solved
-from filter_mutants import PROOFS, Mutant
-from harness import (COMPRESSED, EXAMPLES, EXPLAIN, FOUR, ROOT, SANITIZED_EXPLAIN, SANITIZING, Failure, Ran, Row, Skipped, compiler,
-                     example, generated, piped, run, run_side_by_side, sanitized_explain, sanitizer, want, words_given, written)
+from harness import (AGAIN_IF_LATE, COMPRESSED, COUNT, EXAMPLES, EXPLAIN, FOUR, PROGRAM, ROOT,
+                     SANITIZING, Ran, Row, compiler, example, generated, piped, run,
+                     sanitized_explain, tested, want, written)
 from rewriting import cut_while_read, withstands
+from test_filter_mutants import Mutant, proofs
 
 PAGE = ROOT / "docs" / "lrup-explain.1"
 BAD = 3         # the status if a line is bad
@@ -43,7 +37,7 @@ Faults = Dict[int, Tuple[int, str]]     # by stream: the line, and the fault's w
 
 def explain(words: Sequence[object], work: Path, quick: bool = False) -> Ran:
     """Runs the build for tests, or the normal one, which is faster."""
-    return run([EXPLAIN if quick else SANITIZED_EXPLAIN, *words], cwd=work, env={**os.environ, **SANITIZING})
+    return run([EXPLAIN if quick else sanitized_explain(), *words], cwd=work, env={**os.environ, **SANITIZING})
 
 
 # Reports.
@@ -63,7 +57,7 @@ def faults_in(done: Ran) -> Faults:
 def reported(done: Ran) -> Faults:
     """The faults in lrupd's report."""
     if done.status not in (0, 3):
-        raise Failure(f"lrupd's status {done.status}: {done.err}")
+        raise AssertionError(f"lrupd's status {done.status}: {done.err}")
     return {int(stream): (int(line), words)
             for stream, line, words in re.findall(r"^c stream (\d+): .*, bad line (\d+) \((.*)\)$", done.out, re.M)}
 
@@ -256,9 +250,9 @@ def other_hints_alone(seed: int, work: Path) -> None:
             return
         now = mended(done, texts, found.clauses)
         if not now:
-            raise Failure(f"no chain is offered in\n{done.out}")
+            raise AssertionError(f"no chain is offered in\n{done.out}")
         texts = now[2]
-    raise Failure("more lines than three were bad")
+    raise AssertionError("more lines than three were bad")
 
 
 # Threads.
@@ -300,7 +294,7 @@ def with_threads(seed: int, work: Path) -> None:
 
 def mutant(number: int, work: Path) -> None:
     """The proof of a mutant of filter_mutants.py, as a stream."""
-    found = Mutant(number, PROOFS, work)
+    found = Mutant(number, proofs(), work)
     names = [written(found.proof, work, "stream") if place == found.stream else Path("/dev/null") for place in range(1, found.streams + 1)]
     said = run([PROGRAM, "--serial", found.formula, *names])
     done = explain(["--serial", found.formula, *names], work, number % QUICK != 0)
@@ -581,7 +575,7 @@ def emitter(work: Path) -> None:
         found = mended(done, texts, clauses)
         follows = re.search(LEFT_OUT, done.out, re.M)
         if not found or not follows:
-            raise Failure(f"the output doesn't say what is left out:\n{done.out}")
+            raise AssertionError(f"the output doesn't say what is left out:\n{done.out}")
         texts, mended_lines = found[2], mended_lines + 1
     want((faults_in(done), mended_lines > 0), ({}, True), "the faults, and whether lines were mended")
     want(run([PROGRAM, formula, written(texts[0], work, "right")]).status, 0, "lrupd's status in the end")
@@ -605,7 +599,7 @@ def cut(work: Path) -> None:
 
 
 def while_rewritten(seed: int, work: Path) -> None:
-    command = lambda number, _: [SANITIZED_EXPLAIN, "--all" if number % 2 else "--serial"]
+    command = lambda number, _: [sanitized_explain(), "--all" if number % 2 else "--serial"]
     withstands(command, (0, 1, BAD), 30, seed, work)
 
 
@@ -646,13 +640,8 @@ def help_of(work: Path) -> None:
     want(run([EXPLAIN, "--version"]), Ran(f"lrup-explain {version}\n", "", 0), "--version")
 
 
-def skipped(why: str, work: Path) -> None:
-    raise Skipped(why)
-
-
 def rows(count: int, mutants: int) -> List[Row]:
-    found: List[Row] = [] if sanitizer() else [("lrup-explain, sanitized", skipped, "the C compiler doesn't build so")]
-    found += [("the example solver, a hint left out", emitter), ("carried clauses", carried), ("help", help_of),
+    found: List[Row] = [("the example solver, a hint left out", emitter), ("carried clauses", carried), ("help", help_of),
               ("the manual page", on_the_page), ("a file that is cut", cut)]
     found += [(f"rewritten {seed}", while_rewritten, seed) for seed in range(4)]
     found += [(f"fault: {name}", fault, *rest) for name, *rest in FAULTS]
@@ -668,11 +657,5 @@ def rows(count: int, mutants: int) -> List[Row]:
     return [*found, *((f"mutant {number}", mutant, number) for number in range(mutants))]
 
 
-def main() -> int:
-    _, *words = words_given(__doc__, most=3)
-    sanitized_explain()
-    return run_side_by_side(rows(*[*map(int, words), *(2000, 1000)[len(words):]]))
-
-
-if __name__ == "__main__":
-    sys.exit(main())
+pytestmark = AGAIN_IF_LATE
+test_row = tested(rows(COUNT or 2000, COUNT or 1000))

@@ -1,27 +1,22 @@
-#!/usr/bin/env python3
 """Runs the filter on proofs without exact hints, and the program on the output.
-
-    filter_streams.py PROGRAM
 
 The recorded streams of examples/, with their hints shuffled, doubled and missing, with comments and
 extra spaces, have to become good streams with as many additions. So have streams of several solvers
 with an import for each clause that they cite of another one, the recorded streams in each other
 form, and CaDiCaL's DRAT text in tests/proofs. Then a few lines and their output, refusals and their
-places, limits from both sides, truncated proofs, pipes that stay open, and outputs that fail.
-Failures are shown; the last line is 'N passed, M failed', and ', K skipped' if something can't be
-tried. The status is 1 if a run failed."""
+places, limits from both sides, truncated proofs, pipes that stay open, and outputs that fail."""
 import os
 import random
 import re
 import resource
 import subprocess
-import sys
 from pathlib import Path
 from typing import Any, Callable, Dict, Iterable, List, Sequence, Tuple, Union
 
-sys.dont_write_bytecode = True
-from harness import (COMPRESSED, FILTER, FOUR, LIMIT, ROOT, TESTS, Failure, Ran, Row, Skipped, dimacs, example, read_line, report,
-                     run, run_all, started, want, words_given, written)
+import pytest
+
+from harness import (COMPRESSED, FILTER, FOUR, LIMIT, PROGRAM, ROOT, TESTS, Ran, Row, dimacs,
+                     example, read_line, report, run, started, tested, want, written)
 from lrat import lrat_fault
 from proof_forms import FORMS, Step, code, codes, read_formula, read_steps, varint
 
@@ -54,7 +49,7 @@ def check(program: str, formula: Path, streams: Sequence[Tuple[object, int]]) ->
         found = re.fullmatch(rf"c stream {number}: (\d+) added, \d+ deleted, ended", line)
         count = int(found[1]) if found else -1
         if count != wanted and not (0 <= count < wanted and is_refuting(path)):
-            raise Failure(f"expected {wanted} additions, but found\n{line}")
+            raise AssertionError(f"expected {wanted} additions, but found\n{line}")
 
 
 def at_place(stream: Tuple[object, int], place: int, count: int) -> List[Tuple[object, int]]:
@@ -188,7 +183,7 @@ def stops(formula: str, proof: Text, cause: str, lines: str, words: List[str], w
     text, said, status = exact([*words, written(formula, work)], proof)
     want((text, status), (lines, 1), "the output")
     if not said.startswith("lrup-exact: ") or cause not in said or said.count("\n") != 1:
-        raise Failure(f"expected a message on '{cause}', but found\n{said}")
+        raise AssertionError(f"expected a message on '{cause}', but found\n{said}")
 
 
 def comes_out(formula: str, proof: Text, lines: str, words: List[str], work: Path) -> None:
@@ -526,7 +521,7 @@ def many_deletions(program: str, count: int, work: Path) -> None:
     text, said, status = exact([formula], f"{count + 5} d {identities} 0\n{count + 5} 2 0 {count + 1} {count + 2} 0\n")
     want((said, status), ("", 0), "the filter's messages")
     if max(len(line.split()) for line in text.splitlines()) > 65536 + 3:
-        raise Failure("a line has more identities than a line may have")
+        raise AssertionError("a line has more identities than a line may have")
     check_report(program, formula, text, f"1 added, {count} deleted, ended", work)
 
 
@@ -605,7 +600,7 @@ def cut(form: str, work: Path) -> None:
         at_end = length in ends if "binary" in form else is_whole(form, proof, length)
         lines = sorted_hints(text)
         if lines[:whole] != sorted_hints("\n".join(LINES[:whole])) or len(lines) > whole + at_end or text and text[-1] != "\n":
-            raise Failure(f"cut at {length}: expected {whole} lines, but found\n{text}")
+            raise AssertionError(f"cut at {length}: expected {whole} lines, but found\n{text}")
         want((status, said.count("\n")), (0, 0) if at_end else (1, 1), f"cut at {length}: the status, and lines on standard error")
 
 
@@ -632,7 +627,7 @@ def fails(proof: str, out: Any, work: Path) -> None:
 
 def full(proof: str, work: Path) -> None:
     if not os.path.exists("/dev/full"):
-        raise Skipped("there is no /dev/full")
+        pytest.skip("there is no /dev/full")
     with open("/dev/full", "wb") as file:
         fails(proof, file, work)
 
@@ -731,10 +726,9 @@ def recorded(program: str) -> List[Row]:
     return runs
 
 
-def main() -> int:
-    program, = words_given(__doc__)
+def rows(program: str) -> List[Row]:
     refused = [(name, stops, *rest) for name, *rest in refusals() + refusals_of_frat() + refusals_in_binary()]
-    return run_all(recorded(program) + refused + what_comes_out(program) + limits(program) + pipes_and_files())
+    return recorded(program) + refused + what_comes_out(program) + limits(program) + pipes_and_files()
 
 
-sys.exit(main())
+test_row = tested(rows(PROGRAM))

@@ -1,9 +1,6 @@
-#!/usr/bin/env python3
 """Runs a sanitized build of the filter on mutated proofs, and the program on the output.
 
-    filter_mutants.py PROGRAM [COUNT [FIRST]]
-
-COUNT is 10,000, from mutant number FIRST on, 0; a number always gives the same mutant. In small
+10,000 mutants, or --count, from number --first on; a number always gives the same mutant. In small
 proofs of each form, bytes are flipped, cut off, inserted and removed, steps doubled, swapped and
 left out, numbers made huge and words made letters. So are some formulas, and other streams; the
 filter refuses exactly the formulas that the program refuses. The filter is built with
@@ -11,27 +8,23 @@ filter refuses exactly the formulas that the program refuses. The filter is buil
 with status 0 and no message, or with status 1 and one line on standard error. Its output has to be
 lines of a stream, by the grammar here; and the program, which reads each stream that isn't empty,
 has to accept it to its end, except for identities beyond --lines and clauses of streams that aren't
-there. A mutant that fails is kept in tools/exact/out/mutants. Failures are shown; the last line is
-'N passed, M failed', and the status is 1 if a run failed. If the compiler can't build such a
-program, the mutants are skipped, and the output says so."""
-import multiprocessing
+there. A mutant that fails is kept in tools/exact/out/mutants."""
+import functools
 import os
 import random
 import re
 import shutil
 import subprocess
-import sys
-import tempfile
 from pathlib import Path
-from typing import Callable, List, Optional, Tuple
+from typing import Callable, Iterator, List, Optional, Sequence, Tuple
 
-sys.dont_write_bytecode = True
-from harness import (FILTER, SANITIZE, SANITIZED, SANITIZING, closing, example, left_out, run, sanitized_filter, sanitizer, words_given,
-                     written)
+from harness import (COUNT, FILTER, FIRST, PROGRAM, SANITIZE, SANITIZED, SANITIZING, Row, example,
+                     lacking, run, sanitized_filter, sanitizer, tested, written)
 from proof_forms import FORMS, Clause, Step, frat, read_formula, read_steps, varint
 
 KEPT = FILTER.parent / "mutants"
 SECONDS = 120
+A_ROW = 100     # mutants
 
 # The argument of --format, the formula and the steps.
 Base = Tuple[str, bytes, List[bytes]]
@@ -73,7 +66,8 @@ def backwards(step: Step) -> Step:
     return step._replace(hints=step.hints[::-1])
 
 
-def make_proofs() -> Tuple[List[Base], List[Base]]:
+@functools.lru_cache(maxsize=None)
+def proofs() -> Tuple[List[Base], List[Base]]:
     """Short proofs and long ones."""
     short: List[Base] = []
     for formula, name, count in BASES:
@@ -180,28 +174,28 @@ def spelling(text: bytes) -> Optional[str]:
     return None
 
 
-def report_of(program: str, mutant: Mutant, text: bytes, work: Path) -> Optional[str]:
+def report_of(mutant: Mutant, text: bytes, work: Path) -> Optional[str]:
     """The fault in the report on the stream, or None."""
     path = written(text, work, "stream")
     streams = [path if number == mutant.stream else "/dev/null" for number in range(1, mutant.streams + 1)]
-    done = run([program, "--tries", "0", "--lines", "20000", "--room", "100000", mutant.formula, *streams], limit=SECONDS)
+    done = run([PROGRAM, "--tries", "0", "--lines", "20000", "--room", "100000", mutant.formula, *streams], limit=SECONDS)
     lines = done.out.splitlines()
     if len(lines) <= mutant.streams or not ENDS.fullmatch(lines[mutant.stream - 1]):
         return f"status {done.status}, {done.out}{done.err}"
     return None
 
 
-def formula_fault(program: str, mutant: Mutant, said: str) -> Optional[str]:
+def formula_fault(mutant: Mutant, said: str) -> Optional[str]:
     """The filter refuses exactly the formulas that the program refuses."""
-    done = run([program, mutant.formula, "/dev/null"], limit=SECONDS)
+    done = run([PROGRAM, mutant.formula, "/dev/null"], limit=SECONDS)
     if said.startswith(f"lrup-exact: {mutant.formula}") == (done.status == 4):
         return None
     return f"of the formula the program says {done.err or done.out}, and the filter {said}"
 
 
-def fault_of(program: str, mutant: Mutant, work: Path) -> Optional[str]:
+def fault_of(mutant: Mutant, work: Path) -> Optional[str]:
     try:
-        out, err, status = run([SANITIZED, *mutant.words], mutant.proof if mutant.piped else None, SECONDS,
+        out, err, status = run([sanitized_filter(), *mutant.words], mutant.proof if mutant.piped else None, SECONDS,
                                env={**os.environ, **SANITIZING})
     except subprocess.TimeoutExpired:
         return f"no end after {SECONDS} seconds"
@@ -209,46 +203,41 @@ def fault_of(program: str, mutant: Mutant, work: Path) -> Optional[str]:
     if status not in (0, 1) or (not one_line if status == 1 else err):
         return f"status {status}\n{err[:3000]}"
     text = out.encode(errors="surrogateescape")
-    fault = spelling(text) or (formula_fault(program, mutant, err) if mutant.spoiled else None)
-    return fault or (report_of(program, mutant, text, work) if text else None)
+    fault = spelling(text) or (formula_fault(mutant, err) if mutant.spoiled else None)
+    return fault or (report_of(mutant, text, work) if text else None)
 
 
-def attempt(job: Tuple[str, int]) -> Optional[str]:
+def attempt(number: int, work: Path) -> Optional[str]:
     """None, or what is wrong."""
-    program, number = job
-    with tempfile.TemporaryDirectory() as name:
-        work = Path(name)
-        mutant = Mutant(number, PROOFS, work)
-        fault = fault_of(program, mutant, work)
-        if fault is None:
-            return None
-        kept = KEPT / str(number)
-        shutil.rmtree(kept, ignore_errors=True)
-        shutil.copytree(work, kept)
-        if mutant.piped:
-            written(mutant.proof, kept, "proof")
-        words = " ".join(word.replace(name, str(kept)) for word in mutant.words) + f" < {kept}/proof" * mutant.piped
-        return f"mutant {number}: {SANITIZED} {words}\n{fault}"
+    mutant = Mutant(number, proofs(), work)
+    fault = fault_of(mutant, work)
+    if fault is None:
+        return None
+    kept = KEPT / str(number)
+    shutil.rmtree(kept, ignore_errors=True)
+    shutil.copytree(work, kept)
+    if mutant.piped:
+        written(mutant.proof, kept, "proof")
+    words = " ".join(word.replace(str(work), str(kept)) for word in mutant.words)
+    return f"mutant {number}: {SANITIZED} {words}{f' < {kept}/proof' * mutant.piped}\n{fault}"
 
 
-PROOFS = make_proofs()
-
-
-def main() -> int:
-    program, *words = words_given(__doc__, most=3)
-    count, first = [*map(int, words), *(10000, 0)[len(words):]]
+def mutants(numbers: Sequence[int], work: Path) -> None:
     if not sanitizer():
-        return left_out(f"mutants: the C compiler doesn't build with {SANITIZE[3]}")
-    sanitized_filter()
-    failed = 0
-    with multiprocessing.Pool() as workers:
-        jobs = ((program, number) for number in range(first, first + count))
-        for fault in workers.imap_unordered(attempt, jobs, chunksize=20):
-            if fault:
-                failed += 1
-                print(fault, flush=True)
-    return closing(count - failed, failed)
+        lacking(f"the C compiler doesn't build with {SANITIZE[3]}")
+    faults = []
+    for number in numbers:
+        folder = work / str(number)
+        folder.mkdir()
+        faults.append(attempt(number, folder))
+        shutil.rmtree(folder)
+    assert not any(faults), "\n".join(filter(None, faults))
 
 
-if __name__ == "__main__":
-    sys.exit(main())
+def rows(count: int, first: int) -> Iterator[Row]:
+    for start in range(first, first + count, A_ROW):
+        numbers = range(start, min(start + A_ROW, first + count))
+        yield f"mutants {start} to {numbers[-1]}", mutants, numbers
+
+
+test_row = tested(rows(COUNT or 10000, FIRST))

@@ -1,7 +1,4 @@
-#!/usr/bin/env python3
 """Runs the filter, and lrup-solve, on formulas with long chains, and lrupd on the output.
-
-    filter_chains.py PROGRAM
 
 Chains of 10 to 1,000,000 steps, of units and of one failed literal, and the other formulas of
 bench/solve/easy.py: lrupd has to accept each stream to its end, with 'unsatisfiable', and its bytes
@@ -9,8 +6,8 @@ and lines have to be linear in the formula. Proofs are written by hand, or by Ca
 the PATH; some have more hints than a line may have, clauses with as many literals, root units that
 chains need in the worst order, and streams without identities to spare. A build that allows six
 hints in a line, with -fsanitize=address,undefined if the compiler can, splits nearly all chains of
-recorded proofs and of random formulas, also in rounds. Failures are shown; the last line is 'N
-passed, M failed', and ', K skipped' if something is missing. The status is 1 if a run failed."""
+recorded proofs and of random formulas, also in rounds."""
+import functools
 import os
 import random
 import re
@@ -19,19 +16,17 @@ import sys
 from pathlib import Path
 from typing import Iterable, List, Sequence, Tuple, Union
 
-sys.dont_write_bytecode = True
-from harness import (EXACT, FILTER, ROOT, SANITIZING, TESTS, Failure, Missing, Row, dimacs, example, for_tests, needs, random_clauses, run,
-                     run_all, started, unwatched, want, watched_ends, written)
+from harness import (EXACT, FILTER, ROOT, SANITIZING, TESTS, Row, dimacs, example, for_tests, needs,
+                     random_clauses, run, started, tested, unwatched, want, watched_ends, written)
 from lrat import lrat_fault
 from proof_forms import FORMS, read_formula, read_steps
-from solving import PROGRAM, SOLVE, build, want_answer, solve
+from solving import PROGRAM, built, solve, want_answer
 
 sys.path.insert(0, str(ROOT / "bench" / "solve"))
 import easy
 
 MOST = 65536            # hints of a line
 FEW = 6                 # of the build that splits nearly all chains
-SHORT = EXACT / "out" / "exact-short-lines"
 STEPS = (10, 65535, 65536, 65537, 1000000)
 RANDOM = 300            # formulas, half of which have a proof
 Text = Union[str, bytes]
@@ -97,9 +92,7 @@ def by_cadical(kind: str, numbers: Sequence[int], backwards: bool, work: Path) -
 
 def by_solve(kind: str, numbers: Sequence[int], backwards: bool, work: Path) -> None:
     """No engine is lost, and all streams together are linear."""
-    cause = build("solve", False)
-    if cause:
-        raise Missing(cause)
+    built("solve", for_tests=False)
     formula = make(work, kind, *numbers, backwards=backwards)
     answer = solve(["-v", "-j", "2", "--proofs", work / "kept", formula])
     want_answer(answer, 20, formula)
@@ -198,8 +191,10 @@ def without_identities(work: Path) -> None:
 # At most six hints in a line.
 
 
-def short_lines() -> None:
-    for_tests(SHORT, EXACT.glob("*.c"), f"-DIDENTITIES_OF_A_LINE={FEW}")
+@functools.lru_cache(maxsize=None)
+def short_lines() -> Path:
+    return for_tests(EXACT / "out" / "exact-short-lines", EXACT.glob("*.c"),
+                     f"-DIDENTITIES_OF_A_LINE={FEW}")
 
 
 def check_short(formula: Path, text: str, work: Path) -> None:
@@ -209,11 +204,11 @@ def check_short(formula: Path, text: str, work: Path) -> None:
 
 
 def recorded(formula: Path, proof: Text, form: str, work: Path) -> None:
-    check_short(formula, filtered(["--format", form, formula], proof, SHORT), work)
+    check_short(formula, filtered(["--format", form, formula], proof, short_lines()), work)
 
 
 def in_rounds(formula: Path, proof: Text, form: str, memory: str, least: int, work: Path) -> None:
-    with started([SHORT, "--rounds", "d", "--memory", memory, "--format", form, formula, written(proof, work, "proof")], cwd=work,
+    with started([short_lines(), "--rounds", "d", "--memory", memory, "--format", form, formula, written(proof, work, "proof")], cwd=work,
                  stdout=subprocess.PIPE, stderr=subprocess.PIPE, bufsize=0, env={**os.environ, **SANITIZING}) as running:
         assert running.stdout and running.stderr
         want(running.stdout.readline(), b"d/round-1.stream-1\n", "the line that the filter writes")
@@ -253,8 +248,8 @@ def random_proofs(first: int, count: int, work: Path) -> None:
         for form, text in (("drat", proof), ("lrat", lrat), ("frat", frat)):
             try:
                 recorded(formula, text, form, work)
-            except Failure as found:
-                raise Failure(f"formula {seed}, {form}: {found}") from found
+            except AssertionError as found:
+                raise AssertionError(f"formula {seed}, {form}: {found}") from found
         checked += 1
     want(checked > count // 4, True, f"whether {checked} of {count} formulas are enough")
 
@@ -278,7 +273,6 @@ def rows_of_chains() -> List[Row]:
 
 
 def rows_of_short_lines() -> List[Row]:
-    short_lines()
     found: List[Row] = []
     for name, stream in (("four-clause.cnf", "four-clause.lrup"), ("pigeonhole.cnf", "pigeonhole.lrup"), ("bmc.cnf", "bmc.lrup")):
         for form, (word, make_proof) in FORMS.items():
@@ -299,4 +293,4 @@ def rows() -> List[Row]:
     return [*found, ("LRAT of two streams", without_identities)]
 
 
-sys.exit(run_all(rows()))
+test_row = tested(rows())

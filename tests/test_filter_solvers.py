@@ -1,23 +1,17 @@
-#!/usr/bin/env python3
 """Runs common solvers beside the filter and the program.
 
-    filter_solvers.py PROGRAM
-
 CaDiCaL, CryptoMiniSat and PicoSAT, as far as they are on the PATH, write their proofs to pipes, and
-the filter's output is checked while they run. Failures are shown; the last line is 'N passed, M
-failed', and ', K skipped' if solvers are missing. The status is 1 if a run failed."""
+the filter's output is checked while they run."""
 import os
 import re
 import shutil
 import signal
 import subprocess
-import sys
 from pathlib import Path
 from typing import List
 
-sys.dont_write_bytecode = True
-from harness import (FILTER, LIMIT, ROOT, Failure, Ran, Row, example, generated, needs, piped, read_line, run_all, started, want,
-                     with_memory, words_given)
+from harness import (FILTER, LIMIT, PROGRAM, ROOT, Ran, Row, example, generated, needs, piped,
+                     read_line, started, tested, want, with_memory)
 
 SIZES = "--lines 4000000 --room 60000000 "
 CADICAL = f"""\
@@ -137,9 +131,4 @@ def solvers(program: str) -> List[Row]:
                    ("CryptoMiniSat writes while it runs", while_it_runs, CRYPTOMINISAT, "random 200 3")]
 
 
-def main() -> int:
-    program, = words_given(__doc__)
-    return run_all(solvers(program))
-
-
-sys.exit(main())
+test_row = tested(solvers(PROGRAM))

@@ -1,29 +1,22 @@
-#!/usr/bin/env python3
 """Runs lrup-chain with the program, by each installed shell, and under failures.
-
-    lrup_chain.py PROGRAM
 
 lrupd decides what rounds come to; the tests check which arguments lrupd gets, that its report and
 status are passed on, and which files are left. A file that replaces a round's formula changes
 nothing. Then wrong scripts, each an edit of the right one: a row has to notice. Expected results
-follow from the clauses, by the rules of rounds. Failures are shown; the last line is 'N passed, M
-failed', and the status is 1 if a row failed."""
+follow from the clauses, by the rules of rounds."""
 import os
 import re
 import shutil
 import signal
 import subprocess
-import sys
 import threading
 from pathlib import Path
 from typing import Dict, Iterator, List, Mapping, Optional, Sequence, Tuple
 
-sys.dont_write_bytecode = True
-from harness import (FOUR, LIMIT, LRUP_CHAIN, ROOT, Failure, Ran, Row, Wanted, answers, held, needs, outcome, piped, report, run,
-                     run_all, started, until, want, within, words_given, written)
+from harness import (FOUR, LIMIT, LRUP_CHAIN, PROGRAM, ROOT, Ran, Row, Wanted, answers, held, needs,
+                     piped, report, run, started, tested, until, want, within, written)
 from rounds import ONE, fault, last, round_files, saved_name
 
-PROGRAM, = words_given(__doc__)
 SHELLS = [shell for shell in ("dash", "bash", "busybox") if shutil.which(shell)]
 ROUNDS, FOUND, SAVED = [streams for streams, in ONE.texts], ONE.said[0][0], ONE.saved
 REFUTED = last(3, ONE.said[2], 0)
@@ -418,9 +411,14 @@ def wrong(old: str, new: str, row: Row, work: Path) -> None:
     text = LRUP_CHAIN.read_text()
     want(text.count(old) > 0, True, f"whether the script has {old}")
     edited = written(text.replace(old, new), work, "edited")
-    found = outcome((row[0], *row[1:-1], edited))
-    if not isinstance(found, Failure):
-        raise Failure(f"'{row[0]}' doesn't find it out: {found}")
+    name, function, *arguments, _ = row
+    folder = work / "row"
+    folder.mkdir()
+    try:
+        function(*arguments, edited, folder)
+    except AssertionError:
+        return
+    raise AssertionError(f"'{name}' doesn't find it out")
 
 
 # The tests.
@@ -459,11 +457,11 @@ def rows_of(shell: str) -> List[Row]:
     return [(*row, shell, LRUP_CHAIN) for row in found]
 
 
-def main() -> int:
-    rows = [(f"{row[0]}, {shell}", *row[1:]) for shell in SHELLS for row in rows_of(shell)]
+def rows() -> List[Row]:
+    found = [(f"{row[0]}, {shell}", *row[1:]) for shell in SHELLS for row in rows_of(shell)]
     by_name = {row[0]: row for row in rows_of(SHELLS[0])}
-    rows += [(f"wrong: {new or 'no'} {old}", wrong, old, new, by_name[name]) for old, new, name in WRONG]
-    return run_all([*rows, ("the manual page", in_manual)])
+    found += [(f"wrong: {new or 'no'} {old}", wrong, old, new, by_name[name]) for old, new, name in WRONG]
+    return [*found, ("the manual page", in_manual)]
 
 
-sys.exit(main())
+test_row = tested(rows())

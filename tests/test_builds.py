@@ -1,22 +1,16 @@
-#!/usr/bin/env python3
 """Tests how make compiles C and C++: with the given flags, and again after a change.
-
-    builds.py
 
 For the filter, lrup-trim, lrup-solve, lrup-solve-mpi and the example solver, checks the commands
 that make prints, with flags from the command line and from the environment. Compiles the filter in
 a copy, and again after a change of a source, a header or flags. Installs everything in a folder,
-and uninstalls it. Failures are shown; the last line is 'N passed, M failed', and the status is 1 if
-a row failed."""
+and uninstalls it."""
 import os
 import re
 import shutil
-import sys
 from pathlib import Path
 from typing import Dict, List, Sequence, Set
 
-sys.dont_write_bytecode = True
-from harness import FILTER, ROOT, Row, needs, run, run_all, want, written
+from harness import FILTER, ROOT, Row, needs, run, tested, want, written
 
 C = {"CC": "one-cc", "CFLAGS": "-DFLAG_OF_C", "CPPFLAGS": "-DFLAG_OF_BOTH", "LDFLAGS": "-Lflag", "LDLIBS": "-lflag"}
 WORDS = {**C, "CXX": "one-cxx", "CXXFLAGS": "-DFLAG_OF_CXX"}
@@ -149,4 +143,4 @@ def rows() -> List[Row]:
     return found
 
 
-sys.exit(run_all(rows()))
+test_row = tested(rows())

@@ -1,17 +1,13 @@
-#!/usr/bin/env python3
 """Runs lrup-trim, and lrupd and an independent LRAT checker on its output.
 
-    trim.py PROGRAM [COUNT]
-
-COUNT is 300: random runs of one to five solvers, with and without imports, in one to seven rounds,
-some under an assumption, some with new hints; and as many garbled records. The core has to have
-clauses of the formula; lines have to be numbered densely, each has to be cited, and deleted right
-after that. With the commands that lrup-trim prints, lrupd has to accept the lines over the core and
-over the formula; of garbled streams, both or none, as the LRAT checker does; and none if the
-formula is satisfiable. Records of lrup-solve are trimmed if CaDiCaL's library is installed. While
-streams are rewritten and truncated, everything is written or nothing. lrup-trim is built for tests,
-with -fsanitize=address,undefined if the compiler can. Failures are shown; the last line is 'N
-passed, M failed', and ', K skipped' if something is missing. The status is 1 if a run failed."""
+Random runs (300, or --count) of one to five solvers, with and without imports, in one to seven
+rounds, some under an assumption, some with new hints; and as many garbled records. The core has to
+have clauses of the formula; lines have to be numbered densely, each has to be cited, and deleted
+right after that. With the commands that lrup-trim prints, lrupd has to accept the lines over the
+core and over the formula; of garbled streams, both or none, as the LRAT checker does; and none if
+the formula is satisfiable. Records of lrup-solve are trimmed if CaDiCaL's library is installed.
+While streams are rewritten and truncated, everything is written or nothing. lrup-trim is built for
+tests, with -fsanitize=address,undefined if the compiler can."""
 import hashlib
 import mmap
 import os
@@ -22,28 +18,22 @@ import sys
 from pathlib import Path
 from typing import Dict, List, NamedTuple, Optional, Sequence, Tuple
 
-PROGRAM = os.path.abspath(sys.argv[1]) if len(sys.argv) > 1 else ""
-COUNT = int(sys.argv.pop(2)) if len(sys.argv) > 2 else 300      # a second argument would be flags for lrup-solve
-
-sys.dont_write_bytecode = True
-from harness import (COMPRESSED, EXAMPLES, FILTER, FOUR, GENERATOR, ROOT, SANITIZED_TRIM, SANITIZING, TRIM, VERDICTS, Failure,
-                     Ran, Row, dimacs, example, missing, piped, random_clauses, run, run_all, sanitized_trim, sanitizer, want,
-                     within, words_given, written)
+from harness import (COMPRESSED, COUNT, EXAMPLES, FILTER, FOUR, GENERATOR, PROGRAM, ROOT, SANITIZE,
+                     SANITIZING, TRIM, VERDICTS, Ran, Row, dimacs, example, lacking, piped,
+                     random_clauses, run, sanitized_trim, sanitizer, tested, want, within, written)
 from faulty import garbled_text, refuted, solved
 from lrat import lrat_fault
 from proof_forms import Clause, Step, read_formula, read_steps
 from rewriting import cut_while_read, withstands
 from rounds import ONE, TWO, Proof, round_files
-from solving import build, solve
+from solving import solve
 
-words_given(__doc__)
 CHAIN = EXAMPLES / "chain.py"
 OUTPUTS = ["core", "stream", "lrat"]
-IS_SANITIZED = sanitizer()
 
 
 def trim(words: Sequence[object], work: Path, program: Optional[Path] = None, **how: object) -> Ran:
-    found = program or (SANITIZED_TRIM if IS_SANITIZED else TRIM)
+    found = program or sanitized_trim()
     return run([found, *words], cwd=work, env={**os.environ, **SANITIZING}, **how)
 
 
@@ -317,7 +307,7 @@ def garbled_trim(found: Garbled, formula: Path, rehints: bool, work: Path) -> Op
     left = [name for name in [*OUTPUTS, "lrat.re-hint"] if (work / name).exists()]
     for line in done.err.splitlines():
         if not re.fullmatch(FAULT, line):
-            raise Failure(f"the message: {line}")
+            raise AssertionError(f"the message: {line}")
     if done.status == 1:
         want((done.out, left, done.err != ""), ("", [], True), "the files left")
         return None
@@ -483,7 +473,9 @@ def cut(work: Path) -> None:
 
 def while_rewritten(seed: int, work: Path) -> None:
     """Files are rewritten meanwhile: lrup-trim writes all outputs or none."""
-    command = lambda number, folder: [SANITIZED_TRIM, *outputs_of(folder),
+    if not sanitizer():
+        lacking(f"the C compiler doesn't build with {SANITIZE[3]}")
+    command = lambda number, folder: [sanitized_trim(), *outputs_of(folder),
                                       *["--re-hint"] * (number % 4 == 3)]
     for status, folder in withstands(command, (0, 1), 15, seed, work):
         want(len(os.listdir(folder)), 3 if status == 0 else 0, f"the files after status {status}")
@@ -518,6 +510,7 @@ def help_of(work: Path) -> None:
 
 def of_lrup_solve(words: Sequence[str], tested: Dict[str, object], generated: str, assumed: bool, work: Path) -> None:
     """A record that lrup-solve --proofs keeps, in one round or in several."""
+    built("solve", for_tests=True)
     text = run([sys.executable, GENERATOR, *generated.split()]).out
     formula, kept = written(text, work), work / "kept"
     options: List[object] = [*words, "--proofs", kept]
@@ -540,13 +533,12 @@ RECORDS = [("one engine", ["-j", "1"], {}, "random 150 1", False), ("two engines
 
 
 def rows_of_records() -> List[Row]:
-    cause = build("solve", True)
-    return [(f"lrup-solve, {name}", *((missing, cause) if cause else (of_lrup_solve, *rest))) for name, *rest in RECORDS]
+    return [(f"lrup-solve, {name}", of_lrup_solve, *rest) for name, *rest in RECORDS]
 
 
-def rows() -> List[Row]:
+def rows(count: int) -> List[Row]:
     four, two = [f"bmc-four.{number}" for number in range(1, 5)], ["pigeonhole-two.1", "pigeonhole-two.2"]
-    found: List[Row] = [] if IS_SANITIZED else [("lrup-trim, sanitized", missing, "the C compiler doesn't build so")]
+    found: List[Row] = []
     for formula, streams in (("bmc.cnf", ["bmc.lrup"]), ("bmc.cnf", four), ("pigeonhole.cnf", two)):
         found += [(f"{streams[0]} in {count} rounds", recorded, formula, streams, count) for count in (0, 1, 2, 9)]
     found += [(f"few lines: {name}", few, *rest) for name, *rest in FEW]
@@ -558,21 +550,14 @@ def rows() -> List[Row]:
     found += [(f"fault: {name}", fault, streams, said) for name, streams, said in FAULTS]
     found += [("beside a fault", other_stream_faulty), ("no place", no_place), ("a file that is cut", cut)]
     found += [("help", help_of), ("digests", digests)]
-    if IS_SANITIZED:
-        found += [(f"rewritten {seed}", while_rewritten, seed) for seed in range(4)]
+    found += [(f"rewritten {seed}", while_rewritten, seed) for seed in range(4)]
     found += [(f"bad rounds: {name}", bad_round, files, said) for name, files, said in BAD_ROUNDS]
     found += [(f"lrup-trim {words}", refuses, words, status, said) for words, status, said in REFUSED]
     for limit in (0, 20000, 200000):
         found += [(f"files of {limit} bytes {options}", full, limit, options) for options in ([], ["--re-hint"])]
-    found += [*rows_of_records(), *((f"random {seed}", at_random, seed) for seed in range(COUNT))]
-    found += [(f"satisfiable {number}", satisfiable, number) for number in range(COUNT // 3)]
-    return [*found, *((f"garbled {number}", garbled, number) for number in range(COUNT))]
+    found += [*rows_of_records(), *((f"random {seed}", at_random, seed) for seed in range(count))]
+    found += [(f"satisfiable {number}", satisfiable, number) for number in range(count // 3)]
+    return [*found, *((f"garbled {number}", garbled, number) for number in range(count))]
 
 
-def main() -> int:
-    if IS_SANITIZED:
-        sanitized_trim()
-    return run_all(rows())
-
-
-sys.exit(main())
+test_row = tested(rows(COUNT or 300))

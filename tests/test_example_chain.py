@@ -1,23 +1,17 @@
-#!/usr/bin/env python3
 """Runs examples/chain.py, which cuts streams into rounds, and lrup-chain over the rounds, beside
 one run.
-
-    example_chain.py PROGRAM SOLVER
 
 Streams that were recorded, and streams of the example solver with imports and deletions, are cut
 into one to nine rounds. The last round has to end with status 0, and the rounds' additions have to
 be those of one run. With the sizes of the largest round, one run can't hold all of them. If a hint
-is left out, the round with that line has to be the last, with a bad line. Failures are shown; the
-last line is 'N passed, M failed', and the status is 1 if a chain failed."""
-import os
+is left out, the round with that line has to be the last, with a bad line."""
 import re
 import sys
 from pathlib import Path
 from typing import List, NamedTuple, Sequence
 
-sys.dont_write_bytecode = True
-from harness import (EXAMPLES, LRUP_CHAIN, ROOT, VERDICTS, Ran, Row, added, example, generated, run, run_all, unwatched, want,
-                     watched_ends, words_given, written)
+from harness import (EXAMPLES, LRUP_CHAIN, PROGRAM, SOLVER, VERDICTS, Ran, Row, added, example,
+                     generated, run, tested, unwatched, want, watched_ends, written)
 
 CHAIN = EXAMPLES / "chain.py"
 TRIES = ["--tries", "1000000"]
@@ -151,9 +145,4 @@ def rows(program: str, solver: str) -> List[Row]:
     return [*found, ("assumptions", under_assumptions, program), ("a clause that nobody derives", never_derived, program)]
 
 
-def main() -> int:
-    program, solver = words_given(__doc__, 2, 2)
-    return run_all(rows(program, os.path.abspath(solver)))
-
-
-sys.exit(main())
+test_row = tested(rows(PROGRAM, str(SOLVER)))
