@@ -14,9 +14,10 @@ import harness
 def pytest_addoption(parser: pytest.Parser) -> None:
     given = parser.getgroup("lrupd")
     program = harness.ROOT / "crates" / "lrupd" / "out" / "lrupd"
-    given.addoption("--program", default=program, help="the lrupd that is tested")
+    given.addoption("--program", default=str(program), help="the lrupd that is tested")
+    given.addoption("--rt", help="Rattle's command, for the crates' tests if they aren't built")
     given.addoption("--flags", default="-O2", help="for lrup-solve's compilers, as "
-                    "'-O1 -g -fsanitize=thread'")
+                    "--flags='-O1 -g -fsanitize=thread'")
     given.addoption("--count", type=int, help="how many random rows, or mutants, a file has")
     given.addoption("--first", type=int, default=0, help="the first mutant of a proof")
     given.addoption("--seed", type=int, default=1, help="of the formulas of test_lrup_solve_days")
@@ -26,7 +27,7 @@ def pytest_addoption(parser: pytest.Parser) -> None:
 def pytest_configure(config: pytest.Config) -> None:
     """Modules with rows are imported later, and find the options in harness."""
     harness.PROGRAM = os.path.abspath(config.getoption("program"))
-    for name in ("flags", "count", "first", "seed", "minutes"):
+    for name in ("rt", "flags", "count", "first", "seed", "minutes"):
         setattr(harness, name.upper(), config.getoption(name))
 
 

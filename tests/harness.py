@@ -5,7 +5,6 @@ as the last argument. pytest runs the rows; conftest.py has its options."""
 import contextlib
 import fcntl
 import functools
-import multiprocessing
 import os
 import random
 import re
@@ -39,10 +38,10 @@ SANITIZED_TRIM = TRIM.with_name("lrup-trim-sanitized")
 EXPLAIN = ROOT / "tools" / "explain" / "out" / "lrup-explain"
 SANITIZED_EXPLAIN = EXPLAIN.with_name("lrup-explain-sanitized")
 # The options of conftest.py. COUNT is of random rows; without it each file has its own.
-PROGRAM = os.path.abspath(sys.argv[1]) if len(sys.argv) > 1 else ""
-FLAGS = sys.argv[2] if len(sys.argv) > 2 else "-O2"
+PROGRAM, FLAGS = "", "-O2"
 COUNT: Optional[int] = None
 FIRST, SEED, MINUTES = 0, 1, 0.0
+RT: Optional[str] = None
 LIMIT = 300  # seconds after which a run counts as hanging, even on a slow and busy machine
 FOUR = "p cnf 2 4\n1 2 0\n-1 2 0\n1 -2 0\n-1 -2 0\n"
 # The first bytes of files that these programs unpack.
@@ -59,17 +58,6 @@ if signal.getsignal(signal.SIGHUP) == signal.SIG_IGN:
 Words = Iterable[object]
 Row = Tuple[Any, ...]
 Pieces = Iterable[Union[bytes, float]]
-
-
-Failure = AssertionError
-
-
-class Skipped(Exception):
-    pass
-
-
-class Missing(Skipped):
-    """A package's program is missing. In CI, which installs all packages, that is a failure."""
 
 
 class Ran(NamedTuple):
@@ -131,7 +119,7 @@ def by_another(words: Words, work: Path, user: int = 65534, before: Callable[[],
     except subprocess.TimeoutExpired:
         raise
     except (PermissionError, subprocess.SubprocessError):
-        raise Skipped("the superuser can't become another user")
+        pytest.skip("the superuser can't become another user")
 
 
 def run_by_another(program: str, words: Words, work: Path) -> Ran:
@@ -150,7 +138,7 @@ def until(what: str, condition: Callable[[], bool], seconds: float = LIMIT) -> N
     end = time.monotonic() + seconds
     while not condition():
         if time.monotonic() > end:
-            raise Failure(f"not within {seconds} seconds: {what}")
+            raise AssertionError(f"not within {seconds} seconds: {what}")
         time.sleep(0.01)
 
 
@@ -203,7 +191,7 @@ def read_line(file: IO[bytes]) -> str:
     """A line that comes while the pipe is open."""
     ready, _, _ = select.select([file], [], [], LIMIT)
     if not ready:
-        raise Failure("no line came while the pipe was open")
+        raise AssertionError("no line came while the pipe was open")
     return file.readline().decode()
 
 
@@ -254,8 +242,7 @@ def compiler(*flags: str) -> List[str]:
 
 
 def compiled(program: Path, sources: Sequence[Path], *flags: str, by: Sequence[str] = ()) -> Path:
-    """Builds the program atomically, since other scripts may build it and run it at the same
-    time."""
+    """Builds the program atomically, since it may run at the same time."""
     new = program.with_name(f"{program.name}-{os.getpid()}")
     subprocess.run([*(by or compiler()), *flags, "-o", str(new), *map(str, sources)], check=True)
     new.replace(program)
@@ -329,14 +316,6 @@ def sanitized_explain() -> Path:
     return for_tests(SANITIZED_EXPLAIN, [*sources_of("explain"), ROOT / "tools" / "trim" / "lines.c"])
 
 
-def words_given(usage: Optional[str], least: int = 1, most: int = 1) -> List[str]:
-    """The arguments, the first of which is a program."""
-    words = sys.argv[1:]
-    if not least <= len(words) <= most:
-        sys.exit(usage)
-    return [os.path.abspath(words[0]), *words[1:]]
-
-
 # The answers expected of the checker.
 
 
@@ -395,7 +374,7 @@ def with_memory(function: Callable[..., None], *arguments: Any) -> None:
     """Runs a row that takes up to 2 GB, if enough memory is free."""
     available = re.search(r"^MemAvailable: +(\d+)", Path("/proc/meminfo").read_text(), re.M)
     if not available or int(available[1]) < 4_000_000:
-        raise Skipped("less than 4 GB are free")
+        pytest.skip("less than 4 GB are free")
     function(*arguments)
 
 
@@ -429,77 +408,4 @@ def lacking(why: str) -> NoReturn:
 def needs(command: str) -> None:
     """Skips the row if this program of a package is missing."""
     if not shutil.which(command):
-        raise Missing(f"there is no {command} on the PATH")
-
-
-def missing(why: str, work: Path) -> None:
-    """Takes the place of a row whose package is missing."""
-    raise Missing(why)
-
-
-def is_skipped(found: Optional[Exception]) -> bool:
-    return isinstance(found, Skipped) and not (has_packages() and isinstance(found, Missing))
-
-
-def left_out(cause: str) -> int:
-    """Skips a whole script whose package is missing: the status."""
-    print(f"{'failed' if has_packages() else 'skipped'}: {cause}")
-    return int(has_packages())
-
-
-def outcome(row: Row) -> Optional[Exception]:
-    """The failure, or why the row is skipped; None if it passed."""
-    _, function, *arguments = row
-    try:
-        with tempfile.TemporaryDirectory() as work:
-            function(*arguments, Path(work))
-    except (Failure, Skipped, OSError, LookupError, ValueError, subprocess.SubprocessError) as found:
-        return found
-    return None
-
-
-def closing(passed: int, failed: int, skipped: int = 0, title: str = "") -> int:
-    """Prints the last line; the status is 1 if something failed."""
-    print(f"{title}{passed} passed, {failed} failed" + f", {skipped} skipped" * (skipped > 0))
-    return 1 if failed else 0
-
-
-def run_side_by_side(rows: Sequence[Row], at_once: Optional[int] = None) -> int:
-    """Like run_all, in parallel, on all cores or that many at once; processes must be able to get
-    the rows and their arguments. A row that takes too long beside the others is run again after
-    them."""
-    failed = skipped = 0
-    with multiprocessing.Pool(at_once) as workers:
-        found_first = list(workers.imap(named_outcome, rows, chunksize=4))
-        for row, (name, found) in zip(rows, found_first):
-            if isinstance(found, subprocess.TimeoutExpired):
-                print(f"{name}, run again alone: {found}", flush=True)
-                found = outcome(row)
-            failed += found is not None and not is_skipped(found)
-            skipped += is_skipped(found)
-            if found:
-                print(f"{name}: {'skipped, ' * is_skipped(found)}{found}", flush=True)
-    return closing(len(rows) - failed - skipped, failed, skipped)
-
-
-def named_outcome(row: Row) -> Tuple[str, Optional[Exception]]:
-    return row[0], outcome(row)
-
-
-def run_all(rows: Sequence[Row], title: str = "", tries: int = 1) -> int:
-    """Shows failures, and counts. Rows that race with the clock may be tried several times."""
-    failed = skipped = 0
-    for row in rows:
-        found = outcome(row)
-        for _ in range(tries - 1):
-            if not found or is_skipped(found):
-                break
-            print(f"{row[0]}, tried again: {found}", flush=True)
-            found = outcome(row)
-        if is_skipped(found):
-            skipped += 1
-            print(f"{row[0]}: skipped, {found}", flush=True)
-        elif found:
-            failed += 1
-            print(f"{row[0]}: {found}", flush=True)
-    return closing(len(rows) - failed - skipped, failed, skipped, title)
+        lacking(f"there is no {command} on the PATH")

@@ -19,7 +19,7 @@ import tempfile
 from pathlib import Path
 from typing import Callable, Dict, List, NamedTuple, Optional, Sequence, Set, Tuple
 
-from faulty import SOLVER, garbled_text, refuted, solved
+from faulty import garbled_text, refuted
 from harness import (AGAIN_IF_LATE, COMPRESSED, COUNT, EXAMPLES, EXPLAIN, FOUR, PROGRAM, ROOT,
                      SANITIZING, Ran, Row, compiler, example, generated, piped, run,
                      sanitized_explain, tested, want, written)

@@ -26,7 +26,7 @@ from lrat import lrat_fault
 from proof_forms import Clause, Step, read_formula, read_steps
 from rewriting import cut_while_read, withstands
 from rounds import ONE, TWO, Proof, round_files
-from solving import solve
+from solving import built, solve
 
 CHAIN = EXAMPLES / "chain.py"
 OUTPUTS = ["core", "stream", "lrat"]

@@ -1,29 +1,23 @@
-#!/usr/bin/env python3
 """Runs lrup-solve --cubes FILE: cubes that cover a formula or don't, that overlap or contradict,
 and wrong files.
 
-    lrup_solve_cubes.py PROGRAM [FLAGS]
-
 One to four engines, rounds, assumptions, an engine killed; random formulas with random cubes; and
-the example. Cubes aren't trusted: each answer is the formula's. It builds and reports like
-lrup_solve.py."""
+the example. Cubes aren't trusted: each answer is the formula's."""
 import itertools
 import random
 import re
 import subprocess
-import sys
 import time
 from pathlib import Path
 from typing import Iterable, List, Mapping, Optional, Sequence
 
-sys.dont_write_bytecode = True
-from harness import LIMIT, ROOT, Ran, Row, dimacs, example, generated, random_clauses, run, until, want, words_given, written
+from harness import (LIMIT, ROOT, Ran, Row, dimacs, example, generated, random_clauses, run, tested,
+                     until, want, written)
 from lrat import lrat_fault
 from proof_forms import read_formula
-from solving import (EARLY, Answer, check_again, children_of, command, end_group, kill_children, run_built,
-                     solve, want_answer)
+from solving import (EARLY, FOR_TESTS, Answer, check_again, children_of, command, end_group,
+                     kill_children, solve, want_answer)
 
-words_given(__doc__, most=2)
 EXAMPLES = ROOT / "examples" / "cubes"
 UNDER = "s UNSATISFIABLE UNDER ASSUMPTIONS"
 
@@ -194,8 +188,9 @@ def files() -> List[Row]:
     return [*rows, ("in the record", of_a_record), ("the example", shown_example)]
 
 
-def main() -> int:
-    return run_built([*known(), *files(), *((f"random {seed}", randomly, seed) for seed in range(60))])
+def rows() -> List[Row]:
+    return [*known(), *files(), *((f"random {seed}", randomly, seed) for seed in range(60))]
 
 
-sys.exit(main())
+pytestmark = FOR_TESTS
+test_row = tested(rows())

@@ -1,26 +1,19 @@
-#!/usr/bin/env python3
 """Four recorded solvers: each writes its lines into its own pipe, one after the other at a steady
 pace, and the program checks them all at the same time. Its report comes when the last solver ends,
 after some five seconds. Then two pipes with --watch: a bad line in one is reported while both are
 open. Then the first half of the four solvers' lines, with a checkpoint, which stays empty until all
 of them have ended. Then pipes without writers, which --watch names after a second.
 
-    program_live.py PROGRAM
-
-The status is 1 if the report isn't that in bmc-four.out, if anything is on standard error without
-the flag, or if a line doesn't come."""
+out, if anything is on standard error without the flag, or if a line doesn't come."""
 import re
 import subprocess
-import sys
-import tempfile
 import time
 from pathlib import Path
 from typing import Iterator, List, NamedTuple, Union
 
-sys.dont_write_bytecode = True
 from checkpoints import live, printed, variables_of, want_checkpoint
-from harness import (FOUR, LIMIT, Failure, Ran, example, feed, held, piped, report, run, started, until, unwatched, want,
-                     words_given, written)
+from harness import (FOUR, LIMIT, PROGRAM, Ran, Row, example, feed, held, piped, report, run,
+                     started, tested, until, unwatched, want, written)
 from rounds import last, stream_name
 
 PAUSE = 0.004  # seconds, after each of some 750 lines
@@ -61,9 +54,7 @@ def four_solvers(program: str, work: Path) -> None:
     pipes = [piped(work / str(number)) for number in range(1, 5)]
     for number, pipe in enumerate(pipes, 1):
         feed(pipe, lines_of(number))
-    print("four solvers are at work", flush=True)
     found = run([program, "--tries", "1000000", example("bmc.cnf"), *pipes])
-    print(found.out, end="", flush=True)
     want(found, Ran(example("bmc-four.out").read_text(), "", 0), "the answer")
 
 
@@ -73,16 +64,12 @@ def reported_while_open(program: str, work: Path) -> None:
     with held(pipes[0]) as bad, held(pipes[1]) as end, open(errors, "wb") as err, \
             started(words, stdout=subprocess.PIPE, stderr=err, text=True) as checker:
         bad.write(b"no line\n")
-        print("one stream is bad, both are open", flush=True)
         until(f"standard error has {BAD}", lambda: errors.read_text() == BAD)
-        print(BAD, end="", flush=True)
         bad.close()
         end.close()
         out, _ = checker.communicate(timeout=LIMIT)
         status = checker.returncode
-    print(out, end="")
     ends = BAD + "lrupd: stream 2: 0 added, 0 deleted, ended\n"
-    print(ends[len(BAD):], end="", flush=True)
     want(Ran(out, errors.read_text(), status), Ran(re.sub("^lrupd:", "c", ends, flags=re.M) + "s UNKNOWN\n", ends, 3), "the answer")
 
 
@@ -102,19 +89,11 @@ def checkpoint_at_the_end(program: str, work: Path) -> None:
         out, _ = checker.communicate(timeout=LIMIT)
     want((out.count(" 370 added, 0 deleted, ended\n"), checker.returncode), (4, 3), f"{out}the streams that ended, and the status")
     want_checkpoint(saved, printed(variables_of(formula), live(formula, halves)))
-    print("a checkpoint of four solvers' first lines is there")
 
 
-def late_writers(program: str, work: Path) -> None:
-    """With --watch each pipe that has no writer for a second is named; without it none is."""
-    for number, row in enumerate(LATE_WRITERS):
-        late_writer(program, row, work / str(number))
-        print(f"pipes whose writers come late: {' '.join(row.late) or 'none'}", flush=True)
-
-
-def late_writer(program: str, row: Late, work: Path) -> None:
-    """Each late pipe gets its writer after some time, with --watch after the line that names it."""
-    work.mkdir()
+def late_writers(row: Late, program: str, work: Path) -> None:
+    """With --watch each pipe that has no writer for a second is named; without it none is. Each
+    late pipe gets its writer after some time, with --watch after the line that names it."""
     for name in row.pipes:
         pipe = piped(work / name)
         if name not in row.late:
@@ -141,15 +120,13 @@ def late_writer(program: str, row: Late, work: Path) -> None:
     want(found(), named, "the pipes named")
 
 
-def main() -> None:
-    program, = words_given(__doc__)
-    for part in four_solvers, reported_while_open, checkpoint_at_the_end, late_writers:
-        with tempfile.TemporaryDirectory() as work:
-            part(program, Path(work))
+def rows(program: str) -> Iterator[Row]:
+    yield "four solvers", four_solvers, program
+    yield "reported while the pipes are open", reported_while_open, program
+    yield "a checkpoint at the end", checkpoint_at_the_end, program
+    for row in LATE_WRITERS:
+        late = " and ".join(row.late) or "none"
+        yield f"{row.words}, and late are {late}", late_writers, row, program
 
 
-try:
-    main()
-    print("as wanted")
-except (Failure, subprocess.SubprocessError) as failure:
-    sys.exit(f"not as wanted: {failure}")
+test_row = tested(rows(PROGRAM))

@@ -1,30 +1,25 @@
-#!/usr/bin/env python3
 """Runs lrup-solve with programs in place of lrup-engines that lie, die, and write to whatever they
 can.
 
-    lrup_solve_front.py PROGRAM [FLAGS]
-
 Whatever they do, 's UNSATISFIABLE' is printed only if lrupd has ended with status 0 on the named
 formula, and 's SATISFIABLE' only with an assignment that makes each clause and the assumptions
-true; each other line begins with c; no process is left, and no file is made. It builds like
-lrup_solve.py. Failures are shown; the last line is 'N passed, M failed'. The status is 1 if a run
-failed."""
+true; each other line begins with c; no process is left, and no file is made."""
 import os
 import re
 import shlex
-import shutil
 import signal
 import subprocess
 import sys
 from pathlib import Path
 from typing import List
 
-sys.dont_write_bytecode = True
-from harness import FOUR, LIMIT, ROOT, Ran, Row, Skipped, run, started, until, want, words_given, written
-from hostile import AGAIN, PROOF, SATISFIABLE, is_model, program, run_with
-from solving import PROGRAM, SOLVE, Answer, before_lrupd, in_place_of_lrupd, marked, none_left, run_built
+import pytest
 
-words_given(__doc__, most=2)
+from harness import FOUR, LIMIT, ROOT, Ran, Row, run, started, tested, until, want, written
+from hostile import AGAIN, PROOF, SATISFIABLE, is_model, program, run_with
+from solving import (LRUP_SOLVE, PROGRAM, SOLVE, Answer, before_lrupd, in_place_of_lrupd, marked,
+                     none_left)
+
 FRONT = ROOT / "tools" / "solve" / "front" / "front.c"
 def hostile(body: str, wanted: str, words: List[str], text: str, work: Path) -> None:
     """The answer is this, or none; with a status for none."""
@@ -181,7 +176,7 @@ def reading_killed(text: str, body: str, wanted: str, status: int, work: Path) -
 
 def came_again(work: Path) -> None:
     if not (work / "again").exists():
-        raise Skipped("no process could have that id again")
+        pytest.skip("no process could have that id again")
 
 
 def checkers_id_again(work: Path) -> None:
@@ -336,7 +331,7 @@ def endless(work: Path) -> None:
     """An endless input is copied only as far as a formula may go."""
     free = re.search(r"MemAvailable:\s+(\d+)", Path("/proc/meminfo").read_text())
     if not free or int(free[1]) < 5000000:
-        raise Skipped("less than 5 GB of memory are free")
+        pytest.skip("less than 5 GB of memory are free")
     said = "lrup-solve: /dev/zero: more than 2684354560 bytes, which lrupd doesn't take\n"
     want(run([SOLVE, "--lrupd", PROGRAM, "/dev/zero"]), Ran("", said, 1), "the answer")
 
@@ -459,4 +454,5 @@ def rows() -> List[Row]:
     return listed
 
 
-sys.exit(run_built(rows(), for_tests=False))
+pytestmark = LRUP_SOLVE
+test_row = tested(rows())

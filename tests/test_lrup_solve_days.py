@@ -1,8 +1,5 @@
-#!/usr/bin/env python3
 """Kills processes of lrup-solve at random moments, and resumes the run from its record, until there
 is a verdict.
-
-    lrup_solve_days.py PROGRAM [FLAGS [SEED [MINUTES]]]
 
 Any process of a run may be killed, including the first one and the front, and one run may lose
 several. Each time everything that was saved before has to be there, and nothing else may be left:
@@ -11,10 +8,9 @@ resumed with another formula: that must not lead to a wrong answer, and a messag
 file. The disk of some records is full now and then. The verdict is checked by the assignment, or by
 the record's command and by the LRAT text that lrup-trim makes.
 
-SEED, 1 by default, determines the formulas and the options; much of the rest depends on timing.
-With MINUTES larger formulas are solved, from this seed and those after it, until that time has
-passed; otherwise one row of each kind, in less than a minute. It builds like lrup_solve.py.
-Failures are shown; the last line is 'N passed, M failed'. The status is 1 if a run failed. """
+--seed, 1 by default, determines the formulas and the options; much of the rest depends on timing.
+With --minutes larger formulas are solved, from this seed and those after it, until that time has
+passed; otherwise one row of each kind, in less than a minute."""
 import contextlib
 import os
 import random
@@ -22,21 +18,20 @@ import shlex
 import shutil
 import signal
 import subprocess
-import sys
 import time
 from pathlib import Path
 from typing import Callable, Iterator, List, Optional, Tuple
 
-sys.dont_write_bytecode = True
-from hard_formulas import miter, parity
-from harness import (LIMIT, Failure, Ran, Row, Skipped, dimacs, generated, left_out, random_clauses, run, run_all, started, until, want,
-                     within, words_given, written)
-from records import CHANGES, UNKNOWN, saved_rounds, want_no_other, whole
-from solving import (ANSWERS, EARLY, FLAGS, PROGRAM, Answer, build, command, in_environment, is_alive, marked, none_left, of_process,
-                     processes_of_run, solve, want_answer)
+import pytest
 
-GIVEN = words_given(__doc__, most=4)[2:]
-SEED, MINUTES = int([*GIVEN, "1"][0]), float([*GIVEN[1:], "0"][0])
+from hard_formulas import miter, parity
+from harness import (LIMIT, MINUTES, SEED, Ran, Row, dimacs, generated, random_clauses, run,
+                     started, tested, until, want, within, written)
+from records import CHANGES, UNKNOWN, saved_rounds, want_no_other, whole
+from solving import (ANSWERS, EARLY, FLAGS, Answer, command, in_environment, is_alive, marked,
+                     none_left, of_process, processes_of_run, solve, want_answer)
+
+END = time.monotonic() + 60 * MINUTES
 SIZE = 1 if MINUTES else 0
 RUNS = 100      # of one formula
 SOON = 10       # seconds, after which files are removed
@@ -189,7 +184,7 @@ def solved(kind: str, seed: int, work: Path, log: List[str]) -> None:
             has_changed = True
             changed(chain)
             of_another(chain)
-    raise Failure(f"no answer by {RUNS} runs")
+    raise AssertionError(f"no answer by {RUNS} runs")
 
 
 # Records that aren't what they were.
@@ -239,7 +234,7 @@ def disk(place: Path) -> Iterator[Callable[[int], None]]:
         return run(["mount", "-t", "tmpfs", "-o", f"{how}size={kilobytes}k", "none", place]).status == 0
     place.mkdir()
     if not shutil.which("mount") or not sized(64, ""):
-        raise Skipped("no file system can be mounted")
+        pytest.skip("no file system can be mounted")
     try:
         yield lambda kilobytes: want(sized(kilobytes), True, f"whether the disk has {kilobytes} kB")
     finally:
@@ -258,7 +253,7 @@ def with_little(chain: Chain, why: str, limited: Callable[[int], Callable[[], No
             want(answer.answers in ([], [UNKNOWN], [ANSWERS[20]]), True, f"whether this is right:\n{text}")
         elif chain.is_answered(answer):
             return
-    raise Failure(f"no answer by {RUNS} runs")
+    raise AssertionError(f"no answer by {RUNS} runs")
 
 
 def on_disks(seed: int, work: Path, log: List[str]) -> None:
@@ -288,9 +283,9 @@ def repeatable(function: Callable[..., None], *arguments: object) -> None:
     log: List[str] = []
     try:
         function(*given, work, log)
-    except (Failure, OSError, LookupError, ValueError, subprocess.SubprocessError) as found:
-        again = shlex.join([sys.executable, sys.argv[0], PROGRAM, FLAGS, str(given[-1]), *["0.01"] * SIZE])
-        raise Failure(f"{type(found).__name__}: {found}\nbefore it, in turn:\n  " + "\n  ".join(log) + f"\nagain: {again}") from found
+    except (AssertionError, OSError, LookupError, ValueError, subprocess.SubprocessError) as found:
+        again = shlex.join(["--flags", FLAGS, "--seed", str(given[-1]), *["--minutes", "0.01"] * SIZE])
+        raise AssertionError(f"{type(found).__name__}: {found}\nbefore it, in turn:\n  " + "\n  ".join(log) + f"\nagain: {again}") from found
 
 
 def rows(seed: int) -> List[Row]:
@@ -299,16 +294,15 @@ def rows(seed: int) -> List[Row]:
                     (f"seed {seed}, small files", repeatable, in_small_files, seed)]
 
 
-def all_rows() -> int:
-    cause = build("solve", for_tests=True)
-    if cause:
-        return left_out(f"all of lrup-solve: {cause}")
-    end, status = time.monotonic() + 60 * MINUTES, 0
-    for seed in range(SEED, SEED + 1_000_000):
-        status |= run_all(rows(seed), f"seed {seed}: ")
-        if time.monotonic() >= end:
-            break
-    return status
+@pytest.fixture(autouse=True)
+def in_time(request: pytest.FixtureRequest) -> None:
+    """With --minutes no row begins after them."""
+    if MINUTES and time.monotonic() > END:
+        request.session.shouldstop = f"{MINUTES} minutes have passed"
+        pytest.skip(f"{MINUTES} minutes have passed")
 
 
-sys.exit(all_rows())
+# No seed takes less than a second.
+SEEDS = range(SEED, SEED + 1 + int(60 * MINUTES))
+pytestmark = pytest.mark.usefixtures("solve_for_tests")     # no row is tried again
+test_row = tested(row for seed in SEEDS for row in rows(seed))

@@ -1,12 +1,9 @@
-#!/usr/bin/env python3
 """Runs lrup-solve --mpi in two to eight processes on one host, and under failures between them.
-
-    lrup_solve_mpi.py PROGRAM [FLAGS [small]]
 
 Each answer, with and without sharing, rows so small that a run continues for many rounds, the
 record; refusals; each kind of process killed or stopped, in process 0 and in another one, and
-mpirun, and the front. FLAGS and output are as in lrup_solve.py; with `small` only quick rows run,
-and the output says what is skipped. Without MPI, or mpirun, everything is skipped."""
+mpirun, and the front.  Rows with long waits or races are marked as long, and `make test` leaves
+them out. Without MPI, or mpirun, everything is skipped."""
 import contextlib
 import itertools
 import os
@@ -16,21 +13,20 @@ import shlex
 import shutil
 import signal
 import subprocess
-import sys
 import time
 from pathlib import Path
 from typing import Dict, List, Mapping, Optional, Sequence, Tuple
 
-sys.dont_write_bytecode = True
-from harness import (FOUR, LIMIT, ROOT, TESTS, Failure, Ran, Row, compiled, dimacs, example, generated, left_out, random_clauses, run,
-                     until, want, words_given, written)
+import pytest
+
+from harness import (FOUR, LIMIT, ROOT, TESTS, Ran, Row, compiled, dimacs, example, generated,
+                     lacking, random_clauses, run, tested, until, want, written)
 from lrat import lrat_fault
 from proof_forms import read_formula
 from records import recorded, saved_rounds, whole
-from solving import Answer, check_again, children_of, command, in_environment, is_alive, marked, of_process, run_built, want_answer
+from solving import (Answer, built, check_again, children_of, command, in_environment, is_alive,
+                     marked, of_process, want_answer)
 
-words_given(__doc__, most=3 if sys.argv[3:] == ["small"] else 2)
-ONLY_SMALL = sys.argv[3:] == ["small"]
 SMALL_FORMULAS = (("bmc.cnf", 20), ("pigeonhole.cnf", 20), ("random 200 22 4.2", 10))
 SMALL = {"SAME_WORDS": 1, "SLICE": 100, "EXCHANGING": 50}     # rows that don't grow, and frequent exchanges
 PATIENCE = ["--mca", "odls_base_sigkill_timeout", "3"]      # seconds that mpirun gives to processes that it ends, to report why
@@ -218,12 +214,12 @@ def rests_on(what: str, late: str, work: Path) -> None:
 def lines_first(work: Path) -> None:
     """Streams are sent in pieces once they are whole, and then what follows from them: in a run of
     one round engine 1 gets no gift. Without the rule it does."""
-    for left_out in ({}, {"WITHOUT": "clearing"}):
+    for omitted in ({}, {"WITHOUT": "clearing"}):
         tested = {**SMALL, "FIRST_WORDS": 8000000, "EXCHANGING": 10, "LATE": "lines"}
-        answer = solve(3, ["-v", "-j", "1", generated("random 220 0 5", work)], {**tested, **left_out})
+        answer = solve(3, ["-v", "-j", "1", generated("random 220 0 5", work)], {**tested, **omitted})
         want_answer(answer, 20)
         taken = re.search("^c engine 1: .* clauses: ([0-9,]+) taken over", answer.out, re.M)
-        want(bool(taken) and taken[1] != "0", bool(left_out), f"whether engine 1 takes over any in\n{answer.out}")
+        want(bool(taken) and taken[1] != "0", bool(omitted), f"whether engine 1 takes over any in\n{answer.out}")
 
 
 # Refusals.
@@ -275,7 +271,7 @@ class Running:
         self.ids: List[Dict[str, int]] = []
         try:
             until("processes at work", lambda: self.is_at_work(processes))
-        except Failure:
+        except AssertionError:
             self.main.kill()
             raise
 
@@ -468,15 +464,20 @@ def small_rows() -> List[Row]:
             ending(0, "front", "killed", signal.SIGKILL, ""), ("all killed at once", files_of_mpi)]
 
 
-def main() -> int:
-    rows, more = small_rows(), {"answers": known(), "rounds": rounds(), "deaths": deaths()}
+@pytest.fixture(scope="session")
+def mpi() -> None:
     if not shutil.which("mpirun") or "Open MPI" not in run(["mpirun", "--version"]).out:
-        return left_out("all of lrup-solve --mpi: no mpirun of Open MPI is on the PATH: in Debian the package openmpi-bin")
-    if ONLY_SMALL:
-        left_out = ", ".join(f"{len(found)} rows of {kind}" for kind, found in more.items())
-        print(f"lrup-solve --mpi: left out are {left_out}", flush=True)
-        return run_built(rows, target="solve-mpi", for_tests=False)
-    return run_built([*rows, *(row for found in more.values() for row in found)], target="solve-mpi")
+        lacking("all of lrup-solve --mpi: no mpirun of Open MPI is on the PATH: in Debian the "
+                "package openmpi-bin")
+    built("solve-mpi", for_tests=False)
 
 
-sys.exit(main())
+@pytest.fixture(scope="session")
+def mpi_for_tests(mpi: None) -> None:
+    built("solve-mpi", for_tests=True)
+
+
+pytestmark = [pytest.mark.flaky(reruns=2), pytest.mark.xdist_group("mpi")]
+test_row = pytest.mark.usefixtures("mpi")(tested(small_rows()))
+test_long_row = pytest.mark.long(pytest.mark.usefixtures("mpi_for_tests")(tested(
+    [*known(), *rounds(), *deaths()])))

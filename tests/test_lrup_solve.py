@@ -1,15 +1,9 @@
-#!/usr/bin/env python3
 """Runs lrup-solve with the program, and under failures.
-
-    lrup_solve.py PROGRAM [FLAGS]
 
 Known formulas with each status, 300 random ones with early inprocessing, one to eight engines; each
 child killed in turn, signals, a full disk, closed outputs. In a build for tests the rules of
-sharing are left out one by one: each omission has to be noticed. It builds both programs with
-`make`, with FLAGS for the compilers, as '-O1 -g -fsanitize=thread'; if `make` doesn't find
-CaDiCaL's library, everything is skipped, and the output says so. Failures are shown; the last line
-is 'N passed, M failed', and ', K skipped' if something is missing. The status is 1 if a run
-failed."""
+sharing are left out one by one: each omission has to be noticed. `make` builds both programs, with
+--flags for the compilers; if it doesn't find CaDiCaL's library, everything is skipped."""
 import fcntl
 import os
 import pty
@@ -19,21 +13,21 @@ import resource
 import signal
 import struct
 import subprocess
-import sys
 import tempfile
 import termios
 import time
 from pathlib import Path
 from typing import Any, Dict, List, Optional, Sequence, Tuple
 
-sys.dont_write_bytecode = True
-from harness import (EXAMPLES, FOUR, LIMIT, ROOT, Failure, Ran, Row, Skipped, dimacs, example, generated, in_shell, needs, random_clauses,
-                     run, started, until, want, words_given, written)
-from proof_forms import read_formula
-from solving import (ANSWERS, EARLY, ELIMINATING, PROGRAM, SOLVE, Answer, check_again, children_of, command, end_group, goes_on,
-                     in_environment, in_place_of_lrupd, is_alive, kill_children, of_process, random_formula, run_built, solve, want_answer)
+import pytest
 
-words_given(__doc__, most=2)
+from harness import (EXAMPLES, FOUR, LIMIT, ROOT, Ran, Row, dimacs, example, generated, in_shell,
+                     needs, random_clauses, run, started, tested, until, want, written)
+from proof_forms import read_formula
+from solving import (ANSWERS, EARLY, ELIMINATING, FOR_TESTS, PROGRAM, SOLVE, Answer, check_again,
+                     children_of, command, end_group, goes_on, in_environment, in_place_of_lrupd,
+                     is_alive, kill_children, of_process, random_formula, solve, want_answer)
+
 MITERS = EXAMPLES / "miter"
 TRIES = 10      # of runs that may end before something happens to them
 SOON = 9        # seconds, fewer than a filter has for its last line
@@ -129,7 +123,7 @@ def impostor(body: str, cause: str, work: Path) -> None:
     answer = solve(["--lrupd", path, example("bmc.cnf")])
     want_answer(answer, 0)
     if not any(re.search(cause, line) for line in answer.comments):
-        raise Failure(f"expected a message on '{cause}', but found\n{answer.out}")
+        raise AssertionError(f"expected a message on '{cause}', but found\n{answer.out}")
 
 
 # Events during a run.
@@ -154,7 +148,7 @@ class Running:
     def __enter__(self) -> "Running":
         try:
             until("five children, or the end", lambda: self.process.poll() is not None or self.has_all())
-        except Failure:
+        except AssertionError:
             self.__exit__()
             raise
         return self
@@ -190,7 +184,7 @@ def killed(names: List[str], number: int, status: int, cause: str, work: Path) -
         if any(cause in line for line in answer.comments):
             return
         said = answer.out
-    raise Failure(f"expected a message on '{cause}', but found\n{said}")
+    raise AssertionError(f"expected a message on '{cause}', but found\n{said}")
 
 
 def dealt(answer: Answer) -> List[int]:
@@ -209,7 +203,7 @@ def cubes(words: str, status: int, engines: int, work: Path) -> None:
         want_answer(answer, status, formula)
         if dealt(answer)[0] >= engines and (status == 10 or dealt(answer)[1] > 0):
             return
-    raise Failure(f"no cubes were dealt out, or none refuted\n{answer.out[-2000:]}")
+    raise AssertionError(f"no cubes were dealt out, or none refuted\n{answer.out[-2000:]}")
 
 
 def randomly_cubed(seed: int, work: Path) -> None:
@@ -321,7 +315,7 @@ def time_is_up(work: Path) -> None:
 def full(words: List[str], out: str, most: int, cause: str, work: Path) -> None:
     """A full disk for the answer; for the streams, a limit on the size of files."""
     if not os.path.exists("/dev/full"):
-        raise Skipped("there is no /dev/full")
+        pytest.skip("there is no /dev/full")
     limit = lambda: resource.setrlimit(resource.RLIMIT_FSIZE, (most, most)) if most else None
     with open(out, "w") as file:
         answer = solve([*(word.format(work=work) for word in words), example("bmc.cnf")], stdout=file, preexec_fn=limit)
@@ -505,7 +499,7 @@ def published_late(work: Path) -> None:
                 want_answer(answer, answer.status if answer.status in (10, 20) else 20, formula)
         if broke and seed > 10:
             return
-    raise Failure("clauses that never went out weren't missed")
+    raise AssertionError("clauses that never went out weren't missed")
 
 
 # The tests.
@@ -583,10 +577,11 @@ def sharing() -> List[Row]:
             ("published late", published_late)]
 
 
-def main() -> int:
+def rows() -> List[Row]:
     runs = known() + searches() + what_happens() + others_formulas() + sharing()
     runs += [(f"random with cubes {seed}", randomly_cubed, seed) for seed in range(100)]
-    return run_built(runs + [(f"random {seed}", randomly, seed) for seed in range(300)])
+    return runs + [(f"random {seed}", randomly, seed) for seed in range(300)]
 
 
-sys.exit(main())
+pytestmark = FOR_TESTS
+test_row = tested(rows())

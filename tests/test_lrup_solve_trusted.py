@@ -1,25 +1,18 @@
-#!/usr/bin/env python3
 """Leaves out, one by one, each line of lrup-solve's front that is marked as trusted.
 
-    lrup_solve_trusted.py PROGRAM [FLAGS]
-
 A hostile program gets a wrong answer from each front that lacks such a line, and none from the
-whole front. It builds like lrup_solve.py. Failures are shown; the last line is 'N passed, M
-failed'. The status is 1 if a run failed."""
+whole front."""
 import os
 import re
 import shlex
 import shutil
-import sys
 from pathlib import Path
 from typing import Any, Callable, Dict, List, Sequence
 
-sys.dont_write_bytecode = True
-from harness import ROOT, Row, compiled, run, want, words_given, written
+from harness import ROOT, Row, compiled, run, tested, want, written
 from hostile import SATISFIABLE, is_model, program
-from solving import FLAGS, PROGRAM, Answer, in_place_of_lrupd, run_built
+from solving import FLAGS, LRUP_SOLVE, PROGRAM, Answer, in_place_of_lrupd
 
-words_given(__doc__, most=2)
 FOLDER = ROOT / "tools" / "solve" / "front"
 MARK = re.compile(r"// trusted \(([^)]*)\)")
 LINES = (FOLDER / "front.c").read_text().splitlines(keepends=True)
@@ -175,4 +168,5 @@ def rows() -> List[Row]:
     return [("marks", named)] + [(f"without: {name}", left_out, number, name) for number, name in names.items() if name in ATTACKS]
 
 
-sys.exit(run_built(rows(), for_tests=False))
+pytestmark = LRUP_SOLVE
+test_row = tested(rows())

@@ -1,29 +1,26 @@
-#!/usr/bin/env python3
 """Refuses each allocation, read, write, thread, open, creation of a file and flush of the program
 in turn, and compares each answer and checkpoint with the permitted ones.
 
-    program_refusals.py PROGRAM [RT]
-
-It builds refuse.c, which the loader puts before the C library, and runs PROGRAM with the first call
-of a kind refused, then the second, and so on until a run meets no refusal; that run has to give the
-normal answer. Then it does so with a few tests, unless RT is left out: runs without the program
+It builds refuse.c, which the loader puts before the C library, and runs the program with the first
+call of a kind refused, then the second, and so on until a run meets no refusal; that run has to
+give the normal answer. Then it does so with a few of the crates' tests: runs without the program
 around them, calls that can be repeated, and calls that allocate nothing. They are as `rt ci` built
-them; if there are none, RT, Rattle's command, builds them. If a thread isn't started, the started
-ones have ended before that is reported, and pipes that stay open delay nothing; a program that
-waits for no thread has to be found wrong. Last, the memory of a store has to be given back."""
+them; if there are none, --rt builds them. If a thread isn't started, the started ones have ended
+before that is reported, and pipes that stay open delay nothing; a program that waits for no thread
+has to be found wrong. Last, the memory of a store has to be given back."""
 import itertools
 import os
 import re
 import resource
 import subprocess
-import sys
 import tempfile
-import time
 from pathlib import Path
-from typing import Dict, Iterator, List, NamedTuple, Optional, Set, Tuple
+from typing import Dict, Iterator, List, NamedTuple, Optional, Sequence, Set, Tuple
 
-sys.dont_write_bytecode = True
-from harness import EXAMPLES, FOUR, ROOT, TESTS, compiled, piped, report, run, waiting, words_given, written
+import pytest
+
+from harness import (EXAMPLES, FOUR, PROGRAM, ROOT, RT, TESTS, Row, alone, compiled, piped, report,
+                     run, tested, waiting, want, written)
 from refused import (ERRORS_OF_READS, FOUR_CLAUSE, SECONDS, SHORT, Answer, Input, InRounds, Machine, complaints,
                      complaints_in_rounds, is_right, not_started)
 from rounds import ONE, TWO, Proof
@@ -52,6 +49,7 @@ MANY = 5_000
 ONE_LINE, MANY_LINES = "a line and an import", f"{MANY} lines and imports"  # equally many allocations: lines take none
 BURDENED = " under assumptions, after a drop"
 FEW_CLAUSES, MANY_CLAUSES = "two clauses", f"{MANY} clauses"
+COUNTED = (ONE_LINE, MANY_LINES, FEW_CLAUSES, MANY_CLAUSES)     # with --serial or burdened, too
 GROWTHS = 100  # how many more allocations the many clauses may take, whose lists double: some thirty
 MOST = 1_000  # the most calls of a kind that are refused; no run makes as many
 HELD = 100  # seconds after which a run that waits for a pipe counts as hanging
@@ -192,8 +190,6 @@ def inputs(folder: Path) -> Iterator[Input]:
 
 def kinds(given: Input) -> Iterator[Tuple[str, str]]:
     yield "allocate", ""
-    if given.name.startswith((ONE_LINE, MANY_LINES, FEW_CLAUSES, MANY_CLAUSES)):
-        return
     yield "thread", ""
     for how in SHORT + ([] if given.waits else ERRORS_OF_READS):
         yield "read", how
@@ -243,11 +239,14 @@ def tests() -> Iterator[Test]:
     yield Test("command", "refusals::memory_that_runs_out", [], 6, looks=True)
 
 
-def program_of_tests(crate: str, rt: str) -> str:
+def program_of_tests(crate: str) -> str:
     folder = ROOT / "crates" / f"{crate}_tests"
     program = folder / "out" / f"{crate}_tests_tests"
-    if not program.exists():
-        subprocess.run([rt, "test"], cwd=folder, stdout=subprocess.DEVNULL, check=True)
+    with alone(folder / "out" / "lock"):
+        if not program.exists():
+            if not RT:
+                pytest.skip(f"the tests of {crate} aren't built, and there is no --rt")
+            subprocess.run([RT, "test"], cwd=folder, stdout=subprocess.DEVNULL, check=True)
     return str(program)
 
 
@@ -285,15 +284,15 @@ def sweep_test(machine: Machine, test: Test, kind: str) -> Tuple[int, List[str]]
     return number - 1, wrong
 
 
-def unjoined(folder: Path) -> List[str]:
-    """A complaint if a program that waits for none of its threads isn't found wrong."""
+def unjoined(folder: Path) -> None:
+    """A program that waits for none of its threads is found wrong."""
     program = compiled(folder / "unjoined", [TESTS / "unjoined.c"], "-std=gnu11", "-pthread")
     machine, found = Machine(str(program), folder, VERY_LATE), []
     for number in range(1, 7):
         answer, _, _ = machine.run([], f"thread:{number}")
         if answer == not_started((number - 1) % 3 + 1) and not machine.has_waited_for(number - 1):
             found.append(number)
-    return [] if found == [2, 3, 4, 5, 6] else [f"a program that waits for no thread is found wrong at {found}"]
+    want(found, [2, 3, 4, 5, 6], "the threads at which it is found wrong")
 
 
 def leave(machine: Machine, folder: Path, count: int) -> Tuple[int, List[str]]:
@@ -320,76 +319,67 @@ def leave(machine: Machine, folder: Path, count: int) -> Tuple[int, List[str]]:
     return number, wrong
 
 
-def kept(rt: str) -> List[str]:
-    """The complaint of a test that opens and drops a store of 16 million words four times, unless
-    it passes. Opening takes 128,000,000 bytes for the row, and as much again until it returns. Here
+def kept(work: Path) -> None:
+    """A test that opens and drops a store of 16 million words four times. Opening takes 128,000,000 bytes for the row, and as much again until it returns. Here
     are 307,200,000; a second list that is still there would need 384,000,000."""
     name, most = "memory::a_large_store_is_given_back", 307_200_000
-    ran = run([program_of_tests("clause_store", rt), f"tests::{name}"],
+    ran = run([program_of_tests("clause_store"), f"tests::{name}"],
               preexec_fn=lambda: resource.setrlimit(resource.RLIMIT_AS, (most, most)))
-    return [f"{name}, {most:,} bytes: {ran}"] if ran.status else []
+    want(ran.status, 0, f"{ran}: the status with {most:,} bytes")
 
 
-def allocations_that_differ(allocations: Dict[str, int]) -> Iterator[str]:
+# Rows.
+
+
+def all_right(wrong: Sequence[str]) -> None:
+    assert not wrong, "\n".join(wrong)
+
+
+def with_input(name: str, program: str, work: Path) -> None:
+    """Calls of each kind are refused, in a run with this input."""
+    machine = Machine(program, work)
+    given = next(given for given in inputs(work) if given.name == name)
+    all_right([answer for kind, how in kinds(given) for answer in sweep(machine, given, kind, how)[1]])
+
+
+def lines_and_clauses(serial: str, program: str, work: Path) -> None:
     """Lines take no allocations, and clauses few."""
-    for kind in ["", " --serial"]:
-        for burden in ["", BURDENED]:
-            one, many = allocations[ONE_LINE + burden + kind], allocations[MANY_LINES + burden + kind]
-            if one != many:
-                yield f"one line takes {one} allocations, {MANY} lines {many}{burden}{kind}"
-        few, many = allocations[FEW_CLAUSES + kind], allocations[MANY_CLAUSES + kind]
-        if many > few + GROWTHS:
-            yield f"two clauses take {few} allocations, {MANY} clauses {many}{kind}"
+    machine, counts = Machine(program, work), {}
+    for given in inputs(work):
+        if given.name.startswith(COUNTED) and given.name.endswith("--serial") == bool(serial):
+            counts[given.name.removesuffix(serial)], wrong = sweep(machine, given, "allocate", "")
+            all_right(wrong)
+    for burden in ["", BURDENED]:
+        want(counts[MANY_LINES + burden], counts[ONE_LINE + burden],
+             f"the allocations of {MANY} lines{burden}, and of one line")
+    few, many = counts[FEW_CLAUSES], counts[MANY_CLAUSES]
+    assert many <= few + GROWTHS, f"two clauses take {few} allocations, {MANY} clauses {many}"
 
 
-class Count:
-    """How many calls of each kind were refused, and the wrong answers."""
-
-    def __init__(self) -> None:
-        self.refused: Dict[str, int] = {}
-        self.wrong: List[str] = []
-
-    def add(self, kind: str, found: Tuple[int, List[str]]) -> int:
-        count, wrong = found
-        self.refused[kind] = self.refused.get(kind, 0) + count
-        self.wrong += wrong
-        return count
+def with_pipes(count: int, program: str, work: Path) -> None:
+    all_right(leave(Machine(program, work), work, count)[1])
 
 
-def sweep_program(program: str, folder: Path, count: Count) -> None:
-    machine, allocations = Machine(program, folder), {}
-    for given in inputs(folder):
-        for kind, how in kinds(given):
-            number = count.add(kind, sweep(machine, given, kind, how))
-            if kind == "allocate":
-                allocations[given.name] = number
-    count.wrong += allocations_that_differ(allocations)
+def with_test(test: Test, work: Path) -> None:
+    machine = Machine(program_of_tests(test.crate), work)
+    for kind in ["allocate"] if test.last else ["allocate", "thread"]:
+        all_right(sweep_test(machine, test, kind)[1])
+
+
+def rows(program: str) -> Iterator[Row]:
+    yield "a program that waits for no thread", unjoined
+    with tempfile.TemporaryDirectory() as folder:
+        names = [given.name for given in inputs(Path(folder))]
+    for name in sorted(names, key=lambda name: not name.startswith("four solvers")):    # the longest
+        if not name.startswith(COUNTED):
+            yield name, with_input, name, program
+    for serial in "", " --serial":
+        yield "lines and clauses" + serial, lines_and_clauses, serial, program
     for pipes in [1, 2, 8]:
-        count.add("thread", leave(machine, folder, pipes))
-
-
-def sweep_tests(rt: str, folder: Path, count: Count) -> None:
+        yield f"{pipes} pipes that stay open", with_pipes, pipes, program
     for test in tests():
-        machine = Machine(program_of_tests(test.crate, rt), folder)
-        for kind in ["allocate"] if test.last else ["allocate", "thread"]:
-            count.add(kind, sweep_test(machine, test, kind))
-    count.wrong += kept(rt)
+        yield f"the test {test.name}", with_test, test
+    yield "the memory of a store", kept
 
 
-def main() -> int:
-    program, *rt = words_given(__doc__, 1, 2)
-    began, count = time.monotonic(), Count()
-    with tempfile.TemporaryDirectory() as name:
-        folder = Path(name)
-        count.wrong += unjoined(folder)
-        sweep_program(program, folder, count)
-        if rt:
-            sweep_tests(rt[0], folder, count)
-    for answer in count.wrong:
-        print(answer)
-    print("refused: " + ", ".join(f"{kind} {number}" for kind, number in count.refused.items())
-          + f"; {len(count.wrong)} wrong answers; {time.monotonic() - began:.0f} seconds")
-    return 1 if count.wrong else 0
-
-
-sys.exit(main())
+test_row = tested(rows(PROGRAM))

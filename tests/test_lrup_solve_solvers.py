@@ -1,14 +1,9 @@
-#!/usr/bin/env python3
 """Runs lrup-solve with common solvers by --solver, and with misbehaving scripts.
-
-    lrup_solve_solvers.py PROGRAM [FLAGS]
 
 CaDiCaL, CryptoMiniSat and PicoSAT, if they are on the PATH, and the example solver, alone, together
 and beside engines: known formulas, random ones, in one round and in many. A solver that dies, lies,
 writes nonsense or hangs is lost: alone it gives no verdict; beside a good one the answer is the
-good one's. No process of a command outlives the run. It builds like lrup_solve.py. Failures are
-shown; the last line is 'N passed, M failed', and ', K skipped' if something is missing. The status
-is 1 if a run failed."""
+good one's. No process of a command outlives the run."""
 import os
 import random
 import re
@@ -16,17 +11,14 @@ import shlex
 import shutil
 import signal
 import subprocess
-import sys
 from pathlib import Path
 from typing import Dict, List, Mapping, Sequence
 
-sys.dont_write_bytecode = True
-from harness import (EXAMPLES, FOUR, LIMIT, ROOT, Row, compiled, dimacs, example, generated, needs, run, started, until, want, words_given,
-                     written)
-from solving import (PROGRAM, SOLVE, check_again, marked, none_left, of_process, processes_of, random_formula, run_built, solve,
-                     want_answer)
+from harness import (EXAMPLES, FOUR, LIMIT, Row, compiled, dimacs, example, generated, needs, run,
+                     started, tested, until, want, written)
+from solving import (FOR_TESTS, PROGRAM, SOLVE, check_again, marked, none_left, of_process,
+                     processes_of, random_formula, solve, want_answer)
 
-words_given(__doc__, most=2)
 CADICAL, AS_TEXT = "cadical -q %formula %proof", "cadical -q --no-binary %formula %proof"
 CRYPTOMINISAT = "cryptominisat5 --verb 0 %formula %proof"
 PICOSAT = "picosat %formula -R %proof"
@@ -383,4 +375,5 @@ def rows() -> List[Row]:
     return found
 
 
-sys.exit(run_built(rows()))
+pytestmark = FOR_TESTS
+test_row = tested(rows())

@@ -1,13 +1,8 @@
-#!/usr/bin/env python3
 """Runs lrup-solve with --core and --lrat, and checks what it keeps of a run.
-
-    lrup_solve_kept.py PROGRAM [FLAGS]
 
 The outputs have to be reported, and right: the core's clauses are those of the formula with the
 given numbers, and lrupd refutes the core; an independent LRAT checker accepts the text, and so does
-lrupd. A record's check notices another formula. If lrupd refuses a line, lrup-explain is run. It
-builds like lrup_solve.py. Failures are shown; the last line is 'N passed, M failed'. The status is
-1 if a run failed."""
+lrupd. A record's check notices another formula. If lrupd refuses a line, lrup-explain is run."""
 import hashlib
 import os
 import re
@@ -15,20 +10,19 @@ import shlex
 import shutil
 import signal
 import subprocess
-import sys
 import time
 from pathlib import Path
 from typing import Dict, List, Optional, Sequence, Tuple
 
-sys.dont_write_bytecode = True
-from harness import (EXPLAIN, FILTER, FOUR, LRUP_CHAIN, ROOT, TRIM, Ran, Row, Skipped, by_another, example, generated, needs, run, started, until, want,
-                     words_given, written)
+import pytest
+
+from harness import (EXPLAIN, FILTER, FOUR, LRUP_CHAIN, ROOT, TRIM, Ran, Row, by_another, example,
+                     generated, needs, run, started, tested, until, want, written)
 from lrat import lrat_fault
 from proof_forms import Clause, read_formula
-from solving import (PROGRAM, SOLVE, Answer, before_lrupd, check_again, command, in_environment, marked, none_left, run_built,
-                     solve)
+from solving import (FOR_TESTS, PROGRAM, SOLVE, Answer, before_lrupd, check_again, command,
+                     in_environment, marked, none_left, solve)
 
-words_given(__doc__, most=2)
 PROVED, PROVED_UNDER = "s UNSATISFIABLE", "s UNSATISFIABLE UNDER ASSUMPTIONS"
 SMALL = {"SAME_WORDS": 1, "SLICE": 40, "FIRST_WORDS": 20000}
 ROUNDS = {"SAME_WORDS": 1, "SLICE": 50, "FIRST_WORDS": 4000}
@@ -544,7 +538,7 @@ def on_a_disk(kilobytes: int, words: List[object], tested: Optional[Dict[str, ob
     how = ["unshare", "-m" if os.getuid() == 0 else "-rm", "sh", "-c"]
     mounts = f"mount -t tmpfs -o size={kilobytes}k tmpfs full"
     if run([*how, mounts], cwd=work).status != 0:
-        raise Skipped("no file system can be mounted")
+        pytest.skip("no file system can be mounted")
     formula = generated("random 180 3", work)
     done = run([*how, mounts + ' && exec "$@"', "sh", *command([*words, formula], tested)], cwd=work,
                env=in_environment(tested, {"TMPDIR": f"{work}/full"} if "--proofs" not in words else {}))
@@ -632,5 +626,5 @@ def rows() -> List[Row]:
     return found + [(f"a bad line, {'with' if record else 'without'} a record", explained, record) for record in (True, False)]
 
 
-if __name__ == "__main__":
-    sys.exit(run_built(rows(), "kept: "))
+pytestmark = FOR_TESTS
+test_row = tested(rows())

@@ -1,15 +1,11 @@
-#!/usr/bin/env python3
 """Refuses each call of lrup-solve's front, sends random signals, and runs hostile programs.
-
-    lrup_solve_hostile.py PROGRAM [FLAGS [COUNT]]
 
 Whatever fails or dies, the answer is right, or 's UNKNOWN', or a message with status 1, or none if
 a signal ended the front. Each run ends, and leaves no process and no file, unless its row says so.
-About COUNT signals are sent, by default 60; with 600 each kind of run has each call refused, too.
-It builds like lrup_solve.py. Failures are shown; the last line is 'N passed, M failed'. The status
-is 1 if a run failed."""
+About 60 signals are sent, or --count; with 600 each kind of run has each call refused, too."""
 import contextlib
 import errno
+import functools
 import os
 import random
 import re
@@ -17,22 +13,21 @@ import resource
 import shutil
 import signal
 import subprocess
-import sys
 import tempfile
 import time
 from pathlib import Path
 from typing import List, NamedTuple, Sequence, Tuple
 
-sys.dont_write_bytecode = True
-from harness import (FOUR, LIMIT, ROOT, TESTS, Failure, Ran, Row, compiled, dimacs, left_out,
-                     random_clauses, run, run_side_by_side, started, until, want, words_given,
-                     written)
+import pytest
+
+from harness import (AGAIN_IF_LATE, COUNT, FOUR, LIMIT, ROOT, TESTS, Ran, Row, alone, compiled,
+                     dimacs, is_newer, random_clauses, run, started, tested, until, want, written)
 from hostile import PROOF, SATISFIABLE, is_model, run_with
 from hostile_programs import COMMON, PROGRAMS, PROVING, programs
-from solving import (EARLY, FRONT, PROGRAM, SOLVE, Answer, build, command, end_all, in_environment,
+from solving import (EARLY, FRONT, OUT, PROGRAM, SOLVE, Answer, command, end_all, in_environment,
                      in_place_of_lrupd, marked, of_process, processes_of, processes_of_run, solve)
 
-COUNT = int((words_given(__doc__, most=3) + ["-O2", "60"][len(sys.argv) - 2:])[2])
+SIGNALS = COUNT or 60
 UNKNOWN, FOUND, PROVED = "s UNKNOWN", "s SATISFIABLE", "s UNSATISFIABLE"
 UNDER = "s UNSATISFIABLE UNDER ASSUMPTIONS"
 STATUSES = {UNKNOWN: 0, FOUND: 10, PROVED: 20, UNDER: 20}
@@ -65,7 +60,7 @@ ERRORS = {"read": ("EIO", "EINTR", "short"), "write": ("ENOSPC", "EINTR", "short
           **{name: ("ENOMEM", "EINTR") for name in ("close", "dup2", "fcntl", "fopen", "open",
                                                     "poll", "sigwaitinfo", "waitid", "waitpid")}}
 MOST = 12       # calls of one function
-WHOLE = 600     # from this COUNT on each kind of run has each function refused
+WHOLE = 600     # from so many SIGNALS on each kind of run has each function refused
 LIES = """signal.alarm(10)
 stream(1, {proof!r})
 told('probe')
@@ -128,8 +123,9 @@ def run_of(kind: Kind, front: Path, work: Path) -> Answer:
     return run_with(kind.body, words, kind.text, work, front=front, **given)
 
 
-def refused(front: Path, function: str, how: str, kind: Kind, work: Path) -> None:
+def refused(function: str, how: str, kind: Kind, work: Path) -> None:
     """Refuses each call in turn, until a run makes no more."""
+    front = refusing_front()
     for number in range(1, MOST + 1):
         folder = Path(tempfile.mkdtemp(dir=work))       # its name marks the processes
         given = {"REFUSE": f"{function}:{number}:{getattr(errno, how, how)}",
@@ -145,28 +141,35 @@ def refused(front: Path, function: str, how: str, kind: Kind, work: Path) -> Non
             if not (folder / "refused").exists():
                 said = f"the answer where no call is refused, of\n{answer.out}{answer.said}"
                 return want(answer.answers, [kind.right], said)
-        except Failure as found:
-            raise Failure(f"call {number}: {found}") from found
+        except AssertionError as found:
+            raise AssertionError(f"call {number}: {found}") from found
 
 
-def refusing_front(work: Path) -> Tuple[Path, List[str]]:
-    """Wraps the functions that the front calls; none is inlined or replaced by the compiler."""
+@functools.lru_cache(maxsize=None)
+def refusing_front() -> Path:
+    """Wraps the functions that the front calls; none is inlined or replaced by the compiler. One
+    worker builds it."""
     flags = ["-std=c11", "-O0", "-g", "-fno-builtin", "-U_FORTIFY_SOURCE"]
-    objects = [compiled(work / f"{name}.o", [SOURCES / f"{name}.c"], "-c", *flags)
-               for name in ("front", "supervisor")]
-    called = set(re.findall(r"\bU (\w+)", run(["nm", "-u", *objects]).out))
-    want(sorted(called - WRAPPED - CANNOT_FAIL), [], "functions that aren't refused, and may fail")
-    wraps = [f"-Wl,--wrap={name}" for name in sorted(WRAPPED)]
-    front = compiled(work / "lrup-solve", [*objects, WRAPPERS], *flags, *wraps)
-    return front, sorted(called & WRAPPED)
+    place = OUT / "refusing"
+    front = place / "lrup-solve"
+    with alone(place / "lock"):
+        if not is_newer(front, [WRAPPERS, *SOURCES.glob("*.[ch]")]):
+            objects = [compiled(place / f"{name}.o", [SOURCES / f"{name}.c"], "-c", *flags)
+                       for name in ("front", "supervisor")]
+            called = set(re.findall(r"\bU (\w+)", run(["nm", "-u", *objects]).out))
+            want(sorted(called - WRAPPED - CANNOT_FAIL), [],
+                 "functions that aren't refused, and may fail")
+            wraps = [f"-Wl,--wrap={name}" for name in sorted(WRAPPED)]
+            compiled(front, [*objects, WRAPPERS], *flags, *wraps)
+    return front
 
 
-def refusals(work: Path) -> List[Row]:
-    front, functions = refusing_front(work)
-    return [(f"{function}, {how}, {name}", refused, front, function, how, kind)
-            for function in functions for how in ERRORS.get(function, ("ENOMEM",))
+def refusals() -> List[Row]:
+    """With both names of a function that depend on the C library; the front calls one of them."""
+    return [(f"{function}, {how}, {name}", refused, function, how, kind)
+            for function in sorted(WRAPPED) for how in ERRORS.get(function, ("ENOMEM",))
             for name, kind in KINDS.items()
-            if COUNT >= WHOLE or not kind.functions or function in kind.functions.split()]
+            if SIGNALS >= WHOLE or not kind.functions or function in kind.functions.split()]
 
 
 # Random signals.
@@ -246,9 +249,9 @@ def signalled(numbers: random.Random, most: int, given: Given, work: Path) -> in
             want_no_other(answer, given.right, given.formula)
             if not may_leave_files(history):
                 until("its files are removed", lambda: not os.listdir(files), SOON)
-        except Failure as found:
+        except AssertionError as found:
             left = [of_process(pid, "stat")[:40] for pid in processes_of(mark)]
-            raise Failure(f"{found}\nafter {history}; left {left}, {os.listdir(files)}") from found
+            raise AssertionError(f"{found}\nafter {history}; left {left}, {os.listdir(files)}") from found
         finally:
             end_all(mark)
     return len(history)
@@ -310,15 +313,16 @@ def hostile() -> List[Row]:
     return [(row[0], no_other, *row) for row in listed]
 
 
-def rows(front_place: Path) -> List[Row]:
+def rows() -> List[Row]:
     """Rows that wait for long come first."""
-    random_ones = [(f"signals {seed}", signals, seed, A_ROW) for seed in range(COUNT // A_ROW)]
-    return [*hostile(), *random_ones, *refusals(front_place)]
+    random_ones = [(f"signals {seed}", signals, seed, A_ROW) for seed in range(SIGNALS // A_ROW)]
+    return [*hostile(), *random_ones, *refusals()]
 
 
-resource.setrlimit(resource.RLIMIT_CORE, (0, 0))
-cause = build("solve", for_tests=True)
-if cause:
-    sys.exit(left_out(f"all of lrup-solve: {cause}"))
-with tempfile.TemporaryDirectory() as place:
-    sys.exit(run_side_by_side(rows(Path(place)), 2 * (os.cpu_count() or 1)))    # most of them wait
+@pytest.fixture(scope="module", autouse=True)
+def no_cores() -> None:
+    resource.setrlimit(resource.RLIMIT_CORE, (0, 0))
+
+
+pytestmark = [pytest.mark.usefixtures("solve_for_tests"), AGAIN_IF_LATE]
+test_row = tested(rows())

@@ -1,10 +1,5 @@
-#!/usr/bin/env python3
 """What lrup-solve reads and keeps, by its arguments: inputs by path and by pipe, records,
-assumptions, refusals.
-
-    lrup_solve_inputs.py PROGRAM [FLAGS]
-
-FLAGS and output are as in lrup_solve.py."""
+assumptions, refusals."""
 import os
 import re
 import resource
@@ -12,20 +7,18 @@ import shlex
 import shutil
 import signal
 import subprocess
-import sys
 import time
 from pathlib import Path
 from typing import Dict, List, Optional, Sequence, Tuple, Union
 
-sys.dont_write_bytecode = True
-from harness import (COMPRESSED, FILTER, FOUR, LIMIT, ROOT, Failure, Ran, Row, by_another, dimacs, example, generated, in_shell, piped,
-                     run, started, until, want, words_given, written)
+from harness import (COMPRESSED, FILTER, FOUR, LIMIT, ROOT, Ran, Row, by_another, dimacs, example,
+                     generated, in_shell, piped, run, started, tested, until, want, written)
 from lrat import lrat_fault
 from proof_forms import read_formula
-from solving import (OUT, PROGRAM, SOLVE, Answer, before_lrupd, check_again, children_of, command, in_environment, in_place_of_lrupd,
-                     listed, marked, none_left, run_built, solve, want_answer)
+from solving import (FOR_TESTS, OUT, PROGRAM, SOLVE, Answer, before_lrupd, check_again, children_of,
+                     command, in_environment, in_place_of_lrupd, listed, marked, none_left, solve,
+                     want_answer)
 
-words_given(__doc__, most=2)
 CUBE = os.fsdecode(b"cube\xe9")
 Text = Union[str, bytes]
 
@@ -314,7 +307,7 @@ def assuming(text: str, literals: str, status: int, verdict: Optional[str], work
         answer = solve(["-j", engines, "--assume", cube, formula])
         want_answer(answer, status, formula, verdict)
         if status == 10 and not set(map(int, literals.split())) <= set(answer.values):
-            raise Failure("the assignment isn't one under the assumptions")
+            raise AssertionError("the assignment isn't one under the assumptions")
 
 
 def contradicting(work: Path) -> None:
@@ -457,7 +450,7 @@ def refused(words: Sequence[object], cause: str, work: Path) -> None:
          f"the message on {words}: {answer.said}")
     cause = cause.format(work=work)
     if cause not in answer.said:
-        raise Failure(f"expected a message on '{cause}', but found\n{answer.said}")
+        raise AssertionError(f"expected a message on '{cause}', but found\n{answer.said}")
 
 
 def refused_by_lrupd(text: Text, words: List[str], known: str, work: Path) -> None:
@@ -684,8 +677,9 @@ def refusals() -> List[Row]:
                     "line 2: variable 2, above the header's 1: the header should be 'p cnf 2 1'")]
 
 
-def main() -> int:
-    return run_built(words_and_files() + taken_texts() + refusals())
+def rows() -> List[Row]:
+    return words_and_files() + taken_texts() + refusals()
 
 
-sys.exit(main())
+pytestmark = FOR_TESTS
+test_row = tested(rows())

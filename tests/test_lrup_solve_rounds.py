@@ -1,13 +1,10 @@
-#!/usr/bin/env python3
 """Runs lrup-solve with rows so small that a run continues for many rounds, and under failures
 there.
-
-    lrup_solve_rounds.py PROGRAM [FLAGS]
 
 One to four engines, with and without sharing, each answer; the record, which lrupd checks again,
 and lrup-chain; a child killed in a round or in the pause after it, checkpoints that can't be
 written, signals; nothing grows from round to round. The rules of sharing between rounds are left
-out one by one. FLAGS and output are as in lrup_solve.py."""
+out one by one."""
 import contextlib
 import glob
 import os
@@ -17,17 +14,15 @@ import resource
 import shutil
 import signal
 import subprocess
-import sys
 from pathlib import Path
-from typing import Any, Dict, List, Mapping, Sequence
+from typing import Dict, List, Mapping, Sequence
 
-sys.dont_write_bytecode = True
-from harness import (LIMIT, LRUP_CHAIN, Failure, Ran, Row, dimacs, example, generated, random_clauses, run, until, want, words_given,
-                     written)
-from solving import (EARLY, PROGRAM, Answer, check_again, children_of, command, end_group, in_environment, in_place_of_lrupd,
-                     is_alive, kill_children, of_process, random_formula, run_built, sleep, solve, want_answer)
+from harness import (LIMIT, LRUP_CHAIN, Ran, Row, dimacs, example, generated, random_clauses, run,
+                     tested, until, want, written)
+from solving import (EARLY, FOR_TESTS, PROGRAM, Answer, check_again, children_of, command,
+                     end_group, in_environment, in_place_of_lrupd, is_alive, kill_children,
+                     of_process, random_formula, sleep, solve, want_answer)
 
-words_given(__doc__, most=2)
 SMALL = {"SAME_WORDS": 1, "SLICE": 40}      # rows that don't grow
 TRIES = 10
 
@@ -206,7 +201,7 @@ class Running:
             if self.pause:
                 self.stop_lrupd()
                 until("the pause, or the end", lambda: bool(self.rounds("sizes")) or self.process.poll() is not None)
-        except Failure:
+        except AssertionError:
             self.__exit__()
             raise
         return self
@@ -245,7 +240,7 @@ def says(answer: Answer, cause: str) -> bool:
 
 def want_cause(answer: Answer, cause: str) -> None:
     if not says(answer, cause):
-        raise Failure(f"expected a message on '{cause}', but found\n{answer.out}")
+        raise AssertionError(f"expected a message on '{cause}', but found\n{answer.out}")
 
 
 def kill(words: Sequence[object], number: int, pause: bool, first_words: int, names: List[str], status: int, cause: str,
@@ -269,7 +264,7 @@ def kill(words: Sequence[object], number: int, pause: bool, first_words: int, na
         if says(answer, cause):
             return
         said.append(answer.out)
-    raise Failure(f"expected a message on '{cause}', but found\n" + "\n".join(said))
+    raise AssertionError(f"expected a message on '{cause}', but found\n" + "\n".join(said))
 
 
 def killed(names: List[str], status: int, cause: str, work: Path) -> None:
@@ -536,8 +531,9 @@ def sharing() -> List[Row]:
             ("floors of gifts", rests_on, "floor", r"bad line|hasn't taken|hasn't saved", {**small, "OUTBOX": 200})]
 
 
-def main() -> int:
-    return run_built([*known(), *what_happens(), *sharing(), *((f"random {seed}", randomly, seed) for seed in range(150))])
+def rows() -> List[Row]:
+    return [*known(), *what_happens(), *sharing(), *((f"random {seed}", randomly, seed) for seed in range(150))]
 
 
-sys.exit(main())
+pytestmark = FOR_TESTS
+test_row = tested(rows())

@@ -1,33 +1,29 @@
-#!/usr/bin/env python3
 """Kills runs of lrup-solve that keep a record, and resumes them, until there is a verdict.
 
-    lrup_solve_resume.py PROGRAM [FLAGS [COUNT]]
-
 Whatever is killed, and however often, the answer has to be that of an undisturbed run; the whole
-record is checked again, and lrup-trim has to accept it. COUNT formulas are solved in this way, 3 by
-default. A record that was changed, truncated or swapped, even with matching digests, has to lead to
-the right answer, to 's UNKNOWN', or to a message that names the file; the record of another formula
-is refused, and nothing in it is touched. It builds like lrup_solve.py. Failures are shown; the last
-line is 'N passed, M failed'. The status is 1 if a run failed. """
+record is checked again, and lrup-trim has to accept it. Three formulas, or --count, are solved in
+this way. A record that was changed, truncated or swapped, even with matching digests, has to lead
+to the right answer, to 's UNKNOWN', or to a message that names the file; the record of another
+formula is refused, and nothing in it is touched."""
 import os
 import random
 import re
 import shutil
 import signal
 import subprocess
-import sys
 import time
 from pathlib import Path
 from typing import Callable, List, Mapping, Optional, Sequence, Tuple
 
-sys.dont_write_bytecode = True
-from harness import (LIMIT, ROOT, Failure, Ran, Row, dimacs, generated, left_out, random_clauses, run, run_all, started, until, want, words_given,
-                     written)
-from records import CHANGES, UNKNOWN, checkpoints, recorded, saved_rounds, want_no_other, whole, with_digests
-from solving import (ANSWERS, EARLY, PROGRAM, SOLVE, Answer, before_lrupd, build, check_again, children_of, command, end_all, end_group,
-                     in_environment, marked, none_left, solve, want_answer)
+import pytest
 
-COUNT = int((words_given(__doc__, most=3) + ["-O2", "3"][len(sys.argv) - 2:])[2])
+from harness import (COUNT, LIMIT, ROOT, Ran, Row, dimacs, generated, needs, random_clauses, run,
+                     started, tested, until, want, written)
+from records import CHANGES, UNKNOWN, checkpoints, recorded, saved_rounds, want_no_other, whole, with_digests
+from solving import (ANSWERS, EARLY, PROGRAM, SOLVE, Answer, before_lrupd, check_again, children_of,
+                     command, end_all, end_group, in_environment, marked, none_left, solve,
+                     want_answer)
+
 SMALL = {"SAME_WORDS": 1, "SLICE": 20, "FIRST_WORDS": 4000}
 PROVED = "s UNSATISFIABLE"
 SCRIPT = ROOT / "examples" / "resume" / "slurm.sh"
@@ -80,6 +76,8 @@ def killed(seed: int, work: Path) -> None:
 
 def with_others(first: Sequence[str], second: Sequence[str], text: str, work: Path) -> None:
     """Resumes with other options than before, and with more or fewer streams."""
+    if "--solver" in second:
+        needs("cadical")
     marked(work)
     kept, formula, cube = work / "kept", generated("pigeons 7", work), written("1 0\n", work, "cube")
     words = [[word.replace("CUBE", str(cube)) for word in some] for some in (first, second)]
@@ -262,8 +260,8 @@ def changed(status: int, seed: int, work: Path) -> None:
         answer = solve(["-j", "2", "--resume", kept, formula], tested=SMALL)
         try:
             want_no_other(answer, status, formula, kept, names)
-        except Failure as found:
-            raise Failure(f"{name}, {names}: {found}") from found
+        except AssertionError as found:
+            raise AssertionError(f"{name}, {names}: {found}") from found
         shutil.rmtree(kept)
 
 
@@ -411,25 +409,24 @@ def unsaved(work: Path) -> None:
     check_again(kept)
 
 
-def rows() -> List[Row]:
-    found: List[Row] = [(f"killed {seed}", killed, seed) for seed in range(COUNT)]
+def rows(count: int) -> List[Row]:
+    found: List[Row] = [(f"killed {seed}", killed, seed) for seed in range(count)]
     under = "s UNSATISFIABLE UNDER ASSUMPTIONS"
     found += [(f"{' '.join(first)}, then {' '.join(second)}", with_others, first, second, text) for first, second, text in (
         (["-j", "1"], ["-j", "3"], PROVED), (["-j", "3"], ["-j", "1"], PROVED), (["-j", "2", "--no-share"], ["-j", "2"], PROVED),
         (["-j", "2"], ["-j", "2", "--no-share"], PROVED),
         (["-j", "2", "--assume", "CUBE"], ["-j", "3", "--assume", "CUBE"], under))]
-    if shutil.which("cadical"):
-        found += [("a solver goes on", with_others, ["-j", "1"], ["--solver", "cadical -q %formula %proof"], PROVED)]
+    found += [("a solver goes on", with_others, ["-j", "1"], ["--solver", "cadical -q %formula %proof"], PROVED)]
     found += [(f"saved at the end, {ENDS[number]}, {'small rows' if tested else 'one row'}", saved_at_the_end, number, tested)
               for number, tested in ((signal.SIGTERM, SMALL), (signal.SIGTERM, {}), (signal.SIGINT, {}), (signal.SIGHUP, SMALL), (None, {}),
                                      (None, SMALL))]
     found += [("in jobs", in_jobs), ("a second signal", second_signal), ("saved by the clock", by_the_clock)]
     found += [("by a pipe", by_a_pipe), ("moved", moved), ("nothing saved", nothing_saved), ("a slow lrupd", lasting)]
-    found += [(f"changed, {ANSWERS[status]}", changed, status, seed) for status in (10, 20) for seed in range(1 + COUNT // 50)]
+    found += [(f"changed, {ANSWERS[status]}", changed, status, seed) for status in (10, 20) for seed in range(1 + count // 50)]
     found += [(f"a stream of round {number} was changed", cut_short, number) for number in (1, 2, 3)]
     found += [(f"forged, {change.__name__}, {ANSWERS[status]}", forged, status, change) for change in FORGED for status in (10, 20)]
     return found + [("another formula", of_another), ("of two runs", of_two), ("can't be saved", unsaved)]
 
 
-cause = build("solve", for_tests=True)
-sys.exit(left_out(f"all of lrup-solve: {cause}") if cause else run_all(rows()))     # none is tried again
+pytestmark = pytest.mark.usefixtures("solve_for_tests")     # none is tried again
+test_row = tested(rows(COUNT or 3))

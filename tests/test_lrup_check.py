@@ -1,28 +1,22 @@
-#!/usr/bin/env python3
 """Runs lrup-check on proofs of several forms, and on faulty ones.
-
-    lrup_check.py PROGRAM [FLAGS]
 
 Proofs are written by CaDiCaL, CryptoMiniSat and PicoSAT, if they are on the PATH, by the example
 solver, and by hand; they come from a file, a pipe and standard input, alone and in parallel, in one
-round and in many. A step that doesn't follow gives no verdict, and its line and clause are named.
-It builds like lrup_solve.py. Failures are shown; the last line is 'N passed, M failed', and ', K
-skipped' if something is missing. The status is 1 if a run failed."""
+round and in many. A step that doesn't follow gives no verdict, and its line and clause are
+named."""
 import os
 import random
 import shutil
-import sys
 import time
 from pathlib import Path
 from typing import List, Mapping, Optional, Sequence
 
-sys.dont_write_bytecode = True
-from harness import EXAMPLES, FOUR, Row, dimacs, example, generated, needs, run, want, words_given, written
+from harness import (EXAMPLES, FOUR, Row, dimacs, example, generated, needs, run, tested, want,
+                     written)
 from lrat import lrat_fault
 from proof_forms import read_formula
-from solving import PROGRAM, SOLVE, TESTED, Answer, check_again, in_environment, run_built
+from solving import FOR_TESTS, PROGRAM, SOLVE, TESTED, Answer, check_again, in_environment
 
-words_given(__doc__, most=2)
 BMC = ["bmc-four.1", "bmc-four.2", "bmc-four.3", "bmc-four.4"]
 MANY_ROUNDS = {"FIRST_WORDS": 4000, "SAME_WORDS": 1}
 FIRST = "p cnf 2 1\n1 2 0\n"
@@ -247,5 +241,5 @@ ROWS: List[Row] = [
     ("by substitution", by_substitution),
 ]
 
-if __name__ == "__main__":
-    sys.exit(run_built(ROWS))
+pytestmark = FOR_TESTS
+test_row = tested(ROWS)

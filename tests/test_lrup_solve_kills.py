@@ -1,32 +1,27 @@
-#!/usr/bin/env python3
 """Runs lrup-solve in small rows, and kills each of its processes in turn, and lrupd repeatedly.
 
-    lrup_solve_kills.py PROGRAM [FLAGS [COUNT]]
-
-Each of COUNT formulas, 10 by default, is solved in an undisturbed run, and then once for each name
-of a process, which is killed some time after its start. The answer has to be right, or 's UNKNOWN';
-if the front is killed, right or none. No process and no file may be left. If a run keeps a record,
+Each of 10 formulas, or --count, is solved in an undisturbed run, and then once for each name of a
+process, which is killed some time after its start. The answer has to be right, or 's UNKNOWN'; if
+the front is killed, right or none. No process and no file may be left. If a run keeps a record,
 lrupd is killed up to five times: the answer is right, and the record is checked again. A program in
 lrupd's place that ends with a status isn't started again, and one that always dies by a signal
-starts three times. It builds like lrup_solve.py. Failures are shown; the last line is 'N passed, M
-failed', and the status is 1 if a run failed."""
+starts three times."""
 import os
 import random
 import re
 import signal
 import subprocess
-import sys
 import time
 from pathlib import Path
 from typing import List, Mapping, Optional, Sequence
 
-sys.dont_write_bytecode = True
 from hard_formulas import miter, parity
-from harness import LIMIT, Ran, Row, dimacs, example, generated, random_clauses, started, until, want, words_given, written
-from solving import (EARLY, FRONT, READING, Answer, before_lrupd, check_again, command, in_environment, is_alive, marked,
-                     none_left, processes_of_run, run_built, solve, want_answer)
+from harness import (COUNT, LIMIT, Ran, Row, dimacs, example, generated, random_clauses, started,
+                     tested, until, want, written)
+from solving import (EARLY, FOR_TESTS, FRONT, READING, Answer, before_lrupd, check_again, command,
+                     in_environment, is_alive, marked, none_left, processes_of_run, solve,
+                     want_answer)
 
-COUNT = int((words_given(__doc__, most=3) + ["-O2", "10"][len(sys.argv) - 2:])[2])
 NAMES = [FRONT, "supervisor", "lrup-engines", "engine 1", "engine 2", "filter 1", "filter 2", "lrupd", READING, "opener", "cleaner"]
 SOON = 6        # seconds in which files are removed after a run's end
 KILLED = "lrupd ended by a signal: Killed"
@@ -188,9 +183,9 @@ def in_its_place(body: str, starts: int, status: int, cause: str, hooks: Optiona
     want(cause == "" or any(cause in line for line in answer.comments), True, f"whether '{cause}' is said in\n{answer.out}")
 
 
-def rows() -> List[Row]:
+def rows(count: int) -> List[Row]:
     small, kept = {"SET": EARLY, "SAME_WORDS": 1, "SLICE": 50, "FIRST_WORDS": 30000}, ["--proofs", "{work}/kept"]
-    found: List[Row] = [(f"formula {seed}", kills, seed) for seed in range(COUNT)]
+    found: List[Row] = [(f"formula {seed}", kills, seed) for seed in range(count)]
     found += [(f"lrupd killed {count} times, {words}, {'small rows' if hooks else options or 'one row'}", killed_again, words, count, most,
                hooks, options)
               for words, count, most, hooks, options in (
@@ -217,4 +212,5 @@ def rows() -> List[Row]:
     return found
 
 
-sys.exit(run_built(rows()))
+pytestmark = FOR_TESTS
+test_row = tested(rows(COUNT or 10))
