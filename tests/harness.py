@@ -342,12 +342,12 @@ def added(said: Iterable[str]) -> int:
 
 class Wanted(NamedTuple):
     """Arguments, and the expected status and outputs, in a folder with these files and pipes; and
-    the expected contents of some files at the end."""
+    the expected contents of some files at the end. A long text comes from a function."""
     words: Words
     status: int
     out: str = ""
     err: str = ""
-    files: Mapping[str, str] = {}
+    files: Mapping[str, Union[str, Callable[[], str]]] = {}
     pipes: Mapping[str, Pieces] = {}
     given: Optional[str] = None
     shell: str = 'exec "$@"'
@@ -356,7 +356,7 @@ class Wanted(NamedTuple):
 
 def answered(program: str, wanted: Wanted, work: Path) -> Ran:
     for name, text in wanted.files.items():
-        written(text, work, name)
+        written(text() if callable(text) else text, work, name)
     for name, pieces in wanted.pipes.items():
         feed(piped(work / name), pieces)
     return run(["sh", "-c", wanted.shell, "sh", program, *wanted.words], wanted.given, cwd=work)

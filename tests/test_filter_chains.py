@@ -14,7 +14,7 @@ import re
 import subprocess
 import sys
 from pathlib import Path
-from typing import Iterable, List, Sequence, Tuple, Union
+from typing import Any, Callable, Iterable, List, Sequence, Tuple, Union
 
 from harness import (EXACT, FILTER, ROOT, SANITIZING, TESTS, Row, dimacs, example, for_tests, needs,
                      random_clauses, run, started, tested, unwatched, want, watched_ends, written)
@@ -218,6 +218,13 @@ def in_rounds(formula: Path, proof: Text, form: str, memory: str, least: int, wo
     want(len(watched_ends(done.err)) >= least, True, f"whether there are {least} rounds")
 
 
+def of_stream(name: str, stream: str, form: str, check: Callable[..., None], *more: Any) -> None:
+    """This check of a recorded stream as a proof in another form."""
+    word, make_proof = FORMS[form]
+    proof = b"".join(make_proof(read_formula(example(name)), read_steps(example(stream))))
+    check(example(name), proof, word, *more)
+
+
 def random_formula(seed: int) -> str:
     """A formula with units, and with clauses that are long for a line."""
     numbers = random.Random(seed)
@@ -275,11 +282,11 @@ def rows_of_chains() -> List[Row]:
 def rows_of_short_lines() -> List[Row]:
     found: List[Row] = []
     for name, stream in (("four-clause.cnf", "four-clause.lrup"), ("pigeonhole.cnf", "pigeonhole.lrup"), ("bmc.cnf", "bmc.lrup")):
-        for form, (word, make_proof) in FORMS.items():
-            proof = b"".join(make_proof(read_formula(example(name)), read_steps(example(stream))))
-            found.append((f"{stream}, {form}, short lines", recorded, example(name), proof, word))
+        for form in FORMS:
+            found.append((f"{stream}, {form}, short lines", of_stream, name, stream, form, recorded))
             if name == "pigeonhole.cnf":
-                found.append((f"{stream}, {form}, short lines in rounds", in_rounds, example(name), proof, word, "12K", 2))
+                found.append((f"{stream}, {form}, short lines in rounds", of_stream, name, stream,
+                              form, in_rounds, "12K", 2))
     proof = (TESTS / "proofs" / "random.drat").read_bytes()
     found += [("random.drat, short lines", recorded, TESTS / "proofs" / "random.cnf", proof, "drat")]
     return found + [(f"random formulas from {first} on, short lines", random_proofs, first, 50) for first in range(0, RANDOM, 50)]

@@ -5,7 +5,7 @@ import socket
 import subprocess
 import sys
 from pathlib import Path
-from typing import Dict, Iterator, List, Tuple
+from typing import Any, Dict, Iterator, List, Tuple
 
 from harness import (FOUR, PROGRAM, ROOT, Pieces, Row, Wanted, Words, answered, answers, example,
                      report, started, tested, want, with_memory, written)
@@ -37,8 +37,8 @@ def recorded(name: str, options: str, *files: str) -> Named:
     return f"{name} {options}", Wanted(words, 0, example(f"{name}.out").read_text())
 
 
-def streams(name: str, options: str, status: int, *said_and_text: str, formula: str = FOUR) -> Named:
-    """The report's line for each stream, and the streams' texts."""
+def streams(name: str, options: str, status: int, *said_and_text: Any, formula: str = FOUR) -> Named:
+    """The report's line for each stream, and the streams' texts, or what makes them."""
     said, texts = said_and_text[::2], said_and_text[1::2]
     names = [f"stream{number}" for number in range(1, len(texts) + 1)]
     files = {"formula": formula, **dict(zip(names, texts))}
@@ -274,7 +274,7 @@ def large() -> Iterator[Named]:
     """The marks of 16,000,000 variables, a set of 1,100,000 dropped identities, and a row with room
     for 16,000,000 literals; streams longer than a ring: 200,000 line ends, and 20,000 lines."""
     yield streams("16,000,000 variables", "", 3, ADDED, "2 16000000 0 1 0\n", formula="p cnf 16000000 1\n16000000 0\n")
-    drops = "".join(f"5 d {identity} 0\n" for identity in range(6, 2200005, 2))
+    drops = lambda: "".join(f"5 d {identity} 0\n" for identity in range(6, 2200005, 2))
     yield streams("1,100,000 identities dropped", "--lines 1100000", 3, "0 added, 1100000 deleted, ended", drops,
                   "0 added, 0 deleted, ended", "")
     lines = "".join(f"{identity} 2 0 1 2 0\n" for identity in range(5, 20005))
