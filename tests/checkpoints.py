@@ -51,8 +51,7 @@ def sorted_literals(text: str) -> List[str]:
     lines = []
     for line in text.split("\n"):
         if line and line[0] not in "cp":
-            if not re.fullmatch(r"(-?[1-9]\d* )*0", line):
-                raise AssertionError(f"a clause is misspelled: {line}")
+            assert re.fullmatch(r"(-?[1-9]\d* )*0", line), f"a clause is misspelled: {line}"
             line = " ".join(sorted(set(line.split()[:-1]), key=int))
         lines.append(line)
     return lines

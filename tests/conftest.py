@@ -6,8 +6,6 @@ from typing import Iterator, Optional, Tuple
 
 import pytest
 
-pytest.register_assert_rewrite(
-    "harness", "solving", "checkpoints", "faulty", "hostile", "records", "refused", "rewriting")
 import harness
 
 

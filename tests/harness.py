@@ -137,8 +137,7 @@ def within(limit: Optional[int]) -> None:
 def until(what: str, condition: Callable[[], bool], seconds: float = LIMIT) -> None:
     end = time.monotonic() + seconds
     while not condition():
-        if time.monotonic() > end:
-            raise AssertionError(f"not within {seconds} seconds: {what}")
+        assert time.monotonic() <= end, f"not within {seconds} seconds: {what}"
         time.sleep(0.01)
 
 
@@ -190,8 +189,7 @@ def waiting(pipe: int) -> int:
 def read_line(file: IO[bytes]) -> str:
     """A line that comes while the pipe is open."""
     ready, _, _ = select.select([file], [], [], LIMIT)
-    if not ready:
-        raise AssertionError("no line came while the pipe was open")
+    assert ready, "no line came while the pipe was open"
     return file.readline().decode()
 
 
@@ -284,7 +282,8 @@ def for_tests(program: Path, sources: Iterable[Path], *flags: str) -> Path:
     """A build that checks its invariants, and reports undefined behaviour if the compiler can. It
     is built if it is out of date, or was built by another command."""
     sources, helps = sorted(sources), ROOT / "out" / "objects"
-    words = ["-DCHECKED", "-I", str(helps), *(SANITIZE if sanitizer() else ["-std=c11", "-O1"]), *flags]
+    words = ["-DCHECKED", "-I", str(helps), *flags]
+    words += SANITIZE if sanitizer() else ["-std=c11", "-O1"]
     folders = {helps, *(path.parent for path in sources)}
     with alone(program.with_name(f"{program.name}.lock")) as lock:
         command = shlex.join([*(sanitizer() or compiler()), *words])
@@ -313,7 +312,8 @@ def sanitized_trim() -> Path:
 
 @functools.lru_cache(maxsize=None)
 def sanitized_explain() -> Path:
-    return for_tests(SANITIZED_EXPLAIN, [*sources_of("explain"), ROOT / "tools" / "trim" / "lines.c"])
+    shared = ROOT / "tools" / "trim" / "lines.c"
+    return for_tests(SANITIZED_EXPLAIN, [*sources_of("explain"), shared])
 
 
 # The answers expected of the checker.
@@ -382,8 +382,11 @@ def with_memory(function: Callable[..., None], *arguments: Any) -> None:
 
 
 def tested(rows: Iterable[Row]) -> Callable[[Row, Path], None]:
-    """A test that pytest runs for each row."""
-    @pytest.mark.parametrize("row", [pytest.param(row, id=row[0]) for row in rows])
+    """A test that pytest runs for each row. Rows that take gigabytes don't run side by side."""
+    group = {with_memory: [pytest.mark.xdist_group("memory")]}
+    params = [pytest.param(row, id=row[0], marks=group.get(row[1], [])) for row in rows]
+
+    @pytest.mark.parametrize("row", params)
     def test(row: Row, work: Path) -> None:
         __tracebackhide__ = True
         _, function, *arguments = row

@@ -90,8 +90,7 @@ def withstands(command: Callable[[int, Path], Words], statuses: Sequence[int], r
             folder.mkdir()
             words = [*command(number, folder), formula, *paths]
             done = run(words, limit=60, env={**os.environ, **SANITIZING})
-            if done.status not in statuses:
-                raise AssertionError(f"run {number} ends with {done.status}: {done.err}")
+            assert done.status in statuses, f"run {number} ends with {done.status}: {done.err}"
             ended.append((done.status, folder))
     return ended
 

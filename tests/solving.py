@@ -81,8 +81,7 @@ def want_answer(answer: Answer, status: Optional[int], formula: Optional[Path] =
     want([abs(value) for value in answer.values], [*range(1, int(header[1]) + 1), 0], "the variables of the assignment")
     true = set(answer.values)
     for clause in read_formula(formula):
-        if not true & set(clause):
-            raise AssertionError(f"the assignment makes the clause {clause} false")
+        assert true & set(clause), f"the assignment makes the clause {clause} false"
 
 
 def random_formula(seed: int) -> str:

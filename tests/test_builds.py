@@ -10,6 +10,8 @@ import shutil
 from pathlib import Path
 from typing import Dict, List, Sequence, Set
 
+import pytest
+
 from harness import FILTER, ROOT, Row, needs, run, tested, want, written
 
 C = {"CC": "one-cc", "CFLAGS": "-DFLAG_OF_C", "CPPFLAGS": "-DFLAG_OF_BOTH", "LDFLAGS": "-Lflag", "LDLIBS": "-lflag"}
@@ -143,4 +145,5 @@ def rows() -> List[Row]:
     return found
 
 
+pytestmark = pytest.mark.xdist_group("builds")     # several makes would write the same files
 test_row = tested(rows())

@@ -63,8 +63,7 @@ def judge_solver(said: str, status: Optional[int], answer: int, path: Path) -> T
     if answer == SATISFIABLE:
         true = {line.split()[1] for line in said.splitlines() if line.startswith("v ")}
         for clause in clauses_of(path):
-            if not true & set(clause):
-                raise AssertionError(f"the assignment doesn't satisfy {clause}")
+            assert true & set(clause), f"the assignment doesn't satisfy {clause}"
     ended = [line + ", ended" for line in said.splitlines() if line.startswith("c stream")]
     wanted = 0 if answer == UNSATISFIABLE else 3
     return "\n".join([*ended, VERDICTS[wanted], ""]), wanted
@@ -143,8 +142,8 @@ def killed(program: str, solver: List[str], words: str, streams: int, seconds: f
             out, _ = checker.communicate(timeout=LIMIT)
     *lines, verdict = out.splitlines()
     pattern = r"c stream \d+: [1-9]\d* added, \d+ deleted, (ended|bad line \d+ \(truncated\))"
-    if len(lines) != streams or not all(re.fullmatch(pattern, line) for line in lines) or verdict != VERDICTS[3]:
-        raise AssertionError(f"a solver was killed, and the report is\n{out}")
+    assert len(lines) == streams and all(re.fullmatch(pattern, line) for line in lines) and verdict == VERDICTS[3], (
+        f"a solver was killed, and the report is\n{out}")
 
 
 def rows(program: str, solver: str) -> List[Row]:

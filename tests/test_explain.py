@@ -56,8 +56,7 @@ def faults_in(done: Ran) -> Faults:
 
 def reported(done: Ran) -> Faults:
     """The faults in lrupd's report."""
-    if done.status not in (0, 3):
-        raise AssertionError(f"lrupd's status {done.status}: {done.err}")
+    assert done.status in (0, 3), f"lrupd's status {done.status}: {done.err}"
     return {int(stream): (int(line), words)
             for stream, line, words in re.findall(r"^c stream (\d+): .*, bad line (\d+) \((.*)\)$", done.out, re.M)}
 
@@ -249,8 +248,7 @@ def other_hints_alone(seed: int, work: Path) -> None:
         if not faults_in(done):
             return
         now = mended(done, texts, found.clauses)
-        if not now:
-            raise AssertionError(f"no chain is offered in\n{done.out}")
+        assert now, f"no chain is offered in\n{done.out}"
         texts = now[2]
     raise AssertionError("more lines than three were bad")
 
@@ -574,8 +572,7 @@ def emitter(work: Path) -> None:
             break
         found = mended(done, texts, clauses)
         follows = re.search(LEFT_OUT, done.out, re.M)
-        if not found or not follows:
-            raise AssertionError(f"the output doesn't say what is left out:\n{done.out}")
+        assert found and follows, f"the output doesn't say what is left out:\n{done.out}"
         texts, mended_lines = found[2], mended_lines + 1
     want((faults_in(done), mended_lines > 0), ({}, True), "the faults, and whether lines were mended")
     want(run([PROGRAM, formula, written(texts[0], work, "right")]).status, 0, "lrupd's status in the end")

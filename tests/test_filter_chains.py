@@ -283,7 +283,8 @@ def rows_of_short_lines() -> List[Row]:
     found: List[Row] = []
     for name, stream in (("four-clause.cnf", "four-clause.lrup"), ("pigeonhole.cnf", "pigeonhole.lrup"), ("bmc.cnf", "bmc.lrup")):
         for form in FORMS:
-            found.append((f"{stream}, {form}, short lines", of_stream, name, stream, form, recorded))
+            found.append((f"{stream}, {form}, short lines", of_stream, name, stream, form,
+                          recorded))
             if name == "pigeonhole.cnf":
                 found.append((f"{stream}, {form}, short lines in rounds", of_stream, name, stream,
                               form, in_rounds, "12K", 2))

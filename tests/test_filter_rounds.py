@@ -137,8 +137,8 @@ def want_added(checked: Checked, count: int, form: str) -> None:
     """As many additions as the proof has; without hints the empty clause comes as soon as unit
     propagation finds it."""
     is_whole = "LRAT" in form or form == "FRAT with hints"
-    if not (count if is_whole else 1) <= checked.added() <= count:
-        raise AssertionError(f"{checked.added()} additions of all rounds, and the proof has {count}")
+    assert (count if is_whole else 1) <= checked.added() <= count, (
+        f"{checked.added()} additions of all rounds, and the proof has {count}")
 
 
 def recorded(name: str, stream: str, memory: str, least: int, most: int, form: str, is_named: bool, program: Path, work: Path) -> None:
@@ -242,13 +242,14 @@ def wrong(form: str, at: int, work: Path) -> None:
     want((checked.status, checked.ends(), checked.filter_status), (3, {"ended"}, 1), "the end")
     count = sum(step.kind == "a" for step in steps[:at])
     want((checked.added(), len(checked.rounds) > 2), (count, True), "additions before it, in more than two rounds")
-    if not checked.filter_said.startswith(f"lrup-exact: {place}: no conflict"):
-        raise AssertionError(f"wanted a word on {place}, and not\n{checked.filter_said}")
+    assert checked.filter_said.startswith(f"lrup-exact: {place}: no conflict"), (
+        f"wanted a word on {place}, and not\n{checked.filter_said}")
 
 
 @functools.lru_cache(maxsize=None)
 def largest_row() -> Path:
-    return for_tests(FILTER.parent / "exact-largest-row", EXACT.glob("*.c"), f"-DMOST_WORDS={WORDS}")
+    return for_tests(FILTER.parent / "exact-largest-row", EXACT.glob("*.c"),
+                     f"-DMOST_WORDS={WORDS}")
 
 
 def no_room(work: Path) -> None:
@@ -407,8 +408,8 @@ def lrupd_ends(body: str, status: int, awaited: int, work: Path) -> None:
     lrupd = in_place_of_lrupd(f"for stream; do :; done; {body}", work)
     checked = check(example("bmc.cnf"), proof, ["--memory", "48K", "--format", word], work, lrupd=lrupd)
     want((checked.status, checked.filter_status), (status, 1), "the ends")
-    if not re.fullmatch("lrup-exact: (byte [0-9]+: )?" + gone(awaited), checked.filter_said):
-        raise AssertionError(f"wanted '{gone(awaited)}', and not\n{checked.filter_said}")
+    assert re.fullmatch("lrup-exact: (byte [0-9]+: )?" + gone(awaited), checked.filter_said), (
+        f"wanted '{gone(awaited)}', and not\n{checked.filter_said}")
     want(left(work), [], "files that are left")
 
 
@@ -461,8 +462,8 @@ def lrupd_killed(work: Path) -> None:
         sides.go_on()
         said, status, filter_said, filter_status = sides.ends()
     want((said, status, filter_status), ("", -signal.SIGKILL, 1), f"the ends, after\n{filter_said}")
-    if not re.fullmatch(rf"lrup-exact: (cannot write the stream: Broken pipe|byte \d+: {GONE}d/round-\d+\.stream-1)\n", filter_said):
-        raise AssertionError(f"the filter's message: {filter_said}")
+    assert re.fullmatch(rf"lrup-exact: (cannot write the stream: Broken pipe|byte \d+: {GONE}d/round-\d+\.stream-1)\n", filter_said), (
+        f"the filter's message: {filter_said}")
 
 
 def filter_killed(by: int, work: Path) -> None:

@@ -48,8 +48,8 @@ def check(program: str, formula: Path, streams: Sequence[Tuple[object, int]]) ->
     for number, (line, (path, wanted)) in enumerate(zip(lines, streams), 1):
         found = re.fullmatch(rf"c stream {number}: (\d+) added, \d+ deleted, ended", line)
         count = int(found[1]) if found else -1
-        if count != wanted and not (0 <= count < wanted and is_refuting(path)):
-            raise AssertionError(f"expected {wanted} additions, but found\n{line}")
+        assert count == wanted or 0 <= count < wanted and is_refuting(path), (
+            f"expected {wanted} additions, but found\n{line}")
 
 
 def at_place(stream: Tuple[object, int], place: int, count: int) -> List[Tuple[object, int]]:
@@ -182,8 +182,8 @@ def stops(formula: str, proof: Text, cause: str, lines: str, words: List[str], w
     """The filter stops at the line or byte of the cause, after writing the lines before it."""
     text, said, status = exact([*words, written(formula, work)], proof)
     want((text, status), (lines, 1), "the output")
-    if not said.startswith("lrup-exact: ") or cause not in said or said.count("\n") != 1:
-        raise AssertionError(f"expected a message on '{cause}', but found\n{said}")
+    assert said.startswith("lrup-exact: ") and cause in said and said.count("\n") == 1, (
+        f"expected a message on '{cause}', but found\n{said}")
 
 
 def comes_out(formula: str, proof: Text, lines: str, words: List[str], work: Path) -> None:
@@ -520,8 +520,8 @@ def many_deletions(program: str, count: int, work: Path) -> None:
     identities = " ".join(map(str, range(1, count + 1)))
     text, said, status = exact([formula], f"{count + 5} d {identities} 0\n{count + 5} 2 0 {count + 1} {count + 2} 0\n")
     want((said, status), ("", 0), "the filter's messages")
-    if max(len(line.split()) for line in text.splitlines()) > 65536 + 3:
-        raise AssertionError("a line has more identities than a line may have")
+    assert max(len(line.split()) for line in text.splitlines()) <= 65536 + 3, (
+        "a line has more identities than a line may have")
     check_report(program, formula, text, f"1 added, {count} deleted, ended", work)
 
 

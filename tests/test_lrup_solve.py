@@ -122,8 +122,8 @@ def impostor(body: str, cause: str, work: Path) -> None:
     path = in_place_of_lrupd(f"case \"$*\" in *' /dev/null') exit 3;; esac\n{body}", work)
     answer = solve(["--lrupd", path, example("bmc.cnf")])
     want_answer(answer, 0)
-    if not any(re.search(cause, line) for line in answer.comments):
-        raise AssertionError(f"expected a message on '{cause}', but found\n{answer.out}")
+    assert any(re.search(cause, line) for line in answer.comments), (
+        f"expected a message on '{cause}', but found\n{answer.out}")
 
 
 # Events during a run.

@@ -284,7 +284,7 @@ def repeatable(function: Callable[..., None], *arguments: object) -> None:
     try:
         function(*given, work, log)
     except (AssertionError, OSError, LookupError, ValueError, subprocess.SubprocessError) as found:
-        again = shlex.join(["--flags", FLAGS, "--seed", str(given[-1]), *["--minutes", "0.01"] * SIZE])
+        again = f"make days SEED={given[-1]} MINUTES={0.01 * SIZE}"
         raise AssertionError(f"{type(found).__name__}: {found}\nbefore it, in turn:\n  " + "\n  ".join(log) + f"\nagain: {again}") from found
 
 

@@ -306,8 +306,8 @@ def assuming(text: str, literals: str, status: int, verdict: Optional[str], work
     for engines in ("1", "3"):
         answer = solve(["-j", engines, "--assume", cube, formula])
         want_answer(answer, status, formula, verdict)
-        if status == 10 and not set(map(int, literals.split())) <= set(answer.values):
-            raise AssertionError("the assignment isn't one under the assumptions")
+        assert status != 10 or set(map(int, literals.split())) <= set(answer.values), (
+            "the assignment isn't one under the assumptions")
 
 
 def contradicting(work: Path) -> None:
@@ -449,8 +449,7 @@ def refused(words: Sequence[object], cause: str, work: Path) -> None:
     want((answer.out, answer.status, answer.said.count("\n"), answer.said.startswith("lrup-solve: ")), ("", 1, 1, True),
          f"the message on {words}: {answer.said}")
     cause = cause.format(work=work)
-    if cause not in answer.said:
-        raise AssertionError(f"expected a message on '{cause}', but found\n{answer.said}")
+    assert cause in answer.said, f"expected a message on '{cause}', but found\n{answer.said}"
 
 
 def refused_by_lrupd(text: Text, words: List[str], known: str, work: Path) -> None:

@@ -239,8 +239,7 @@ def says(answer: Answer, cause: str) -> bool:
 
 
 def want_cause(answer: Answer, cause: str) -> None:
-    if not says(answer, cause):
-        raise AssertionError(f"expected a message on '{cause}', but found\n{answer.out}")
+    assert says(answer, cause), f"expected a message on '{cause}', but found\n{answer.out}"
 
 
 def kill(words: Sequence[object], number: int, pause: bool, first_words: int, names: List[str], status: int, cause: str,

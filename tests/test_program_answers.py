@@ -321,8 +321,8 @@ def usage(program: str, words: List[str], work: Path) -> None:
     out, err, status = answered(program, Wanted(words, 2, files={**FILES, "cube": CUBE.read_text()}), work)
     want((out, status), ("", 2), "the output and the status")
     lines = err.splitlines()
-    if not lines or lines.count(lines[0]) != 1 or any(line.startswith("lrupd: ") for line in lines):
-        raise AssertionError(f"expected one usage message, but found\n{err}")
+    assert lines and lines.count(lines[0]) == 1 and not any(line.startswith("lrupd: ") for line in lines), (
+        f"expected one usage message, but found\n{err}")
 
 
 def help_text(program: str, work: Path) -> None:
@@ -333,8 +333,7 @@ def help_text(program: str, work: Path) -> None:
     want(*([(name, value.lower(), interface.words_in(text)) for name, value, text in options] for options in (shown, items)),
          "the options in --help")
     sizes, words = (" ".join(interface.words_in(text)) for text in (interface.part(interface.MANUAL, "sizes"), err))
-    if sizes not in words:
-        raise AssertionError(f"wanted '{sizes}' in\n{err}")
+    assert sizes in words, f"wanted '{sizes}' in\n{err}"
 
 
 def many_watched(program: str, work: Path) -> None:

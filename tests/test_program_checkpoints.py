@@ -204,8 +204,8 @@ def torn(program: str, way: List[str], limit: Optional[int], work: Path) -> None
         if limit is None:
             run(["umount", path.parent])
     want(found, Ran(report([NOTHING], 3), NOT_WRITTEN, 9), "the answer")
-    if not 0 < len(left) < len(whole) or not whole.encode().startswith(left):
-        raise AssertionError(f"{len(left)} bytes are left, which aren't a part of the checkpoint")
+    assert 0 < len(left) < len(whole) and whole.encode().startswith(left), (
+        f"{len(left)} bytes are left, which aren't a part of the checkpoint")
     again = run([program, written(left, work, "torn"), "/dev/null"])
     want((again.out, again.err[:24], again.status), ("", "lrupd: formula refused: ", 4), "the message on them")
 

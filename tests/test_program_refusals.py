@@ -320,8 +320,9 @@ def leave(machine: Machine, folder: Path, count: int) -> Tuple[int, List[str]]:
 
 
 def kept(work: Path) -> None:
-    """A test that opens and drops a store of 16 million words four times. Opening takes 128,000,000 bytes for the row, and as much again until it returns. Here
-    are 307,200,000; a second list that is still there would need 384,000,000."""
+    """A test that opens and drops a store of 16 million words four times. Opening takes 128,000,000
+    bytes for the row, and as much again until it returns. Here are 307,200,000; a second list that
+    is still there would need 384,000,000."""
     name, most = "memory::a_large_store_is_given_back", 307_200_000
     ran = run([program_of_tests("clause_store"), f"tests::{name}"],
               preexec_fn=lambda: resource.setrlimit(resource.RLIMIT_AS, (most, most)))
@@ -339,7 +340,8 @@ def with_input(name: str, program: str, work: Path) -> None:
     """Calls of each kind are refused, in a run with this input."""
     machine = Machine(program, work)
     given = next(given for given in inputs(work) if given.name == name)
-    all_right([answer for kind, how in kinds(given) for answer in sweep(machine, given, kind, how)[1]])
+    all_right([answer for kind, how in kinds(given)
+               for answer in sweep(machine, given, kind, how)[1]])
 
 
 def lines_and_clauses(serial: str, program: str, work: Path) -> None:
@@ -370,7 +372,8 @@ def rows(program: str) -> Iterator[Row]:
     yield "a program that waits for no thread", unjoined
     with tempfile.TemporaryDirectory() as folder:
         names = [given.name for given in inputs(Path(folder))]
-    for name in sorted(names, key=lambda name: not name.startswith("four solvers")):    # the longest
+    names.sort(key=lambda name: not name.startswith("four solvers"))    # they take longest
+    for name in names:
         if not name.startswith(COUNTED):
             yield name, with_input, name, program
     for serial in "", " --serial":

@@ -98,8 +98,8 @@ def shown(name: str, files: Sequence[str], packages: Sequence[str], work: Path) 
     surroundings = {**os.environ, "PATH": f"{work / 'bin'}:{os.environ['PATH']}"}
     done = run(["bash", "-c", script], limit=LIMIT, cwd=work, env=surroundings, stderr=subprocess.STDOUT)
     pieces = re.split(r"\n-- \d+\n", done.out)
-    if len(pieces) != len(commands) + 1:
-        raise AssertionError(f"{len(pieces) - 1} commands of {len(commands)} ended:\n{done.out[-2000:]}")
+    assert len(pieces) == len(commands) + 1, (
+        f"{len(pieces) - 1} commands of {len(commands)} ended:\n{done.out[-2000:]}")
     for command, said in zip(commands, pieces):
         if command.wanted and not re.fullmatch(pattern(command.wanted), said + "\n" * (said != "" and not said.endswith("\n"))):
             wanted = "\n".join(command.wanted)

@@ -306,8 +306,7 @@ def garbled_trim(found: Garbled, formula: Path, rehints: bool, work: Path) -> Op
     done = trim([*outputs_of(work), *["--re-hint"] * rehints, formula, *proof], work)
     left = [name for name in [*OUTPUTS, "lrat.re-hint"] if (work / name).exists()]
     for line in done.err.splitlines():
-        if not re.fullmatch(FAULT, line):
-            raise AssertionError(f"the message: {line}")
+        assert re.fullmatch(FAULT, line), f"the message: {line}"
     if done.status == 1:
         want((done.out, left, done.err != ""), ("", [], True), "the files left")
         return None
