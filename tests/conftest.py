@@ -2,7 +2,7 @@
 import os
 import tempfile
 from pathlib import Path
-from typing import Iterator, Optional, Tuple
+from typing import Any, Iterator, Optional, Tuple
 
 import pytest
 
@@ -32,6 +32,13 @@ def pytest_configure(config: pytest.Config) -> None:
 def pytest_report_teststatus(report: pytest.TestReport) -> Optional[Tuple[str, str, str]]:
     """Rows that pass are counted, and not shown."""
     return ("passed", "", "PASSED") if report.passed and report.when == "call" else None
+
+
+def pytest_terminal_summary(terminalreporter: Any) -> None:
+    """Says why rows were tried again."""
+    for report in terminalreporter.stats.get("rerun", []):
+        why = getattr(report.longrepr, "reprcrash", report.longrepr)
+        terminalreporter.write_line(f"{report.nodeid}, tried again: {getattr(why, 'message', why)}")
 
 
 @pytest.fixture

@@ -14,7 +14,6 @@ passed; otherwise one row of each kind, in less than a minute."""
 import contextlib
 import os
 import random
-import shlex
 import shutil
 import signal
 import subprocess
@@ -28,7 +27,7 @@ from hard_formulas import miter, parity
 from harness import (LIMIT, MINUTES, SEED, Ran, Row, dimacs, generated, random_clauses, run,
                      started, tested, until, want, within, written)
 from records import CHANGES, UNKNOWN, saved_rounds, want_no_other, whole
-from solving import (ANSWERS, EARLY, FLAGS, Answer, command, in_environment, is_alive, marked,
+from solving import (ANSWERS, EARLY, Answer, command, in_environment, is_alive, marked,
                      none_left, of_process, processes_of_run, solve, want_answer)
 
 END = time.monotonic() + 60 * MINUTES
