@@ -333,13 +333,13 @@ packages: ## check: install, as root, the Debian packages that tests need
 # the crates' tests, and builds the program with two compilers; then the tests of programs, those of
 # pytest in one run, the longest first, without the rows of --mpi that wait for long. The last line
 # is rt's own, 'N passed, M failed'.
-ROWS := lrup_solve_mpi builds lrup_solve_rounds program_refusals filter_mutants lrup_solve \
-	lrup_solve_solvers \
-	lrup_solve_cubes filter_rounds lrup_solve_resume explain trim lrup_solve_front lrup_solve_days \
-	lrup_solve_hostile lrup_solve_inputs lrup_solve_kept lrup_solve_kills lrup_solve_trusted \
-	lrup_check program_leaks filter_chains filter_streams filter_solvers program_checkpoints \
-	lrup_chain example_chain program_rounds program_rounds_alone program_answers program_groups \
-	example_solver program_neighbours program_live shown quotes
+ROWS := lrup_solve_mpi lrup_solve_rounds program_refusals filter_mutants lrup_solve \
+	lrup_solve_solvers lrup_solve_cubes filter_rounds lrup_solve_resume explain trim \
+	lrup_solve_front lrup_solve_days lrup_solve_hostile lrup_solve_inputs lrup_solve_kept \
+	lrup_solve_kills lrup_solve_trusted lrup_check builds program_leaks filter_chains \
+	filter_streams filter_solvers program_checkpoints lrup_chain example_chain program_rounds \
+	program_rounds_alone program_answers program_groups example_solver program_neighbours \
+	program_live shown quotes
 test: SHELL := /bin/bash
 test: toolchain pytest pages solver exact trim explain ## check: the gate, 25 to 100 minutes: every proof, edit and test; has to pass before a push
 	@rm -f $(dir $(SOLVE))lrupd; set -o pipefail; log=$$(mktemp); trap 'rm -f "$$log"' EXIT; SECONDS=0; \

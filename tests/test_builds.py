@@ -12,7 +12,7 @@ from typing import Dict, List, Sequence, Set
 
 import pytest
 
-from harness import FILTER, ROOT, Row, needs, run, tested, want, written
+from harness import FILTER, LIMIT, ROOT, Row, needs, run, tested, want, written
 
 C = {"CC": "one-cc", "CFLAGS": "-DFLAG_OF_C", "CPPFLAGS": "-DFLAG_OF_BOTH", "LDFLAGS": "-Lflag", "LDLIBS": "-lflag"}
 WORDS = {**C, "CXX": "one-cxx", "CXXFLAGS": "-DFLAG_OF_CXX"}
@@ -103,7 +103,7 @@ def installed(work: Path) -> None:
     program = written("#!/bin/sh\necho 'usage: lrupd [--lines N] [--help]'\n", work, "lrupd")
     program.chmod(0o755)
     words = ["RT=none", f"DESTDIR={work}/a place", "PREFIX=/usr"]
-    make = lambda *more: run(["make", "-s", "-C", ROOT, *more, *words], env=clean({}))
+    make = lambda *more: run(["make", "-s", "-C", ROOT, *more, *words], limit=2 * LIMIT, env=clean({}))
     want((make("-n", "install", f"PROGRAM={program}").status, (work / "a place").exists()), (0, False), "the status of make -n install, and whether it makes the folder")
     done = make("install", f"PROGRAM={program}")
     want((done.err, done.status), ("", 0), "the output of make install")
@@ -127,7 +127,8 @@ def packaged(work: Path) -> None:
     for command in ("dpkg-deb", "dpkg-shlibdeps"):
         needs(command)
     place = work / "package"
-    done = run(["make", "-s", "-C", ROOT, "install", "RT=none", f"PROGRAM={FILTER}", f"DESTDIR={place}", "PREFIX=/usr"], env=clean({}))
+    words = ["RT=none", f"PROGRAM={FILTER}", f"DESTDIR={place}", "PREFIX=/usr"]
+    done = run(["make", "-s", "-C", ROOT, "install", *words], limit=2 * LIMIT, env=clean({}))
     want((done.err, done.status), ("", 0), "the output of make install")
     want(run(["sh", ROOT / "tools" / "deb.sh", place, "1"]).status, 0, "the status of deb.sh")
     pages = [*(place / "usr/share/doc/lrupd").glob("**/*.md")]
