@@ -381,7 +381,7 @@ def with_memory(function: Callable[..., None], *arguments: Any) -> None:
 # Rows.
 
 
-def tested(rows: Iterable[Row]) -> Callable[[Row, Path], None]:
+def parametrized(rows: Iterable[Row]) -> Callable[[Row, Path], None]:
     """A test that pytest runs for each row. Rows that take gigabytes don't run side by side."""
     group = {with_memory: [pytest.mark.xdist_group("memory")]}
     params = [pytest.param(row, id=row[0], marks=group.get(row[1], [])) for row in rows]

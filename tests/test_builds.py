@@ -12,7 +12,7 @@ from typing import Dict, List, Sequence, Set
 
 import pytest
 
-from harness import FILTER, LIMIT, ROOT, Row, needs, run, tested, want, written
+from harness import FILTER, LIMIT, ROOT, Row, needs, parametrized, run, want, written
 
 C = {"CC": "one-cc", "CFLAGS": "-DFLAG_OF_C", "CPPFLAGS": "-DFLAG_OF_BOTH", "LDFLAGS": "-Lflag", "LDLIBS": "-lflag"}
 WORDS = {**C, "CXX": "one-cxx", "CXXFLAGS": "-DFLAG_OF_CXX"}
@@ -147,4 +147,4 @@ def rows() -> List[Row]:
 
 
 pytestmark = pytest.mark.xdist_group("builds")     # several makes would write the same files
-test_row = tested(rows())
+test_row = parametrized(rows())

@@ -11,7 +11,7 @@ from pathlib import Path
 from typing import List, NamedTuple, Sequence
 
 from harness import (EXAMPLES, LRUP_CHAIN, PROGRAM, SOLVER, VERDICTS, Ran, Row, added, example,
-                     generated, run, tested, unwatched, want, watched_ends, written)
+                     generated, parametrized, run, unwatched, want, watched_ends, written)
 
 CHAIN = EXAMPLES / "chain.py"
 TRIES = ["--tries", "1000000"]
@@ -145,4 +145,4 @@ def rows(program: str, solver: str) -> List[Row]:
     return [*found, ("assumptions", under_assumptions, program), ("a clause that nobody derives", never_derived, program)]
 
 
-test_row = tested(rows(PROGRAM, str(SOLVER)))
+test_row = parametrized(rows(PROGRAM, str(SOLVER)))

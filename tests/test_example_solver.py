@@ -13,8 +13,8 @@ import time
 from pathlib import Path
 from typing import IO, List, Optional, Tuple
 
-from harness import (LIMIT, PROGRAM, SOLVER, VERDICTS, Row, generated, held, piped, run, started,
-                     tested, until, want, written)
+from harness import (LIMIT, PROGRAM, SOLVER, VERDICTS, Row, generated, held, parametrized, piped,
+                     run, started, until, want, written)
 
 OPTIONS = ["--tries", "1000000"]
 LARGE = OPTIONS + ["--lines", "1000000", "--room", "10000000"]
@@ -163,4 +163,4 @@ def rows(program: str, solver: str) -> List[Row]:
     return found
 
 
-test_row = tested(rows(PROGRAM, str(SOLVER)))
+test_row = parametrized(rows(PROGRAM, str(SOLVER)))

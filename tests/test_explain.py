@@ -21,8 +21,8 @@ from typing import Callable, Dict, List, NamedTuple, Optional, Sequence, Set, Tu
 
 from faulty import garbled_text, refuted
 from harness import (AGAIN_IF_LATE, COMPRESSED, COUNT, EXAMPLES, EXPLAIN, FOUR, PROGRAM, ROOT,
-                     SANITIZING, Ran, Row, compiler, example, generated, piped, run,
-                     sanitized_explain, tested, want, written)
+                     SANITIZING, Ran, Row, compiler, example, generated, parametrized, piped, run,
+                     sanitized_explain, want, written)
 from rewriting import cut_while_read, withstands
 from test_filter_mutants import Mutant, proofs
 
@@ -655,4 +655,4 @@ def rows(count: int, mutants: int) -> List[Row]:
 
 
 pytestmark = AGAIN_IF_LATE
-test_row = tested(rows(COUNT or 2000, COUNT or 1000))
+test_row = parametrized(rows(COUNT or 2000, COUNT or 1000))

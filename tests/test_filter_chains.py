@@ -17,7 +17,8 @@ from pathlib import Path
 from typing import Any, Callable, Iterable, List, Sequence, Tuple, Union
 
 from harness import (EXACT, FILTER, ROOT, SANITIZING, TESTS, Row, dimacs, example, for_tests, needs,
-                     random_clauses, run, started, tested, unwatched, want, watched_ends, written)
+                     parametrized, random_clauses, run, started, unwatched, want, watched_ends,
+                     written)
 from lrat import lrat_fault
 from proof_forms import FORMS, read_formula, read_steps
 from solving import PROGRAM, built, solve, want_answer
@@ -301,4 +302,4 @@ def rows() -> List[Row]:
     return [*found, ("LRAT of two streams", without_identities)]
 
 
-test_row = tested(rows())
+test_row = parametrized(rows())

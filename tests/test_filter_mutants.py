@@ -19,7 +19,7 @@ from pathlib import Path
 from typing import Callable, Iterator, List, Optional, Sequence, Tuple
 
 from harness import (COUNT, FILTER, FIRST, PROGRAM, SANITIZE, SANITIZED, SANITIZING, Row, example,
-                     lacking, run, sanitized_filter, sanitizer, tested, written)
+                     lacking, parametrized, run, sanitized_filter, sanitizer, written)
 from proof_forms import FORMS, Clause, Step, frat, read_formula, read_steps, varint
 
 KEPT = FILTER.parent / "mutants"
@@ -240,4 +240,4 @@ def rows(count: int, first: int) -> Iterator[Row]:
         yield f"mutants {start} to {numbers[-1]}", mutants, numbers
 
 
-test_row = tested(rows(COUNT or 10000, FIRST))
+test_row = parametrized(rows(COUNT or 10000, FIRST))

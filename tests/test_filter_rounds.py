@@ -22,9 +22,9 @@ from typing import IO, Dict, Iterator, List, NamedTuple, Optional, Sequence, Set
 import pytest
 
 from harness import (EXACT, FILTER, FOUR, LIMIT, LRUP_CHAIN, PROGRAM, SANITIZE, SANITIZING, Row,
-                     added, dimacs, example, for_tests, generated, lacking, needs, piped, report,
-                     run, sanitized_filter, sanitizer, started, tested, until, unwatched, waiting,
-                     want, watched_ends, written)
+                     added, dimacs, example, for_tests, generated, lacking, needs, parametrized,
+                     piped, report, run, sanitized_filter, sanitizer, started, until, unwatched,
+                     waiting, want, watched_ends, written)
 from proof_forms import FORMS, Step, read_formula, read_steps
 from rounds import last
 from solving import in_place_of_lrupd, of_process
@@ -591,4 +591,4 @@ def rows() -> List[Row]:
 
 
 pytestmark = pytest.mark.flaky(reruns=2)    # killing one side is a race
-test_row = tested(rows())
+test_row = parametrized(rows())

@@ -10,8 +10,8 @@ import subprocess
 from pathlib import Path
 from typing import List
 
-from harness import (FILTER, LIMIT, PROGRAM, ROOT, Ran, Row, example, generated, needs, piped,
-                     read_line, started, tested, want, with_memory)
+from harness import (FILTER, LIMIT, PROGRAM, ROOT, Ran, Row, example, generated, needs,
+                     parametrized, piped, read_line, started, want, with_memory)
 
 SIZES = "--lines 4000000 --room 60000000 "
 CADICAL = f"""\
@@ -131,4 +131,4 @@ def solvers(program: str) -> List[Row]:
                    ("CryptoMiniSat writes while it runs", while_it_runs, CRYPTOMINISAT, "random 200 3")]
 
 
-test_row = tested(solvers(PROGRAM))
+test_row = parametrized(solvers(PROGRAM))

@@ -16,7 +16,7 @@ from typing import Any, Callable, Dict, Iterable, List, Sequence, Tuple, Union
 import pytest
 
 from harness import (COMPRESSED, FILTER, FOUR, LIMIT, PROGRAM, ROOT, TESTS, Ran, Row, dimacs,
-                     example, read_line, report, run, started, tested, want, written)
+                     example, parametrized, read_line, report, run, started, want, written)
 from lrat import lrat_fault
 from proof_forms import FORMS, Step, code, codes, read_formula, read_steps, varint
 
@@ -731,4 +731,4 @@ def rows(program: str) -> List[Row]:
     return recorded(program) + refused + what_comes_out(program) + limits(program) + pipes_and_files()
 
 
-test_row = tested(rows(PROGRAM))
+test_row = parametrized(rows(PROGRAM))

@@ -14,7 +14,7 @@ from pathlib import Path
 from typing import Dict, Iterator, List, Mapping, Optional, Sequence, Tuple
 
 from harness import (FOUR, LIMIT, LRUP_CHAIN, PROGRAM, ROOT, Ran, Row, Wanted, answers, held, needs,
-                     piped, report, run, started, tested, until, want, within, written)
+                     parametrized, piped, report, run, started, until, want, within, written)
 from rounds import ONE, fault, last, round_files, saved_name
 
 SHELLS = [shell for shell in ("dash", "bash", "busybox") if shutil.which(shell)]
@@ -464,4 +464,4 @@ def rows() -> List[Row]:
     return [*found, ("the manual page", in_manual)]
 
 
-test_row = tested(rows())
+test_row = parametrized(rows())

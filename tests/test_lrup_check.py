@@ -11,8 +11,8 @@ import time
 from pathlib import Path
 from typing import List, Mapping, Optional, Sequence
 
-from harness import (EXAMPLES, FOUR, Row, dimacs, example, generated, needs, run, tested, want,
-                     written)
+from harness import (EXAMPLES, FOUR, Row, dimacs, example, generated, needs, parametrized, run,
+                     want, written)
 from lrat import lrat_fault
 from proof_forms import read_formula
 from solving import FOR_TESTS, PROGRAM, SOLVE, TESTED, Answer, check_again, in_environment
@@ -242,4 +242,4 @@ ROWS: List[Row] = [
 ]
 
 pytestmark = FOR_TESTS
-test_row = tested(ROWS)
+test_row = parametrized(ROWS)

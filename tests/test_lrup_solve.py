@@ -22,7 +22,7 @@ from typing import Any, Dict, List, Optional, Sequence, Tuple
 import pytest
 
 from harness import (EXAMPLES, FOUR, LIMIT, ROOT, Ran, Row, dimacs, example, generated, in_shell,
-                     needs, random_clauses, run, started, tested, until, want, written)
+                     needs, parametrized, random_clauses, run, started, until, want, written)
 from proof_forms import read_formula
 from solving import (ANSWERS, EARLY, ELIMINATING, FOR_TESTS, PROGRAM, SOLVE, Answer, check_again,
                      children_of, command, end_group, goes_on, in_environment, in_place_of_lrupd,
@@ -584,4 +584,4 @@ def rows() -> List[Row]:
 
 
 pytestmark = FOR_TESTS
-test_row = tested(rows())
+test_row = parametrized(rows())

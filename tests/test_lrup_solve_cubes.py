@@ -11,8 +11,8 @@ import time
 from pathlib import Path
 from typing import Iterable, List, Mapping, Optional, Sequence
 
-from harness import (LIMIT, ROOT, Ran, Row, dimacs, example, generated, random_clauses, run, tested,
-                     until, want, written)
+from harness import (LIMIT, ROOT, Ran, Row, dimacs, example, generated, parametrized,
+                     random_clauses, run, until, want, written)
 from lrat import lrat_fault
 from proof_forms import read_formula
 from solving import (EARLY, FOR_TESTS, Answer, check_again, children_of, command, end_group,
@@ -193,4 +193,4 @@ def rows() -> List[Row]:
 
 
 pytestmark = FOR_TESTS
-test_row = tested(rows())
+test_row = parametrized(rows())

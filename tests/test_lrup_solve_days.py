@@ -24,8 +24,8 @@ from typing import Callable, Iterator, List, Optional, Tuple
 import pytest
 
 from hard_formulas import miter, parity
-from harness import (LIMIT, MINUTES, SEED, Ran, Row, dimacs, generated, random_clauses, run,
-                     started, tested, until, want, within, written)
+from harness import (LIMIT, MINUTES, SEED, Ran, Row, dimacs, generated, parametrized,
+                     random_clauses, run, started, until, want, within, written)
 from records import CHANGES, UNKNOWN, saved_rounds, want_no_other, whole
 from solving import (ANSWERS, EARLY, Answer, command, in_environment, is_alive, marked,
                      none_left, of_process, processes_of_run, solve, want_answer)
@@ -304,4 +304,4 @@ def in_time(request: pytest.FixtureRequest) -> None:
 # No seed takes less than a second.
 SEEDS = range(SEED, SEED + 1 + int(60 * MINUTES))
 pytestmark = pytest.mark.usefixtures("solve_for_tests")     # no row is tried again
-test_row = tested(row for seed in SEEDS for row in rows(seed))
+test_row = parametrized(row for seed in SEEDS for row in rows(seed))

@@ -15,7 +15,7 @@ from typing import List
 
 import pytest
 
-from harness import FOUR, LIMIT, ROOT, Ran, Row, run, started, tested, until, want, written
+from harness import FOUR, LIMIT, ROOT, Ran, Row, parametrized, run, started, until, want, written
 from hostile import AGAIN, PROOF, SATISFIABLE, is_model, program, run_with
 from solving import (LRUP_SOLVE, PROGRAM, SOLVE, Answer, before_lrupd, in_place_of_lrupd, marked,
                      none_left)
@@ -455,4 +455,4 @@ def rows() -> List[Row]:
 
 
 pytestmark = LRUP_SOLVE
-test_row = tested(rows())
+test_row = parametrized(rows())

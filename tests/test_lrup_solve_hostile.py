@@ -21,7 +21,8 @@ from typing import List, NamedTuple, Sequence, Tuple
 import pytest
 
 from harness import (AGAIN_IF_LATE, COUNT, FOUR, LIMIT, ROOT, TESTS, Ran, Row, alone, compiled,
-                     dimacs, is_newer, random_clauses, run, started, tested, until, want, written)
+                     dimacs, is_newer, parametrized, random_clauses, run, started, until, want,
+                     written)
 from hostile import PROOF, SATISFIABLE, is_model, run_with
 from hostile_programs import COMMON, PROGRAMS, PROVING, programs
 from solving import (EARLY, FRONT, OUT, PROGRAM, SOLVE, Answer, command, end_all, in_environment,
@@ -325,4 +326,4 @@ def no_cores() -> None:
 
 
 pytestmark = [pytest.mark.usefixtures("solve_for_tests"), AGAIN_IF_LATE]
-test_row = tested(rows())
+test_row = parametrized(rows())

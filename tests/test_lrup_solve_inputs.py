@@ -12,7 +12,7 @@ from pathlib import Path
 from typing import Dict, List, Optional, Sequence, Tuple, Union
 
 from harness import (COMPRESSED, FILTER, FOUR, LIMIT, ROOT, Ran, Row, by_another, dimacs, example,
-                     generated, in_shell, piped, run, started, tested, until, want, written)
+                     generated, in_shell, parametrized, piped, run, started, until, want, written)
 from lrat import lrat_fault
 from proof_forms import read_formula
 from solving import (FOR_TESTS, OUT, PROGRAM, SOLVE, Answer, before_lrupd, check_again, children_of,
@@ -681,4 +681,4 @@ def rows() -> List[Row]:
 
 
 pytestmark = FOR_TESTS
-test_row = tested(rows())
+test_row = parametrized(rows())

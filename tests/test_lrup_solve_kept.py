@@ -17,7 +17,7 @@ from typing import Dict, List, Optional, Sequence, Tuple
 import pytest
 
 from harness import (EXPLAIN, FILTER, FOUR, LRUP_CHAIN, ROOT, TRIM, Ran, Row, by_another, example,
-                     generated, needs, run, started, tested, until, want, written)
+                     generated, needs, parametrized, run, started, until, want, written)
 from lrat import lrat_fault
 from proof_forms import Clause, read_formula
 from solving import (FOR_TESTS, PROGRAM, SOLVE, Answer, before_lrupd, check_again, command,
@@ -627,4 +627,4 @@ def rows() -> List[Row]:
 
 
 pytestmark = FOR_TESTS
-test_row = tested(rows())
+test_row = parametrized(rows())

@@ -16,8 +16,8 @@ from pathlib import Path
 from typing import List, Mapping, Optional, Sequence
 
 from hard_formulas import miter, parity
-from harness import (COUNT, LIMIT, Ran, Row, dimacs, example, generated, random_clauses, started,
-                     tested, until, want, written)
+from harness import (COUNT, LIMIT, Ran, Row, dimacs, example, generated, parametrized,
+                     random_clauses, started, until, want, written)
 from solving import (EARLY, FOR_TESTS, FRONT, READING, Answer, before_lrupd, check_again, command,
                      in_environment, is_alive, marked, none_left, processes_of_run, solve,
                      want_answer)
@@ -213,4 +213,4 @@ def rows(count: int) -> List[Row]:
 
 
 pytestmark = FOR_TESTS
-test_row = tested(rows(COUNT or 10))
+test_row = parametrized(rows(COUNT or 10))

@@ -20,7 +20,7 @@ from typing import Dict, List, Mapping, Optional, Sequence, Tuple
 import pytest
 
 from harness import (FOUR, LIMIT, ROOT, TESTS, Ran, Row, compiled, dimacs, example, generated,
-                     lacking, random_clauses, run, tested, until, want, written)
+                     lacking, parametrized, random_clauses, run, until, want, written)
 from lrat import lrat_fault
 from proof_forms import read_formula
 from records import recorded, saved_rounds, whole
@@ -478,6 +478,6 @@ def mpi_for_tests(mpi: None) -> None:
 
 
 pytestmark = [pytest.mark.flaky(reruns=2), pytest.mark.xdist_group("mpi")]
-test_row = pytest.mark.usefixtures("mpi")(tested(small_rows()))
-test_long_row = pytest.mark.long(pytest.mark.usefixtures("mpi_for_tests")(tested(
-    [*known(), *rounds(), *deaths()])))
+with_mpi, for_tests = (pytest.mark.usefixtures(name) for name in ("mpi", "mpi_for_tests"))
+test_row = with_mpi(parametrized(small_rows()))
+test_long_row = for_tests(pytest.mark.long(parametrized([*known(), *rounds(), *deaths()])))

@@ -17,8 +17,8 @@ from typing import Callable, List, Mapping, Optional, Sequence, Tuple
 
 import pytest
 
-from harness import (COUNT, LIMIT, ROOT, Ran, Row, dimacs, generated, needs, random_clauses, run,
-                     started, tested, until, want, written)
+from harness import (COUNT, LIMIT, ROOT, Ran, Row, dimacs, generated, needs, parametrized,
+                     random_clauses, run, started, until, want, written)
 from records import CHANGES, UNKNOWN, checkpoints, recorded, saved_rounds, want_no_other, whole, with_digests
 from solving import (ANSWERS, EARLY, PROGRAM, SOLVE, Answer, before_lrupd, check_again, children_of,
                      command, end_all, end_group, in_environment, marked, none_left, solve,
@@ -429,4 +429,4 @@ def rows(count: int) -> List[Row]:
 
 
 pytestmark = pytest.mark.usefixtures("solve_for_tests")     # none is tried again
-test_row = tested(rows(COUNT or 3))
+test_row = parametrized(rows(COUNT or 3))

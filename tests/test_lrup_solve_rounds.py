@@ -17,8 +17,8 @@ import subprocess
 from pathlib import Path
 from typing import Dict, List, Mapping, Sequence
 
-from harness import (LIMIT, LRUP_CHAIN, Ran, Row, dimacs, example, generated, random_clauses, run,
-                     tested, until, want, written)
+from harness import (LIMIT, LRUP_CHAIN, Ran, Row, dimacs, example, generated, parametrized,
+                     random_clauses, run, until, want, written)
 from solving import (EARLY, FOR_TESTS, PROGRAM, Answer, check_again, children_of, command,
                      end_group, in_environment, in_place_of_lrupd, is_alive, kill_children,
                      of_process, random_formula, sleep, solve, want_answer)
@@ -535,4 +535,4 @@ def rows() -> List[Row]:
 
 
 pytestmark = FOR_TESTS
-test_row = tested(rows())
+test_row = parametrized(rows())

@@ -14,8 +14,8 @@ import subprocess
 from pathlib import Path
 from typing import Dict, List, Mapping, Sequence
 
-from harness import (EXAMPLES, FOUR, LIMIT, Row, compiled, dimacs, example, generated, needs, run,
-                     started, tested, until, want, written)
+from harness import (EXAMPLES, FOUR, LIMIT, Row, compiled, dimacs, example, generated, needs,
+                     parametrized, run, started, until, want, written)
 from solving import (FOR_TESTS, PROGRAM, SOLVE, check_again, marked, none_left, of_process,
                      processes_of, random_formula, solve, want_answer)
 
@@ -376,4 +376,4 @@ def rows() -> List[Row]:
 
 
 pytestmark = FOR_TESTS
-test_row = tested(rows())
+test_row = parametrized(rows())

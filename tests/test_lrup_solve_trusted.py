@@ -9,7 +9,7 @@ import shutil
 from pathlib import Path
 from typing import Any, Callable, Dict, List, Sequence
 
-from harness import ROOT, Row, compiled, run, tested, want, written
+from harness import ROOT, Row, compiled, parametrized, run, want, written
 from hostile import SATISFIABLE, is_model, program
 from solving import FLAGS, LRUP_SOLVE, PROGRAM, Answer, in_place_of_lrupd
 
@@ -169,4 +169,4 @@ def rows() -> List[Row]:
 
 
 pytestmark = LRUP_SOLVE
-test_row = tested(rows())
+test_row = parametrized(rows())

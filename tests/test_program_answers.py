@@ -8,7 +8,7 @@ from pathlib import Path
 from typing import Any, Dict, Iterator, List, Tuple
 
 from harness import (FOUR, PROGRAM, ROOT, Pieces, Row, Wanted, Words, answered, answers, example,
-                     report, started, tested, want, with_memory, written)
+                     parametrized, report, started, want, with_memory, written)
 
 sys.path.append(str(ROOT / "gate"))
 import interface
@@ -370,4 +370,4 @@ def rows(program: str) -> Iterator[Row]:
         yield f"a write for each line of {' '.join(words)}", watched_line_by_line, program, words, lines
 
 
-test_row = tested(rows(PROGRAM))
+test_row = parametrized(rows(PROGRAM))

@@ -11,8 +11,8 @@ from typing import Dict, Iterator, List, Optional, Sequence, Tuple
 import pytest
 
 from checkpoints import MOST_CLAUSES, live, most_clauses, printed, variables_of, want_checkpoint
-from harness import (FOUR, PROGRAM, Ran, Row, Wanted, answered, answers, example, held, report, run,
-                     run_by_another, tested, want, with_memory, within, written)
+from harness import (FOUR, PROGRAM, Ran, Row, Wanted, answered, answers, example, held,
+                     parametrized, report, run, run_by_another, want, with_memory, within, written)
 
 WAYS = ["", "--serial"]
 ONE, TWO = "5 2 0 1 2 0\n", "5 2 0 1 2 0\n6 0 5 3 4 0\n"
@@ -287,4 +287,4 @@ def rows(program: str) -> Iterator[Row]:
     yield "a clause too many", with_memory, refused, "lrupd: checkpoint refused: limit\n", 1, program
 
 
-test_row = tested(rows(PROGRAM))
+test_row = parametrized(rows(PROGRAM))

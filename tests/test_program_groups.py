@@ -5,7 +5,7 @@ checked by its own run, with /dev/null in place of the other's streams, and the 
 with that on all four."""
 from pathlib import Path
 
-from harness import PROGRAM, Ran, example, run, tested, want
+from harness import PROGRAM, Ran, example, parametrized, run, want
 
 STREAMS = [str(example(f"two-groups.{number}")) for number in range(1, 5)]
 NONE = ["/dev/null"] * 2
@@ -21,4 +21,4 @@ def groups(program: str, work: Path) -> None:
         want(found, Ran("\n".join([*report, verdict, ""]), "", 0), "the answer on " + " ".join(streams))
 
 
-test_row = tested([("two groups", groups, PROGRAM)])
+test_row = parametrized([("two groups", groups, PROGRAM)])

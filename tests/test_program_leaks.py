@@ -3,7 +3,7 @@ used."""
 from pathlib import Path
 from typing import Iterator, List, Tuple
 
-from harness import PROGRAM, Row, example, needs, run, tested, want, written
+from harness import PROGRAM, Row, example, needs, parametrized, run, want, written
 from rounds import ONE, TWO, Texts, first_words, round_files
 
 VALGRIND = ["valgrind", "--quiet", "--error-exitcode=99", "--leak-check=full", "--show-leak-kinds=all",
@@ -55,4 +55,4 @@ def rows(program: str) -> Iterator[Row]:
     yield "--help", gives_back, program, 2, ["--help"]
 
 
-test_row = tested(rows(PROGRAM))
+test_row = parametrized(rows(PROGRAM))

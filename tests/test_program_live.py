@@ -12,8 +12,8 @@ from pathlib import Path
 from typing import Iterator, List, NamedTuple, Union
 
 from checkpoints import live, printed, variables_of, want_checkpoint
-from harness import (FOUR, LIMIT, PROGRAM, Ran, Row, example, feed, held, piped, report, run,
-                     started, tested, until, unwatched, want, written)
+from harness import (FOUR, LIMIT, PROGRAM, Ran, Row, example, feed, held, parametrized, piped,
+                     report, run, started, until, unwatched, want, written)
 from rounds import last, stream_name
 
 PAUSE = 0.004  # seconds, after each of some 750 lines
@@ -129,4 +129,4 @@ def rows(program: str) -> Iterator[Row]:
         yield f"{row.words}, and late are {late}", late_writers, row, program
 
 
-test_row = tested(rows(PROGRAM))
+test_row = parametrized(rows(PROGRAM))

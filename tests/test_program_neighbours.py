@@ -11,7 +11,7 @@ import time
 from pathlib import Path
 from typing import Any, Callable, Iterator, List, NamedTuple, Optional, Union
 
-from harness import (LIMIT, PROGRAM, Pieces, Row, example, feed, piped, started, tested, want,
+from harness import (LIMIT, PROGRAM, Pieces, Row, example, feed, parametrized, piped, started, want,
                      written)
 
 FORMULA = example("bmc.cnf")
@@ -130,4 +130,4 @@ def rows(program: str) -> Iterator[Row]:
             yield f"{options or 'threads'}, {neighbour.name}", beside, program, options.split(), neighbour, proof, wanted
 
 
-test_row = tested(rows(PROGRAM))
+test_row = parametrized(rows(PROGRAM))

@@ -19,8 +19,8 @@ from typing import Dict, Iterator, List, NamedTuple, Optional, Sequence, Set, Tu
 
 import pytest
 
-from harness import (EXAMPLES, FOUR, PROGRAM, ROOT, RT, TESTS, Row, alone, compiled, piped, report,
-                     run, tested, waiting, want, written)
+from harness import (EXAMPLES, FOUR, PROGRAM, ROOT, RT, TESTS, Row, alone, compiled, parametrized,
+                     piped, report, run, waiting, want, written)
 from refused import (ERRORS_OF_READS, FOUR_CLAUSE, SECONDS, SHORT, Answer, Input, InRounds, Machine, complaints,
                      complaints_in_rounds, is_right, not_started)
 from rounds import ONE, TWO, Proof
@@ -385,4 +385,4 @@ def rows(program: str) -> Iterator[Row]:
     yield "the memory of a store", kept
 
 
-test_row = tested(rows(PROGRAM))
+test_row = parametrized(rows(PROGRAM))

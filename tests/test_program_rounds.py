@@ -12,8 +12,8 @@ from typing import Any, Callable, Dict, Iterator, List, Mapping, Optional, Seque
 
 from checkpoints import MOST_CLAUSES, most_clauses, printed
 from harness import (FOUR, LIMIT, PROGRAM, Pieces, Ran, Row, Wanted, answered, answers, dimacs,
-                     held, piped, read_from, run, run_by_another, started, tested, until, waiting,
-                     want, with_memory, within, written)
+                     held, parametrized, piped, read_from, run, run_by_another, started, until,
+                     waiting, want, with_memory, within, written)
 from rounds import ONE, SAVED, TWO, Texts, fault, first_words, last, round_files, saved_name, stream_name
 
 WAYS = ["", "--serial"]
@@ -726,4 +726,4 @@ def rows(program: str) -> Iterator[Row]:
         yield f"{which} may not be read", without_leave, which, cause, program
 
 
-test_row = tested(rows(PROGRAM))
+test_row = parametrized(rows(PROGRAM))

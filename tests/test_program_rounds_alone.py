@@ -9,8 +9,8 @@ import sys
 from pathlib import Path
 from typing import Iterator, List, NamedTuple, Optional, Sequence, Tuple
 
-from harness import (EXAMPLES, PROGRAM, Ran, Row, dimacs, example, random_clauses, run, tested,
-                     want, written)
+from harness import (EXAMPLES, PROGRAM, Ran, Row, dimacs, example, parametrized, random_clauses,
+                     run, want, written)
 from proof_forms import Clause, read_formula
 from rounds import first_words, saved_name, stream_name
 
@@ -164,4 +164,4 @@ def rows(program: str) -> Iterator[Row]:
             yield f"random rounds, {seed}{kind}", random_rounds, seed, program, way
 
 
-test_row = tested(rows(PROGRAM))
+test_row = parametrized(rows(PROGRAM))

@@ -6,7 +6,7 @@ import sys
 from pathlib import Path
 from typing import List
 
-from harness import ROOT, Row, run, tested, want
+from harness import ROOT, Row, parametrized, run, want
 
 PAGE = "AUDIT.md"
 COMMENT, TYPE = "-- no assignment satisfies all clauses of the formula\n", "IsUnsatisfiable : Cnf → Type 0\n"
@@ -53,4 +53,4 @@ def rows() -> List[Row]:
             ("a wrong clause", refused, "result ≡ 0 → Name", "result ≡ 3 → Name", ["doesn't have 'result ≡ 3"])]
 
 
-test_row = tested(rows())
+test_row = parametrized(rows())

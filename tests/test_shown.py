@@ -14,7 +14,7 @@ from pathlib import Path
 from typing import Iterator, List, NamedTuple, Sequence, Tuple
 
 from harness import (EXAMPLES, EXPLAIN, FILTER, LRUP_CHAIN, ROOT, TRIM, Row, generated, lacking,
-                     needs, run, tested, want)
+                     needs, parametrized, run, want)
 from solving import LRUP_SOLVE, PROGRAM, SOLVE
 
 LIMIT = 120  # seconds for a page
@@ -177,4 +177,4 @@ def rows() -> List[Row]:
 
 
 pytestmark = LRUP_SOLVE
-test_row = tested(rows())
+test_row = parametrized(rows())

@@ -19,8 +19,8 @@ from pathlib import Path
 from typing import Dict, List, NamedTuple, Optional, Sequence, Tuple
 
 from harness import (COMPRESSED, COUNT, EXAMPLES, FILTER, FOUR, GENERATOR, PROGRAM, ROOT, SANITIZE,
-                     SANITIZING, TRIM, VERDICTS, Ran, Row, dimacs, example, lacking, piped,
-                     random_clauses, run, sanitized_trim, sanitizer, tested, want, within, written)
+                     SANITIZING, TRIM, VERDICTS, Ran, Row, dimacs, example, lacking, parametrized,
+                     piped, random_clauses, run, sanitized_trim, sanitizer, want, within, written)
 from faulty import garbled_text, refuted, solved
 from lrat import lrat_fault
 from proof_forms import Clause, Step, read_formula, read_steps
@@ -559,4 +559,4 @@ def rows(count: int) -> List[Row]:
     return [*found, *((f"garbled {number}", garbled, number) for number in range(count))]
 
 
-test_row = tested(rows(COUNT or 300))
+test_row = parametrized(rows(COUNT or 300))
