@@ -478,6 +478,6 @@ def mpi_for_tests(mpi: None) -> None:
 
 
 pytestmark = [pytest.mark.flaky(reruns=2), pytest.mark.xdist_group("mpi")]
-with_mpi, for_tests = (pytest.mark.usefixtures(name) for name in ("mpi", "mpi_for_tests"))
+with_mpi, with_both = (pytest.mark.usefixtures(name) for name in ("mpi", "mpi_for_tests"))
 test_row = with_mpi(parametrized(small_rows()))
-test_long_row = for_tests(pytest.mark.long(parametrized([*known(), *rounds(), *deaths()])))
+test_long_row = with_both(pytest.mark.long(parametrized([*known(), *rounds(), *deaths()])))
