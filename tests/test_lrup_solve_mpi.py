@@ -2,8 +2,8 @@
 
 Each answer, with and without sharing, rows so small that a run continues for many rounds, the
 record; refusals; each kind of process killed or stopped, in process 0 and in another one, and
-mpirun, and the front.  Rows with long waits or races are marked as long, and `make test` leaves
-them out. Without MPI, or mpirun, everything is skipped."""
+mpirun, and the front. Rows with long waits or races are marked as long, and `make test` leaves them
+out. Without MPI, or mpirun, everything is skipped."""
 import contextlib
 import itertools
 import os

@@ -4,7 +4,7 @@ after some five seconds. Then two pipes with --watch: a bad line in one is repor
 open. Then the first half of the four solvers' lines, with a checkpoint, which stays empty until all
 of them have ended. Then pipes without writers, which --watch names after a second.
 
-out, if anything is on standard error without the flag, or if a line doesn't come."""
+The report has to be that in bmc-four.out, and without the flag nothing may be on standard error."""
 import re
 import subprocess
 import time
