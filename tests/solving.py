@@ -16,8 +16,8 @@ from typing import Any, Dict, List, Mapping, Optional, Sequence, Tuple
 
 import pytest
 
-from harness import (FLAGS, PROGRAM, ROOT, VERDICTS, Ran, alone, dimacs, lacking, random_clauses,
-                     run, until, want, written)
+from harness import (FLAGS, PROGRAM, ROOT, VERDICTS, Ran, alone, dimacs, is_newer, lacking,
+                     random_clauses, run, until, want, written)
 from proof_forms import read_formula
 
 COMPILERS = [os.environ.get(name, "") for name in ("CC", "CXX")]
@@ -231,9 +231,9 @@ def kill_children(children: Mapping[str, int], names: Sequence[str], number: int
 def is_built(path: Path) -> bool:
     """Whether it is newer than its sources."""
     files = ("Makefile", "VERSION", "tools/lrup-chain", "tools/help.awk")
-    sources = [*(ROOT / name for name in files), *ROOT.glob("docs/lrup-*.1"),
-               *ROOT.glob("tools/solve/**/*.[ch]*"), *ROOT.glob("tools/exact/*.*")]
-    return path.exists() and path.stat().st_mtime > max(file.stat().st_mtime for file in sources)
+    globs = ("docs/lrup-*.1", "tools/solve/*.[ch]*", "tools/solve/front/*.[ch]", "tools/exact/*.*")
+    return is_newer(path, [*(ROOT / name for name in files),
+                           *(source for glob in globs for source in ROOT.glob(glob))])
 
 
 def built(target: str, for_tests: bool) -> None:
