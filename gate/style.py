@@ -27,17 +27,22 @@ from antt import ROOT, shown
 # The most words of each page; code and links' targets don't count, nor parts that gate/interface.py
 # compares.
 MOST_WORDS: Dict[str, int] = {
-    "README.md": 700, "CONTRIBUTING.md": 1200, "CHANGELOG.md": 1800, "bench/RESULTS.md": 900, "bench/solve/README.md": 220,
-    **{f"bench/{name}/README.md": 160 for name in ("checkpoint", "filter", "peers", "program", "readers", "ring", "row")},
+    "README.md": 700, "CONTRIBUTING.md": 520, "CHANGELOG.md": 1370, "bench/RESULTS.md": 900, "bench/solve/README.md": 210,
+    **{f"bench/{name}/README.md": 140 for name in ("checkpoint", "filter", "peers", "program", "readers", "ring", "row")},
     **{f"docs/{name}": most for name, most in (
-        ("USING.md", 2500), ("FORMAT.md", 600), ("EMITTING.md", 1500), ("TRUST.md", 1200), ("SECURITY.md", 520), ("DECISIONS.md", 4500),
-        ("RELATED.md", 1000), ("ARCHITECTURE.md", 3500), ("PROVING.md", 2000), ("PROMISES.md", 2200), ("AUDIT.md", 2000),
-        ("THEOREMS.md", 2700), ("STORE_CALLS.md", 600), ("PROOFS_AND_ROUNDS.md", 2500), ("lrupd.1", 630), ("lrup-chain.1", 295),
-        ("lrup-check.1", 260), ("lrup-exact.1", 965), ("lrup-explain.1", 515), ("lrup-solve.1", 1720), ("lrup-trim.1", 550))},
+        ("USING.md", 2250), ("FORMAT.md", 600), ("EMITTING.md", 1250), ("TRUST.md", 1200), ("SECURITY.md", 520), ("DECISIONS.md", 3370),
+        ("RELATED.md", 930), ("ARCHITECTURE.md", 2970), ("PROVING.md", 1710), ("PROMISES.md", 2080), ("AUDIT.md", 1600),
+        ("THEOREMS.md", 2190), ("STORE_CALLS.md", 390), ("PROOFS_AND_ROUNDS.md", 2000), ("lrupd.1", 590), ("lrup-chain.1", 295),
+        ("lrup-check.1", 210), ("lrup-exact.1", 965), ("lrup-explain.1", 515), ("lrup-solve.1", 1720), ("lrup-trim.1", 550))},
     **{f"examples/{name}README.md": most for name, most in (
-        ("", 600), ("solver/", 250), ("planning/", 300), ("lemma/", 300), ("smt/", 200), ("hol/", 200), ("cubes/", 250),
-        ("resume/", 300), ("fifo/", 300))},
-    **{shown(path): 700 for path in sorted(ROOT.glob("crates/*/specs/*.md"))},
+        ("", 500), ("solver/", 180), ("planning/", 230), ("lemma/", 200), ("smt/", 110), ("hol/", 100), ("cubes/", 170),
+        ("resume/", 260), ("fifo/", 190))},
+    **{shown(path): 670 for path in sorted(ROOT.glob("crates/*/specs/*.md"))},
+    **{f"crates/{name}/specs/README.md": most for name, most in (
+        ("checkpoint", 330), ("clause_store", 250), ("command", 370), ("command_line", 170), ("dimacs", 370), ("lrup_text", 500),
+        ("outcome_laws", 480), ("propagate", 190), ("run_files", 290), ("run_laws", 610), ("run_outcome", 210), ("stream_threads", 370),
+        ("stream_turns", 130))},
+    "crates/stream_check/specs/RUNS.md": 490,
 }
 # Names in backticks from the toolchain, the system or other programs, or made up by a page.
 FOREIGN = set("""ANTT.md CONTRACTS.md SHORTER_PROOFS.md BUILD.bazel start_lib start_io --only -j -v -q --plain --no-binary --host

@@ -14,8 +14,7 @@ use Rattle.run_outcome.specs.declared.saving.Clauses.{Clauses}
 use Rattle.run_files.specs.Asked.{Text}
 use Rattle.run_files.specs.Causes.{IsLeftUnused}
 use Rattle.run_files.specs.Files.{Effects}
-use Rattle.run_files.specs.Saving.{ClosesCheckpoint, CreatesCheckpoint, DiscardsIt, SavesCheckpoint}
-use Rattle.command.specs.Commands.{AreChecked}
+use Rattle.run_files.specs.Saving.{ClosesCheckpoint, CreatesCheckpoint, DiscardsIt}
 use Rattle.command.specs.Rounds.{LeavesAtPath}
 use Rattle.command.specs.internal.Running.{IsCheckResult}
 
@@ -80,15 +79,6 @@ pub left_moved : {R : Type 0} {view : SourceView R} {serial : Bool} {f : Cnf} {r
     → P (layout_left clauses) dropped → P run_params.layout result_is.checked.dropped
 left_moved {run_params = run_params} {dropped = dropped} result_is P is =
     subst (P run_params.layout) result_is.dropped_is (subst (λ (p : LayoutValue). P p dropped) result_is.layout is)
-
--- Streams of this formula, opened as these readers, were checked, and their clauses were left at
--- the path, if there is one, as the verdict says.
-pub record RanAndLeft (its : Effects) (formula : Cnf) (readers : List its.Reader) (reports : List Report) (verdict : Verdict)
-    (before : its.State) (unsaved : Option SaveFault) (next : Option Cnf) (after : its.State) (serial : Bool)
-    (run_params : RunParamsValue) (path : Option Text) : Type 0 where
-  pub checked : AreChecked its.reading serial formula run_params readers reports verdict
-  pub leaves : LeavesAtPath its (SavesCheckpoint its formula run_params.layout checked.ran.run.history checked.dropped) verdict before
-      path unsaved next after
 
 -- with a path there is a file
 pub creates_some : (its : Effects) (before after : its.State) (path : Option Text) (output : Option its.Output) (at : Text)

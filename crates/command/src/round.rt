@@ -1,20 +1,23 @@
 //! One round: the check of its streams, and what it saves of their clauses.
-ghost use Rattle.std.specs.Prelude.{◌≡◌, ◌↔◌, ◌<◌, ◌+◌, false, IfErr, IfOk, IsTrue, is_some, length, option_map, string_bytes};
+ghost use Rattle.std.specs.Prelude.{◌≡◌, ◌↔◌, ◌<◌, ◌+◌, false, IfErr, IfOk, IsTrue, List, is_some, length, option_map, string_bytes};
 ghost use Rattle.std.specs.Cow.{cow_str_bytes};
 ghost use Rattle.std.specs.List.{AllByRecursion};
 ghost use Rattle.std.specs.Option.{ForSome};
+ghost use Rattle.lrup_model.specs.Formula.{Cnf};
+ghost use Rattle.run_outcome.specs.Saving.{CanBeSaved};
 ghost use Rattle.command_line.specs.CommandLine.{rounds_of};
 ghost use Rattle.run_files.specs.Causes.{HasNoFault, IsRoundStartCause};
 ghost use Rattle.run_files.specs.Asked.{created_path, options_by, path_of, run_params_by};
 ghost use Rattle.run_files.specs.Paths.{formula_path};
 ghost use Rattle.command.specs.Rounds.{HaveEnded};
 ghost use Rattle.command.specs.internal.RoundProgress.{WasFound};
+ghost use Rattle.command.specs.internal.Running.{IsCheckResult};
 ghost use Rattle.run_files.specs.Saving.{CreatesCheckpoint};
 
 use crate::course::{CheckedRound, Course, OpenRound, RoundResult};
 use crate::running::{EndedRun, run_streams};
 use crate::watching::now_if;
-use command_line::Next;
+use command_line::{Next, Sizes};
 use portfolio::{Options, Verdict};
 use run_files::{CommandFault, Machine, Viewed, close_checkpoint, create_checkpoint, discard_it};
 use std::alloc::{AllocError, Global};
@@ -55,9 +58,8 @@ pub(crate) fn check_round<T: Threads + Wait + Sync, C: Clock + Sync, F: Machine>
     run_round(threads, clock, alloc, course, options, round, output, files)
 }
 
-/// Checks the streams of a round, which have a layout. Then it closes the round's file, if there is
-/// one: it saves the clauses that the streams left, unless the verdict is 'unsatisfiable'. If the
-/// run continues, it frees the round's formula, makes the next one, and returns it.
+/// Checks the streams of a round, which have a layout. Then it frees the round's formula, and ends
+/// the round. After a fault of the run it discards the round's file, if there is one.
 fn run_round<T: Threads + Wait + Sync, C: Clock + Sync, F: Machine>(
     threads: &T,
     clock: &C,
@@ -105,6 +107,38 @@ fn run_round<T: Threads + Wait + Sync, C: Clock + Sync, F: Machine>(
         }
     };
     drop(formula);
+    let result = close_round(clock, alloc, course, number, sizes, run, output, files);
+    Ok(result)
+}
+
+/// Ends a round whose streams were checked: it closes the round's file, if there is one. It saves
+/// the clauses that the streams left, unless the verdict is 'unsatisfiable', and makes the next
+/// formula, if the run continues.
+fn close_round<C: Clock + Sync, F: Machine>(
+    clock: &C,
+    alloc: Global,
+    course: &Course<'_>,
+    number: u64,
+    sizes: Sizes,
+    run: EndedRun,
+    output: Option<F::Output>,
+    files: &mut F,
+) -> RoundResult
+    requires streams { 0 < sizes.streams }
+    requires ready { CanBeSaved run.clauses }
+    requires output { ForSome output (λ sink. F.Output.Sink.has_failed sink ≡ false) }
+    // It holds for each round whose check had these results.
+    ensures found { let its = ⟦<F as Viewed>⟧.effects in
+        let line = course.now.line.now in
+        let cube = course.now.cube.now in
+        (formula : Cnf) (readers : List F.Input) (before : F) → length readers ≡ sizes.streams
+        → IsCheckResult its.reading line.serial formula (run_params_by line cube formula sizes)
+        readers run.reports.items run.verdict run.clauses run.dropped.items
+        → CreatesCheckpoint its before (created_path line.next number) output files.old
+        → WasFound its line cube formula readers before result.last result.next files.new }
+    ensures number { result.last.number ≡ number }
+    ensures sizes { result.last.sizes ≡ sizes }
+{
     let EndedRun {
         reports,
         verdict,
@@ -125,10 +159,10 @@ fn run_round<T: Threads + Wait + Sync, C: Clock + Sync, F: Machine>(
         unsaved: closed.unsaved,
         ended_at,
     };
-    Ok(RoundResult {
+    RoundResult {
         last,
         next: closed.next,
-    })
+    }
 }
 
 /// Whether the run continues after a round, if its clauses are saved: the words ask for rounds, the

@@ -16,7 +16,7 @@ use Rattle.lrup_model.specs.CallerView.{Caller}
 use Rattle.lrup_model.specs.State.{state}
 use Rattle.clause_store.specs.Passes.{StoreValue, PassValue, IsOpened, AreOf, ShareHistory, views}
 use Rattle.stream_check.specs.declared.report.Report.{Report}
-use Rattle.stream_check.specs.Checker.{IsNew, checker_state}
+use Rattle.stream_check.specs.Checker.{checker_state}
 use Rattle.stream_check.specs.Judging.{joined}
 use Rattle.stream_check.specs.Reaching.{ReachesState}
 use Rattle.stream_check.specs.DroppedIdsValue.{DroppedIdsValue}
@@ -30,7 +30,7 @@ use Rattle.stream_check.specs.lemmas.StreamLemmas.{IsJudgedBy, observed_as_many,
 use Rattle.stream_check.specs.SequentialConsistency.{HaveOneHistory, AreJudgedIn, seen_by}
 use Rattle.stream_threads.specs.Faults.{IsFaultOf}
 use Rattle.stream_threads.specs.Jobs.{StreamJobsValue, StreamResultValue, StreamResultsValue, CanBegin, Finishes, AllFinish, AreResults}
-use Rattle.stream_threads.specs.Jobs.{AreJobs, MissesMark}
+use Rattle.stream_threads.specs.Jobs.{AreJobs, IsJob, MissesMark}
 use Rattle.stream_threads.specs.declared.stream_jobs.ThreadFault.TheVariants as thread_faults
 use Rattle.lrup_text.specs.ReadOut.{SourceView}
 use Rattle.stream_check.specs.Readings.{AreRead, IsStreamOf}
@@ -124,11 +124,8 @@ HasCalls f p h s v = (v.caller ≡ record { formula = f; layout = p; stream = s 
 -- ---- readers of one kind
 
 -- the jobs of stream s before its first byte, with the pass that the store opened
-pub record HasReadyJobs {S : Type 0} (store : StoreValue) (f : Cnf) (run_params : RunParamsValue) (s : ℕ) (first : S)
-    (jobs : StreamJobsValue S) : Type 0 where
-  pub reader_is : jobs.reader ≡ first
-  pub checker : IsNew run_params.layout run_params.cube s run_params.tries jobs.checker
-  pub opened : IsOpened store f s jobs.pass
+abbrev pub HasReadyJobs : {S : Type 0} → StoreValue → Cnf → RunParamsValue → ℕ → S → StreamJobsValue S → Type 0
+HasReadyJobs store f run_params s first jobs = IsJob run_params s first jobs.pass jobs × IsOpened store f s jobs.pass
 
 -- those of the streams, counted from s
 abbrev pub HaveReadyJobs : {S : Type 0} → StoreValue → Cnf → RunParamsValue → ℕ → List S → List (StreamJobsValue S) → Type 0
@@ -153,7 +150,10 @@ module _ {S : Type 0} (view : SourceView S) where
   are_ready store f run_params s (e ∷ es) [] js all opened = absurd all
   are_ready store f run_params s (e ∷ es) (q ∷ ps) [] all opened = absurd all
   are_ready store f run_params s (e ∷ es) (q ∷ ps) (j ∷ js) all opened = (
-    record { reader_is = all.0.reader_is; checker = all.0.checker; opened = subst (IsOpened store f s) (sym all.0.pass) opened.0 },
+    (
+      record { reader_is = all.0.reader_is; checker = all.0.checker; pass = refl },
+      subst (IsOpened store f s) (sym all.0.pass) opened.0,
+    ),
     are_ready store f run_params (s + 1) es ps js all.1 opened.1,
   )
 
@@ -169,8 +169,8 @@ module _ {S : Type 0} (view : SourceView S) where
   ready_can : (f : Cnf) (run_params : RunParamsValue) (store : StoreValue) (s : ℕ) (first : S) (j : StreamJobsValue S)
       → Fits run_params.layout f → store.layout ≡ run_params.layout → HasReadyJobs store f run_params s first j → CanBegin store j
   ready_can f run_params store s first j fits same ready =
-      let opened = ready.opened in
-      let params = ready.checker.params in
+      let opened = ready.1 in
+      let params = ready.0.checker.params in
       let layout : j.pass.view.caller.layout ≡ run_params.layout = ap (λ (c : Caller). c.layout) opened.caller ∙ same in
       let stream : j.pass.view.caller.stream ≡ s = ap (λ (c : Caller). c.stream) opened.caller in
       let formula : j.pass.view.caller.formula ≡ f = ap (λ (c : Caller). c.formula) opened.caller in
@@ -254,7 +254,7 @@ module _ {S : Type 0} (view : SourceView S) where
   have_calls f run_params store h same s (e ∷ es) (j ∷ js) [] vs ready all synced saw k w at = absurd all
   have_calls f run_params store h same s (e ∷ es) (j ∷ js) (x ∷ fs) [] ready all synced saw k w at = absurd synced
   have_calls f run_params store h same s (e ∷ es) (j ∷ js) (x ∷ fs) (v ∷ vs) ready all synced saw zero w at =
-      let end = ends f run_params.layout store s j x v same ready.0.opened all.0 synced.0 synced.1 in
+      let end = ends f run_params.layout store s j x v same ready.0.1 all.0 synced.0 synced.1 in
       let this : v ≡ w = cc in
       let here : s ≡ s + 0 = omega arith in
       subst (λ (n : ℕ). HasCalls f run_params.layout h n w) here
@@ -276,7 +276,7 @@ module _ {S : Type 0} (view : SourceView S) where
   have_legal f run_params store h same s (e ∷ es) (j ∷ js) (x ∷ fs) [] ready all synced saw some = absurd synced
   have_legal f run_params store h same s (e ∷ es) (j ∷ js) (x ∷ fs) (v ∷ vs) ready all synced saw some =
       ends_legal f run_params.layout s (joined all.0.blocks) h v
-      (ends f run_params.layout store s j x v same ready.0.opened all.0 synced.0 synced.1) saw.0
+      (ends f run_params.layout store s j x v same ready.0.1 all.0 synced.0 synced.1) saw.0
 
   -- all passes of a run have one history
   pub one_history : (f : Cnf) (run_params : RunParamsValue) (store : StoreValue) (firsts : List S) (js : List (StreamJobsValue S))
@@ -339,12 +339,13 @@ module _ {S : Type 0} (view : SourceView S) where
   judged_by f run_params store same s (e ∷ es) (j ∷ js) [] vs ready all synced = absurd all
   judged_by f run_params store same s (e ∷ es) (j ∷ js) (x ∷ fs) [] ready all synced = absurd synced
   judged_by f run_params store same s (e ∷ es) (j ∷ js) (x ∷ fs) (v ∷ vs) ready all synced =
-      let here = ready.0 in
+      let here = ready.0.0 in
+      let opened = ready.0.1 in
       let fresh = subst (λ (n : ℕ). ReachesState j.checker.params [] [] (checker_state j.checker n))
-      (opened_room f run_params.layout store s j.pass same here.opened) here.checker.left in
+      (opened_room f run_params.layout store s j.pass same opened) here.checker.left in
       let one = all.0.judged fresh in
       let of = subst (λ (r : S). IsStreamOf view r x.reader one.0) here.reader_is one.2 in
-      let calls = (ends f run_params.layout store s j x v same here.opened all.0 synced.0 synced.1).mine in
+      let calls = (ends f run_params.layout store s j x v same opened all.0 synced.0 synced.1).mine in
       let judged = subst (λ (c : StreamParams). JudgesStream c one.0 all.0.blocks x.report) here.checker.params one.3 in
       let dropped = subst (λ (c : StreamParams). HasDropped c one.0.bytes all.0.blocks x.report x.dropped) here.checker.params
       (job_drops j.checker (pass_caller_view j.pass.view).room one.0.bytes all.0.blocks x.report x.dropped fresh one.4) in
@@ -487,7 +488,7 @@ module _ {S : Type 0} (view : SourceView S) where
   reader_read_out f run_params store s [] [] n ready read = absurd read
   reader_read_out f run_params store s [] (j ∷ js) n ready read = absurd ready
   reader_read_out f run_params store s (e ∷ es) [] n ready read = absurd ready
-  reader_read_out f run_params store s (e ∷ es) (j ∷ js) zero ready read = subst WasReadOut ready.0.reader_is read
+  reader_read_out f run_params store s (e ∷ es) (j ∷ js) zero ready read = subst WasReadOut ready.0.0.reader_is read
   reader_read_out f run_params store s (e ∷ es) (j ∷ js) (suc n) ready read =
       reader_read_out f run_params store (s + 1) es js n ready.1 read
 

@@ -1,3 +1,4 @@
 pub mod ConsistencyLemmas
 pub mod DroppingLemmas
+pub mod FaultLemmas
 pub mod SerialLemmas

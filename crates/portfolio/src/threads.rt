@@ -1,15 +1,17 @@
 //! A run with two threads for each stream. All threads share the store of clauses and the start
 //! signal, and the two threads of a stream share a ring.
-ghost use Rattle.std.specs.Prelude.{◌≡◌, ◌↔◌, false, ℕ, Err, IfOk, length, vec_len};
+ghost use Rattle.std.specs.Prelude.{◌≡◌, ◌≢◌, ◌↔◌, ◌+◌, false, ℕ, List, Err, IfOk, length, vec_len};
 ghost use Rattle.std.specs.List.{AllByRecursion};
 ghost use Rattle.lrup_model.specs.Cube.{IsUnsatisfiableUnder};
 ghost use Rattle.lrup_model.specs.Entailment.{IsUnsatisfiable};
-ghost use Rattle.lrup_model.specs.Layout.{IsFault, IsStream};
+ghost use Rattle.lrup_model.specs.Layout.{IsFault, IsLayout, IsStream};
 ghost use Rattle.lrup_model.specs.declared.layout.LayoutFault.{LayoutFault};
-ghost use Rattle.lrup_model.specs.Pass.{AreSynced};
-ghost use Rattle.clause_store.specs.Passes.{AreOf, ShareHistory, views};
+ghost use Rattle.lrup_model.specs.Pass.{AreSynced, View};
+ghost use Rattle.clause_store.specs.Passes.{AreOf, IsOpened, ShareHistory, views};
+ghost use Rattle.stream_check.specs.Each.{Each};
 ghost use Rattle.stream_check.specs.Readings.{readers_view};
 ghost use Rattle.stream_check.specs.SequentialConsistency.{HaveOneHistory, seen_by};
+ghost use Rattle.stream_threads.specs.Jobs.{IsJob, StreamResultsValue};
 ghost use Rattle.run_outcome.specs.Histories.{IsRunOf};
 ghost use Rattle.run_outcome.specs.Outcomes.{layout_of, run_params_of, verdict_of};
 ghost use Rattle.run_outcome.specs.RingStops.{StopsAtRing};
@@ -26,7 +28,9 @@ use std::alloc::Global;
 use std::sync::Wait;
 use std::thread::Threads;
 use stream_check::{Gate, RunParams};
-use stream_threads::{StartSignal, StreamResults, ThreadFault, ThreadLists, check_all, jobs_of};
+use stream_threads::{
+    StartSignal, StreamJobs, StreamResults, ThreadFault, ThreadLists, check_all, jobs_of,
+};
 
 /// Checks all streams of a formula, with two threads for each: one reads the stream's bytes to the
 /// end, and the other checks them against the store of clauses, which all streams share. The
@@ -85,10 +89,7 @@ pub fn run<T: Threads + Wait + Sync, R: Source + Send + Drop, G: Gate + Send + D
     ensures sound_under { IfOk result (λ outcome. outcome.verdict ≡ Verdict.UnsatisfiableUnder
         → IsUnsatisfiableUnder formula.now cube.now) }
 {
-    let layout = options.layout(formula, readers.len())?;
-    let run_params = RunParams::new(&layout, cube, options.tries());
-    let (store, passes) = Store::open(alloc, formula, layout)?;
-    let jobs = jobs_of(alloc, &run_params, readers, gates, passes)?;
+    let (store, jobs) = store_and_jobs(alloc, formula, cube, options, readers, gates)?;
     let signal = StartSignal::new();
     let lists = ThreadLists::new(alloc, &signal, jobs.len())?;
     // Laws, with no effect at run time: the proof of `reports` uses their contracts.
@@ -96,15 +97,41 @@ pub fn run<T: Threads + Wait + Sync, R: Source + Send + Drop, G: Gate + Send + D
     run_serializable();
     match check_all(threads, &store, jobs, lists) {
         Ok(found) => Ok(outcome_of(store, found)),
-        Err(ThreadFault::Spawn(stream)) => Err(RunFault::Spawn(stream)),
-        Err(ThreadFault::Ring(found)) => {
-            let stream = found.passes.len() as u64 + 1;
-            // For the proof only: the contract of `outcome_of` gives what `ring` promises of the
-            // streams before this one.
-            let _before = outcome_of(store, found);
-            Err(RunFault::Ring(stream))
-        }
+        Err(fault) => Err(fault_of(store, fault)),
     }
+}
+
+/// Opens the store of clauses, and makes the jobs of all streams.
+fn store_and_jobs<R: Source + Drop, G: Gate + Drop>(
+    alloc: Global,
+    formula: &Formula,
+    cube: &Cube,
+    options: Options,
+    readers: Vec<R>,
+    gates: Vec<G>,
+) -> Result<(Store, Vec<StreamJobs<R, G>>), RunFault>
+    requires gates { vec_len gates ≡ vec_len readers }
+    requires running { AllByRecursion (λ r. R.has_failed r ≡ false) readers.items }
+    ensures layout { (fault : LayoutFault) → (result ≡ Err (RunFault.Layout fault))
+        ↔ IsFault (layout_of options formula.now (length readers.items)) fault }
+    ensures no_threads { (stream : ℕ) → (result ≢ Err (RunFault.Spawn stream))
+        × (result ≢ Err (RunFault.Ring stream)) }
+    ensures is_layout { IfOk result (λ _.
+        IsLayout (layout_of options formula.now (length readers.items))) }
+    ensures store { IfOk result (λ made.
+        made.0.layout ≡ layout_of options formula.now (length readers.items)) }
+    // Each stream has its reader, a new checker, and the pass that the store opened for it.
+    ensures jobs { let run_params = run_params_of options cube.now formula.now
+        (length readers.items) in
+        IfOk result (λ made. Each (λ stream reader jobs.
+        IsJob run_params stream reader jobs.pass jobs
+        × IsOpened made.0 formula.now stream jobs.pass) 1 readers.items made.1.items) }
+{
+    let layout = options.layout(formula, readers.len())?;
+    let run_params = RunParams::new(&layout, cube, options.tries());
+    let (store, passes) = Store::open(alloc, formula, layout)?;
+    let jobs = jobs_of(alloc, &run_params, readers, gates, passes)?;
+    Ok((store, jobs))
 }
 
 /// The outcome of the streams once their threads have ended. All passes meet, which takes a few
@@ -135,5 +162,28 @@ fn outcome_of<R: Source + Drop>(store: Store, found: StreamResults<R>) -> Outcom
         store,
         readers,
         dropped,
+    }
+}
+
+/// The fault of a run whose threads had this fault. With `Ring`, the passes of the streams before
+/// that one meet.
+fn fault_of<R: Source + Drop>(store: Store, fault: ThreadFault<R>) -> RunFault
+    requires store { (found : StreamResultsValue R) → fault ≡ ThreadFault.Ring found
+        → AreOf store found.passes }
+    ensures spawn { (stream : ℕ) → fault ≡ ThreadFault.Spawn stream
+        → result ≡ RunFault.Spawn stream }
+    ensures ring { (found : StreamResultsValue R) → fault ≡ ThreadFault.Ring found
+        → result ≡ RunFault.Ring (length found.passes + 1) }
+    ensures met { (found : StreamResultsValue R) → fault ≡ ThreadFault.Ring found
+        → (met : List View) × AreSynced (views found.passes) met × ShareHistory met }
+{
+    match fault {
+        ThreadFault::Spawn(stream) => RunFault::Spawn(stream),
+        ThreadFault::Ring(found) => {
+            let stream = found.passes.len() as u64 + 1;
+            // For the proof only: the contract of `outcome_of` gives `met`.
+            let _before = outcome_of(store, found);
+            RunFault::Ring(stream)
+        }
     }
 }

@@ -1,144 +1,100 @@
-use Rattle.std.proofs.Common.{◌≡◌, ◌+◌, ◌∙◌, Result, Err, length, take, sym, subst, ap, arith}
-use Rattle.std.specs.Prelude.{◌↔◌, ◌<◌, ◌≤◌}
-use Rattle.lrup_model.specs.Layout.{Fits, IsFault, IsLayout, LayoutValue}
+use Rattle.std.proofs.Common.{◌≡◌, Result, Err, length, refl}
+use Rattle.std.specs.Prelude.{◌↔◌}
+use Rattle.lrup_model.specs.Layout.{IsFault}
 use Rattle.lrup_model.specs.declared.layout.LayoutFault.{LayoutFault}
 use Rattle.stream_check.specs.Readings.{readers_view}
-use Rattle.stream_check.specs.Streams.{RunParamsValue}
-use Rattle.stream_threads.specs.Faults.{IsFaultOf}
-use Rattle.stream_threads.specs.Jobs.{StreamResultsValue}
 use Rattle.run_outcome.specs.Outcomes.{layout_of, run_params_of}
 use Rattle.run_outcome.specs.declared.outcome.RunFault.{RunFault}
-use Rattle.run_outcome.specs.declared.outcome.RunFault.TheVariants.{Layout}
+use Rattle.run_outcome.specs.declared.outcome.RunFault.TheVariants.{Layout, Ring, Spawn}
 use Rattle.run_outcome.specs.lemmas.CubeLemmas.{sound_under_run}
-use Rattle.run_outcome.specs.lemmas.RunLemmas.{is_memory, none_of_layout, not_layout, run_params_made, sound_run}
-use Rattle.portfolio.proofs.ConsistencyLemmas.{IsBegun, begin_take, can_begin, found_of, run_history, run_ready, run_reports}
-use Rattle.portfolio.proofs.ConsistencyLemmas.{stops_at_ring, stream_within}
+use Rattle.run_outcome.specs.lemmas.RunLemmas.{is_memory, not_layout, sound_run}
+use Rattle.portfolio.proofs.ConsistencyLemmas.{IsBegun, can_begin, found_of, run_history, run_reports}
+use Rattle.portfolio.proofs.FaultLemmas.{before_of, no_layout_fault, no_other, not_layout_of, ring_stops, spawn_within}
 use Rattle.portfolio.proofs.threads.run.Given as given
 use Rattle.portfolio.proofs.threads.run.Goals as goal
-use Rattle.portfolio.proofs.threads.run.Goals.{In_ok-jobs, In_ok-layout}
-
--- the numbers have a layout, so the fault isn't a layout fault
-no_layout : (g : given.Over) (c : In_ok-layout g) {A : Type 0} (result : Result A RunFault)
-    → ((fault : LayoutFault) → result ≡ Err (Layout fault) → ⊥) → (fault : LayoutFault)
-    → (result ≡ Err (Layout fault)) ↔ IsFault (layout_of c.args.options c.args.formula.now (length c.args.readers.items)) fault
-no_layout g c result other fault = (
-  (λ e. absurd (other fault e)),
-  (λ bad. absurd (none_of_layout c.args.options c.args.formula.now _ c.len.result (length c.args.readers.items)
-      c.in_ok-layout.ensures.layout.0 (c.len.ensures ∙ c.args.readers.ok.0) c.in_ok-layout.ensures.layout.1 fault bad)),
-)
+use Rattle.portfolio.proofs.threads.run.Goals.{In_ok-store}
 
 -- the run was begun with their parameters
-begun : (g : given.Over) (c : In_ok-jobs g) → IsBegun c.args.formula.now
+begun : (g : given.Over) (c : In_ok-store g) → IsBegun c.args.formula.now
     (run_params_of c.args.options c.args.cube.now c.args.formula.now (length c.args.readers.items)) c.in_ok-store.store
-    c.args.readers.items c.in_ok-jobs.jobs.items
-begun g c =
-    let f = c.args.formula.now in
-    let p = c.in_ok-layout.layout in
-    let firsts = c.args.readers.items in
-    let made = c.new-run_params.ensures in
-    let run_params = c.new-run_params.result in
-    let is_of = c.in_ok-layout.ensures.layout in
-    let layout : p ≡ run_params.layout = sym (ap (λ (t : RunParamsValue). t.layout) made) in
-    let count = ap (λ (l : LayoutValue). l.streams) is_of.0 ∙ c.len.ensures ∙ c.args.readers.ok.0 in
-    let opened = c.in_ok-store in
-    subst (λ (t : RunParamsValue). IsBegun f t opened.store firsts c.in_ok-jobs.jobs.items)
-    (run_params_made c.args.options c.args.cube.now f p c.len.result (length firsts) c.tries.result _ made is_of.0
-    (c.len.ensures ∙ c.args.readers.ok.0) c.tries.ensures.tries)
-    (record {
-      is = subst IsLayout layout is_of.1;
-      fits = subst (λ (l : LayoutValue). Fits l f) layout is_of.2;
-      count = sym (sym (ap (λ (l : LayoutValue). l.streams) layout) ∙ count);
-      store_is = opened.ensures.layout ∙ layout;
-      ready = run_ready (readers_view g.R.Source) run_params p firsts opened.passes.items c.in_ok-jobs.jobs.items
-          opened.passes.ok.0 opened.ensures.count opened.ensures.passes c.in_ok-jobs.ensures;
-    })
+    c.args.readers.items c.in_ok-store.jobs.items
+begun g c = record {
+  is = c.in_ok-store.ensures.is_layout;
+  fits = record { vars = refl; clauses = refl; literals = refl };
+  count = refl;
+  store_is = c.in_ok-store.ensures.store;
+  ready = c.in_ok-store.ensures.jobs;
+}
 
-pub jobs_of-requires-clause-passes : goal.jobs_of-requires-clause-passes
-jobs_of-requires-clause-passes g c =
-    let streams = ap (λ (l : LayoutValue). l.streams) c.in_ok-layout.ensures.layout.0 in
-    omega (arith, c.in_ok-store.ensures.count, streams, c.len.ensures)
-
-pub jobs_of-requires-clause-streams : goal.jobs_of-requires-clause-streams
-jobs_of-requires-clause-streams g c =
-    ap (λ (t : RunParamsValue). t.layout.streams) c.new-run_params.ensures
-    ∙ ap (λ (p : LayoutValue). p.streams) c.in_ok-layout.ensures.layout.0 ∙ c.len.ensures ∙ c.args.readers.ok.0
+-- they have a layout
+right : (g : given.Over) (c : In_ok-store g) {A : Type 0} (result : Result A RunFault)
+    → ((fault : LayoutFault) → result ≡ Err (Layout fault) → ⊥) → (fault : LayoutFault)
+    → (result ≡ Err (Layout fault)) ↔ IsFault (layout_of c.args.options c.args.formula.now (length c.args.readers.items)) fault
+right g c = no_layout_fault _ c.in_ok-store.ensures.is_layout
 
 pub check_all-requires-clause-begin : goal.check_all-requires-clause-begin
 check_all-requires-clause-begin g c κs lives =
-    can_begin (readers_view g.R.Source) (begun g (goal.at.check_all-requires-clause-begin g c).In_ok-jobs)
+    can_begin (readers_view g.R.Source) (begun g (goal.at.check_all-requires-clause-begin g c).In_ok-store)
 
-pub returns-in_err-store-clause-layout : goal.returns-in_err-store-clause-layout
-returns-in_err-store-clause-layout g c = no_layout g (goal.at.returns-in_err-store-clause-layout g c).In_ok-layout _
-    (λ fault. not_layout _ fault (is_memory _ c.from_residual-in_err-store.ensures.1))
+pub returns-in_err-store-clause-spawn : goal.returns-in_err-store-clause-spawn
+returns-in_err-store-clause-spawn g c = λ stream e.
+    absurd (no_other _ _ _ c.from_residual.ensures.1 (c.in_err-store.ensures.no_threads stream).0 e)
 
-pub returns-in_err-jobs-clause-layout : goal.returns-in_err-jobs-clause-layout
-returns-in_err-jobs-clause-layout g c = no_layout g (goal.at.returns-in_err-jobs-clause-layout g c).In_ok-layout _
-    (λ fault. not_layout _ fault (is_memory _ c.from_residual-in_err-jobs.ensures.1))
+pub returns-in_err-store-clause-ring : goal.returns-in_err-store-clause-ring
+returns-in_err-store-clause-ring g c = λ stream e.
+    absurd (no_other _ _ _ c.from_residual.ensures.1 (c.in_err-store.ensures.no_threads stream).1 e)
 
 pub returns-in_err-lists-clause-layout : goal.returns-in_err-lists-clause-layout
-returns-in_err-lists-clause-layout g c = no_layout g (goal.at.returns-in_err-lists-clause-layout g c).In_ok-layout _
+returns-in_err-lists-clause-layout g c = right g (goal.at.returns-in_err-lists-clause-layout g c).In_ok-store _
     (λ fault. not_layout _ fault (is_memory _ c.from_residual-in_err-lists.ensures.1))
 
 pub returns-in-Ok-clause-layout : goal.returns-in-Ok-clause-layout
 returns-in-Ok-clause-layout g c =
-    no_layout g (goal.at.returns-in-Ok-clause-layout g c).In_ok-layout _ (λ fault e. cc)
+    right g (goal.at.returns-in-Ok-clause-layout g c).In_ok-store _ (λ fault e. cc)
 
-pub returns-in-Err-Spawn-clause-layout : goal.returns-in-Err-Spawn-clause-layout
-returns-in-Err-Spawn-clause-layout g c =
-    no_layout g (goal.at.returns-in-Err-Spawn-clause-layout g c).In_ok-layout _ (λ fault e. cc)
+-- the fault of the threads
+pub fault_of-requires : goal.fault_of-requires
+fault_of-requires g c = record {
+  store = before_of (readers_view g.R.Source) (begun g (goal.at.fault_of-requires g c).In_ok-store) _ c.in-Err.ensures.fault;
+}
 
-pub returns-in-Err-Ring-clause-layout : goal.returns-in-Err-Ring-clause-layout
-returns-in-Err-Ring-clause-layout g c =
-    no_layout g (goal.at.returns-in-Err-Ring-clause-layout g c).In_ok-layout _ (λ fault e. cc)
+pub returns-clause-layout : goal.returns-clause-layout
+returns-clause-layout g c =
+    let its = c.fault_of.ensures in
+    right g (goal.at.returns-clause-layout g c).In_ok-store _ (λ fault e.
+    let is : c.fault_of.result ≡ Layout fault = cc in
+    not_layout_of (readers_view g.R.Source) _ _ fault its.spawn its.ring is)
 
-pub returns-in-Err-Spawn-clause-spawn : goal.returns-in-Err-Spawn-clause-spawn
-returns-in-Err-Spawn-clause-spawn g c = λ stream e.
-    let begun = begun g (goal.at.returns-in-Err-Spawn-clause-spawn g c).In_ok-jobs in
-    let fault =
-    subst (IsFaultOf (readers_view g.R.Source) c.in_ok-jobs.jobs.items) c.in-Err-Spawn.field-0-is c.in-Err-Spawn.ensures.fault in
-    let here : c.in-Err-Spawn.stream ≡ stream = cc in
-    stream_within (readers_view g.R.Source) begun stream (subst (λ s. (0 < s) × (s ≤ length c.in_ok-jobs.jobs.items)) here fault)
+pub returns-clause-spawn : goal.returns-clause-spawn
+returns-clause-spawn g c = λ stream e.
+    let its = c.fault_of.ensures in
+    let is : c.fault_of.result ≡ Spawn stream = cc in
+    spawn_within (readers_view g.R.Source) (begun g (goal.at.returns-clause-spawn g c).In_ok-store) _ _ stream
+    c.in-Err.ensures.fault its.spawn its.ring is
 
--- for the streams before the one that a ring's fault names
-pub outcome_of-before-requires : goal.outcome_of-before-requires
-outcome_of-before-requires g c =
-    let begun = begun g (goal.at.outcome_of-before-requires g c).In_ok-jobs in
-    let view = readers_view g.R.Source in
-    let jobs = c.in_ok-jobs.jobs.items in
-    let fault = subst (IsFaultOf view jobs) c.in-Err-Ring.field-0-is c.in-Err-Ring.ensures.fault in
-    let n = length c.in-Err-Ring.found.passes in
-    record { store = found_of view _ (take n jobs) c.in-Err-Ring.found (begin_take view _ n jobs (can_begin view begun)) fault.0 }
-
-pub returns-in-Err-Ring-clause-ring : goal.returns-in-Err-Ring-clause-ring
-returns-in-Err-Ring-clause-ring g c = λ stream e.
-    let begun = begun g (goal.at.returns-in-Err-Ring-clause-ring g c).In_ok-jobs in
-    let fault = subst (IsFaultOf (readers_view g.R.Source) c.in_ok-jobs.jobs.items) c.in-Err-Ring.field-0-is c.in-Err-Ring.ensures.fault in
-    let here : c.len-in-Err-Ring.result + 1 ≡ stream = cc in
-    let before = c.outcome_of-before.ensures in
-    stops_at_ring (readers_view g.R.Source) begun c.in-Err-Ring.found _ before.synced before.one fault stream (omega (
-      arith,
-      here,
-      c.len-in-Err-Ring.ensures,
-      c.found.inside.passes.ok.0,
-      ap (λ (found : StreamResultsValue g.row.R.Denot). length found.passes) c.found.view_is,
-    ))
+pub returns-clause-ring : goal.returns-clause-ring
+returns-clause-ring g c = λ stream e.
+    let its = c.fault_of.ensures in
+    let is : c.fault_of.result ≡ Ring stream = cc in
+    ring_stops (readers_view g.R.Source) (begun g (goal.at.returns-clause-ring g c).In_ok-store) _ _ stream
+    c.in-Err.ensures.fault its.spawn its.ring its.met is
 
 pub outcome_of-requires : goal.outcome_of-requires
 outcome_of-requires g c =
-    let begun = begun g (goal.at.outcome_of-requires g c).In_ok-jobs in
+    let begun = begun g (goal.at.outcome_of-requires g c).In_ok-store in
     let view = readers_view g.R.Source in
-    record { store = found_of view _ c.in_ok-jobs.jobs.items c.in-Ok.found (can_begin view begun) c.in-Ok.ensures.found }
+    record { store = found_of view _ c.in_ok-store.jobs.items c.in-Ok.found (can_begin view begun) c.in-Ok.ensures.found }
 
 pub returns-in-Ok-clause-history : goal.returns-in-Ok-clause-history
 returns-in-Ok-clause-history g c =
-    let begun = begun g (goal.at.returns-in-Ok-clause-history g c).In_ok-jobs in
+    let begun = begun g (goal.at.returns-in-Ok-clause-history g c).In_ok-store in
     let out = c.outcome_of.ensures in
     run_history (readers_view g.R.Source) begun c.in-Ok.found _ c.in-Ok.ensures.found out.synced out.one
 
 -- the premise of the laws is the layout of the formula and the readers
 pub returns-in-Ok-clause-reports : goal.returns-in-Ok-clause-reports
 returns-in-Ok-clause-reports g c =
-    let begun = begun g (goal.at.returns-in-Ok-clause-reports g c).In_ok-jobs in
+    let begun = begun g (goal.at.returns-in-Ok-clause-reports g c).In_ok-store in
     let out = c.outcome_of.ensures in
     let by = run_reports (readers_view g.R.Source) begun c.in-Ok.found _ c.in-Ok.ensures.found out.synced out.one in
     let isolated = c.run_isolated.ensures _ _ _ _ begun.fits by.0.run in
@@ -147,7 +103,7 @@ returns-in-Ok-clause-reports g c =
 
 pub returns-in-Ok-clause-store : goal.returns-in-Ok-clause-store
 returns-in-Ok-clause-store g c =
-    let begun = begun g (goal.at.returns-in-Ok-clause-store g c).In_ok-jobs in
+    let begun = begun g (goal.at.returns-in-Ok-clause-store g c).In_ok-store in
     let out = c.outcome_of.ensures in
     rw out.kept (out.of, begun.store_is)
 
