@@ -27,6 +27,12 @@ SHARED_WITH_SOLVER := $(addprefix tools/exact/,errors.c formula.c lists.c litera
 ALONE := $(filter-out $(wildcard tools/solve/mpi*.cpp),$(wildcard tools/solve/*.cpp))
 # Tests of programs build this first; 'make examples BUILT= PROGRAM=path' tests another program.
 BUILT ?= build
+# Debian's pytest, with which the tests of programs run: two rows more at once than there are cores,
+# since most of them wait now and then.
+PYTEST ?= pytest-3
+AT_ONCE := $(shell expr $$(nproc) + 2)
+rows_of = @$(PYTEST) -n $(AT_ONCE) --dist loadgroup --program $(PROGRAM) \
+	$(addsuffix .py,$(addprefix tests/test_,$(1)))
 FORMULA ?= examples/bmc.cnf
 STREAMS ?= $(addprefix examples/bmc-four.,1 2 3 4)
 OPTIONS ?= --tries 1000000
@@ -35,7 +41,7 @@ OPTIONS ?= --tries 1000000
 	rounds demo solver exact trim explain solve solver-test filter-test trim-test building \
 	peers hol explain-test solve-test days neighbours sweep leaks instructions quotes \
 	promises pages test toolchain c-and-python libcadical libmd beside-it mpicxx help try deb \
-	dist quick edits packages warnings builds shown quotes-test
+	dist quick edits packages warnings builds shown quotes-test pytest rows
 
 help:
 	@awk -f gate/help.awk $(firstword $(MAKEFILE_LIST))
@@ -103,21 +109,17 @@ uninstall: ## use: remove what make install installs below PREFIX
 
 # Compares standard output, standard error and the status; also checks two groups of streams
 # separately.
-examples: $(BUILT) c-and-python ## check: compare what the program answers on the examples, and on some hundred small runs
-	@python3 tests/program_answers.py $(PROGRAM)
-	@python3 tests/program_groups.py $(PROGRAM)
+examples: $(BUILT) pytest ## check: compare what the program answers on the examples, and on some hundred small runs
+	$(call rows_of,program_answers program_groups)
 
-live: $(BUILT) c-and-python ## check: four recorded solvers, line by line through pipes, checked while they run
-	@python3 tests/program_live.py $(PROGRAM)
+live: $(BUILT) pytest ## check: four recorded solvers, line by line through pipes, checked while they run
+	$(call rows_of,program_live)
 
-checkpoints: $(BUILT) solver ## check: what --checkpoint saves, lrup-chain, and streams that are cut into rounds
-	@python3 tests/program_checkpoints.py $(PROGRAM)
-	@python3 tests/lrup_chain.py $(PROGRAM)
-	@python3 tests/example_chain.py $(PROGRAM) $(SOLVER)
+checkpoints: $(BUILT) solver pytest ## check: what --checkpoint saves, lrup-chain, and streams that are cut into rounds
+	$(call rows_of,program_checkpoints lrup_chain example_chain)
 
-rounds: $(BUILT) c-and-python ## check: runs in rounds: each end and fault, sizes, pipes, and what is saved
-	@python3 tests/program_rounds.py $(PROGRAM)
-	@python3 tests/program_rounds_alone.py $(PROGRAM)
+rounds: $(BUILT) pytest ## check: runs in rounds: each end and fault, sizes, pipes, and what is saved
+	$(call rows_of,program_rounds program_rounds_alone)
 
 demo: build solver ## try: four solvers that share clauses, checked while they run
 	@python3 examples/solver/demo.py $(PROGRAM) $(SOLVER)
@@ -222,58 +224,59 @@ warnings: c-and-python libmd $(HELPS) ## check: C compiles without a warning, an
 	for file in $(C_HEADERS); do \
 	$$compiler $(STRICT) -D_POSIX_C_SOURCE=200809L -include $$file /dev/null || exit 1; done; done
 
-quotes-test: c-and-python ## check: that wrong quotes on the pages are refused
-	@python3 tests/quotes.py
+quotes-test: pytest ## check: that wrong quotes on the pages are refused
+	$(call rows_of,quotes)
 
-builds: c-and-python ## check: C and C++ are compiled with the given flags, and again after a change
-	@python3 tests/builds.py
+builds: pytest ## check: C and C++ are compiled with the given flags, and again after a change
+	$(call rows_of,builds)
 
-shown: $(BUILT) solver exact trim explain ## check: run the commands that the pages show, and compare their output
-	@python3 tests/shown.py $(PROGRAM)
+shown: $(BUILT) solver exact trim explain pytest ## check: run the commands that the pages show, and compare their output
+	$(call rows_of,shown)
 
-solver-test: $(BUILT) solver ## check: streams of one to eight example solvers, and of some that are killed
-	@python3 tests/example_solver.py $(PROGRAM) $(SOLVER)
+solver-test: $(BUILT) solver pytest ## check: streams of one to eight example solvers, and of some that are killed
+	$(call rows_of,example_solver)
 
 FILTER_TESTS := filter_rounds filter_mutants filter_chains filter_streams filter_solvers
 .PHONY: $(FILTER_TESTS)
-filter-test: $(FILTER_TESTS) ## check: the filter, also in rounds, with solvers on the PATH, and on 10,000 mutated proofs
+filter-test: $(BUILT) exact pytest ## check: the filter, also in rounds, with solvers on the PATH, and on 10,000 mutated proofs
+	$(call rows_of,$(FILTER_TESTS))
 
-$(FILTER_TESTS): $(BUILT) exact
-	@python3 tests/$@.py $(PROGRAM)
+$(FILTER_TESTS): $(BUILT) exact pytest
+	$(call rows_of,$@)
 
-trim-test: $(BUILT) solver exact trim ## check: lrup-trim, on 300 random runs in rounds, and on garbled streams
-	@python3 tests/trim.py $(PROGRAM)
+trim-test: $(BUILT) solver exact trim pytest ## check: lrup-trim, on 300 random runs in rounds, and on garbled streams
+	$(call rows_of,trim)
 
-explain-test: $(BUILT) solver explain ## check: lrup-explain against lrupd, on 2,000 faulty streams and 1,000 mutated proofs
-	@python3 tests/explain.py $(PROGRAM)
+explain-test: $(BUILT) solver explain pytest ## check: lrup-explain against lrupd, on 2,000 faulty streams and 1,000 mutated proofs
+	$(call rows_of,explain)
 
-# Skipped without CaDiCaL's library, and those of --mpi without MPI. With MPI= only their quick rows
-# run, as in the gate.
-MPI ?= yes
+# Skipped without CaDiCaL's library, and those of --mpi without MPI.
 SOLVE_TESTS := lrup_solve_rounds lrup_solve lrup_solve_inputs lrup_solve_solvers lrup_check \
 	lrup_solve_kept lrup_solve_front lrup_solve_trusted lrup_solve_hostile lrup_solve_kills \
 	lrup_solve_cubes lrup_solve_resume lrup_solve_days lrup_solve_mpi
 .PHONY: $(SOLVE_TESTS)
-solve-test: $(SOLVE_TESTS) ## check: lrup-solve, on 300 random formulas, and with everything that may fail
+solve-test: $(BUILT) exact pytest ## check: lrup-solve, on 300 random formulas, and with everything that may fail
+	$(call rows_of,$(SOLVE_TESTS))
 
-$(SOLVE_TESTS): $(BUILT) exact c-and-python
-	@python3 tests/$@.py $(PROGRAM) $(if $(MPI),,$(if $(filter %_mpi,$@),-O2 small))
+$(SOLVE_TESTS): $(BUILT) exact pytest
+	$(call rows_of,$@)
 
 # On larger formulas than the gate's. SEED chooses them, and is printed.
 MINUTES ?= 60
 SEED ?= $(shell date +%s)
-days: $(BUILT) exact c-and-python ## check: kill processes of lrup-solve for MINUTES=60, and resume from what they saved
-	@python3 tests/lrup_solve_days.py $(PROGRAM) -O2 $(SEED) $(MINUTES)
+days: $(BUILT) exact pytest ## check: kill processes of lrup-solve for MINUTES=60, and resume from what they saved
+	@echo "seed $(SEED)" && $(PYTEST) -vv --program $(PROGRAM) --seed $(SEED) --minutes $(MINUTES) \
+	tests/test_lrup_solve_days.py
 
-neighbours: $(BUILT) c-and-python ## check: hostile streams never change the report on a good proof
-	@python3 tests/program_neighbours.py $(PROGRAM)
+neighbours: $(BUILT) pytest ## check: hostile streams never change the report on a good proof
+	$(call rows_of,program_neighbours)
 
-sweep: $(BUILT) c-and-python ## check: runs with each allocation, read, write and thread refused in turn
-	@python3 tests/program_refusals.py $(PROGRAM) $(RT)
+sweep: $(BUILT) pytest ## check: runs with each allocation, read, write and thread refused in turn
+	$(call rows_of,program_refusals) --rt $(RT)
 
 # Skipped without valgrind, like make instructions.
-leaks: $(BUILT) c-and-python ## measure: memory leaks, by valgrind
-	@python3 tests/program_leaks.py $(PROGRAM)
+leaks: $(BUILT) pytest ## measure: memory leaks, by valgrind
+	$(call rows_of,program_leaks)
 
 instructions: $(BUILT) c-and-python ## measure: how many instructions lines take, by valgrind, against the recorded figures
 	@python3 gate/instructions.py $(PROGRAM)
@@ -329,25 +332,26 @@ packages: ## check: install, as root, the Debian packages that tests need
 	@sh gate/packages.sh
 
 # The whole gate: the pages; then rt ci, which proves everything from nothing, tries the edits, runs
-# the crates' tests, and builds the program with two compilers; then the tests of programs. The last
-# line is rt's own, 'N passed, M failed'. Tests of programs run in parallel, the longest first, and
-# two more than there are cores, since most of them wait now and then. The output of each comes when
-# it has ended. `make -n` first checks that every test target exists.
-TESTS := lrup_solve_rounds sweep filter_mutants lrup_solve lrup_solve_solvers lrup_solve_cubes \
-	filter_rounds lrup_solve_resume explain-test trim-test lrup_solve_front lrup_solve_days \
-	lrup_solve_hostile lrup_solve_mpi lrup_solve_inputs lrup_solve_kept lrup_solve_kills \
-	lrup_solve_trusted lrup_check leaks filter_chains filter_streams filter_solvers \
-	checkpoints rounds examples solver-test instructions neighbours live warnings builds \
-	shown quotes-test
-SIDE_BY_SIDE := --output-sync=target -j $(shell expr $$(nproc) + 2)
+# the crates' tests, and builds the program with two compilers; then the tests of programs, those of
+# pytest in one run, the longest first, without the rows of --mpi that wait for long. The last line
+# is rt's own, 'N passed, M failed'.
+ROWS := lrup_solve_mpi lrup_solve_rounds program_refusals filter_mutants lrup_solve \
+	lrup_solve_solvers lrup_solve_cubes filter_rounds lrup_solve_resume explain trim \
+	lrup_solve_front lrup_solve_days lrup_solve_hostile lrup_solve_inputs lrup_solve_kept \
+	lrup_solve_kills lrup_solve_trusted lrup_check builds program_leaks filter_chains \
+	filter_streams filter_solvers program_checkpoints lrup_chain example_chain program_rounds \
+	program_rounds_alone program_answers program_groups example_solver program_neighbours \
+	program_live shown quotes
 test: SHELL := /bin/bash
-test: toolchain pages solver exact trim explain ## check: the gate, 25 to 100 minutes: every proof, edit and test; has to pass before a push
-	@$(MAKE) -n BUILT= MPI= $(TESTS) > /dev/null
+test: toolchain pytest pages solver exact trim explain ## check: the gate, 25 to 100 minutes: every proof, edit and test; has to pass before a push
 	@rm -f $(dir $(SOLVE))lrupd; set -o pipefail; log=$$(mktemp); trap 'rm -f "$$log"' EXIT; SECONDS=0; \
 	$(RT) ci | tee "$$log" && proved=$$SECONDS && \
-	$(MAKE) --no-print-directory $(SIDE_BY_SIDE) BUILT= MPI= $(TESTS) && \
+	$(MAKE) --no-print-directory BUILT= rows instructions warnings && \
 	echo "rt ci took $$proved seconds, and the tests of programs $$((SECONDS - proved))" && \
 	tail -n 1 "$$log"
+
+rows: $(BUILT) solver exact trim explain pytest
+	$(call rows_of,$(ROWS)) --rt $(RT) -m "not long"
 
 toolchain:
 	@command -v $(RT) > /dev/null || \
@@ -356,6 +360,10 @@ toolchain:
 c-and-python:
 	@for command in $(firstword $(CC)) python3; do command -v $$command > /dev/null || \
 	{ echo "make demo and make test need a C compiler and Python 3: no command '$$command' is on the PATH"; exit 1; }; done
+
+pytest: c-and-python
+	@command -v $(firstword $(PYTEST)) > /dev/null || \
+	{ echo "tests of programs need pytest: no command '$(firstword $(PYTEST))' is on the PATH; make packages installs it"; exit 1; }
 
 mpicxx:
 	@command -v mpicxx > /dev/null || \

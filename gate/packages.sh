@@ -1,8 +1,9 @@
 #!/bin/sh
 # Installs, as root, the Debian packages that tests need besides Rattle's toolchain, compilers of C
-# and C++, and Python 3. Installed packages stay as they are. Tests whose packages are missing are
-# skipped, and fail in CI. clang's sanitizers are a separate package.
-packages='cadical clang codespell cryptominisat libcadical-dev libclang-rt-dev libmd-dev libopenmpi-dev openmpi-bin picosat python3-z3 valgrind yosys'
+# and C++, and Python 3. Installed packages stay as they are. pytest runs the tests of programs;
+# tests whose other packages are missing are skipped, and fail in CI. clang's sanitizers are a
+# separate package.
+packages='cadical clang codespell cryptominisat libcadical-dev libclang-rt-dev libmd-dev libopenmpi-dev openmpi-bin picosat python3-pytest python3-pytest-rerunfailures python3-pytest-timeout python3-pytest-xdist python3-z3 valgrind yosys'
 missing=
 for package in $packages; do
     dpkg-query -W -f '${db:Status-Status}' "$package" 2>/dev/null | grep -qx installed || missing="$missing $package"

@@ -4,7 +4,9 @@ import shutil
 from pathlib import Path
 from typing import Dict, Iterable, List, Sequence, Set, Tuple
 
-from harness import Failure, Skipped, want
+import pytest
+
+from harness import want
 from proof_forms import Clause, read_formula, read_steps
 
 Entry = Tuple[int, Clause]
@@ -49,8 +51,7 @@ def sorted_literals(text: str) -> List[str]:
     lines = []
     for line in text.split("\n"):
         if line and line[0] not in "cp":
-            if not re.fullmatch(r"(-?[1-9]\d* )*0", line):
-                raise Failure(f"a clause is misspelled: {line}")
+            assert re.fullmatch(r"(-?[1-9]\d* )*0", line), f"a clause is misspelled: {line}"
             line = " ".join(sorted(set(line.split()[:-1]), key=int))
         lines.append(line)
     return lines
@@ -65,7 +66,7 @@ def most_clauses(work: Path) -> Path:
     """A formula with as many clauses as a formula may have."""
     formula = work / "formula"
     if shutil.disk_usage(work).free < 300_000_000:
-        raise Skipped("less than 300 MB are free for files")
+        pytest.skip("less than 300 MB are free for files")
     with open(formula, "w") as file:
         file.write(f"p cnf 1 {MOST_CLAUSES}\n")
         for _ in range(15):

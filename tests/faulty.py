@@ -4,10 +4,9 @@ import re
 from pathlib import Path
 from typing import Callable, List, Optional, Sequence, Tuple
 
-from harness import EXAMPLES, dimacs, random_clauses, run, want, written
+from harness import SOLVER, dimacs, random_clauses, run, want, written
 from proof_forms import Clause
 
-SOLVER = EXAMPLES / "solver" / "out" / "solver"
 UNSATISFIABLE, SATISFIABLE = 20, 10
 
 

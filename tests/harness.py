@@ -1,11 +1,10 @@
-"""Shared by the tests of programs: runs, files and pipes, builds, and counting what passed.
+"""Shared by the tests of programs: runs, files and pipes, builds, and rows.
 
 A test is a row: a name, a function and its arguments. The function also gets a folder of its own,
-as the last argument."""
+as the last argument. pytest runs the rows; conftest.py has its options."""
 import contextlib
 import fcntl
 import functools
-import multiprocessing
 import os
 import random
 import re
@@ -22,12 +21,15 @@ import termios
 import threading
 import time
 from pathlib import Path
-from typing import IO, Any, Callable, Iterable, Iterator, List, Mapping, NamedTuple, Optional, Sequence, Tuple, Union
+from typing import (IO, Any, Callable, Iterable, Iterator, List, Mapping, NamedTuple, NoReturn,
+                    Optional, Sequence, Tuple, Union)
+
+import pytest
 
 TESTS = Path(__file__).resolve().parent
 ROOT = TESTS.parent
 EXAMPLES = ROOT / "examples"
-GENERATOR = EXAMPLES / "solver" / "generate.py"
+SOLVER, GENERATOR = EXAMPLES / "solver" / "out" / "solver", EXAMPLES / "solver" / "generate.py"
 LRUP_CHAIN = ROOT / "tools" / "lrup-chain"
 EXACT = ROOT / "tools" / "exact"
 FILTER, SANITIZED = EXACT / "out" / "exact", EXACT / "out" / "exact-sanitized"
@@ -35,6 +37,11 @@ TRIM = ROOT / "tools" / "trim" / "out" / "lrup-trim"
 SANITIZED_TRIM = TRIM.with_name("lrup-trim-sanitized")
 EXPLAIN = ROOT / "tools" / "explain" / "out" / "lrup-explain"
 SANITIZED_EXPLAIN = EXPLAIN.with_name("lrup-explain-sanitized")
+# The options of conftest.py. COUNT is of random rows; without it each file has its own.
+PROGRAM, FLAGS = "", "-O2"
+COUNT: Optional[int] = None
+FIRST, SEED, MINUTES = 0, 1, 0.0
+RT: Optional[str] = None
 LIMIT = 300  # seconds after which a run counts as hanging, even on a slow and busy machine
 FOUR = "p cnf 2 4\n1 2 0\n-1 2 0\n1 -2 0\n-1 -2 0\n"
 # The first bytes of files that these programs unpack.
@@ -53,18 +60,6 @@ Row = Tuple[Any, ...]
 Pieces = Iterable[Union[bytes, float]]
 
 
-class Failure(Exception):
-    pass
-
-
-class Skipped(Exception):
-    pass
-
-
-class Missing(Skipped):
-    """A package's program is missing. In CI, which installs all packages, that is a failure."""
-
-
 class Ran(NamedTuple):
     """A program's standard output, standard error and status."""
     out: str
@@ -73,8 +68,9 @@ class Ran(NamedTuple):
 
 
 def want(found: Any, wanted: Any, what: str) -> None:
-    if found != wanted:
-        raise Failure(f"{what}: expected\n{str(wanted)[:2000]}\nbut found\n{str(found)[:2000]}")
+    __tracebackhide__ = True
+    assert found == wanted, (f"{what}: expected\n{str(wanted)[:2000]}\n"
+                             f"but found\n{str(found)[:2000]}")
 
 
 # Running programs.
@@ -123,7 +119,7 @@ def by_another(words: Words, work: Path, user: int = 65534, before: Callable[[],
     except subprocess.TimeoutExpired:
         raise
     except (PermissionError, subprocess.SubprocessError):
-        raise Skipped("the superuser can't become another user")
+        pytest.skip("the superuser can't become another user")
 
 
 def run_by_another(program: str, words: Words, work: Path) -> Ran:
@@ -141,8 +137,7 @@ def within(limit: Optional[int]) -> None:
 def until(what: str, condition: Callable[[], bool], seconds: float = LIMIT) -> None:
     end = time.monotonic() + seconds
     while not condition():
-        if time.monotonic() > end:
-            raise Failure(f"not within {seconds} seconds: {what}")
+        assert time.monotonic() <= end, f"not within {seconds} seconds: {what}"
         time.sleep(0.01)
 
 
@@ -194,8 +189,7 @@ def waiting(pipe: int) -> int:
 def read_line(file: IO[bytes]) -> str:
     """A line that comes while the pipe is open."""
     ready, _, _ = select.select([file], [], [], LIMIT)
-    if not ready:
-        raise Failure("no line came while the pipe was open")
+    assert ready, "no line came while the pipe was open"
     return file.readline().decode()
 
 
@@ -246,12 +240,26 @@ def compiler(*flags: str) -> List[str]:
 
 
 def compiled(program: Path, sources: Sequence[Path], *flags: str, by: Sequence[str] = ()) -> Path:
-    """Builds the program atomically, since other scripts may build it and run it at the same
-    time."""
+    """Builds the program atomically, since it may run at the same time."""
     new = program.with_name(f"{program.name}-{os.getpid()}")
     subprocess.run([*(by or compiler()), "-o", str(new), *map(str, sources), *flags], check=True)
     new.replace(program)
     return program
+
+
+@contextlib.contextmanager
+def alone(lock: Path) -> Iterator[IO[str]]:
+    """One worker builds, and the others wait."""
+    lock.parent.mkdir(parents=True, exist_ok=True)
+    with lock.open("a+") as file:
+        fcntl.flock(file, fcntl.LOCK_EX)
+        file.seek(0)
+        yield file
+
+
+def is_newer(program: Path, sources: Iterable[Path]) -> bool:
+    return program.exists() and all(program.stat().st_mtime > path.stat().st_mtime
+                                    for path in sources)
 
 
 SANITIZE = ["-std=c11", "-O1", "-g", "-fsanitize=address,undefined,pointer-overflow", "-fno-sanitize-recover=all"]
@@ -271,15 +279,25 @@ def sanitizer() -> List[str]:
 
 
 def for_tests(program: Path, sources: Iterable[Path], *flags: str) -> Path:
-    """A build that checks its invariants, and reports undefined behaviour if the compiler can."""
-    program.parent.mkdir(exist_ok=True)
-    checked = ["-DCHECKED", "-I", str(ROOT / "out" / "objects")]
-    checked += SANITIZE if sanitizer() else ["-std=c11", "-O1"]
-    return compiled(program, sorted(sources), *checked, *flags, by=sanitizer())
+    """A build that checks its invariants, and reports undefined behaviour if the compiler can. It
+    is built if it is out of date, or was built by another command."""
+    sources, helps = sorted(sources), ROOT / "out" / "objects"
+    words = ["-DCHECKED", "-I", str(helps), *flags]
+    words += SANITIZE if sanitizer() else ["-std=c11", "-O1"]
+    folders = {helps, *(path.parent for path in sources)}
+    with alone(program.with_name(f"{program.name}.lock")) as lock:
+        command = shlex.join([*(sanitizer() or compiler()), *words])
+        headers = [path for folder in folders for path in folder.glob("*.h")]
+        if lock.read() != command or not is_newer(program, [*sources, *headers]):
+            compiled(program, sources, *words, by=sanitizer())
+            lock.truncate(0)
+            lock.write(command)
+    return program
 
 
-def sanitized_filter() -> None:
-    for_tests(SANITIZED, EXACT.glob("*.c"))
+@functools.lru_cache(maxsize=None)
+def sanitized_filter() -> Path:
+    return for_tests(SANITIZED, EXACT.glob("*.c"))
 
 
 def sources_of(tool: str) -> List[Path]:
@@ -287,21 +305,15 @@ def sources_of(tool: str) -> List[Path]:
     return [*(ROOT / "tools" / tool).glob("*.c"), *(path for path in EXACT.glob("*.c") if path.name not in ("main.c", "chain.c"))]
 
 
-def sanitized_trim() -> None:
-    for_tests(SANITIZED_TRIM, sources_of("trim"), "-lmd")
+@functools.lru_cache(maxsize=None)
+def sanitized_trim() -> Path:
+    return for_tests(SANITIZED_TRIM, sources_of("trim"), "-lmd")
 
 
-def sanitized_explain() -> None:
-    sources = [*sources_of("explain"), ROOT / "tools" / "trim" / "lines.c"]
-    for_tests(SANITIZED_EXPLAIN, sources, "-lmd")
-
-
-def words_given(usage: Optional[str], least: int = 1, most: int = 1) -> List[str]:
-    """The arguments, the first of which is a program."""
-    words = sys.argv[1:]
-    if not least <= len(words) <= most:
-        sys.exit(usage)
-    return [os.path.abspath(words[0]), *words[1:]]
+@functools.lru_cache(maxsize=None)
+def sanitized_explain() -> Path:
+    shared = ROOT / "tools" / "trim" / "lines.c"
+    return for_tests(SANITIZED_EXPLAIN, [*sources_of("explain"), shared], "-lmd")
 
 
 # The answers expected of the checker.
@@ -330,12 +342,12 @@ def added(said: Iterable[str]) -> int:
 
 class Wanted(NamedTuple):
     """Arguments, and the expected status and outputs, in a folder with these files and pipes; and
-    the expected contents of some files at the end."""
+    the expected contents of some files at the end. A long text comes from a function."""
     words: Words
     status: int
     out: str = ""
     err: str = ""
-    files: Mapping[str, str] = {}
+    files: Mapping[str, Union[str, Callable[[], str]]] = {}
     pipes: Mapping[str, Pieces] = {}
     given: Optional[str] = None
     shell: str = 'exec "$@"'
@@ -344,7 +356,7 @@ class Wanted(NamedTuple):
 
 def answered(program: str, wanted: Wanted, work: Path) -> Ran:
     for name, text in wanted.files.items():
-        written(text, work, name)
+        written(text() if callable(text) else text, work, name)
     for name, pieces in wanted.pipes.items():
         feed(piped(work / name), pieces)
     return run(["sh", "-c", wanted.shell, "sh", program, *wanted.words], wanted.given, cwd=work)
@@ -362,91 +374,41 @@ def with_memory(function: Callable[..., None], *arguments: Any) -> None:
     """Runs a row that takes up to 2 GB, if enough memory is free."""
     available = re.search(r"^MemAvailable: +(\d+)", Path("/proc/meminfo").read_text(), re.M)
     if not available or int(available[1]) < 4_000_000:
-        raise Skipped("less than 4 GB are free")
+        pytest.skip("less than 4 GB are free")
     function(*arguments)
 
 
-# Counting.
+# Rows.
+
+
+def parametrized(rows: Iterable[Row]) -> Callable[[Row, Path], None]:
+    """A test that pytest runs for each row. Rows that take gigabytes don't run side by side."""
+    group = {with_memory: [pytest.mark.xdist_group("memory")]}
+    params = [pytest.param(row, id=row[0], marks=group.get(row[1], [])) for row in rows]
+
+    @pytest.mark.parametrize("row", params)
+    def test(row: Row, work: Path) -> None:
+        __tracebackhide__ = True
+        _, function, *arguments = row
+        function(*arguments, work)
+    return test
+
+
+# A mark of rows that run again if they take too long beside others.
+AGAIN_IF_LATE = pytest.mark.flaky(
+    reruns=1, condition="getattr(sys, 'last_type', type).__name__ == 'TimeoutExpired'")
 
 
 def has_packages() -> bool:
     return bool(os.environ.get("CI"))
 
 
+def lacking(why: str) -> NoReturn:
+    """Skips a row whose package is missing. In CI, which installs all packages, the row fails."""
+    (pytest.fail if has_packages() else pytest.skip)(why)
+
+
 def needs(command: str) -> None:
     """Skips the row if this program of a package is missing."""
     if not shutil.which(command):
-        raise Missing(f"there is no {command} on the PATH")
-
-
-def missing(why: str, work: Path) -> None:
-    """Takes the place of a row whose package is missing."""
-    raise Missing(why)
-
-
-def is_skipped(found: Optional[Exception]) -> bool:
-    return isinstance(found, Skipped) and not (has_packages() and isinstance(found, Missing))
-
-
-def left_out(cause: str) -> int:
-    """Skips a whole script whose package is missing: the status."""
-    print(f"{'failed' if has_packages() else 'skipped'}: {cause}")
-    return int(has_packages())
-
-
-def outcome(row: Row) -> Optional[Exception]:
-    """The failure, or why the row is skipped; None if it passed."""
-    _, function, *arguments = row
-    try:
-        with tempfile.TemporaryDirectory() as work:
-            function(*arguments, Path(work))
-    except (Failure, Skipped, OSError, LookupError, ValueError, subprocess.SubprocessError) as found:
-        return found
-    return None
-
-
-def closing(passed: int, failed: int, skipped: int = 0, title: str = "") -> int:
-    """Prints the last line; the status is 1 if something failed."""
-    print(f"{title}{passed} passed, {failed} failed" + f", {skipped} skipped" * (skipped > 0))
-    return 1 if failed else 0
-
-
-def run_side_by_side(rows: Sequence[Row], at_once: Optional[int] = None) -> int:
-    """Like run_all, in parallel, on all cores or that many at once; processes must be able to get
-    the rows and their arguments. A row that takes too long beside the others is run again after
-    them."""
-    failed = skipped = 0
-    with multiprocessing.Pool(at_once) as workers:
-        found_first = list(workers.imap(named_outcome, rows, chunksize=4))
-        for row, (name, found) in zip(rows, found_first):
-            if isinstance(found, subprocess.TimeoutExpired):
-                print(f"{name}, run again alone: {found}", flush=True)
-                found = outcome(row)
-            failed += found is not None and not is_skipped(found)
-            skipped += is_skipped(found)
-            if found:
-                print(f"{name}: {'skipped, ' * is_skipped(found)}{found}", flush=True)
-    return closing(len(rows) - failed - skipped, failed, skipped)
-
-
-def named_outcome(row: Row) -> Tuple[str, Optional[Exception]]:
-    return row[0], outcome(row)
-
-
-def run_all(rows: Sequence[Row], title: str = "", tries: int = 1) -> int:
-    """Shows failures, and counts. Rows that race with the clock may be tried several times."""
-    failed = skipped = 0
-    for row in rows:
-        found = outcome(row)
-        for _ in range(tries - 1):
-            if not found or is_skipped(found):
-                break
-            print(f"{row[0]}, tried again: {found}", flush=True)
-            found = outcome(row)
-        if is_skipped(found):
-            skipped += 1
-            print(f"{row[0]}: skipped, {found}", flush=True)
-        elif found:
-            failed += 1
-            print(f"{row[0]}: {found}", flush=True)
-    return closing(len(rows) - failed - skipped, failed, skipped, title)
+        lacking(f"there is no {command} on the PATH")

@@ -9,7 +9,7 @@ import subprocess
 from pathlib import Path
 from typing import Callable, Dict, List, Mapping, Optional, Sequence
 
-from harness import TRIM, Failure, run, started, until, want
+from harness import TRIM, run, started, until, want
 from lrat import lrat_fault
 from proof_forms import read_formula
 from solving import Answer, check_again, command, in_environment, none_left, want_answer
@@ -34,7 +34,7 @@ def recorded(words: Sequence[object], kept: Path, least: int, tested: Optional[M
         none_left(f"LRUP_MARK={os.environ['LRUP_MARK']}")
         if running.returncode == -signal.SIGKILL and saved_rounds(kept) > least:
             return
-    raise Failure(f"it has ended {TRIES} times before it had saved {least} rounds")
+    raise AssertionError(f"it has ended {TRIES} times before it had saved {least} rounds")
 
 
 def checkpoints(kept: Path) -> List[str]:

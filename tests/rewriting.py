@@ -16,7 +16,7 @@ from pathlib import Path
 from typing import Callable, Iterator, List, Sequence, Tuple
 
 sys.dont_write_bytecode = True
-from harness import FOUR, LIMIT, SANITIZING, Failure, Words, run, started, want, written
+from harness import FOUR, LIMIT, SANITIZING, Words, run, started, want, written
 
 FILLINGS = b" 0123456789\n\0-di"
 WITHOUT_ENDS, WITHOUT_SPACES = bytes.maketrans(b"\n", b" "), bytes.maketrans(b" ", b"1")
@@ -90,8 +90,7 @@ def withstands(command: Callable[[int, Path], Words], statuses: Sequence[int], r
             folder.mkdir()
             words = [*command(number, folder), formula, *paths]
             done = run(words, limit=60, env={**os.environ, **SANITIZING})
-            if done.status not in statuses:
-                raise Failure(f"run {number} ends with {done.status}: {done.err}")
+            assert done.status in statuses, f"run {number} ends with {done.status}: {done.err}"
             ended.append((done.status, folder))
     return ended
 
@@ -111,7 +110,7 @@ def cut_while_read(command: Words, name: str, work: Path) -> None:
         if found[-1] == (f"{name}: {CUT}", 1):
             want(os.listdir(folder), [], "the files left")
             return
-    raise Failure(f"the message: {found}")
+    raise AssertionError(f"the message: {found}")
 
 
 if __name__ == "__main__":

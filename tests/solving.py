@@ -1,10 +1,8 @@
 """Shared by the tests of lrup-solve: its two builds, runs, and the expected answers.
 
-Their command line is PROGRAM [FLAGS]. `make` builds both, with FLAGS for the compilers if given, in
-a folder for these flags: several scripts run at once, and the first one builds what is out of
-date."""
+`make` builds both, with --flags for the compilers, in a folder for these flags. The first worker
+builds what is out of date."""
 import contextlib
-import fcntl
 import os
 import random
 import re
@@ -12,16 +10,16 @@ import shlex
 import signal
 import stat
 import subprocess
-import sys
 import time
 from pathlib import Path
 from typing import Any, Dict, List, Mapping, Optional, Sequence, Tuple
 
-from harness import ROOT, VERDICTS, Failure, Ran, Row, dimacs, left_out, random_clauses, run, run_all, until, want, written
+import pytest
+
+from harness import (FLAGS, PROGRAM, ROOT, VERDICTS, Ran, alone, dimacs, is_newer, lacking,
+                     random_clauses, run, until, want, written)
 from proof_forms import read_formula
 
-PROGRAM = os.path.abspath(sys.argv[1]) if len(sys.argv) > 1 else ""
-FLAGS = sys.argv[2] if len(sys.argv) > 2 else "-O2"
 COMPILERS = [os.environ.get(name, "") for name in ("CC", "CXX")]
 OUT = ROOT / "tools" / "solve" / "out" / re.sub(r"\W+", "", "".join(["tested", *COMPILERS, FLAGS]))
 SOLVE, TESTED = OUT / "lrup-solve", OUT / "tested" / "lrup-solve"
@@ -83,8 +81,7 @@ def want_answer(answer: Answer, status: Optional[int], formula: Optional[Path] =
     want([abs(value) for value in answer.values], [*range(1, int(header[1]) + 1), 0], "the variables of the assignment")
     true = set(answer.values)
     for clause in read_formula(formula):
-        if not true & set(clause):
-            raise Failure(f"the assignment makes the clause {clause} false")
+        assert true & set(clause), f"the assignment makes the clause {clause} false"
 
 
 def random_formula(seed: int) -> str:
@@ -234,30 +231,27 @@ def kill_children(children: Mapping[str, int], names: Sequence[str], number: int
 def is_built(path: Path) -> bool:
     """Whether it is newer than its sources."""
     files = ("Makefile", "VERSION", "tools/lrup-chain", "tools/help.awk")
-    sources = [*(ROOT / name for name in files), *ROOT.glob("docs/lrup-*.1"),
-               *ROOT.glob("tools/solve/**/*.[ch]*"), *ROOT.glob("tools/exact/*.*")]
-    return path.exists() and path.stat().st_mtime > max(file.stat().st_mtime for file in sources)
+    globs = ("docs/lrup-*.1", "tools/solve/*.[ch]*", "tools/solve/front/*.[ch]", "tools/exact/*.*")
+    return is_newer(path, [*(ROOT / name for name in files),
+                           *(source for glob in globs for source in ROOT.glob(glob))])
 
 
-def build(target: str, for_tests: bool) -> Optional[str]:
-    """None, or why nothing can be tested."""
+def built(target: str, for_tests: bool) -> None:
+    """One worker builds what is out of date, by `make`; if a package is missing, rows are
+    skipped."""
     TESTED.parent.mkdir(parents=True, exist_ok=True)
-    with (OUT / "lock").open("w") as lock:
-        fcntl.flock(lock, fcntl.LOCK_EX)
+    with alone(OUT / "lock"):
         for path, flags in ((SOLVE, FLAGS), (TESTED, FLAGS + " -DSOLVE_TESTS -DCHECKED"))[:1 + for_tests]:
             if is_built(path.with_name("lrup-engines" if target == "solve" else "lrup-engines-mpi")):
                 continue
             out, err, status = run(["make", "-s", "-C", ROOT, target, f"SOLVE={path.relative_to(ROOT)}", f"CFLAGS={flags}",
                                     f"CXXFLAGS={flags}"], limit=600)
             if status and re.search("libcadical-dev|libmd-dev|libopenmpi-dev", out + err):
-                return (out + err).splitlines()[0]
-            if status or re.search(r"warning: .*\[-W", err):
-                sys.exit(out + err)
-    return None
+                lacking(f"all of lrup-{target}: {(out + err).splitlines()[0]}")
+            assert not status and not re.search(r"warning: .*\[-W", err), out + err
 
 
-def run_built(rows: Sequence[Row], title: str = "", target: str = "solve", for_tests: bool = True) -> int:
-    cause = build(target, for_tests)
-    if cause:
-        return left_out(f"all of lrup-{target}: {cause}")
-    return run_all(rows, title, tries=3)      # solvers race with each other and with signals
+# Marks of files whose rows need the first build, or both. A row may fail twice, since solvers race
+# with each other and with signals.
+LRUP_SOLVE = [pytest.mark.usefixtures("lrup_solve"), pytest.mark.flaky(reruns=2)]
+FOR_TESTS = [pytest.mark.usefixtures("solve_for_tests"), pytest.mark.flaky(reruns=2)]

@@ -1,0 +1,62 @@
+"""What pytest needs to run the rows of tests: options, the folder of a row, and builds."""
+import os
+import tempfile
+from pathlib import Path
+from typing import Any, Iterator, Optional, Tuple
+
+import pytest
+
+import harness
+
+
+def pytest_addoption(parser: pytest.Parser) -> None:
+    given = parser.getgroup("lrupd")
+    program = harness.ROOT / "crates" / "lrupd" / "out" / "lrupd"
+    given.addoption("--program", default=str(program), help="the lrupd that is tested")
+    given.addoption("--rt", help="Rattle's command, for the crates' tests if they aren't built")
+    given.addoption("--flags", default="-O2", help="for lrup-solve's compilers, as "
+                    "--flags='-O1 -g -fsanitize=thread'")
+    given.addoption("--count", type=int, help="how many random rows, or mutants, a file has")
+    given.addoption("--first", type=int, default=0, help="the first mutant of a proof")
+    given.addoption("--seed", type=int, default=1, help="of the formulas of test_lrup_solve_days")
+    given.addoption("--minutes", type=float, default=0, help="for test_lrup_solve_days")
+
+
+def pytest_configure(config: pytest.Config) -> None:
+    """Modules with rows are imported later, and find the options in harness."""
+    harness.PROGRAM = os.path.abspath(config.getoption("program"))
+    for name in ("rt", "flags", "count", "first", "seed", "minutes"):
+        setattr(harness, name.upper(), config.getoption(name))
+
+
+def pytest_report_teststatus(report: pytest.TestReport) -> Optional[Tuple[str, str, str]]:
+    """Rows that pass are counted, and not shown."""
+    return ("passed", "", "PASSED") if report.passed and report.when == "call" else None
+
+
+def pytest_terminal_summary(terminalreporter: Any) -> None:
+    """Says why rows were tried again."""
+    for report in terminalreporter.stats.get("rerun", []):
+        why = getattr(report.longrepr, "reprcrash", report.longrepr)
+        terminalreporter.write_line(f"{report.nodeid}, tried again: {getattr(why, 'message', why)}")
+
+
+@pytest.fixture
+def work() -> Iterator[Path]:
+    """A folder for one row, which is removed at once."""
+    with tempfile.TemporaryDirectory() as folder:
+        yield Path(folder)
+
+
+@pytest.fixture(scope="session")
+def lrup_solve() -> None:
+    """Built, or why its rows can't run."""
+    import solving
+    solving.built("solve", for_tests=False)
+
+
+@pytest.fixture(scope="session")
+def solve_for_tests() -> None:
+    """Both builds."""
+    import solving
+    solving.built("solve", for_tests=True)

@@ -1,0 +1,134 @@
+"""Runs common solvers beside the filter and the program.
+
+CaDiCaL, CryptoMiniSat and PicoSAT, as far as they are on the PATH, write their proofs to pipes, and
+the filter's output is checked while they run."""
+import os
+import re
+import shutil
+import signal
+import subprocess
+from pathlib import Path
+from typing import List
+
+from harness import (FILTER, LIMIT, PROGRAM, ROOT, Ran, Row, example, generated, needs,
+                     parametrized, piped, read_line, started, want, with_memory)
+
+SIZES = "--lines 4000000 --room 60000000 "
+CADICAL = f"""\
+cadical -q formula.cnf proof > answer &
+lrupd {SIZES}formula.cnf \\
+    <(tools/exact/out/exact --format binary-drat formula.cnf proof)
+"""
+CADICAL_TWICE = f"""\
+cadical -q formula.cnf proof1 > answer1 &
+cadical -q --seed=2 formula.cnf proof2 > answer2 &
+lrupd {SIZES}formula.cnf \\
+    <(tools/exact/out/exact --stream 1 --streams 2 --format binary-drat formula.cnf proof1) \\
+    <(tools/exact/out/exact --stream 2 --streams 2 --format binary-drat formula.cnf proof2)
+"""
+CRYPTOMINISAT = f"""\
+cryptominisat5 --verb 0 formula.cnf proof > answer &
+lrupd {SIZES}formula.cnf <(tools/exact/out/exact formula.cnf proof)
+"""
+CRYPTOMINISAT_TWICE = f"""\
+cryptominisat5 --verb 0 formula.cnf proof1 > answer1 &
+cryptominisat5 --verb 0 --random 2 formula.cnf proof2 > answer2 &
+lrupd {SIZES}formula.cnf \\
+    <(tools/exact/out/exact --stream 1 --streams 2 formula.cnf proof1) \\
+    <(tools/exact/out/exact --stream 2 --streams 2 formula.cnf proof2)
+"""
+PICOSAT = f"""\
+picosat formula.cnf -R proof > answer &
+lrupd {SIZES}formula.cnf <(tools/exact/out/exact formula.cnf proof)
+"""
+BOTH = f"""\
+cadical -q formula.cnf proof1 > answer1 &
+cryptominisat5 --verb 0 formula.cnf proof2 > answer2 &
+lrupd {SIZES}formula.cnf \\
+    <(tools/exact/out/exact --stream 1 --streams 2 --format binary-drat formula.cnf proof1) \\
+    <(tools/exact/out/exact --stream 2 --streams 2 formula.cnf proof2)
+"""
+IN_ROUNDS = """\
+cadical -q formula.cnf proof > answer &
+tools/exact/out/exact --rounds live --format binary-drat formula.cnf proof |
+    { read ready && lrupd --rounds live formula.cnf live/round-1.stream-1; }
+"""
+COMMANDS = [("CaDiCaL", CADICAL), ("two of CaDiCaL", CADICAL_TWICE), ("CryptoMiniSat", CRYPTOMINISAT),
+            ("two of CryptoMiniSat", CRYPTOMINISAT_TWICE), ("PicoSAT", PICOSAT), ("CaDiCaL and CryptoMiniSat", BOTH)]
+
+
+def wanted_on_path(commands: str) -> None:
+    for solver in ("cadical", "cryptominisat5", "picosat"):
+        if solver in commands:
+            needs(solver)
+
+
+def make_formula(words: str, work: Path) -> Path:
+    if words.endswith(".cnf"):
+        return Path(shutil.copy(example(words), work / "formula.cnf"))
+    return generated(words, work)
+
+
+def in_bash(program: str, commands: str, work: Path) -> Ran:
+    """The outputs of the commands, in a folder with the repository's tools."""
+    os.symlink(ROOT / "tools", work / "tools")
+    os.symlink(program, work / "lrupd")
+    for pipe in ("proof", "proof1", "proof2"):
+        piped(work / pipe)
+    path = os.pathsep.join([str(work), os.environ["PATH"]])
+    with subprocess.Popen(["bash", "-c", commands], cwd=work, env={**os.environ, "PATH": path}, stdout=subprocess.PIPE,
+                          stderr=subprocess.PIPE, text=True, start_new_session=True) as running:
+        try:
+            out, err = running.communicate(timeout=LIMIT)
+            return Ran(out, err, running.returncode)
+        finally:
+            if running.returncode is None:
+                os.killpg(running.pid, signal.SIGKILL)
+
+
+def beside(program: str, commands: str, words: str, work: Path) -> None:
+    """Each stream ends, and the formula is refuted."""
+    wanted_on_path(commands)
+    make_formula(words, work)
+    out, said, status = in_bash(program, commands, work)
+    *lines, verdict = out.splitlines() or [""]
+    want((verdict, said, status), ("s UNSATISFIABLE", "", 0), "the verdict")
+    want([line.endswith(", ended") for line in lines], [True] * commands.count("tools/exact"), "streams that ended")
+
+
+def in_rounds(program: str, memory: str, rounds: int, work: Path) -> None:
+    """The proof is checked in at least that many rounds."""
+    wanted_on_path(IN_ROUNDS)
+    make_formula("random 180 3", work)
+    out, said, status = in_bash(program, IN_ROUNDS.replace("exact --rounds live", f"exact --rounds live --memory {memory}"), work)
+    found = re.fullmatch(r"(?:c round (\d+)\n)?c stream 1: \d+ added, \d+ deleted, ended\ns UNSATISFIABLE\n", out)
+    number = int((found and found[1]) or 1)
+    want((bool(found), number >= rounds, said, status), (True, True, "", 0), f"{out}: the report, the rounds, and the status")
+    want(os.listdir(work / "live"), [f"round-{number + 1}.cnf"], "the files left")
+
+
+def while_it_runs(commands: str, words: str, work: Path) -> None:
+    """The filter's first line comes while the solver runs: it writes more than the pipes hold, and
+    nobody reads on."""
+    wanted_on_path(commands)
+    formula, proof = make_formula(words, work), piped(work / "proof")
+    solver = commands.splitlines()[0].split(" > ")[0].split()
+    form = ["--format", "binary-drat"] * (solver[0] == "cadical")
+    with started(solver, cwd=work, stdout=subprocess.DEVNULL) as running, \
+            started([FILTER, *form, formula, proof], stdout=subprocess.PIPE, bufsize=0) as filtering:
+        assert filtering.stdout
+        line = read_line(filtering.stdout)
+        want((line[-3:], running.poll()), (" 0\n", None), "a line, while the solver runs")
+
+
+def solvers(program: str) -> List[Row]:
+    formulas = ("random 150 1", "pigeons 7", "order 15", "bmc.cnf")
+    runs: List[Row] = [(f"{name}, {words}", beside, program, commands.replace(SIZES, ""), words)
+                       for name, commands in COMMANDS for words in formulas]
+    runs += [("CaDiCaL, more than the default sizes hold", with_memory, beside, program, CADICAL, "pigeons 9")]
+    runs += [(f"in rounds with {memory}", in_rounds, program, memory, rounds) for memory, rounds in (("500K", 3), ("512M", 1))]
+    return runs + [("CaDiCaL writes while it runs", while_it_runs, CADICAL, "random 200 3"),
+                   ("CryptoMiniSat writes while it runs", while_it_runs, CRYPTOMINISAT, "random 200 3")]
+
+
+test_row = parametrized(solvers(PROGRAM))

@@ -1,0 +1,245 @@
+"""Runs lrup-check on proofs of several forms, and on faulty ones.
+
+Proofs are written by CaDiCaL, CryptoMiniSat and PicoSAT, if they are on the PATH, by the example
+solver, and by hand; they come from a file, a pipe and standard input, alone and in parallel, in one
+round and in many. A step that doesn't follow gives no verdict, and its line and clause are
+named."""
+import os
+import random
+import shutil
+import time
+from pathlib import Path
+from typing import List, Mapping, Optional, Sequence
+
+from harness import (EXAMPLES, FOUR, Row, dimacs, example, generated, needs, parametrized, run,
+                     want, written)
+from lrat import lrat_fault
+from proof_forms import read_formula
+from solving import FOR_TESTS, PROGRAM, SOLVE, TESTED, Answer, check_again, in_environment
+
+BMC = ["bmc-four.1", "bmc-four.2", "bmc-four.3", "bmc-four.4"]
+MANY_ROUNDS = {"FIRST_WORDS": 4000, "SAME_WORDS": 1}
+FIRST = "p cnf 2 1\n1 2 0\n"
+XOR = dimacs(2, [[1, 2], [-1, 2], [1, -2], [-1, -2]])
+
+
+def check(words: Sequence[object], tested: Optional[Mapping[str, object]] = None, **how: object) -> Answer:
+    program = (TESTED if tested is not None else SOLVE).with_name("lrup-check")
+    return Answer(run([str(word) for word in (program, "--lrupd", PROGRAM, *words)], env=in_environment(tested), **how))
+
+
+def want_proved(answer: Answer, verdict: str = "s UNSATISFIABLE") -> None:
+    want((answer.answers, answer.status, answer.said), ([verdict], 20, ""), f"the answer of\n{answer.out[-2000:]}")
+
+
+def want_none(answer: Answer, cause: str) -> None:
+    want((answer.answers, answer.status, answer.said), (["s UNKNOWN"], 0, ""), f"the answer of\n{answer.out[-2000:]}")
+    want(answer.comments[:1], [cause], f"the first comment of\n{answer.out[-2000:]}")
+
+
+def proof_by(command: str, formula: Path, work: Path) -> Path:
+    """A solver's proof; `proof` in its command is the proof's file."""
+    words, proof = command.split(), work / "proof"
+    needs(words[0])
+    done = run([str(formula) if word == "formula" else str(proof) if word == "proof" else word for word in words])
+    want(done.status, 20, f"the status of {command}")
+    return proof
+
+
+# Right proofs.
+
+
+def of_solver(command: str, name: str, how: str, work: Path) -> None:
+    formula = example(name) if name.endswith(".cnf") else generated(name, work)
+    proof = proof_by(command, formula, work)
+    if how == "file":
+        return want_proved(check([formula, proof]))
+    if how == "standard input":
+        with proof.open("rb") as file:
+            return want_proved(check([formula, "-"], stdin=file))
+    if how == "formula from standard input":
+        with formula.open("rb") as file:
+            return want_proved(check(["-", proof], stdin=file))
+    pipe = work / "pipe"
+    os.mkfifo(pipe)
+    if os.fork() == 0:
+        with pipe.open("wb") as file:
+            file.write(proof.read_bytes())
+        os._exit(0)
+    want_proved(check([formula, pipe]))
+    os.wait()
+
+
+def in_rounds(work: Path) -> None:
+    formula = generated("random 150 1", work)
+    proof, kept = proof_by("cadical -q formula proof", formula, work), work / "kept"
+    answer = check(["-v", "--proofs", kept, formula, proof], tested=MANY_ROUNDS)
+    want_proved(answer)
+    want(sum(line.startswith("round ") for line in answer.comments) >= 2, True, f"whether there are rounds in\n{answer.out}")
+    check_again(kept)
+
+
+def by_hand(text: str, proof: str, work: Path) -> None:
+    want_proved(check([written(text, work), written(proof, work, "proof")]))
+
+
+def streams(order: Sequence[int], work: Path) -> None:
+    """Streams of four solvers, which cite each other, in the solvers' order."""
+    want_proved(check([example("bmc.cnf"), *(EXAMPLES / BMC[number - 1] for number in order)]))
+
+
+def one_stream(work: Path) -> None:
+    want_proved(check([example("bmc.cnf"), EXAMPLES / "bmc.lrup"]))
+
+
+def side_by_side(work: Path) -> None:
+    """Proofs of three forms by two solvers, and one that ends early."""
+    formula = generated("pigeons 6", work)
+    proofs: List[Path] = []
+    for number, command in enumerate(("cadical -q formula proof", "cadical -q --no-binary formula proof",
+                                      "picosat formula -R proof")):
+        proofs.append(proof_by(command, formula, work).rename(work / f"proof-{number}"))
+    cut = written("".join(proofs[1].read_text().splitlines(True)[:5]), work, "cut")
+    answer = check([formula, cut, *proofs])
+    want_proved(answer)
+    want([line for line in answer.comments if line.startswith(f"{cut}: ")],
+         [f"{cut}: the proof ends without the empty clause"], f"the message on the truncated one, in\n{answer.out}")
+
+
+def core_and_lrat(work: Path) -> None:
+    formula = generated("random 150 1", work)
+    proof = proof_by("cadical -q formula proof", formula, work)
+    want_proved(check(["--core", work / "core", "--lrat", work / "lrat", formula, proof]))
+    want(lrat_fault(read_formula(formula), (work / "lrat").read_text()), "", "the LRAT checker's message")
+
+
+def assumed(work: Path) -> None:
+    formula, assumptions = written("p cnf 3 2\n-1 2 0\n-2 3 0\n", work), written("1 -3 0\n", work, "assumptions")
+    want_proved(check(["--assume", assumptions, formula, written("-1 3 0\n", work, "proof")]), "s UNSATISFIABLE UNDER ASSUMPTIONS")
+
+
+# Faulty proofs.
+
+
+def refused(text: str, proof: str, cause: str, work: Path) -> None:
+    path = work / "proof"
+    path.write_bytes(proof.encode("latin-1"))
+    want_none(check([written(text, work), path]), f"{path}: {cause}")
+
+
+def of_satisfiable(seed: int, work: Path) -> None:
+    """A proof of another formula never refutes a satisfiable one."""
+    formula = generated(f"random 60 {seed} 3.0", work)
+    other = work / "other"
+    other.mkdir()
+    proof = proof_by("cadical -q --no-binary formula proof", generated(f"random 60 {seed} 6.0", other), work)
+    answer = check([formula, proof])
+    want((answer.answers, answer.status), (["s UNKNOWN"], 0), f"the answer of\n{answer.out}")
+
+
+def mutated(seed: int, work: Path) -> None:
+    """There is a verdict only for a proof whose lines all follow, as another checker confirms for
+    the LRAT text."""
+    formula, numbers = generated(f"random 40 {seed} 7.0", work), random.Random(seed)
+    lines = proof_by("cadical -q --no-binary formula proof", formula, work).read_text().splitlines(True)
+    for at in numbers.choices([at for at, line in enumerate(lines) if line != "0\n"], k=3):
+        words = lines[at].split()
+        words[numbers.randrange(len(words) - 1)] = str(numbers.choice((-1, 1)) * numbers.randrange(1, 41))
+        lines[at] = " ".join(words) + "\n"
+    answer = check(["--lrat", work / "lrat", formula, written("".join(lines), work, "proof")])
+    want(answer.status in (0, 20), True, f"the status {answer.status} of\n{answer.out}")
+    if answer.status == 20:
+        want(lrat_fault(read_formula(formula), (work / "lrat").read_text()), "", "the LRAT checker's message")
+
+
+def misused(words: Sequence[str], said: str, work: Path) -> None:
+    formula, proof = written(FOUR, work), written("0\n", work, "proof")
+    named = {"%formula": formula, "%proof": proof, "%folder": work, "%none": work / "none"}
+    answer = check([named.get(word, word) for word in words])
+    want((answer.out, answer.status), ("", 1), f"the output, with {answer.said}")
+    for name, path in named.items():
+        said = said.replace(name, str(path))
+    want(answer.said, f"lrup-check: {said}\n", "standard error")
+
+
+def no_writer(work: Path) -> None:
+    """A pipe without a writer takes no longer than --time says."""
+    formula, pipe = written(FOUR, work), work / "pipe"
+    os.mkfifo(pipe)
+    begun = time.monotonic()
+    want_none(check(["--time", "1", formula, pipe]), "time is up")
+    want(time.monotonic() - begun < 6, True, "whether it ended in time")
+
+
+def late_writer(work: Path) -> None:
+    formula, pipe = written(FOUR, work), work / "pipe"
+    os.mkfifo(pipe)
+    if os.fork() == 0:
+        time.sleep(1)
+        pipe.write_text("2 0\n0\n")
+        os._exit(0)
+    want_proved(check([formula, pipe]))
+    os.wait()
+
+
+def by_substitution(work: Path) -> None:
+    formula, proof = written(FOUR, work), written("2 0\n0\n", work, "proof")
+    program = SOLVE.with_name("lrup-check")
+    want_proved(Answer(run(["bash", "-c", '"$0" --lrupd "$1" <(cat "$2") <(cat "$3")', program, PROGRAM, formula, proof])))
+
+
+def help_of(work: Path) -> None:
+    answer = check(["--help"])
+    want((answer.out.startswith("usage: lrup-check [OPTIONS] FORMULA PROOF"), answer.said, answer.status), (True, "", 0), "--help")
+
+
+def anywhere(work: Path) -> None:
+    """The command works through a link, in another folder, with file names that begin with a
+    minus."""
+    link = work / "link"
+    link.symlink_to(SOLVE.with_name("lrup-check"))
+    shutil.copy(written(XOR, work), work / "-formula")
+    (work / "-proof").write_text("1 0\n0\n")
+    want_proved(Answer(run([str(link), "--lrupd", PROGRAM, "--", "-formula", "-proof"], cwd=work)))
+
+
+FORMS = ["cadical -q formula proof", "cadical -q --no-binary formula proof", "cryptominisat5 --verb 0 formula proof",
+         "picosat formula -R proof"]
+NONE = "no conflict by unit propagation: the clause "
+RAT, NOT_RAT = " is a RAT step, which lrupd doesn't check", " doesn't follow from those that weren't deleted, and it isn't RAT"
+DELETED, NOT_DELETED = ". It follows with clauses that were deleted before it", ". Nor does it follow with those that were deleted"
+ROWS: List[Row] = [
+    *((f"{command}, {name}", of_solver, command, name, "file") for command in FORMS for name in ("bmc.cnf", "random 150 1")),
+    *((f"by {how}", of_solver, FORMS[0], "random 150 1", how)
+      for how in ("standard input", "formula from standard input", "a pipe")),
+    ("in rounds", in_rounds), ("one stream", one_stream), ("four streams", streams, (1, 2, 3, 4)),
+    ("side by side", side_by_side), ("core and LRAT", core_and_lrat), ("assumptions", assumed),
+    ("DRUP by hand", by_hand, XOR, "1 0\n0\n"), ("LRAT by hand", by_hand, XOR, "5 1 0 1 3 0\n6 0 5 2 4 0\n"),
+    ("no empty clause, and one follows", by_hand, XOR, "1 0\n"), ("an empty proof, and one follows", by_hand, "p cnf 1 2\n1 0\n-1 0\n", ""),
+    ("a clause that doesn't follow", refused, XOR.replace("-1 -2 0\n", "").replace("2 4", "2 3"), "1 0\n-2 0\n",
+     f"line 2: {NONE}-2 0{NOT_RAT}{NOT_DELETED}"),
+    ("a RAT step", refused, FIRST, "1 0\n", f"line 1: {NONE}1 0{RAT}"),
+    ("a deletion that came too early", refused, XOR, "d 1 2 0\n1 0\n2 0\n0\n", f"line 2: {NONE}1 0{NOT_RAT}{DELETED}"),
+    ("a proof that ends early", refused, FIRST, "", "the proof ends without the empty clause"),
+    ("a new variable", refused, FIRST, "3 0\n", "line 1: a variable that the formula doesn't have"),
+    ("compressed", refused, FIRST, "\x1f\x8b garbled", "byte 1: compressed: unpack it with zcat"),
+    *((f"a proof of another formula, {seed}", of_satisfiable, seed) for seed in range(1, 4)),
+    *((f"mutated, {seed}", mutated, seed) for seed in range(1, 41)),
+    ("no proof", misused, ["%formula"], "no proof: lrup-check FORMULA PROOF"),
+    ("no word", misused, [], "no proof: lrup-check FORMULA PROOF"),
+    ("no formula that is there", misused, ["%none", "%proof"], "%none: No such file or directory"),
+    ("no proof that is there", misused, ["%formula", "%none"], "%none: No such file or directory"),
+    ("a folder", misused, ["%formula", "%folder"], "%folder is a folder"),
+    ("standard input twice", misused, ["-", "-"], "standard input can be read only once"),
+    *((f"an option of engines, {words[0]}", misused, [*words, "%formula", "%proof"], f"{words[0]} is lrup-solve's: lrup-check starts no engine")
+      for words in (["-j", "2"], ["--mpi", "mpirun"], ["--solver", "x %formula %proof"], ["--seed", "1"], ["--share-size", "4"],
+                    ["--no-share"])),
+    ("such an option after the proof", misused, ["%formula", "%proof", "--seed=1"], "--seed is lrup-solve's: lrup-check starts no engine"),
+    ("an answer that no proof has", misused, ["--expect", "sat", "%formula", "%proof"],
+     "--expect takes unsat or unsat-under-assumptions, not sat"),
+    ("--help", help_of), ("anywhere", anywhere), ("no writer", no_writer), ("a late writer", late_writer),
+    ("by substitution", by_substitution),
+]
+
+pytestmark = FOR_TESTS
+test_row = parametrized(ROWS)

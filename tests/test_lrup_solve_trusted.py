@@ -1,0 +1,172 @@
+"""Leaves out, one by one, each line of lrup-solve's front that is marked as trusted.
+
+A hostile program gets a wrong answer from each front that lacks such a line, and none from the
+whole front."""
+import os
+import re
+import shlex
+import shutil
+from pathlib import Path
+from typing import Any, Callable, Dict, List, Sequence
+
+from harness import ROOT, Row, compiled, parametrized, run, want, written
+from hostile import SATISFIABLE, is_model, program
+from solving import FLAGS, LRUP_SOLVE, PROGRAM, Answer, in_place_of_lrupd
+
+FOLDER = ROOT / "tools" / "solve" / "front"
+MARK = re.compile(r"// trusted \(([^)]*)\)")
+LINES = (FOLDER / "front.c").read_text().splitlines(keepends=True)
+MARKED = [number for number, line in enumerate(LINES) if MARK.search(line)]
+UNSATISFIABLE, UNDER = "s UNSATISFIABLE", "s UNSATISFIABLE UNDER ASSUMPTIONS"
+# While the front is stopped, lrupd ends, and a line is added after its last one.
+FORGES = """os.kill(int(front), signal.SIGSTOP)
+{end}
+time.sleep(0.3)
+forge({line!r})
+os.kill(int(front), signal.SIGCONT)
+told('lrupd')"""
+Attack = Callable[[Path, Path], bool]
+
+
+def answer_of(front: Path, work: Path, body: str, words: Sequence[object] = (), text: str = SATISFIABLE,
+              lrupd: object = PROGRAM, **how: Any) -> Answer:
+    word = "-" if "given" in how else written(text, work)
+    return Answer(run([front, "--lrupd", lrupd, "--engines", program(body, work), "--time", "10", *words, word], limit=60, **how))
+
+
+def says(line: str, *how: Any, **more: Any) -> Attack:
+    """The answer to a satisfiable formula."""
+    return lambda front, work: line in answer_of(front, work, *how, **more).out.splitlines()
+
+
+def gives(signs: str, text: str = SATISFIABLE, variables: int = 3) -> Attack:
+    """An assignment that doesn't satisfy the formula."""
+    def attack(front: Path, work: Path) -> bool:
+        answer = answer_of(front, work, f"model({signs!r})\ntime.sleep(0.5)", text=text)
+        values = {abs(value) for value in answer.values} - {0}
+        return answer.status == 10 and (len(values) != variables or not is_model(answer, work / "formula.cnf"))
+    return attack
+
+
+def assumes(body: str, literals: str) -> Callable[[Path, Path], Answer]:
+    return lambda front, work: answer_of(front, work, body, ["--assume", written(literals, work, "cube")])
+
+
+def breaks(literals: str, body: str = "") -> Attack:
+    """Gives the assignment 1 2 -3, which contradicts these assumptions; `body` runs before the line
+    that completes it."""
+    return lambda front, work: assumes(f"say('v ++-')\n{body}say('model')\ntime.sleep(0.5)", literals)(front, work).status == 10
+
+
+def killed_by_its_status(front: Path, work: Path) -> bool:
+    """SIGFPE has the number of the status for a proof under assumptions."""
+    body = "os.mkfifo(folder + '/round-1.stream-1')\ntold('probe')\ncheck()\nopen(folder + '/round-1.stream-1', 'w')\n" + \
+        "pid = int(open(f'/proc/{front}/task/{front}/children').read().split()[-1])\n" + \
+        FORGES.format(end="os.kill(pid, signal.SIGFPE)", line=UNDER)
+    return assumes(body, "2 0\n")(front, work).answers == [UNDER]
+
+
+def planted(work: Path, *names: str) -> Path:
+    """The user's current folder, with hostile programs in it."""
+    folder = work / "here"
+    folder.mkdir()
+    in_place_of_lrupd("echo s UNSATISFIABLE", folder)
+    for name in names:
+        program("stream(1, '')\ncheck()\ntold('lrupd')", folder).rename(folder / name)
+    return folder
+
+
+def in_the_current_folder(front: Path, work: Path) -> bool:
+    """The running program was removed, so its path is unknown."""
+    folder, formula, copy = planted(work, "lrup-engines"), written(SATISFIABLE, work), Path(shutil.copy(front, work / "removed"))
+    with open(copy) as file:
+        copy.unlink()
+        done = run([f"/proc/self/fd/{file.fileno()}", formula], cwd=folder, pass_fds=[file.fileno()])
+    return UNSATISFIABLE in done.out.splitlines()
+
+
+def looked_up(words: Sequence[str], path: str) -> Attack:
+    def attack(front: Path, work: Path) -> bool:
+        folder, formula = planted(work, "engines"), written(SATISFIABLE, work)
+        done = run([front, "--engines", folder / "engines", *words, formula], cwd=folder, env={**os.environ, "PATH": path})
+        return UNSATISFIABLE in done.out.splitlines()
+    return attack
+
+
+def prints(front: Path, work: Path) -> bool:
+    engines = in_place_of_lrupd("echo s UNSATISFIABLE", work)
+    return UNSATISFIABLE in run([front, "--lrupd", PROGRAM, "--engines", engines, written(SATISFIABLE, work)]).out.splitlines()
+
+
+def as_expected(front: Path, work: Path) -> bool:
+    """There is no answer, but the status says that it is the expected one."""
+    return answer_of(front, work, "told('probe')", ["--expect", "unsat"]).status == 0
+
+
+ENDS = "os.mkfifo(folder + '/round-1.stream-1')\ntold('probe')\ncheck()\nfeeding = open(folder + '/round-1.stream-1', 'w')\n"
+CHANGES = """os.pwrite(os.open(formula, os.O_RDWR), b"p cnf 1 2\\n1 0\\n-1 0\\n", 0)
+os.truncate(formula, 19)
+stream(1, "3 0 1 2 0\\n")
+check()
+told("lrupd")"""
+# Memory runs out before all assumptions are read.
+STARVES = """told('probe')
+time.sleep(0.3)
+import resource
+resource.prlimit(int(front), resource.RLIMIT_AS, (1 << 20, 1 << 20))
+"""
+FORGED = ENDS + FORGES.format(end="feeding.close()", line=UNSATISFIABLE)
+# By the words of the marks.
+ATTACKS: Dict[str, Attack] = {
+    "current folder": in_the_current_folder, "PATH": looked_up([], f".::{os.environ['PATH']}"),
+    "name": looked_up(["--lrupd", "lrupd"], "/usr/bin"), "output": prints, "copy": says(UNSATISFIABLE, CHANGES, given=SATISFIABLE),
+    "ends of clauses": gives("++", "p cnf 2 2\n1 2 0\n-1 0\n", 2), "clause by clause": gives("+--"), "variables": gives("++"),
+    "clauses": gives("---"), "model": gives("--+"), "assumptions": breaks("-2 0\n"), "assumed": breaks("2 3 0\n"), "assume": breaks("2 3 0\n"),
+    "whole file": breaks("2 " * 60000 + "3 0\n", STARVES), "lrupd reads them": breaks("c 3 0\n", "told('probe')\n"),
+    "formula": says(UNSATISFIABLE, "stream(1, 'p cnf 1 2\\n1 0\\n-1 0\\n')\nstream(2, '3 0 1 2 0\\n')\ncheck('2 10 10 0')\ntold('lrupd')"),
+    "comments": says(UNSATISFIABLE, "say('s UNSATISFIABLE')"), "one line": says(UNSATISFIABLE, "say('c x\\ns UNSATISFIABLE')"),
+    "expected": as_expected, "signal": killed_by_its_status, "status": says(UNSATISFIABLE, FORGED), "exit": says(UNSATISFIABLE, FORGED),
+    "last line": lambda front, work: UNSATISFIABLE in answer_of(
+        front, work, "told('probe')\nstream(1, '')\ncheck()\ntold('lrupd')",
+        lrupd=in_place_of_lrupd("echo another program; case \"$*\" in *' /dev/null') exit 3;; esac", work)).answers,
+    "own line": lambda front, work: UNSATISFIABLE in answer_of(
+        front, work, "told('probe')\nstream(1, '')\ncheck()\ntold('lrupd')\ncheck()\ntold('lrupd')",
+        lrupd=in_place_of_lrupd(f"case \"$*\" in *' /dev/null') exit 3;; esac\n[ ! -e {work}/killed ] || exit 0\n"
+                                f"> {work}/killed\necho {UNSATISFIABLE}\nkill -9 $$", work)).answers,
+    "refused": lambda front, work: answer_of(
+        front, work, "told('probe')\nmodel('+')\ntime.sleep(0.5)", text="p cnf 1 1\n1 -2 0\n",
+        lrupd=in_place_of_lrupd("kill -9 $$", work)).status == 10,
+}
+
+
+def front_without(number: int, work: Path) -> Path:
+    """The front without this line; -1: with each line."""
+    folder = work / "front"
+    folder.mkdir()
+    (folder / "front.c").write_text("".join(line for at, line in enumerate(LINES) if at != number))
+    (folder / "bin").mkdir()
+    sources = [folder / "front.c", FOLDER / "supervisor.c"]
+    return compiled(folder / "bin" / "lrup-solve", sources, "-std=c11", "-w", f"-I{FOLDER}", *shlex.split(FLAGS))
+
+
+def left_out(number: int, name: str, work: Path) -> None:
+    for whole in (False, True):
+        here = work / ("whole" if whole else "without")
+        here.mkdir()
+        found = ATTACKS[name](front_without(-1 if whole else number, here), here)
+        want(found, not whole, "a wrong answer of the whole front" if whole else f"a wrong answer without\n{LINES[number]}")
+
+
+def named(work: Path) -> None:
+    """Each mark has an attack, and each attack a line."""
+    marks = [MARK.search(LINES[number]).group(1) for number in MARKED]      # type: ignore[union-attr]
+    want(sorted(marks), sorted(ATTACKS), "the words of the marks")
+
+
+def rows() -> List[Row]:
+    names = {number: MARK.search(LINES[number]).group(1) for number in MARKED}      # type: ignore[union-attr]
+    return [("marks", named)] + [(f"without: {name}", left_out, number, name) for number, name in names.items() if name in ATTACKS]
+
+
+pytestmark = LRUP_SOLVE
+test_row = parametrized(rows())

@@ -1,0 +1,133 @@
+"""Runs the program on a good proof of some thousand lines beside hostile neighbours, one after the
+other.
+
+The proof cites no other stream, so its line in the report has to be the same each time, with
+threads and with --serial: that beside an empty stream. For some neighbours their line is known,
+too."""
+import os
+import random
+import subprocess
+import time
+from pathlib import Path
+from typing import Any, Callable, Iterator, List, NamedTuple, Optional, Union
+
+from harness import (LIMIT, PROGRAM, Pieces, Row, example, feed, parametrized, piped, started, want,
+                     written)
+
+FORMULA = example("bmc.cnf")
+CLAUSES = 533
+MEGABYTES = 10
+Process = Any
+
+
+def own(identity: int) -> str:
+    """The identity of stream 1 of two for an identity of a single stream."""
+    return str(identity if identity <= CLAUSES else CLAUSES + 1 + 2 * (identity - CLAUSES - 1))
+
+
+def renumbered(line: str) -> str:
+    """A line of a single stream, as a line of stream 1 of two."""
+    words = line.split()
+    if words[1] == "d":
+        return " ".join([own(int(words[0])), "d", *(own(int(word)) for word in words[2:-1]), "0"]) + "\n"
+    end = words.index("0") + 1
+    return " ".join([own(int(words[0])), *words[1:end], *(own(int(word)) for word in words[end:-1]), "0"]) + "\n"
+
+
+def endless(process: Process, serial: bool) -> Pieces:
+    """Writes these bytes for a second, or until nobody reads."""
+    ends = time.monotonic() + 1
+    while time.monotonic() < ends:
+        yield b"c" * 65_536
+
+
+def is_alone(process: Process) -> bool:
+    """Only the program's first thread and stream 1's two threads are left, for a while."""
+    for _ in range(20):
+        if len(os.listdir(f"/proc/{process.pid}/task")) != 3:
+            return False
+        time.sleep(0.01)
+    return True
+
+
+def silent(process: Process, serial: bool) -> Pieces:
+    """Writes nothing until stream 1 has ended. With --serial stream 1 waits for it, so then for a
+    second."""
+    yield 1.0
+    while not serial and process.poll() is None and not is_alone(process):
+        yield 0.01
+
+
+def imports(lines: List[str]) -> Iterator[str]:
+    """For each line of the proof an import: of its clause, if that is never deleted, otherwise of
+    the formula's first clause."""
+    clause = next(line for line in FORMULA.read_text().splitlines() if line[0] not in "cp").split()
+    deleted = {identity for line in lines if line.split()[1] == "d" for identity in line.split()[2:-1]}
+    for line in lines:
+        words = line.split()
+        if words[1] == "d" or words[0] in deleted:
+            yield " ".join(["1", "i", *clause]) + "\n"
+        else:
+            yield " ".join([words[0], "i", *words[1:words.index("0")], "0"]) + "\n"
+
+
+class Neighbour(NamedTuple):
+    """A neighbour: the bytes of its stream or their writer, the options, and its line in the
+    report, if known."""
+    name: str
+    what: Union[bytes, Callable[[Process, bool], Pieces]]
+    known: Optional[str] = None
+    options: List[str] = []
+
+
+def neighbours(proof: str) -> Iterator[Neighbour]:
+    lines = proof.splitlines(keepends=True)
+    derived = [line.split()[0] for line in lines if line.split()[1] != "d"]
+    first = CLAUSES + 2  # the first identity of stream 2
+    never = int(derived[-1]) + 2_000  # of stream 1, which doesn't get that far
+    size = 1_000_000
+    yield Neighbour("nothing", b"", "0 added, 0 deleted, ended")
+    yield Neighbour("endless bytes", endless)
+    yield Neighbour("empty lines", b"\n" * (MEGABYTES * size))
+    yield Neighbour("a line that never ends", f"{first} 1 ".encode() + b"1 " * (MEGABYTES * size // 2))
+    yield Neighbour("random bytes", random.Random(1).getrandbits(8 * size).to_bytes(size, "little"))
+    yield Neighbour("the same proof", proof.encode(), "0 added, 0 deleted, bad line 1 (identity)")
+    yield Neighbour("deletions of its clauses", "".join(f"{first} d {identity} 0\n" for identity in derived).encode(),
+                    f"0 added, {len(derived)} deleted, ended")
+    yield Neighbour("imports of its clauses", "".join(imports(lines)).encode(), "0 added, 0 deleted, ended", ["--tries", "1000000"])
+    yield Neighbour("hints in a circle", f"{first} 1 0 {first + 2} 0\n{first + 2} 1 0 {first} 0\n".encode())
+    yield Neighbour("a hint that never comes", f"{first} 1 0 {never} {derived[-1]} 0\n".encode(),
+                    f"0 added, 0 deleted, bad line 1 (missing {never})")
+    yield Neighbour("silence", silent, "0 added, 0 deleted, ended")
+
+
+def beside(program: str, way: List[str], neighbour: Neighbour, proof: str, wanted: str, work: Path) -> None:
+    """The report on the proof, and on its neighbour if that is known."""
+    own, other, what = written(proof, work, "proof"), work / "other", neighbour.what
+    if isinstance(what, bytes):
+        other.write_bytes(what)
+    else:
+        piped(other)
+    words = [program, *way, *neighbour.options, FORMULA, own, other]
+    with started(words, stdout=subprocess.PIPE, stderr=subprocess.PIPE, text=True) as process:
+        feeds = None if isinstance(what, bytes) else feed(other, what(process, "--serial" in way))
+        out, err = process.communicate(timeout=LIMIT)
+    if feeds:
+        feeds.join(LIMIT)
+    lines = out.splitlines()
+    known = neighbour.known or (lines[1].replace("c stream 2: ", "", 1) if len(lines) == 3 else "")
+    want((lines, process.returncode), ([wanted, f"c stream 2: {known}", "s UNSATISFIABLE"], 0), f"{err}the report")
+
+
+def rows(program: str) -> Iterator[Row]:
+    lines = example("bmc.lrup").read_text().splitlines()
+    proof = "".join(map(renumbered, lines))
+    deleted = sum(len(line.split()) - 3 for line in lines if " d " in line)
+    added = sum(" d " not in line for line in lines)
+    wanted = f"c stream 1: {added} added, {deleted} deleted, ended"
+    for options in "", "--serial":
+        for neighbour in neighbours(proof):
+            yield f"{options or 'threads'}, {neighbour.name}", beside, program, options.split(), neighbour, proof, wanted
+
+
+test_row = parametrized(rows(PROGRAM))
