@@ -23,11 +23,13 @@ def build_proved(work, folder, name, crates, below):
     os.makedirs(os.path.join(crate, "src"))
     for other in crates:
         ignored = shutil.ignore_patterns("must-fail")
-        shutil.copytree(os.path.join(ROOT, "crates", other), os.path.join(work, "crates", other), ignore=ignored)
+        shutil.copytree(os.path.join(ROOT, "crates", other), os.path.join(work, "crates", other),
+                        ignore=ignored)
     shutil.copy(os.path.join(HERE, folder, f"{name}.rt.in"), os.path.join(crate, "src", "main.rt"))
     for part in ("specs", "proofs"):
         if os.path.isdir(os.path.join(HERE, folder, part)):
-            shutil.copytree(os.path.join(HERE, folder, part), os.path.join(crate, part), copy_function=copy_without_in)
+            shutil.copytree(os.path.join(HERE, folder, part), os.path.join(crate, part),
+                            copy_function=copy_without_in)
     shutil.copy(os.path.join(ROOT, "HANDLES"), work)
     with open(os.path.join(work, "crates.txt"), "w") as f:
         f.writelines(f"{other}: {its}\n" for other, its in crates.items())
@@ -45,5 +47,6 @@ def build_c(work, folder, name):
     program = os.path.join(work, name)
     source = os.path.join(HERE, folder, f"{name}.c")
     compiler = os.environ.get("CC", "cc")
-    subprocess.run([compiler, "-O3", "-march=native", "-pthread", "-o", program, source], check=True)
+    subprocess.run(
+        [compiler, "-O3", "-march=native", "-pthread", "-o", program, source], check=True)
     return program

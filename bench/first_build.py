@@ -30,12 +30,14 @@ def processor():
 
 
 def main():
-    commit = subprocess.check_output(["git", "rev-parse", "--short", "HEAD"], cwd=ROOT, text=True).strip()
+    commit = subprocess.check_output(["git", "rev-parse", "--short", "HEAD"], cwd=ROOT,
+                                     text=True).strip()
     with tempfile.TemporaryDirectory() as clone:
         subprocess.run(["git", "clone", "-q", ROOT, clone], check=True)
         began = time.monotonic()
         words = [sys.executable, "gate/build.py", sys.argv[1]]
-        printed = subprocess.run(words, cwd=clone, check=True, stdout=subprocess.PIPE, text=True).stdout
+        printed = subprocess.run(words, cwd=clone, check=True, stdout=subprocess.PIPE,
+                                 text=True).stdout
         took = time.monotonic() - began
     rows = re.findall(r"^\d+ of \d+: (\w+), ([\d:]+), processor (\d+) s", printed, re.M)
     usage = resource.getrusage(resource.RUSAGE_CHILDREN)
@@ -44,7 +46,8 @@ def main():
     first = first[:first.index("## Now")]
     PAGE.write_text(f"""{first}## Now
 
-{date.today()}, at {commit}, {len(os.sched_getaffinity(0))} cores ({processor()}), Python {platform.python_version()}: **{clock(took)} by the clock**,
+{date.today()}, at {commit}, {len(os.sched_getaffinity(0))} cores ({processor()}), \
+Python {platform.python_version()}: **{clock(took)} by the clock**,
 {clock(usage.ru_utime)} of user and {clock(usage.ru_stime)} of system time.
 
 | Crate, in the order of their ends | By the clock | Processor seconds |

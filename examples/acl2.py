@@ -10,7 +10,7 @@ Debian's packages acl2, acl2-books and acl2-books-certs.
 The checkers' theorems don't cover their parsers, which don't read all of DIMACS CNF and LRAT. So
 they get the formula in a simpler form: the header first, no comments, one clause on each line, no
 repeated literal, and a copy of another clause in place of a tautology. The proof's literals are
-sorted by variable, and the incremental checker gets compressed LRAT. """
+sorted by variable, and the incremental checker gets compressed LRAT."""
 import os
 import re
 import shutil
@@ -46,7 +46,8 @@ def narrow_formula(path: str) -> str:
     clauses = [sorted(set(clause), key=abs) for clause in clauses_of(path)]
     proper = next((clause for clause in clauses if len(set(map(abs, clause))) == len(clause)), [])
     kept = [clause if len(set(map(abs, clause))) == len(clause) else proper for clause in clauses]
-    return f"p cnf {variables} {len(kept)}\n" + "".join(" ".join(map(str, [*clause, 0])) + "\n" for clause in kept)
+    return f"p cnf {variables} {len(kept)}\n" + "".join(" ".join(map(str, [*clause, 0])) + "\n"
+                                                        for clause in kept)
 
 
 def sorted_steps(path: str) -> Iterator[List[str]]:
@@ -96,17 +97,21 @@ def judged(kind: str, files: Sequence[Tuple[str, str]]) -> List[Verdict]:
     and continues after any other."""
     found: List[Verdict] = []
     while len(found) < len(files):
-        checks = "".join(f'(lrat::lrat-check "{formula}" "{proof}")\n(cw "~%next~%")\n' for formula, proof in files[len(found):])
+        checks = "".join(f'(lrat::lrat-check "{formula}" "{proof}")\n(cw "~%next~%")\n'
+                         for formula, proof in files[len(found):])
         forms = f'(include-book "projects/sat/lrat/{kind}/run" :dir :system)\n{checks}(exit 1)\n'
-        done = subprocess.run(["acl2"], input=forms, stdout=subprocess.PIPE, stderr=subprocess.STDOUT, text=True)
+        done = subprocess.run(["acl2"], input=forms, stdout=subprocess.PIPE,
+                              stderr=subprocess.STDOUT, text=True)
         if "FAILED" in done.stdout:
             sys.exit(f"acl2.py: acl2 can't load projects/sat/lrat/{kind}: {PACKAGES}")
         *refused, last = done.stdout.split("\nnext\n")
         found += [Verdict(False, 0, fault_in(said)) for said in refused]
         if len(found) < len(files):
             seconds = re.findall(r"([0-9.]+) seconds runtime", last)
-            is_verified = done.returncode == 0 and re.search(r"^s VERIFIED$", last, re.M) is not None
-            found.append(Verdict(is_verified, float(seconds[-1]) if seconds else 0, "" if is_verified else "acl2 ended"))
+            is_verified = (done.returncode == 0
+                           and re.search(r"^s VERIFIED$", last, re.M) is not None)
+            found.append(Verdict(is_verified, float(seconds[-1]) if seconds else 0,
+                                 "" if is_verified else "acl2 ended"))
     return found
 
 

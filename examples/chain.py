@@ -20,7 +20,8 @@ from typing import Dict, List, NamedTuple, Set
 
 USAGE = "usage: chain.py ROUNDS FORMULA FOLDER STREAM..., with 1 round or more"
 MOST_CLAUSES = 16777215
-NOWHERE = 10 ** 18 - 1  # no clause's identity: cited for a clause that no stream derived, or that a checkpoint lacks
+# No clause's identity: cited for a clause that no stream derived, or that a checkpoint lacks.
+NOWHERE = 10 ** 18 - 1
 
 
 class Fault(Exception):
@@ -59,19 +60,23 @@ def read_stream(stream: int, name: str) -> List[Line]:
 def clauses_of(formula: Path) -> int:
     with formula.open(errors="replace") as file:
         header = next((text.split() for text in file if text.startswith("p")), [])
-    if len(header) != 4 or not header[3].isdecimal() or len(header[3]) > 8 or int(header[3]) > MOST_CLAUSES:
-        raise Fault(f"{formula}: no header 'p cnf VARIABLES CLAUSES' with at most {MOST_CLAUSES} clauses")
+    if (len(header) != 4 or not header[3].isdecimal() or len(header[3]) > 8
+            or int(header[3]) > MOST_CLAUSES):
+        raise Fault(
+            f"{formula}: no header 'p cnf VARIABLES CLAUSES' with at most {MOST_CLAUSES} clauses")
     return int(header[3])
 
 
 def in_order(streams: List[List[Line]]) -> List[Line]:
     """If no line is ready, one is taken anyway: lrupd will report what is wrong with it."""
     owners = {line.identity: line.stream for lines in streams for line in lines if line.kind == "a"}
-    cites = Counter(identity for lines in streams for line in lines if line.kind != "d" for identity in line.cited)
+    cites = Counter(identity for lines in streams for line in lines if line.kind != "d"
+                    for identity in line.cited)
     due, left, order = set(owners), [lines[::-1] for lines in streams], []
 
     def is_ready(line: Line) -> bool:
-        retired = [identity for identity in line.cited if line.kind == "d" and owners.get(identity) == line.stream]
+        retired = [identity for identity in line.cited if line.kind == "d"
+                   and owners.get(identity) == line.stream]
         return due.isdisjoint(line.cited) and not any(cites[identity] for identity in retired)
 
     while any(left):
@@ -86,7 +91,8 @@ def in_order(streams: List[List[Line]]) -> List[Line]:
 
 def renumbered(line: Line, now: Dict[int, int]) -> Line:
     """Clauses that a checkpoint lacks need no deletion any more."""
-    cited = [now.get(identity, NOWHERE) for identity in line.cited if line.kind != "d" or identity in now]
+    cited = [now.get(identity, NOWHERE) for identity in line.cited if line.kind != "d"
+             or identity in now]
     return line._replace(identity=now.get(line.identity, 0), cited=cited)
 
 
@@ -106,28 +112,35 @@ def text_of(line: Line) -> str:
     cited = list(map(str, line.cited))
     if line.kind == "a":
         return " ".join([str(line.identity), *line.literals, "0", *cited, "0\n"])
-    return " ".join(["1", "d", *cited, "0\n"] if line.kind == "d" else [*cited, "i", *line.literals, "0\n"])
+    return " ".join(["1", "d", *cited, "0\n"] if line.kind == "d"
+                    else [*cited, "i", *line.literals, "0\n"])
 
 
 def sizes_of(streams: List[List[Line]]) -> str:
     """The number of streams, and the identities and literals that each needs."""
     derived = [[line for line in lines if line.kind == "a"] for lines in streams]
-    return f"{len(streams)} {max(map(len, derived))} {max(sum(len(line.literals) for line in lines) for lines in derived)}\n"
+    return (f"{len(streams)} {max(map(len, derived))} "
+            f"{max(sum(len(line.literals) for line in lines) for lines in derived)}\n")
 
 
 def live(streams: List[List[Line]], count: int) -> List[int]:
     """The identities of saved clauses: all except those that their owner, or each stream,
     deleted."""
-    derived: List[Set[int]] = [{line.identity for line in lines if line.kind == "a"} for lines in streams]
-    deleted = [{identity for line in lines if line.kind == "d" for identity in line.cited} for lines in streams]
+    derived: List[Set[int]] = [{line.identity for line in lines if line.kind == "a"}
+                               for lines in streams]
+    deleted = [{identity for line in lines if line.kind == "d" for identity in line.cited}
+               for lines in streams]
     retired = [own & gone for own, gone in zip(derived, deleted)]
-    return sorted(set(range(1, count + 1)).union(*derived).difference(*retired) - set.intersection(*deleted))
+    return sorted(set(range(1, count + 1)).union(*derived).difference(*retired)
+                  - set.intersection(*deleted))
 
 
 def main() -> int:
-    if len(sys.argv) < 5 or not sys.argv[1].isdecimal() or len(sys.argv[1]) > 9 or int(sys.argv[1]) < 1:
+    if (len(sys.argv) < 5 or not sys.argv[1].isdecimal() or len(sys.argv[1]) > 9
+            or int(sys.argv[1]) < 1):
         sys.exit(USAGE)
-    rounds, formula, folder, names = int(sys.argv[1]), Path(sys.argv[2]), Path(sys.argv[3]), sys.argv[4:]
+    rounds, formula, folder, names = (int(sys.argv[1]), Path(sys.argv[2]),
+                                      Path(sys.argv[3]), sys.argv[4:])
     try:
         count = clauses_of(formula)
         order = in_order([read_stream(number, name) for number, name in enumerate(names)])
@@ -136,7 +149,8 @@ def main() -> int:
         sys.exit(f"chain.py: {error}")
     now = {identity: identity for identity in range(1, count + 1)}
     for number in range(1, rounds + 1):
-        streams = pieces(order[len(order) * (number - 1) // rounds:len(order) * number // rounds], now, count, len(names))
+        streams = pieces(order[len(order) * (number - 1) // rounds:len(order) * number // rounds],
+                         now, count, len(names))
         (folder / f"round-{number}.sizes").write_text(sizes_of(streams))
         for stream, lines in enumerate(streams, 1):
             (folder / f"round-{number}.stream-{stream}").write_text("".join(map(text_of, lines)))

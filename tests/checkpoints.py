@@ -24,7 +24,8 @@ def printed(variables: int, entries: Iterable[Entry]) -> str:
 
 
 def variables_of(formula: Path) -> int:
-    return int(next(line for line in formula.read_text().splitlines() if line.startswith("p")).split()[2])
+    return int(next(line for line in formula.read_text().splitlines()
+                    if line.startswith("p")).split()[2])
 
 
 def live(formula: Path, streams: Sequence[Path]) -> List[Entry]:
@@ -42,7 +43,8 @@ def live(formula: Path, streams: Sequence[Path]) -> List[Entry]:
                 is_own = identity > count and (identity - count - 1) % len(streams) == number
                 (retired if is_own else dropped[number]).add(identity)
     left_out = retired | set.intersection(*dropped)
-    return [(identity, literals) for identity, literals in sorted(clauses.items()) if identity not in left_out]
+    return [(identity, literals) for identity, literals in sorted(clauses.items())
+            if identity not in left_out]
 
 
 def sorted_literals(text: str) -> List[str]:

@@ -1,4 +1,5 @@
-"""Formulas that take a solver a while, though they are small: parity on a graph, and two multipliers beside each other."""
+"""Formulas that take a solver a while, though they are small: parity on a graph, and two
+multipliers beside each other."""
 import random
 from typing import Callable, List, Sequence
 
@@ -8,8 +9,9 @@ Bits = List[int]
 
 
 def parity(numbers: random.Random, vertices: int, is_odd: bool) -> str:
-    """A variable for each edge of a graph in which each vertex has three. At each vertex the sum of its edges is even, but for the first
-    one if `is_odd`: each edge counts twice, so that no assignment gives these sums."""
+    """A variable for each edge of a graph in which each vertex has three. At each vertex the sum of
+    its edges is even, but for the first one if `is_odd`: each edge counts twice, so that no
+    assignment gives these sums."""
     ends = [vertex for vertex in range(vertices) for _ in range(3)]
     pairs = list(zip(ends[::2], ends[1::2]))
     while any(one == other for one, other in pairs):
@@ -24,8 +26,10 @@ def parity(numbers: random.Random, vertices: int, is_odd: bool) -> str:
 
 def table(holds: Callable[..., bool], variables: Sequence[int]) -> List[List[int]]:
     """A clause for each row of the truth table that doesn't hold."""
-    rows = [[number >> place & 1 for place in range(len(variables))] for number in range(1 << len(variables))]
-    return [[-variable if bit else variable for variable, bit in zip(variables, row)] for row in rows if not holds(*row)]
+    rows = [[number >> place & 1 for place in range(len(variables))]
+            for number in range(1 << len(variables))]
+    return [[-variable if bit else variable for variable, bit in zip(variables, row)]
+            for row in rows if not holds(*row)]
 
 
 class Circuit:
@@ -43,7 +47,8 @@ class Circuit:
         return out
 
     def product(self, one: Bits, other: Bits, from_the_end: bool) -> Bits:
-        """Column by column, by adders of three bits or two; which bits come first is the caller's choice."""
+        """Column by column, by adders of three bits or two; which bits come first is the
+        caller's choice."""
         columns: List[Bits] = [[] for _ in range(len(one) + len(other))]
         for place, wire in enumerate(one):
             for more, second in enumerate(other):
@@ -67,5 +72,6 @@ def miter(bits: int, numbers: random.Random, is_faulty: bool) -> str:
     if is_faulty:
         place = numbers.randrange(1, len(second) - 1)
         second[place] = second[place - 1]
-    circuit.clauses.append([circuit.gate(lambda a, b: a ^ b, *wires) for wires in zip(first, second)])
+    circuit.clauses.append([circuit.gate(lambda a, b: a ^ b, *wires)
+                            for wires in zip(first, second)])
     return dimacs(circuit.variables, circuit.clauses)

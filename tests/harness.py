@@ -45,7 +45,8 @@ RT: Optional[str] = None
 LIMIT = 300  # seconds after which a run counts as hanging, even on a slow and busy machine
 FOUR = "p cnf 2 4\n1 2 0\n-1 2 0\n1 -2 0\n-1 -2 0\n"
 # The first bytes of files that these programs unpack.
-COMPRESSED = {"zcat": b"\x1f\x8b\x08\0", "xzcat": b"\xfd7zXZ\0", "bzcat": b"BZh9", "zstdcat": b"\x28\xb5\x2f\xfd"}
+COMPRESSED = {"zcat": b"\x1f\x8b\x08\0", "xzcat": b"\xfd7zXZ\0", "bzcat": b"BZh9",
+              "zstdcat": b"\x28\xb5\x2f\xfd"}
 VERDICTS = {0: "s UNSATISFIABLE", 3: "s UNKNOWN", 8: "s UNSATISFIABLE UNDER ASSUMPTIONS"}
 
 # Shells start background processes with the first two ignored, and nohup with the third; then
@@ -80,7 +81,8 @@ def text_of(data: Optional[bytes]) -> str:
     return (data or b"").decode(errors="surrogateescape")
 
 
-def run(words: Words, given: Union[str, bytes, None] = None, limit: float = LIMIT, **how: Any) -> Ran:
+def run(words: Words, given: Union[str, bytes, None] = None, limit: float = LIMIT,
+        **how: Any) -> Ran:
     """Runs a program to its end, with these bytes on its standard input."""
     if given is not None:
         how["input"] = given.encode() if isinstance(given, str) else given
@@ -105,7 +107,8 @@ def started(words: Words, **how: Any) -> Iterator["subprocess.Popen[Any]"]:
             process.kill()
 
 
-def by_another(words: Words, work: Path, user: int = 65534, before: Callable[[], None] = lambda: None, **how: Any) -> Ran:
+def by_another(words: Words, work: Path, user: int = 65534,
+               before: Callable[[], None] = lambda: None, **how: Any) -> Ran:
     """Runs it in this folder; root, to whom nothing is forbidden, runs it as another user."""
     work.chmod(0o755)
 
@@ -219,10 +222,12 @@ def generated(words: str, folder: Path, name: str = "formula.cnf") -> Path:
 
 
 def dimacs(variables: int, clauses: Sequence[Sequence[int]]) -> str:
-    return f"p cnf {variables} {len(clauses)}\n" + "".join(" ".join(map(str, clause)) + " 0\n" for clause in clauses)
+    return f"p cnf {variables} {len(clauses)}\n" + "".join(" ".join(map(str, clause)) + " 0\n"
+                                                           for clause in clauses)
 
 
-def random_clauses(numbers: random.Random, variables: int, count: int, lengths: Sequence[int] = (3,)) -> List[List[int]]:
+def random_clauses(numbers: random.Random, variables: int, count: int,
+                   lengths: Sequence[int] = (3,)) -> List[List[int]]:
     """Clauses over that many variables, with lengths drawn from these."""
     clauses = []
     for _ in range(count):
@@ -262,8 +267,10 @@ def is_newer(program: Path, sources: Iterable[Path]) -> bool:
                                     for path in sources)
 
 
-SANITIZE = ["-std=c11", "-O1", "-g", "-fsanitize=address,undefined,pointer-overflow", "-fno-sanitize-recover=all"]
-SANITIZING = {"ASAN_OPTIONS": "exitcode=99", "UBSAN_OPTIONS": "exitcode=99:print_stacktrace=1"}     # environment variables
+SANITIZE = ["-std=c11", "-O1", "-g", "-fsanitize=address,undefined,pointer-overflow",
+            "-fno-sanitize-recover=all"]
+# The environment of sanitized programs.
+SANITIZING = {"ASAN_OPTIONS": "exitcode=99", "UBSAN_OPTIONS": "exitcode=99:print_stacktrace=1"}
 
 
 @functools.lru_cache(maxsize=None)
@@ -271,9 +278,11 @@ def sanitizer() -> List[str]:
     """A compiler that has the sanitizers: clang if it is installed, since it finds more, such as an
     offset to a null pointer. An empty list if there is none, but never in CI, which has clang."""
     with tempfile.TemporaryDirectory() as work:
-        source, one = written("int main(void) { return 0; }\n", Path(work), "one.c"), Path(work) / "one"
+        source, one = (written("int main(void) { return 0; }\n", Path(work), "one.c"),
+                       Path(work) / "one")
         for found in (["clang"], *[compiler()] * (not has_packages())):
-            if shutil.which(found[0]) and run([*found, *SANITIZE, "-o", one, source]).status == 0 and run([one]).status == 0:
+            if (shutil.which(found[0]) and run([*found, *SANITIZE, "-o", one, source]).status == 0
+                    and run([one]).status == 0):
                 return found
     return []
 
@@ -302,7 +311,8 @@ def sanitized_filter() -> Path:
 
 def sources_of(tool: str) -> List[Path]:
     """The tool's sources, and those of the filter that it contains."""
-    return [*(ROOT / "tools" / tool).glob("*.c"), *(path for path in EXACT.glob("*.c") if path.name not in ("main.c", "chain.c"))]
+    return [*(ROOT / "tools" / tool).glob("*.c"),
+            *(path for path in EXACT.glob("*.c") if path.name not in ("main.c", "chain.c"))]
 
 
 @functools.lru_cache(maxsize=None)
@@ -321,7 +331,8 @@ def sanitized_explain() -> Path:
 
 def report(said: Sequence[str], status: int) -> str:
     """A report with these lines of streams, and the verdict of the status."""
-    return "".join(f"c stream {number}: {words}\n" for number, words in enumerate(said, 1)) + VERDICTS[status] + "\n"
+    return ("".join(f"c stream {number}: {words}\n" for number, words in enumerate(said, 1))
+            + VERDICTS[status] + "\n")
 
 
 def watched_ends(err: str) -> List[str]:
@@ -331,7 +342,8 @@ def watched_ends(err: str) -> List[str]:
 
 def unwatched(err: str) -> str:
     """Standard error without the lines of --watch."""
-    lines = r"stream \d+: .*|round \d+: \d+ clauses?, \d+ literals?, paused for \d+ ms|.*: waits for a writer"
+    lines = (r"stream \d+: .*|round \d+: \d+ clauses?, \d+ literals?, paused for \d+ ms|"
+             r".*: waits for a writer")
     return re.sub(rf"^lrupd: ({lines})\n", "", err, flags=re.M)
 
 

@@ -13,7 +13,8 @@ from harness import run, want, written
 from proof_forms import read_formula
 from solving import PROGRAM, SOLVE, Answer, end_all, marked, none_left
 
-SATISFIABLE = "p cnf 3 4\nc a comment\n1 2 0\n-1\n2 0 1 -3 0\nc 3 0\n3 -2 1 0\n"       # by 1 2, and 3 or -3
+# Satisfied by 1 2, and 3 or -3.
+SATISFIABLE = "p cnf 3 4\nc a comment\n1 2 0\n-1\n2 0 1 -3 0\nc 3 0\n3 -2 1 0\n"
 LONG = 30       # seconds after which a run should have ended
 PROOF = "5 2 0 1 2 0\n6 0 5 3 4 0\n"                         # of FOUR
 
@@ -27,14 +28,16 @@ def lrupd_of(front, word):
     while True:
         for child in open(f"/proc/{front}/task/{front}/children").read().split():
             try:
-                if any(found.startswith(word) for found in open(f"/proc/{child}/cmdline").read().split("\\0")):
+                words = open(f"/proc/{child}/cmdline").read().split("\\0")
+                if any(found.startswith(word) for found in words):
                     return int(child)
             except OSError:
                 pass
 
 def process(pid):
     ids = (ctypes.c_int * 1)(pid)
-    numbers = (ctypes.c_uint64 * 11)(0, 0, 0, 0, signal.SIGCHLD, 0, 0, 0, ctypes.addressof(ids), 1, 0)
+    place = ctypes.addressof(ids)
+    numbers = (ctypes.c_uint64 * 11)(0, 0, 0, 0, signal.SIGCHLD, 0, 0, 0, place, 1, 0)
     made, end = ctypes.CDLL(None).syscall(435, numbers, 88), time.monotonic() + 12      # clone3
     while made < 0 and time.monotonic() < end:
         made = os.fork()
@@ -60,7 +63,8 @@ def again(pid, status, mark):
 BEGINS = f"""#!{sys.executable} -SE
 import os, signal, subprocess, sys, time
 here = os.path.dirname(sys.argv[0])
-TOLD, HEARD, of_probe, of_lrupd, formula, assumptions, lrupd = os.environ["LRUP_FRONT"].split(" ", 6)
+TOLD, HEARD, of_probe, of_lrupd, *others = os.environ["LRUP_FRONT"].split(" ", 6)
+formula, assumptions, lrupd = others
 front = formula.split("/")[2]
 FRONT = os.open(f"/proc/{{front}}/fd/{{TOLD}}", os.O_RDONLY)
 os.dup2(os.open(f"/proc/{{front}}/fd/{{HEARD}}", os.O_WRONLY), 1)
@@ -114,22 +118,23 @@ def program(body: str, work: Path) -> Path:
     return path
 
 
-def run_with(body: str, words: Sequence[object], text: str, work: Path, lrupd: object = PROGRAM, front: object = SOLVE,
-             may_leave: bool = False, **how: Any) -> Answer:
+def run_with(body: str, words: Sequence[object], text: str, work: Path, lrupd: object = PROGRAM,
+             front: object = SOLVE, may_leave: bool = False, **how: Any) -> Answer:
     """A run that leaves nothing in its own temporary folder, and no process; if it may leave
     processes, they are ended here. `lines` are answers, values or comments."""
     formula, files, mark = written(text, work), work / "temporary", marked(work)
     files.mkdir()
     word = "-" if "given" in how else formula
     begun = time.monotonic()
-    answer = Answer(run([front, "--lrupd", lrupd, "--engines", program(body, work), *words, word], limit=60,
-                        env={**os.environ, "TMPDIR": str(files)}, **how))
+    answer = Answer(run([front, "--lrupd", lrupd, "--engines", program(body, work), *words, word],
+                        limit=60, env={**os.environ, "TMPDIR": str(files)}, **how))
     if may_leave:
         end_all(mark)
     none_left(mark)
     want(os.listdir(files), [], "files that it makes")
     strange = [line for line in answer.out.splitlines() if line[:2] not in ("c ", "s ", "v ")]
-    want((strange, len(answer.answers) < 2), ([], True), f"lines of another kind in\n{answer.out[-2000:]}")
+    want((strange, len(answer.answers) < 2), ([], True),
+         f"lines of another kind in\n{answer.out[-2000:]}")
     if time.monotonic() - begun > LONG:
         raise subprocess.TimeoutExpired("the run", LONG)
     return answer

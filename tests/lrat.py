@@ -26,7 +26,8 @@ def lrat_fault(formula: List[List[int]], proof: str) -> str:
                 return f"line {number}: no clause to delete"
             continue
         end = words.index("0", 1)
-        identity, clause, hints = int(words[0]), [int(word) for word in words[1:end]], [int(word) for word in words[end + 1:-1]]
+        identity, clause, hints = (int(words[0]), [int(word) for word in words[1:end]],
+                                   [int(word) for word in words[end + 1:-1]])
         if identity <= last:
             return f"line {number}: the identity {identity} after {last}"
         if not is_implied(clause, [clauses.get(hint) for hint in hints]):

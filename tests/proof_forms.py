@@ -37,7 +37,8 @@ def read_steps(path: Path) -> List[Step]:
             words = line.split()
             if words[1] in ("d", "i"):
                 numbers = list(map(int, words[2:-1]))
-                steps.append(Step("d", int(words[0]), [], numbers) if words[1] == "d" else Step("i", int(words[0]), numbers, []))
+                steps.append(Step("d", int(words[0]), [], numbers) if words[1] == "d"
+                             else Step("i", int(words[0]), numbers, []))
             else:
                 numbers = list(map(int, words))
                 end = numbers.index(0)
@@ -76,7 +77,8 @@ def codes(numbers: Iterable[int]) -> bytes:
 def binary_lrat(step: Step, identity: Callable[[int], bytes] = code) -> bytes:
     """Some solvers write identities as literals, others as plain numbers."""
     hints = b"".join(map(identity, step.hints)) + b"\0"
-    return b"d" + hints if step.kind == "d" else b"a" + identity(step.identity) + codes(step.literals) + hints
+    return (b"d" + hints if step.kind == "d"
+            else b"a" + identity(step.identity) + codes(step.literals) + hints)
 
 
 class Deletions:
@@ -96,7 +98,8 @@ class Deletions:
 
 
 def drat(formula: List[Clause], steps: List[Step]) -> List[bytes]:
-    return [line(*["d"] * (kind == "d"), *literals, 0) for kind, literals in Deletions(formula).steps(steps)]
+    return [line(*["d"] * (kind == "d"), *literals, 0)
+            for kind, literals in Deletions(formula).steps(steps)]
 
 
 def binary_drat(formula: List[Clause], steps: List[Step]) -> List[bytes]:
@@ -107,10 +110,12 @@ class Frat:
     """Identities of its own, unordered and with gaps; the formula's clauses, and their literals,
     come in another order."""
 
-    def __init__(self, formula: List[Clause], steps: List[Step], seed: int, hinted: float, gap: int = 3) -> None:
+    def __init__(self, formula: List[Clause], steps: List[Step], seed: int, hinted: float,
+                 gap: int = 3) -> None:
         self.numbers = random.Random(seed)
         self.hinted = hinted
-        names = [*range(1, len(formula) + 1), *(step.identity for step in steps if step.kind == "a")]
+        names = [*range(1, len(formula) + 1),
+                 *(step.identity for step in steps if step.kind == "a")]
         self.names = dict(zip(names, self.numbers.sample(range(1, gap * len(names)), len(names))))
         self.clauses = dict(enumerate(formula, 1))
         self.lines = [self.clause("o", identity) for identity in self.clauses]
@@ -132,11 +137,13 @@ class Frat:
             return
         self.clauses[step.identity] = step.literals
         hints = [self.names[hint] for hint in step.hints]
-        words: List[Union[str, int]] = ["l", *hints, 0] if self.numbers.random() < self.hinted else []
+        words: List[Union[str, int]] = (["l", *hints, 0]
+                                        if self.numbers.random() < self.hinted else [])
         self.lines.append(line("a", self.names[step.identity], *step.literals, 0, *words))
 
 
-def frat(formula: List[Clause], steps: List[Step], seed: int, hinted: float, gap: int = 3) -> List[bytes]:
+def frat(formula: List[Clause], steps: List[Step], seed: int, hinted: float,
+         gap: int = 3) -> List[bytes]:
     """`hinted` is the share of additions with hints; one number in `gap` is a name."""
     return Frat(formula, steps, seed, hinted, gap).lines
 
@@ -147,8 +154,10 @@ FORMS: Dict[str, Form] = {
     "LRAT text": ("lrat", lambda formula, steps: [lrat(step) for step in steps]),
     "DRAT text": ("drat", drat),
     "binary DRAT": ("binary-drat", binary_drat),
-    "binary LRAT, identities as literals": ("binary-lrat", lambda formula, steps: [binary_lrat(step) for step in steps]),
-    "binary LRAT, identities as they are": ("binary-lrat", lambda formula, steps: [binary_lrat(step, varint) for step in steps]),
+    "binary LRAT, identities as literals": (
+        "binary-lrat", lambda formula, steps: [binary_lrat(step) for step in steps]),
+    "binary LRAT, identities as they are": (
+        "binary-lrat", lambda formula, steps: [binary_lrat(step, varint) for step in steps]),
     "FRAT with hints": ("frat", lambda formula, steps: frat(formula, steps, 1, 1)),
     "FRAT with some hints": ("frat", lambda formula, steps: frat(formula, steps, 2, 0.5)),
     "FRAT without hints": ("frat", lambda formula, steps: frat(formula, steps, 3, 0)),

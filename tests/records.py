@@ -20,16 +20,20 @@ TRIES = 20
 
 def saved_rounds(kept: Path) -> int:
     """The round with which a resumed run would begin, or 1."""
-    found = re.search(r"  checkpoint-(\d+)\.cnf\n$", (kept / "rounds.sha256").read_text()) if (kept / "rounds.sha256").exists() else None
+    found = (re.search(r"  checkpoint-(\d+)\.cnf\n$", (kept / "rounds.sha256").read_text())
+             if (kept / "rounds.sha256").exists() else None)
     return int(found[1]) if found else 1
 
 
-def recorded(words: Sequence[object], kept: Path, least: int, tested: Optional[Mapping[str, object]]) -> None:
+def recorded(words: Sequence[object], kept: Path, least: int,
+             tested: Optional[Mapping[str, object]]) -> None:
     """Makes the record of a run that is killed once it has saved this many rounds. If the run ends
     before that, it is tried again."""
     for _ in range(TRIES):
-        with started(command(["--proofs", kept, "--replace", *words], tested), env=in_environment(tested), stdout=subprocess.DEVNULL) as running:
-            until(f"{least} rounds are saved", lambda: saved_rounds(kept) > least or running.poll() is not None)
+        with started(command(["--proofs", kept, "--replace", *words], tested),
+                     env=in_environment(tested), stdout=subprocess.DEVNULL) as running:
+            until(f"{least} rounds are saved",
+                  lambda: saved_rounds(kept) > least or running.poll() is not None)
             running.kill()
         none_left(f"LRUP_MARK={os.environ['LRUP_MARK']}")
         if running.returncode == -signal.SIGKILL and saved_rounds(kept) > least:
@@ -38,7 +42,8 @@ def recorded(words: Sequence[object], kept: Path, least: int, tested: Optional[M
 
 
 def checkpoints(kept: Path) -> List[str]:
-    return sorted(path.name for path in kept.iterdir() if re.match(r"\.|checkpoint|rounds", path.name))
+    return sorted(path.name for path in kept.iterdir()
+                  if re.match(r"\.|checkpoint|rounds", path.name))
 
 
 def whole(kept: Path, formula: Path, work: Path) -> None:
@@ -128,13 +133,20 @@ def list_changed(pattern: str, by: str) -> Change:
 STREAM, SIZES, CHECKPOINT = r"round-\d+\.stream-\d+", r"round-\d+\.sizes", r"checkpoint-\d+\.cnf"
 CHANGES: Dict[str, Change] = {
     **{f"{what} of {pattern}": made for pattern in (STREAM, SIZES, CHECKPOINT) for what, made in (
-        ("a bit", flipped(pattern)), ("another bit", flipped(pattern)), ("the end", cut(pattern)), ("all", removed(pattern)))},
-    "a long beginning": filled(STREAM), "streams swapped": swapped(STREAM), "sizes swapped": swapped(SIZES), "a pipe as a stream": removed(STREAM, os.mkfifo),
-    "a folder as sizes": removed(SIZES, os.mkdir), "a link as a checkpoint": removed(CHECKPOINT, lambda path: path.symlink_to("/dev/zero")),
-    "an empty list": written_anew("rounds.sha256", ""), "a list of nothing": written_anew("rounds.sha256", "x\n"),
-    "a list without its end": list_changed(r"\n\Z", ""), "a list without its last line": list_changed(r"^.*checkpoint.*\n", ""),
-    "a list with a stream less": list_changed(r"^.*round-1.stream-1\n", ""), "a list with two of one": list_changed(r"stream-2$", "stream-1"),
-    "another folder's file": list_changed(r"checkpoint-", "../checkpoint-"), "another digest": list_changed(r"^[0-9a-f]", "g"),
+        ("a bit", flipped(pattern)), ("another bit", flipped(pattern)), ("the end", cut(pattern)),
+        ("all", removed(pattern)))},
+    "a long beginning": filled(STREAM), "streams swapped": swapped(STREAM),
+    "sizes swapped": swapped(SIZES), "a pipe as a stream": removed(STREAM, os.mkfifo),
+    "a folder as sizes": removed(SIZES, os.mkdir),
+    "a link as a checkpoint": removed(CHECKPOINT, lambda path: path.symlink_to("/dev/zero")),
+    "an empty list": written_anew("rounds.sha256", ""),
+    "a list of nothing": written_anew("rounds.sha256", "x\n"),
+    "a list without its end": list_changed(r"\n\Z", ""),
+    "a list without its last line": list_changed(r"^.*checkpoint.*\n", ""),
+    "a list with a stream less": list_changed(r"^.*round-1.stream-1\n", ""),
+    "a list with two of one": list_changed(r"stream-2$", "stream-1"),
+    "another folder's file": list_changed(r"checkpoint-", "../checkpoint-"),
+    "another digest": list_changed(r"^[0-9a-f]", "g"),
     "digests of nothing": list_changed(r"^[0-9a-f]{64}", "0" * 64)}
 
 
@@ -144,13 +156,16 @@ def want_no_other(answer: Answer, status: int, formula: Path, kept: Path, names:
     if answer.status == status:
         answer.said = ""
         return want_answer(answer, status, formula)
-    want((answer.answers, answer.status in (0, 1)), ([UNKNOWN] if answer.status == 0 else [], True), f"the answer of\n{answer.out}{answer.said}")
+    want((answer.answers, answer.status in (0, 1)), ([UNKNOWN] if answer.status == 0 else [], True),
+         f"the answer of\n{answer.out}{answer.said}")
     said = answer.said if answer.status == 1 else answer.out
-    want(any(f"{kept}/{name}" in said for name in names.split("|")), True, f"whether one of {names} is named in\n{answer.out}{answer.said}")
+    want(any(f"{kept}/{name}" in said for name in names.split("|")), True,
+         f"whether one of {names} is named in\n{answer.out}{answer.said}")
 
 
 def with_digests(kept: Path) -> None:
     """The list has the digests of the files as they are."""
     lines = (kept / "rounds.sha256").read_text().splitlines()
     names = [line[66:] for line in lines if (kept / line[66:]).exists()]
-    (kept / "rounds.sha256").write_text("".join(f"{hashlib.sha256((kept / name).read_bytes()).hexdigest()}  {name}\n" for name in names))
+    (kept / "rounds.sha256").write_text("".join(
+        f"{hashlib.sha256((kept / name).read_bytes()).hexdigest()}  {name}\n" for name in names))

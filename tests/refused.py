@@ -38,7 +38,8 @@ ERRORS_OF_READS = ["EIO", "EINTR"]
 SHORT = ["short", "half"]
 EACH = ["thread", "open", "create", "hold", "sync"]  # kinds in which each call has its own answer
 HELD = 3  # opens of /dev/null, for closed standard streams
-SECONDS = 20  # within which a run ends if a thread isn't started; the others' tries would take a minute
+# Within which a run ends if a thread isn't started; the others' tries would take a minute.
+SECONDS = 20
 HANGS = 300  # seconds after which a run counts as hanging
 LATE = 50  # milliseconds that threads take to begin, if one isn't started
 
@@ -47,13 +48,14 @@ class Input:
     """Arguments, which end with the streams, and the permitted answers besides the normal one when
     something is refused."""
 
-    def __init__(self, name: str, words: Words, streams: int = 0, dropped: Sequence[Answer] = (), waits: bool = False,
-                 out: Optional[str] = None) -> None:
+    def __init__(self, name: str, words: Words, streams: int = 0, dropped: Sequence[Answer] = (),
+                 waits: bool = False, out: Optional[str] = None) -> None:
         self.name, self.words, self.streams, self.out = name, list(map(str, words)), streams, out
         self.dropped = dropped  # reports if the growth for a dropped identity is refused
         self.waits = waits  # for a minute, if a stream that others cite fails
         self.assumes = "--assume" in self.words
-        self.checkpoint = Path(self.words[self.words.index("--checkpoint") + 1]) if "--checkpoint" in self.words else None
+        self.checkpoint = (Path(self.words[self.words.index("--checkpoint") + 1])
+                           if "--checkpoint" in self.words else None)
         self.created = "" if self.checkpoint else None  # the checkpoint before something is saved
 
 
@@ -68,14 +70,16 @@ class InRounds(Input):
         for path, text in round_files(proof.texts).items():
             written(text, work, path)
         streams = [work / stream_name(1, stream) for stream in range(1, len(proof.texts[0]) + 1)]
-        words = ["--lines", "100", "--room", "100", *options, "--rounds", self.folder, FOUR_CLAUSE, *streams]
+        words = ["--lines", "100", "--room", "100", *options, "--rounds", self.folder,
+                 FOUR_CLAUSE, *streams]
         super().__init__(name, words, len(streams))
         self.status = 3 if proof.saved[-1] else 0
         self.reports = [last(number, said, 3) for number, said in enumerate(proof.said[:-1], 1)]
         self.reports.append(last(self.count, proof.said[-1], self.status))
         self.reached = self.count + (self.status == 3)  # the last round with a file that is opened
         self.singles = work / "saved"
-        self.told = 0 if "--watch" not in options else sum(map(len, proof.texts)) + self.count - 1  # lines of --watch
+        # Lines of --watch.
+        self.told = 0 if "--watch" not in options else sum(map(len, proof.texts)) + self.count - 1
 
     def before(self, number: int, *more: str) -> Saved:
         """What was saved before a round, and the file that it created itself."""
@@ -88,7 +92,8 @@ class InRounds(Input):
 
     def ended(self, number: int) -> Answer:
         """A round is the last one."""
-        return Answer(self.reports[number - 1], "", 3 if number < self.count else self.status, self.before(number + 1))
+        return Answer(self.reports[number - 1], "", 3 if number < self.count else self.status,
+                      self.before(number + 1))
 
     def unsaved(self, number: int, cause: str, left: str) -> Answer:
         return Answer(self.reports[number - 1], fault(number, cause), 9, self.before(number, left))
@@ -113,8 +118,10 @@ class Machine:
     """Runs the program, with one call refused."""
 
     def __init__(self, program: str, folder: Path, late: int = LATE) -> None:
-        self.program, self.mark, self.stump, self.late = program, folder / "mark", folder / "stump", late
-        self.shim = compiled(folder / "refuse.so", [TESTS / "refuse.c"], "-std=gnu11", "-O2", "-shared", "-fPIC")
+        self.program, self.mark, self.stump, self.late = (program, folder / "mark",
+                                                          folder / "stump", late)
+        self.shim = compiled(folder / "refuse.so", [TESTS / "refuse.c"], "-std=gnu11", "-O2",
+                             "-shared", "-fPIC")
         self.ends: Dict[Tuple[str, int, int, str], Answer] = {}
 
     def run(self, words: Sequence[str], refuse: str = "", out: Optional[str] = None,
@@ -125,20 +132,24 @@ class Machine:
         for path in [self.mark, *checkpoints]:
             if path.is_file():
                 path.unlink()
-        surroundings = {"LD_PRELOAD": str(self.shim), "REFUSE": refuse, "MARK": str(self.mark), "PATH": os.environ["PATH"],
+        surroundings = {"LD_PRELOAD": str(self.shim), "REFUSE": refuse, "MARK": str(self.mark),
+                        "PATH": os.environ["PATH"],
                         "LATE": str(self.late if refuse.startswith("thread") else 0)}
         began = time.monotonic()
         with open(out or os.devnull, "wb") as full:
             try:
                 where = full if out else subprocess.PIPE
-                answer = Answer(*run([self.program, *words], limit=limit, env=surroundings, stdout=where))
+                answer = Answer(*run([self.program, *words], limit=limit,
+                                     env=surroundings, stdout=where))
             except subprocess.TimeoutExpired:
                 answer = Answer("", f"no end in {limit} seconds", None)
         saved = tuple(path.read_text() if path.is_file() else None for path in checkpoints)
-        answer = answer._replace(saved=saved if "--rounds" in words else saved[0] if saved else None)
+        answer = answer._replace(
+            saved=saved if "--rounds" in words else saved[0] if saved else None)
         if "--watch" in words:
             in_rounds = "--rounds" in words
-            answer = without_lines(answer) if in_rounds else without_watched_ends(answer, refuse, "--serial" not in words)
+            answer = (without_lines(answer) if in_rounds
+                      else without_watched_ends(answer, refuse, "--serial" not in words))
         return answer, self.mark.exists(), time.monotonic() - began
 
     def threads(self) -> str:
@@ -152,7 +163,8 @@ class Machine:
         ended, when it was reported."""
         return self.mark.read_text().split() == [str(count)] * 3
 
-    def answer_without(self, given: Input, number: int, line: int, cause: str = "read failed") -> Answer:
+    def answer_without(self, given: Input, number: int, line: int,
+                       cause: str = "read failed") -> Answer:
         """The answer if a stream fails in a line, as if unread: that for a stream that ends before
         the line."""
         if (given.name, number, line, cause) not in self.ends:
@@ -173,7 +185,8 @@ def mixtures(lines: Sequence[str], how: str) -> Iterator[str]:
     for cut, line in enumerate(lines):
         length = 1 if how == "short" else len(line) // 2
         for last in range(cut + 1, len(lines)):
-            yield "".join([*lines[:cut], line[:length], *lines[cut + 1:last + 1], line[length:], *lines[last + 1:]])
+            yield "".join([*lines[:cut], line[:length], *lines[cut + 1:last + 1], line[length:],
+                           *lines[last + 1:]])
 
 
 def unmixed(err: str, watched: Set[str], how: str) -> str:
@@ -190,10 +203,13 @@ def without_watched_ends(answer: Answer, refuse: str, mixes: bool) -> Answer:
     Lines of several threads may mix only if the system writes a part."""
     kind, _, how = (refuse.split(":") + ["", ""])[:3]
     is_short, fails = kind == "write" and how in SHORT, kind == "write" and how not in SHORT
-    reported = {re.sub("^c", "lrupd:", line) for line in answer.out.splitlines(keepends=True) if line.startswith("c stream ")}
-    lines = (unmixed(answer.err, reported, how) if is_short and mixes else answer.err).splitlines(keepends=True)
+    reported = {re.sub("^c", "lrupd:", line) for line in answer.out.splitlines(keepends=True)
+                if line.startswith("c stream ")}
+    lines = (unmixed(answer.err, reported, how) if is_short and mixes
+             else answer.err).splitlines(keepends=True)
     watched = {line for line in lines if line.startswith("lrupd: stream ")}
-    if watched == reported or answer.status == 7 and watched > reported or fails and watched < reported:
+    if (watched == reported or answer.status == 7 and watched > reported
+            or fails and watched < reported):
         return answer._replace(err="".join(line for line in lines if line not in watched))
     return Answer(answer.out, f"watched {sorted(watched)}", None)
 
@@ -207,15 +223,16 @@ def without_lines(answer: Answer) -> Answer:
 def is_cut(answer: Answer, ample: Answer) -> bool:
     """The report couldn't be written: a prefix of it is there. The checkpoint was written
     before."""
-    return (answer.status == 7 and answer.err == "lrupd: cannot write report\n" and ample.out.startswith(answer.out)
-            and answer.saved == ample.saved)
+    return (answer.status == 7 and answer.err == "lrupd: cannot write report\n"
+            and ample.out.startswith(answer.out) and answer.saved == ample.saved)
 
 
 def is_unsaved(answer: Answer, ample: Answer, cause: str) -> bool:
     """The checkpoint couldn't be written: a prefix of it is there, and the report is as usual."""
-    wanted = ample._replace(err=cause + ample.err, status=7 if ample.status == 7 else 9, saved=answer.saved)
-    return (ample.status in [3, 7, 8] and answer == wanted and isinstance(answer.saved, str) and isinstance(ample.saved, str)
-            and ample.saved.startswith(answer.saved))
+    wanted = ample._replace(err=cause + ample.err, status=7 if ample.status == 7 else 9,
+                            saved=answer.saved)
+    return (ample.status in [3, 7, 8] and answer == wanted and isinstance(answer.saved, str)
+            and isinstance(ample.saved, str) and ample.saved.startswith(answer.saved))
 
 
 def openings(given: Input) -> List[Answer]:
@@ -245,10 +262,12 @@ def calls(kind: str, ample: Answer, given: Input) -> int:
         return HELD
     if kind == "open":
         files_opened = [answer.err for answer in openings(given)]
-        return 0 if ample.status == 2 else files_opened.index(ample.err) + 1 if ample.err in files_opened else (
-            len(files_opened) if goes_on or ample == NOT_CREATED else 1 + (ample.err.startswith("lrupd: assumptions")))
+        return (0 if ample.status == 2 else files_opened.index(ample.err) + 1 if ample.err
+                in files_opened else (len(files_opened) if goes_on or ample == NOT_CREATED
+                                      else 1 + (ample.err.startswith("lrupd: assumptions"))))
     if kind == "thread":
-        return watching(ample, given) + (2 * given.streams if "--serial" not in given.words and goes_on else 0)
+        return (watching(ample, given)
+                + (2 * given.streams if "--serial" not in given.words and goes_on else 0))
     if kind == "create":
         return int(given.checkpoint is not None and (goes_on or ample == NOT_CREATED))
     return int(given.checkpoint is not None and bool(ample.saved))
@@ -271,14 +290,16 @@ def is_failed_read(answer: Answer, given: Input, machine: Machine) -> bool:
     if answer == NO_FORMULA or answer == NO_ASSUMPTIONS and given.assumes:
         return True
     failed = re.findall(r"^c stream (\d+): .*, read failed at line (\d+)$", answer.out, re.M)
-    return len(failed) == 1 and answer == machine.answer_without(given, int(failed[0][0]), int(failed[0][1]))
+    return (len(failed) == 1
+            and answer == machine.answer_without(given, int(failed[0][0]), int(failed[0][1])))
 
 
 def is_failed_write(answer: Answer, ample: Answer) -> bool:
     """The checkpoint, standard output, or standard error fails; a failing standard error changes no
     status."""
-    return is_cut(answer, ample) or is_unsaved(answer, ample, NOT_WRITTEN) and answer.saved != ample.saved or (
-        answer == ample._replace(err=answer.err) and ample.err.startswith(answer.err))
+    return (is_cut(answer, ample)
+            or is_unsaved(answer, ample, NOT_WRITTEN) and answer.saved != ample.saved
+            or (answer == ample._replace(err=answer.err) and ample.err.startswith(answer.err)))
 
 
 def may_be_ample(kind: str, how: str, ample: Answer, given: Input) -> bool:
@@ -286,17 +307,19 @@ def may_be_ample(kind: str, how: str, ample: Answer, given: Input) -> bool:
     read of what follows a bad line, or if the report goes to a full device anyway."""
     if how in SHORT or kind == "allocate":
         return True
-    return kind == "read" and "bad line" in ample.out or kind in ["read", "write"] and given.out is not None
+    return (kind == "read" and "bad line" in ample.out or kind in ["read", "write"]
+            and given.out is not None)
 
 
 def are_due(kind: str, ample: Answer, given: Input) -> bool:
     """Whether there must be such calls. Each run that gets to the formula reads, and each that
     reports something writes."""
-    return kind in ["allocate", "write"] or kind == "read" and given.streams > 0 and ample != NO_ASSUMPTIONS
+    return (kind in ["allocate", "write"] or kind == "read" and given.streams > 0
+            and ample != NO_ASSUMPTIONS)
 
 
-def is_right(kind: str, how: str, number: int, answer: Answer, ample: Answer, given: Input, seconds: float,
-             machine: Machine) -> bool:
+def is_right(kind: str, how: str, number: int, answer: Answer, ample: Answer, given: Input,
+             seconds: float, machine: Machine) -> bool:
     if isinstance(given, InRounds):
         return is_right_in_rounds(kind, how, number, answer, ample, given, seconds, machine)
     if kind == "open":
@@ -304,7 +327,8 @@ def is_right(kind: str, how: str, number: int, answer: Answer, ample: Answer, gi
     if kind == "thread":
         other = number - watching(ample, given)  # threads that only watch aren't missed
         return seconds < SECONDS and (answer == ample if other < 1 else (
-            answer == not_started((other - 1) % given.streams + 1, given.created) and machine.has_waited_for(number - 1)))
+            answer == not_started((other - 1) % given.streams + 1, given.created)
+            and machine.has_waited_for(number - 1)))
     if kind == "hold":
         return answer == ample
     if kind == "create":
@@ -314,10 +338,12 @@ def is_right(kind: str, how: str, number: int, answer: Answer, ample: Answer, gi
     if answer == ample and may_be_ample(kind, how, ample, given):
         return True
     if kind == "allocate":
-        return is_refused_allocation(answer, ample, given) and (seconds < SECONDS or not is_unstarted(answer, given))
+        return (is_refused_allocation(answer, ample, given)
+                and (seconds < SECONDS or not is_unstarted(answer, given)))
     if how in SHORT:
         return False
-    return is_failed_read(answer, given, machine) if kind == "read" else is_failed_write(answer, ample)
+    return (is_failed_read(answer, given, machine) if kind == "read"
+            else is_failed_write(answer, ample))
 
 
 # Runs in rounds.
@@ -335,30 +361,35 @@ def in_turn(kind: str, how: str, given: InRounds) -> List[Answer]:
     """The answers to each refused call of such a kind."""
     numbers, streams = range(1, given.count + 1), range(1, given.streams + 1)
     if kind == "thread":
-        return [answer for number in range(1, given.reached + 1) for answer in threads_of_round(number, given)]
+        return [answer for number in range(1, given.reached + 1)
+                for answer in threads_of_round(number, given)]
     if kind == "hold":
         return [given.ended(given.count)] * HELD
     if kind == "create":
         return [given.stopped(number, "cannot create checkpoint", 5) for number in numbers]
     if kind == "sync":
-        return [given.unsaved(number, "checkpoint not written", given.proof.saved[number - 1]) for number in given.saving()]
+        return [given.unsaved(number, "checkpoint not written", given.proof.saved[number - 1])
+                for number in given.saving()]
     found = [given.stopped(1, "cannot read formula", 5)]
     for number in range(1, given.reached + 1):
         if number > 1:
             # Without sizes those of the round before hold, which are the same.
-            found.append(given.ended(given.count) if how == "ENOENT" else given.stopped(number, "cannot read sizes", 5))
-        found += [failed_opening(number, stream, how, given) for stream in streams if number <= given.count or stream == 1]
+            found.append(given.ended(given.count) if how == "ENOENT"
+                         else given.stopped(number, "cannot read sizes", 5))
+        found += [failed_opening(number, stream, how, given) for stream in streams
+                  if number <= given.count or stream == 1]
     return found
 
 
 def threads_of_round(number: int, given: InRounds) -> Iterator[Answer]:
-    """With --watch a thread for each opening, which isn't missed: of the formula or of sizes, and of
-    streams. Then those of the streams."""
+    """With --watch a thread for each opening, which isn't missed: of the formula or of sizes, and
+    of streams. Then those of the streams."""
     streams = range(1, given.streams + 1) if number <= given.count else []
     if "--watch" in given.words:
         yield from [given.ended(given.count)] * (1 + max(1, len(streams)))
     if "--serial" not in given.words:
-        yield from (given.stopped(number, f"worker {stream} not started", 6, "") for stream in [*streams, *streams])
+        yield from (given.stopped(number, f"worker {stream} not started", 6, "")
+                    for stream in [*streams, *streams])
 
 
 def parts(given: InRounds, cause: str) -> Iterator[Answer]:
@@ -389,17 +420,21 @@ def is_failed_stream(answer: Answer, cause: str, given: InRounds, machine: Machi
     if len(failed) != 1 or number > given.count:
         return False
     stream, line = map(int, failed[0])
-    formula = written([FOUR, *given.proof.saved][number - 1], given.folder.parent, "formula of the round")
-    streams = [given.folder.parent / stream_name(number, other) for other in range(1, given.streams + 1)]
+    formula = written([FOUR, *given.proof.saved][number - 1], given.folder.parent,
+                      "formula of the round")
+    streams = [given.folder.parent / stream_name(number, other)
+               for other in range(1, given.streams + 1)]
     place = given.words.index("--rounds")
     words = [*given.words[:place], "--checkpoint", given.singles, formula, *streams]
-    alone = machine.answer_without(Input(f"{given.name}, round {number} alone", words, given.streams), stream, line, cause)
+    alone = machine.answer_without(
+        Input(f"{given.name}, round {number} alone", words, given.streams), stream, line, cause)
     out = f"c round {number}\n" * (number > 1) + alone.out
-    return isinstance(alone.saved, str) and answer == alone._replace(out=out, saved=given.before(number, alone.saved))
+    return (isinstance(alone.saved, str)
+            and answer == alone._replace(out=out, saved=given.before(number, alone.saved)))
 
 
-def is_right_in_rounds(kind: str, how: str, number: int, answer: Answer, ample: Answer, given: InRounds, seconds: float,
-                       machine: Machine) -> bool:
+def is_right_in_rounds(kind: str, how: str, number: int, answer: Answer, ample: Answer,
+                       given: InRounds, seconds: float, machine: Machine) -> bool:
     if kind in EACH:
         wanted = in_turn(kind, how, given)
         return (number <= len(wanted) and answer == wanted[number - 1] and seconds < SECONDS
@@ -412,10 +447,12 @@ def is_right_in_rounds(kind: str, how: str, number: int, answer: Answer, ample: 
         return (answer in without_memory(given) or is_cut(answer, ample)
                 or is_failed_stream(answer, "out of memory", given, machine)) and seconds < SECONDS
     if kind == "read":
-        unread = [given.stopped(place, "cannot read sizes", 5) for place in range(2, given.count + 1)]
+        unread = [given.stopped(place, "cannot read sizes", 5)
+                  for place in range(2, given.count + 1)]
         return (answer in [NO_FORMULA._replace(saved=given.before(1)), *unread]
                 or is_failed_stream(answer, "read failed", given, machine))
-    return is_cut(answer, ample) or answer in parts(given, "checkpoint not written") or given.told > 0 and answer == ample
+    return (is_cut(answer, ample) or answer in parts(given, "checkpoint not written")
+            or given.told > 0 and answer == ample)
 
 
 def due_in_rounds(kind: str, how: str, given: InRounds) -> Set[str]:
@@ -427,13 +464,16 @@ def due_in_rounds(kind: str, how: str, given: InRounds) -> Set[str]:
         unsaved = {fault(number, NO_MEMORY_TO_SAVE[len("lrupd: "):-1]) for number in given.saving()}
         return unsaved | {fault(number, "out of memory") for number in numbers}
     if kind == "read":
-        return {NO_FORMULA.err, "", *(fault(number, "cannot read sizes") for number in numbers if number > 1)}
+        return {NO_FORMULA.err, "",
+                *(fault(number, "cannot read sizes") for number in numbers if number > 1)}
     if kind == "write":
-        return {"lrupd: cannot write report\n", *(fault(number, "checkpoint not written") for number in given.saving())}
+        return {"lrupd: cannot write report\n",
+                *(fault(number, "checkpoint not written") for number in given.saving())}
     return set()
 
 
-def complaints_in_rounds(kind: str, how: str, ample: Answer, answers: List[Answer], given: InRounds) -> Iterator[str]:
+def complaints_in_rounds(kind: str, how: str, ample: Answer, answers: List[Answer],
+                         given: InRounds) -> Iterator[str]:
     if ample != given.ended(given.count):
         yield f"{ample} where nothing is refused"
     if kind in EACH and len(answers) != len(in_turn(kind, how, given)):
@@ -456,12 +496,14 @@ def are_in_order(causes: List[str], ample: Answer, given: Input) -> bool:
     return found == wanted[:len(found)] and (not found or len(found) > reads_assumptions)
 
 
-def complaints(kind: str, how: str, ample: Answer, answers: List[Answer], given: Input) -> Iterator[str]:
+def complaints(kind: str, how: str, ample: Answer, answers: List[Answer],
+               given: Input) -> Iterator[str]:
     """A complaint if too few or too many calls were refused, or not all that exist."""
     causes = [answer.err for answer in answers]
     if not answers and are_due(kind, ample, given):
         yield "nothing of this kind is ever refused"
-    if kind == "allocate" and given.dropped and not any(answer in given.dropped for answer in answers):
+    if (kind == "allocate" and given.dropped
+            and not any(answer in given.dropped for answer in answers)):
         yield "the growth for a dropped identity is never refused"
     fails = kind == "allocate" or kind == "write" and how not in SHORT
     if ample.saved and fails and not any(NOT_WRITTEN[:-1] in cause for cause in causes):

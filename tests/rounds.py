@@ -18,12 +18,14 @@ class Proof(NamedTuple):
 # From the four clauses, round 1 derives 2 and drops clause 1, and round 2 derives 1 and drops -1 2.
 SAVED = "p cnf 2 4\nc id 2\n-1 2 0\nc id 3\n1 -2 0\nc id 4\n-1 -2 0\nc id 5\n2 0\n"
 ONE = Proof([["5 2 0 1 2 0\n5 d 1 0\n"], ["5 1 0 4 2 0\n5 d 1 0\n"], ["5 0 3 4 2 0\n"]],
-            [["1 added, 1 deleted, ended"], ["1 added, 1 deleted, ended"], ["1 added, 0 deleted, ended"]],
+            [["1 added, 1 deleted, ended"], ["1 added, 1 deleted, ended"],
+             ["1 added, 0 deleted, ended"]],
             [SAVED, "p cnf 2 4\nc id 2\n1 -2 0\nc id 3\n-1 -2 0\nc id 4\n2 0\nc id 5\n1 0\n", ""])
 # Round 1 keeps clause 4, which only one stream drops; in round 3 stream 2 cites stream 1's clause.
 TWO = Proof([["5 2 0 1 2 0\n5 d 1 0\n", "6 d 4 1 0\n"], ["5 d 1 0\n", "6 1 0 4 2 0\n6 d 1 0\n"],
              ["5 -1 0 3 2 0\n", "6 0 5 4 0\n"]],
-            [["1 added, 1 deleted, ended", "0 added, 2 deleted, ended"], ["0 added, 1 deleted, ended", "1 added, 1 deleted, ended"],
+            [["1 added, 1 deleted, ended", "0 added, 2 deleted, ended"],
+             ["0 added, 1 deleted, ended", "1 added, 1 deleted, ended"],
              ["1 added, 0 deleted, ended", "1 added, 0 deleted, ended"]],
             [SAVED, "p cnf 2 4\nc id 2\n1 -2 0\nc id 3\n-1 -2 0\nc id 4\n2 0\nc id 6\n1 0\n", ""])
 
@@ -39,11 +41,13 @@ def saved_name(number: int) -> str:
 
 def first_words(texts: Texts) -> List[str]:
     """The command line, without options."""
-    return ["--rounds", "d", "formula", *(stream_name(1, stream) for stream in range(1, len(texts[0]) + 1))]
+    return ["--rounds", "d", "formula",
+            *(stream_name(1, stream) for stream in range(1, len(texts[0]) + 1))]
 
 
 def round_files(texts: Texts) -> Dict[str, str]:
-    streams = {stream_name(number, stream): text for number, streams in enumerate(texts, 1) for stream, text in enumerate(streams, 1)}
+    streams = {stream_name(number, stream): text for number, streams in enumerate(texts, 1)
+               for stream, text in enumerate(streams, 1)}
     return {"formula": FOUR, **streams}
 
 

@@ -37,7 +37,8 @@ class Answer:
         lines = self.out.splitlines()
         self.answers = [line for line in lines if line.startswith("s ")]
         self.comments = [line[2:] for line in lines if line.startswith("c ")]
-        self.values = [int(word) for line in lines if line.startswith("v ") for word in line.split()[1:]]
+        self.values = [int(word) for line in lines if line.startswith("v ")
+                       for word in line.split()[1:]]
 
     def lost(self) -> List[str]:
         return [line for line in self.comments if " is lost: " in line]
@@ -46,39 +47,46 @@ class Answer:
 def command(words: Sequence[object], tested: Optional[Mapping[str, object]] = None) -> List[str]:
     """lrup-solve's command. With `tested` it is a build for tests, whose hooks are in
     `in_environment`."""
-    return [str(word) for word in (TESTED if tested is not None else SOLVE, "--lrupd", PROGRAM, *words)]
+    return [str(word)
+            for word in (TESTED if tested is not None else SOLVE, "--lrupd", PROGRAM, *words)]
 
 
 def hooks(tested: Mapping[str, object]) -> str:
     """The value of LRUP_SOLVE_HOOKS, by `tools/solve/test_hooks.h`; WITHOUT and LATE are followed
     by a part of the name."""
-    named = {f"{name}_{word}" if name in ("WITHOUT", "LATE") else name: 1 if name in ("WITHOUT", "LATE") else word
-             for name, word in tested.items()}
+    named = {
+        f"{name}_{word}" if name in ("WITHOUT",
+                                     "LATE") else name: 1 if name in ("WITHOUT", "LATE") else word
+        for name, word in tested.items()}
     return ";".join(f"{name.lower()}={word}" for name, word in named.items())
 
 
-def in_environment(tested: Optional[Mapping[str, object]] = None, more: Optional[Mapping[str, str]] = None) -> Dict[str, str]:
+def in_environment(tested: Optional[Mapping[str, object]] = None,
+                   more: Optional[Mapping[str, str]] = None) -> Dict[str, str]:
     """The environment of lrup-solve; in a build for tests all engines start at once."""
     given = {} if tested is None else {"LRUP_SOLVE_HOOKS": hooks({"AT_ONCE": 1, **tested})}
     return {**os.environ, **(more or {}), **given}
 
 
-def solve(words: Sequence[object], tested: Optional[Mapping[str, object]] = None, env_more: Optional[Mapping[str, str]] = None,
-          **how: Any) -> Answer:
+def solve(words: Sequence[object], tested: Optional[Mapping[str, object]] = None,
+          env_more: Optional[Mapping[str, str]] = None, **how: Any) -> Answer:
     return Answer(run(command(words, tested), env=in_environment(tested, env_more), **how))
 
 
-def want_answer(answer: Answer, status: Optional[int], formula: Optional[Path] = None, verdict: Optional[str] = None) -> None:
+def want_answer(answer: Answer, status: Optional[int], formula: Optional[Path] = None,
+                verdict: Optional[str] = None) -> None:
     """The status and its line; for a satisfiable formula, an assignment that makes each clause
     true."""
     assert status is not None
     wanted = ([verdict or ANSWERS[status]], status, "")
-    want((answer.answers, answer.status, answer.said), wanted, f"the answer of\n{answer.out[-2000:]}")
+    want((answer.answers, answer.status, answer.said), wanted,
+         f"the answer of\n{answer.out[-2000:]}")
     if status != 10 or formula is None:
         return want(answer.values, [], "the assignment")
     header = re.search(r"^p cnf +(\d+)", formula.read_text(), re.M)
     assert header
-    want([abs(value) for value in answer.values], [*range(1, int(header[1]) + 1), 0], "the variables of the assignment")
+    want([abs(value) for value in answer.values], [*range(1, int(header[1]) + 1), 0],
+         "the variables of the assignment")
     true = set(answer.values)
     for clause in read_formula(formula):
         assert true & set(clause), f"the assignment makes the clause {clause} false"
@@ -96,9 +104,12 @@ def check_again(kept: Path, env_more: Optional[Mapping[str, str]] = None) -> Non
     """The record's command checks the streams again, in any folder. The last report is the same,
     and nothing is written."""
     before = {path: path.lstat().st_mtime_ns for path in [kept, *kept.iterdir()]}
-    done, report = run(["sh", kept / "command"], cwd="/", env=in_environment(more=env_more)), (kept / "report").read_text()
-    want((done.out[-len(report):], done.status), (report, 0), f"the streams, checked again, with {done.err}")
-    want({path: path.lstat().st_mtime_ns for path in [kept, *kept.iterdir()]}, before, "the record's files, and their times")
+    done, report = (run(["sh", kept / "command"], cwd="/", env=in_environment(more=env_more)),
+                    (kept / "report").read_text())
+    want((done.out[-len(report):], done.status), (report, 0),
+         f"the streams, checked again, with {done.err}")
+    want({path: path.lstat().st_mtime_ns for path in [kept, *kept.iterdir()]}, before,
+         "the record's files, and their times")
 
 
 def listed(kept: Path) -> List[str]:
@@ -114,7 +125,9 @@ def in_place_of_lrupd(body: str, work: Path) -> Path:
 
 def before_lrupd(what: str, work: Path) -> Path:
     """A program that does this before it becomes lrupd, except in the probe."""
-    return in_place_of_lrupd(f"case \"$*\" in *' /dev/null') ;; *) {what};; esac\nexec {shlex.quote(PROGRAM)} \"$@\"", work)
+    return in_place_of_lrupd(
+        f"case \"$*\" in *' /dev/null') ;; *) {what};; esac\nexec {shlex.quote(PROGRAM)} \"$@\"",
+        work)
 
 
 # Processes.
@@ -178,7 +191,8 @@ def goes_on(process: "subprocess.Popen[Any]") -> None:
     """Waits until it has passed its loop several times, each with a wait, or has ended."""
     looping = children_of(process.pid).get("lrup-engines", 0)
     before = waits_of(looping)
-    until("the program continues", lambda: process.poll() is not None or waits_of(looping) > before + 10)
+    until("the program continues",
+          lambda: process.poll() is not None or waits_of(looping) > before + 10)
 
 
 def is_alive(pid: int) -> bool:
@@ -216,7 +230,8 @@ def end_all(mark: str) -> None:
                 os.kill(pid, number)
 
 
-def kill_children(children: Mapping[str, int], names: Sequence[str], number: int = signal.SIGKILL) -> None:
+def kill_children(children: Mapping[str, int], names: Sequence[str],
+                  number: int = signal.SIGKILL) -> None:
     """Raises ProcessLookupError if a process has already ended."""
     for name in names:
         pid = children.get(name, 0)
@@ -241,10 +256,13 @@ def built(target: str, for_tests: bool) -> None:
     skipped."""
     TESTED.parent.mkdir(parents=True, exist_ok=True)
     with alone(OUT / "lock"):
-        for path, flags in ((SOLVE, FLAGS), (TESTED, FLAGS + " -DSOLVE_TESTS -DCHECKED"))[:1 + for_tests]:
-            if is_built(path.with_name("lrup-engines" if target == "solve" else "lrup-engines-mpi")):
+        for path, flags in ((SOLVE, FLAGS),
+                            (TESTED, FLAGS + " -DSOLVE_TESTS -DCHECKED"))[:1 + for_tests]:
+            if is_built(path.with_name("lrup-engines" if target == "solve"
+                                       else "lrup-engines-mpi")):
                 continue
-            out, err, status = run(["make", "-s", "-C", ROOT, target, f"SOLVE={path.relative_to(ROOT)}", f"CFLAGS={flags}",
+            out, err, status = run(["make", "-s", "-C", ROOT, target,
+                                    f"SOLVE={path.relative_to(ROOT)}", f"CFLAGS={flags}",
                                     f"CXXFLAGS={flags}"], limit=600)
             if status and re.search("libcadical-dev|libmd-dev|libopenmpi-dev", out + err):
                 lacking(f"all of lrup-{target}: {(out + err).splitlines()[0]}")

@@ -14,37 +14,43 @@ import pytest
 
 from harness import FILTER, LIMIT, ROOT, Row, needs, parametrized, run, want, written
 
-C = {"CC": "one-cc", "CFLAGS": "-DFLAG_OF_C", "CPPFLAGS": "-DFLAG_OF_BOTH", "LDFLAGS": "-Lflag", "LDLIBS": "-lflag"}
+C = {"CC": "one-cc", "CFLAGS": "-DFLAG_OF_C", "CPPFLAGS": "-DFLAG_OF_BOTH", "LDFLAGS": "-Lflag",
+     "LDLIBS": "-lflag"}
 WORDS = {**C, "CXX": "one-cxx", "CXXFLAGS": "-DFLAG_OF_CXX"}
 # Targets, and the commands that compile and link their C and C++ programs.
-BUILDS = {"exact": ["one-cc"], "trim": ["one-cc"], "solver": ["one-cc"], "solve": ["one-cc", "one-cxx"],
-          "solve-mpi": ["one-cc", "one-cxx", "mpicxx"]}
+BUILDS = {"exact": ["one-cc"], "trim": ["one-cc"], "solver": ["one-cc"],
+          "solve": ["one-cc", "one-cxx"], "solve-mpi": ["one-cc", "one-cxx", "mpicxx"]}
 
 
 def clean(more: Dict[str, str]) -> Dict[str, str]:
     """The environment, without variables of a make that may have started this script."""
-    return {**{name: value for name, value in os.environ.items() if name not in (*WORDS, "MAKEFLAGS", "MAKELEVEL", "MFLAGS")}, **more}
+    return {**{name: value for name, value in os.environ.items()
+               if name not in (*WORDS, "MAKEFLAGS", "MAKELEVEL", "MFLAGS")}, **more}
 
 
 def commands(target: str, words: Sequence[str], env: Dict[str, str]) -> List[List[str]]:
     """The compilers' commands that make would run; nothing is built so far."""
-    places = ["OBJECTS=out/none", "SOLVER=out/none/solver", "EXACT=out/none/exact", "TRIM=out/none/trim", "SOLVE=out/none/solve"]
+    places = ["OBJECTS=out/none", "SOLVER=out/none/solver", "EXACT=out/none/exact",
+              "TRIM=out/none/trim", "SOLVE=out/none/solve"]
     done = run(["make", "-n", "-C", ROOT, target, *places, *words], env=clean(env))
     want((done.err, done.status), ("", 0), "make's output")
     found = [re.split(r" && |; ", line) for line in done.out.splitlines()]
-    return [words for line in found for part in line for words in [part.split()] if " -o " in part and words]
+    return [words for line in found for part in line for words in [part.split()]
+            if " -o " in part and words]
 
 
 def with_flags(target: str, by_environment: bool, work: Path) -> None:
     """Each command has the flags of its language, and neither another one's nor -O2."""
     words, env = [f"{name}={value}" for name, value in WORDS.items()], {}
     found = commands(target, *(([], WORDS) if by_environment else (words, env)))
-    compilers = {word for line in found for word in line[:2] if "=" not in word and not word.startswith("-")}
+    compilers = {word for line in found for word in line[:2]
+                 if "=" not in word and not word.startswith("-")}
     want(compilers, set(BUILDS[target]), "the compilers")
     for line in found:
         is_c, links = line[0] == "one-cc", "-c" not in line
         flags = {word for word in line if word in WORDS.values()} - {"one-cc", "one-cxx"}
-        wanted = {WORDS["CFLAGS" if is_c else "CXXFLAGS"], *([C["LDFLAGS"], C["LDLIBS"]] if links else [C["CPPFLAGS"]])}
+        wanted = {WORDS["CFLAGS" if is_c else "CXXFLAGS"],
+                  *([C["LDFLAGS"], C["LDLIBS"]] if links else [C["CPPFLAGS"]])}
         want((flags, "-O2" in line), (wanted, False), f"flags of {line}")
 
 
@@ -59,7 +65,8 @@ def usual(target: str, work: Path) -> None:
 
 def compiled(work: Path, words: Sequence[str] = ()) -> Set[str]:
     """The sources that make has compiled, and the program if it was linked."""
-    files = lambda: {path: path.stat().st_mtime_ns for path in [*work.rglob("*.o"), *work.rglob("exact/out/exact")]}
+    files = lambda: {path: path.stat().st_mtime_ns
+                     for path in [*work.rglob("*.o"), *work.rglob("exact/out/exact")]}
     before = files()
     done = run(["make", "-s", "-j2", "exact", "CFLAGS=-O0", *words], cwd=work, env=clean({}))
     want((done.out, done.err, done.status), ("", "", 0), "make's output")
@@ -70,7 +77,8 @@ def including(header: str, folder: Path) -> Set[str]:
     """The sources that include the header, directly or not."""
     found = {header}
     while True:
-        more = {path.name for path in folder.glob("*.[ch]") if any(f'"{name}"' in path.read_text() for name in found)} - found
+        more = {path.name for path in folder.glob("*.[ch]")
+                if any(f'"{name}"' in path.read_text() for name in found)} - found
         if not more:
             return {name[:-2] for name in found if name.endswith(".c")}
         found |= more
@@ -86,15 +94,18 @@ def again(work: Path) -> None:
     want((compiled(work), compiled(work)), (every, set()), "the files compiled at first, and then")
     for name in ("hints.h", "errors.h", "lemmas.h"):
         (folder / name).touch()
-        want(compiled(work), including(name, folder) | {"exact"}, f"the files recompiled after a change of {name}")
+        want(compiled(work), including(name, folder) | {"exact"},
+             f"the files recompiled after a change of {name}")
     (folder / "words.c").touch()
     want(compiled(work), {"words", "exact"}, "the files recompiled after a change of a source")
     (folder / "lemmas.h").rename(folder / "other.h")
     for path in folder.glob("*.c"):
         path.write_text(path.read_text().replace('"lemmas.h"', '"other.h"'))
     want(compiled(work), every, "the files compiled after a header is renamed")
-    want((compiled(work, ["CPPFLAGS=-DOTHER"]), compiled(work, ["CPPFLAGS=-DOTHER"])), (every, set()), "the files recompiled with other flags")
-    want(compiled(work, ["CPPFLAGS=-DOTHER", "LDLIBS=-lm"]) >= {"exact"}, True, "whether other libraries are linked")
+    want((compiled(work, ["CPPFLAGS=-DOTHER"]), compiled(work, ["CPPFLAGS=-DOTHER"])),
+         (every, set()), "the files recompiled with other flags")
+    want(compiled(work, ["CPPFLAGS=-DOTHER", "LDLIBS=-lm"]) >= {"exact"}, True,
+         "whether other libraries are linked")
 
 
 def installed(work: Path) -> None:
@@ -103,11 +114,14 @@ def installed(work: Path) -> None:
     program = written("#!/bin/sh\necho 'usage: lrupd [--lines N] [--help]'\n", work, "lrupd")
     program.chmod(0o755)
     words = ["RT=none", f"DESTDIR={work}/a place", "PREFIX=/usr"]
-    make = lambda *more: run(["make", "-s", "-C", ROOT, *more, *words], limit=2 * LIMIT, env=clean({}))
-    want((make("-n", "install", f"PROGRAM={program}").status, (work / "a place").exists()), (0, False), "the status of make -n install, and whether it makes the folder")
+    make = lambda *more: run(["make", "-s", "-C", ROOT, *more, *words],
+                             limit=2 * LIMIT, env=clean({}))
+    want((make("-n", "install", f"PROGRAM={program}").status, (work / "a place").exists()),
+         (0, False), "the status of make -n install, and whether it makes the folder")
     done = make("install", f"PROGRAM={program}")
     want((done.err, done.status), ("", 0), "the output of make install")
-    files = {str(path.relative_to(work / "a place")) for path in (work / "a place").rglob("*") if path.is_file()}
+    files = {str(path.relative_to(work / "a place")) for path in (work / "a place").rglob("*")
+             if path.is_file()}
     solving = {"lrup-solve", "lrup-check"} if "isn't installed" not in done.out else set()
     names = {"lrupd", "lrup-chain", "lrup-exact", "lrup-trim", "lrup-explain"} | solving
     wanted = {f"usr/{place.format(name)}" for name in names for place in
@@ -116,10 +130,14 @@ def installed(work: Path) -> None:
     text = (work / "a place" / "usr/share/bash-completion/completions/lrupd").read_text()
     want('-W "--help --lines"' in text, True, f"the options that are completed: {text}")
     done = run([work / "a place" / "usr/bin/lrup-chain", "--version"])
-    want((done.err, done.status), (f"lrup-chain {(ROOT / 'VERSION').read_text().strip()}\n", 2), "the output of lrup-chain --version")
-    want((make("uninstall").err, [path for path in (work / "a place").rglob("*") if path.is_file()]), ("", []), "the files left")
+    want((done.err, done.status), (f"lrup-chain {(ROOT / 'VERSION').read_text().strip()}\n", 2),
+         "the output of lrup-chain --version")
+    want((make("uninstall").err,
+          [path for path in (work / "a place").rglob("*") if path.is_file()]),
+         ("", []), "the files left")
     done = make("install", f"PROGRAM={work}/none")
-    want((done.status, f"{work}/none isn't built" in done.out), (2, True), f"the message: {done.out}")
+    want((done.status, f"{work}/none isn't built" in done.out), (2, True),
+         f"the message: {done.out}")
 
 
 def packaged(work: Path) -> None:
@@ -132,16 +150,19 @@ def packaged(work: Path) -> None:
     want((done.err, done.status), ("", 0), "the output of make install")
     want(run(["sh", ROOT / "tools" / "deb.sh", place, "1"]).status, 0, "the status of deb.sh")
     pages = [*(place / "usr/share/doc/lrupd").glob("**/*.md")]
-    links = [(page, target) for page in pages for target in re.findall(r"\]\(([^)#]+)", page.read_text())]
+    links = [(page, target) for page in pages
+             for target in re.findall(r"\]\(([^)#]+)", page.read_text())]
     want(len(links) > 10, True, f"whether {len(links)} links are enough")
-    want([(page.name, target) for page, target in links if not target.startswith("http") and not (page.parent / target).exists()], [],
-         "links that lead nowhere")
+    want([(page.name, target) for page, target in links
+          if not target.startswith("http") and not (page.parent / target).exists()],
+         [], "links that lead nowhere")
 
 
 def rows() -> List[Row]:
     found: List[Row] = [("compiled again", again), ("installed", installed), ("packaged", packaged)]
     for target in BUILDS:
-        found += [(f"{target}, flags of the {'environment' if by else 'command line'}", with_flags, target, by) for by in (True, False)]
+        found += [(f"{target}, flags of the {'environment' if by else 'command line'}", with_flags,
+                   target, by) for by in (True, False)]
         found += [(f"{target}, no flags", usual, target)]
     return found
 

@@ -69,27 +69,33 @@ def judge_solver(said: str, status: Optional[int], answer: int, path: Path) -> T
     return "\n".join([*ended, VERDICTS[wanted], ""]), wanted
 
 
-def checked(program: str, options: List[str], path: Path, streams: List[Path], wanted: Tuple[str, int]) -> None:
+def checked(program: str, options: List[str], path: Path, streams: List[Path],
+            wanted: Tuple[str, int]) -> None:
     out, err, status = run([program, *options, path, *streams])
     want((out, status), wanted, f"{err}the report of {program} " + " ".join(options))
 
 
-def live(program: str, solver: List[str], words: str, answer: int, streams: int, work: Path) -> None:
+def live(program: str, solver: List[str], words: str, answer: int, streams: int,
+         work: Path) -> None:
     path, pipes = generated(words, work), make_pipes(work, streams)
     with started([*solver, path, *pipes], stdout=subprocess.PIPE, text=True) as solvers:
         found = run([program, *OPTIONS, path, *pipes])
         said, _ = solvers.communicate(timeout=LIMIT)
-    want((found.out, found.status), judge_solver(said, solvers.returncode, answer, path), "the report")
+    want((found.out, found.status),
+         judge_solver(said, solvers.returncode, answer, path), "the report")
 
 
-def record(solver: List[str], words: str, answer: int, streams: int, work: Path) -> Tuple[Path, List[Path], str, Tuple[str, int]]:
+def record(solver: List[str], words: str, answer: int, streams: int,
+           work: Path) -> Tuple[Path, List[Path], str, Tuple[str, int]]:
     """The formula, the streams' files, the solver's output, and the expected report and status."""
-    path, files = generated(words, work), [work / f"stream{number}" for number in range(1, streams + 1)]
+    path, files = generated(words, work), [work / f"stream{number}"
+                                           for number in range(1, streams + 1)]
     out, _, status = run([*solver, path, *files])
     return path, files, out, judge_solver(out, status, answer, path)
 
 
-def recorded(program: str, solver: List[str], words: str, answer: int, streams: int, work: Path) -> None:
+def recorded(program: str, solver: List[str], words: str, answer: int, streams: int,
+             work: Path) -> None:
     path, files, _, wanted = record(solver, words, answer, streams, work)
     for options in OPTIONS, ["--serial"]:
         checked(program, options, path, files, wanted)
@@ -103,14 +109,17 @@ def garbled(line: str) -> str:
     return " ".join([identity, kind, *rest])
 
 
-def imported(program: str, solver: List[str], words: str, answer: int, streams: int, work: Path) -> None:
+def imported(program: str, solver: List[str], words: str, answer: int, streams: int,
+             work: Path) -> None:
     """The files, a stream with all their imports, and one with a garbled import. If one thread had
     the answer before the others began, there are no imports, and another seed is taken."""
     for seed in [*solver[-1:], *range(101, 120)]:
         command = [*solver[:-1], str(seed), "--streams", str(streams + 1)]
         path, files, said, (ended, status) = record(command, words, answer, streams, work)
-        imports = [line for file in files for line in file.read_text().splitlines() if " i " in line]
-        want(f"c {len(imports)} imports" in said.splitlines(), True, f"whether the output has {len(imports)} imports:\n{said}")
+        imports = [line for file in files for line in file.read_text().splitlines()
+                   if " i " in line]
+        want(f"c {len(imports)} imports" in said.splitlines(), True,
+             f"whether the output has {len(imports)} imports:\n{said}")
         if imports:
             break
     want(len(imports) > 0, True, "whether there are imports")
@@ -119,7 +128,8 @@ def imported(program: str, solver: List[str], words: str, answer: int, streams: 
     differs = f"bad line {len(imports) + 1} (differs {bad.split()[0]})"
     for lines, ending in ((imports, "ended"), ([*imports, garbled(bad)], differs)):
         others = written("".join(line + "\n" for line in lines), work, "imports")
-        wanted = "\n".join([*reports, f"c stream {streams + 1}: 0 added, 0 deleted, {ending}", verdict, ""])
+        wanted = "\n".join([*reports,
+                            f"c stream {streams + 1}: 0 added, 0 deleted, {ending}", verdict, ""])
         checked(program, OPTIONS, path, [*files, others], (wanted, status))
 
 
@@ -127,23 +137,28 @@ def has_bytes(pipe: IO[bytes]) -> bool:
     return bool(select.select([pipe], [], [], 0)[0])
 
 
-def killed(program: str, solver: List[str], words: str, streams: int, seconds: float, work: Path) -> None:
+def killed(program: str, solver: List[str], words: str, streams: int, seconds: float,
+           work: Path) -> None:
     """Solvers are killed; the program begins when all streams have lines."""
-    path, pipes = generated(words, work), [work / f"pipe{number}" for number in range(1, streams + 1)]
+    path, pipes = generated(words, work), [work / f"pipe{number}"
+                                           for number in range(1, streams + 1)]
     ends = list(map(held, pipes))   # so that each pipe has a writer in any case
     with started([*solver, path, *pipes], stdout=subprocess.DEVNULL) as solvers:
-        until("all streams have lines", lambda: all(map(has_bytes, ends)) or solvers.poll() is not None)
+        until("all streams have lines",
+              lambda: all(map(has_bytes, ends)) or solvers.poll() is not None)
         with started([program, *LARGE, path, *pipes], stdout=subprocess.PIPE, text=True) as checker:
             time.sleep(seconds)
             solvers.kill()
-            until("the program has opened them", lambda: not any(map(has_bytes, ends)) or checker.poll() is not None)
+            until("the program has opened them",
+                  lambda: not any(map(has_bytes, ends)) or checker.poll() is not None)
             for end in ends:
                 end.close()
             out, _ = checker.communicate(timeout=LIMIT)
     *lines, verdict = out.splitlines()
     pattern = r"c stream \d+: [1-9]\d* added, \d+ deleted, (ended|bad line \d+ \(truncated\))"
-    assert len(lines) == streams and all(re.fullmatch(pattern, line) for line in lines) and verdict == VERDICTS[3], (
-        f"a solver was killed, and the report is\n{out}")
+    assert len(lines) == streams and all(re.fullmatch(pattern, line)
+                                         for line in lines) and verdict == VERDICTS[3], (
+                                             f"a solver was killed, and the report is\n{out}")
 
 
 def rows(program: str, solver: str) -> List[Row]:

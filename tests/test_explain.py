@@ -28,7 +28,9 @@ from test_filter_mutants import Mutant, proofs
 
 PAGE = ROOT / "docs" / "lrup-explain.1"
 BAD = 3         # the status if a line is bad
-LIBRARY = [ROOT / "tools" / "exact" / name for name in ("errors.c", "formula.c", "lists.c", "literals.c")]     # the example solver's
+# The example solver's.
+LIBRARY = [ROOT / "tools" / "exact" / name
+           for name in ("errors.c", "formula.c", "lists.c", "literals.c")]
 QUICK = 4       # one run in four uses the build for tests
 TRIES = 20000   # so that a clause that never comes takes a second
 
@@ -37,7 +39,8 @@ Faults = Dict[int, Tuple[int, str]]     # by stream: the line, and the fault's w
 
 def explain(words: Sequence[object], work: Path, quick: bool = False) -> Ran:
     """Runs the build for tests, or the normal one, which is faster."""
-    return run([EXPLAIN if quick else sanitized_explain(), *words], cwd=work, env={**os.environ, **SANITIZING})
+    return run([EXPLAIN if quick else sanitized_explain(), *words], cwd=work,
+               env={**os.environ, **SANITIZING})
 
 
 # Reports.
@@ -58,7 +61,8 @@ def reported(done: Ran) -> Faults:
     """The faults in lrupd's report."""
     assert done.status in (0, 3), f"lrupd's status {done.status}: {done.err}"
     return {int(stream): (int(line), words)
-            for stream, line, words in re.findall(r"^c stream (\d+): .*, bad line (\d+) \((.*)\)$", done.out, re.M)}
+            for stream, line, words in re.findall(r"^c stream (\d+): .*, bad line (\d+) \((.*)\)$",
+                                                  done.out, re.M)}
 
 
 # Faulty streams.
@@ -76,7 +80,8 @@ def base(number: int) -> Base:
     """A run of one to five solvers, some with imports."""
     numbers = random.Random(f"{number} base")
     with tempfile.TemporaryDirectory() as name:
-        options = ["--seed", number, "--share", numbers.choice((2, 4, 100)), *["--imports"] * (number % 2)]
+        options = ["--seed", number, "--share", numbers.choice((2, 4, 100)),
+                   *["--imports"] * (number % 2)]
         formula, streams = refuted(numbers, 1 + number % 5, options, Path(name))
         text = formula.read_text()
         return Base(text, [path.read_text() for path in streams], int(text.split()[3]))
@@ -119,11 +124,13 @@ def with_other_literals(words: List[str], numbers: random.Random) -> List[str]:
 
 
 def with_other_identity(words: List[str], numbers: random.Random) -> List[str]:
-    return [str(max(1, int(words[0]) + numbers.choice((-9, -2, -1, 1, 2, 3, 100, 70000)))), *words[1:]]
+    return [
+        str(max(1, int(words[0]) + numbers.choice((-9, -2, -1, 1, 2, 3, 100, 70000)))), *words[1:]]
 
 
 def cited_in(lines: List[List[str]]) -> List[str]:
-    return [word for words in lines if is_addition(words) for word in (words[0], *words[words.index("0") + 1:-1])] or ["1"]
+    return [word for words in lines if is_addition(words)
+            for word in (words[0], *words[words.index("0") + 1:-1])] or ["1"]
 
 
 def deletion(line: List[str], lines: List[List[str]], numbers: random.Random) -> List[str]:
@@ -135,7 +142,8 @@ def deletion(line: List[str], lines: List[List[str]], numbers: random.Random) ->
 
 def import_of(lines: List[List[str]], numbers: random.Random) -> List[str]:
     """An import of some clause, with its literals or others."""
-    words = numbers.choice([words for words in lines if is_addition(words)] or [["1", "1", "0", "0"]])
+    words = numbers.choice([words for words in lines if is_addition(words)]
+                           or [["1", "1", "0", "0"]])
     literals = words[1:words.index("0")]
     identity = numbers.choice((words[0], words[0], numbers.choice(cited_in(lines)), "999999"))
     return [identity, "i", *(literals[::-1] if numbers.random() < 0.7 else literals[1:]), "0"]
@@ -144,7 +152,8 @@ def import_of(lines: List[List[str]], numbers: random.Random) -> List[str]:
 def with_a_fault(streams: List[str], numbers: random.Random, hints_only: bool = False) -> List[str]:
     """One fault in a line, usually, of one stream."""
     everywhere = [[line.split() for line in text.splitlines()] for text in streams]
-    number = numbers.choice([place for place, lines in enumerate(everywhere) if any(map(is_addition, lines))])
+    number = numbers.choice([place for place, lines in enumerate(everywhere)
+                             if any(map(is_addition, lines))])
     lines = list(everywhere[number])
     at = numbers.choice([place for place, words in enumerate(lines) if is_addition(words)])
     what = 0 if hints_only else numbers.randrange(8)
@@ -158,13 +167,16 @@ def with_a_fault(streams: List[str], numbers: random.Random, hints_only: bool = 
         lines.insert(at, deletion(lines[at], sum(everywhere, []), numbers))
     else:
         lines.insert(at, import_of(sum(everywhere, []), numbers))
-    return [*streams[:number], "".join(" ".join(words) + "\n" for words in lines), *streams[number + 1:]]
+    return [*streams[:number], "".join(" ".join(words) + "\n" for words in lines),
+            *streams[number + 1:]]
 
 
 def sizes_for(found: Base, numbers: random.Random) -> List[str]:
     """Usually large enough, otherwise a bit too small."""
-    additions = [line.split() for text in found.streams for line in text.splitlines() if is_addition(line.split())]
-    lines = max([(int(words[0]) - found.clauses) // len(found.streams) + 1 for words in additions] or [1])
+    additions = [line.split() for text in found.streams for line in text.splitlines()
+                 if is_addition(line.split())]
+    lines = max(
+        [(int(words[0]) - found.clauses) // len(found.streams) + 1 for words in additions] or [1])
     room = sum(words.index("0") for words in additions)
     if numbers.random() < 0.1:
         lines = numbers.randrange(lines + 1)
@@ -197,26 +209,34 @@ def mended(done: Ran, texts: List[str], clauses: int) -> Optional[Tuple[int, int
     lines[number - 1] = " ".join([*words[:words.index("0") + 1], *chain[1].split(), "0"])
     texts[stream] = "\n".join(lines)
     if chain[2]:
-        deleting = stream if fault.startswith("dropped") else (int(chain[2]) - clauses - 1) % len(texts)
+        deleting = (stream if fault.startswith("dropped")
+                    else (int(chain[2]) - clauses - 1) % len(texts))
         texts[deleting] = without_identity(texts[deleting], chain[2])
     return stream + 1, number, texts
 
 
-def are_mended(done: Ran, texts: List[str], options: Sequence[str], formula: Path, clauses: int, work: Path) -> None:
+def are_mended(done: Ran, texts: List[str], options: Sequence[str], formula: Path, clauses: int,
+               work: Path) -> None:
     found = mended(done, texts, clauses)
     if not found:
         return
     stream, number, now = found
-    paths = [written(text.encode("latin-1"), work, f"mended{place}") for place, text in enumerate(now, 1)]
-    line, words = reported(run([PROGRAM, "--serial", *options, formula, *paths])).get(stream, (1 << 62, ""))
-    want(line > number, True, f"lrupd says {words} of line {line} of stream {stream}, with the chain of\n{done.out}")
+    paths = [written(text.encode("latin-1"), work, f"mended{place}")
+             for place, text in enumerate(now, 1)]
+    line, words = reported(run([PROGRAM, "--serial", *options, formula, *paths])).get(
+        stream, (1 << 62, ""))
+    want(line > number, True,
+         f"lrupd says {words} of line {line} of stream {stream}, with the chain of\n{done.out}")
 
 
-def compared(texts: List[str], options: Sequence[str], formula: Path, clauses: int, quick: bool, work: Path) -> Ran:
+def compared(texts: List[str], options: Sequence[str], formula: Path, clauses: int, quick: bool,
+             work: Path) -> Ran:
     """Compares the faults with those of lrupd --serial."""
-    paths = [written(text.encode("latin-1"), work, f"s{place}") for place, text in enumerate(texts, 1)]
+    paths = [written(text.encode("latin-1"), work, f"s{place}")
+             for place, text in enumerate(texts, 1)]
     done = explain(["--serial", *options, formula, *paths], work, quick)
-    want(faults_in(done), reported(run([PROGRAM, "--serial", *options, formula, *paths])), f"the faults with {options}, in\n{done.out}")
+    want(faults_in(done), reported(run([PROGRAM, "--serial", *options, formula, *paths])),
+         f"the faults with {options}, in\n{done.out}")
     are_mended(done, texts, options, formula, clauses, work)
     return done
 
@@ -238,7 +258,8 @@ def other_hints_alone(seed: int, work: Path) -> None:
     """One solver, without deletions: a chain is offered for each line until all lines are right."""
     numbers = random.Random(f"{seed} hints")
     found = base(5 * numbers.randrange(BASES // 5))
-    text = "".join(line + "\n" for line in found.streams[0].splitlines() if line.split()[1] == "a" or is_addition(line.split()))
+    text = "".join(line + "\n" for line in found.streams[0].splitlines() if line.split()[1] == "a"
+                   or is_addition(line.split()))
     texts = [text]
     for _ in range(3):
         texts = with_a_fault(texts, numbers, hints_only=True)
@@ -269,7 +290,8 @@ def cited_by(text: str) -> Set[int]:
 
 
 def deleted_by(text: str) -> Set[int]:
-    return {int(word) for line in text.splitlines() if line.split()[1:2] == ["d"] for word in line.split()[2:-1] if word.isdigit()}
+    return {int(word) for line in text.splitlines() if line.split()[1:2] == ["d"]
+            for word in line.split()[2:-1] if word.isdigit()}
 
 
 def with_threads(seed: int, work: Path) -> None:
@@ -278,26 +300,31 @@ def with_threads(seed: int, work: Path) -> None:
     found = base(1 + seed % (BASES - 1))
     texts = with_a_fault(found.streams, numbers)
     count = len(texts)
-    owner = lambda identity: (identity - found.clauses - 1) % count if identity > found.clauses else -1
+    owner = lambda identity: ((identity - found.clauses - 1) % count
+                              if identity > found.clauses else -1)
     for number, text in enumerate(texts):
-        others = set().union(*(cited_by(other) for place, other in enumerate(texts) if place != number))
+        others = set().union(*(cited_by(other) for place, other in enumerate(texts)
+                               if place != number))
         for identity in deleted_by(text) & others:
             if owner(identity) == number:
                 texts[number] = without_identity(texts[number], str(identity))
     formula = written(found.formula, work)
     paths = [written(text, work, f"s{place}") for place, text in enumerate(texts, 1)]
     done = explain(["--tries", TRIES, formula, *paths], work)
-    want(faults_in(done), reported(run([PROGRAM, "--tries", TRIES, formula, *paths])), f"the faults in\n{done.out}")
+    want(faults_in(done), reported(run([PROGRAM, "--tries", TRIES, formula, *paths])),
+         f"the faults in\n{done.out}")
 
 
 def mutant(number: int, work: Path) -> None:
     """The proof of a mutant of filter_mutants.py, as a stream."""
     found = Mutant(number, proofs(), work)
-    names = [written(found.proof, work, "stream") if place == found.stream else Path("/dev/null") for place in range(1, found.streams + 1)]
+    names = [written(found.proof, work, "stream") if place == found.stream else Path("/dev/null")
+             for place in range(1, found.streams + 1)]
     said = run([PROGRAM, "--serial", found.formula, *names])
     done = explain(["--serial", found.formula, *names], work, number % QUICK != 0)
     if done.status == 1:    # not a formula
-        want((done.out, done.err.count("\n"), said.status), ("", 1, 4), f"the messages\n{done.err}{said}")
+        want((done.out, done.err.count("\n"), said.status), ("", 1, 4),
+             f"the messages\n{done.err}{said}")
         return
     want(faults_in(done), reported(said), f"the faults in\n{done.out}")
 
@@ -316,132 +343,193 @@ def of_formula(number: int) -> str:
     return f"clause {number} of the formula"
 
 
-ONE_FALSE = "  derives  2    so at first -2 is true\n" + HINTS + row(1, "-> 1", "1! 2F", of_formula(1))
+ONE_FALSE = ("  derives  2    so at first -2 is true\n" + HINTS
+             + row(1, "-> 1", "1! 2F", of_formula(1)))
 RIGHT = "  a right chain: 1 2\n"
 UNENDED = "  why: each hint is unit, and none has all its literals false: the conflict is missing\n"
-NO_CHAIN = ("  no chain: unit propagation over all clauses that the line may cite ends without a conflict: {} literals are true\n"
-            "       then, and {} clauses have none of these. The clause is wrong, or another one is missing\n")
+NO_CHAIN = ("  no chain: unit propagation over all clauses that the line may cite ends without a "
+            "conflict: {} literals are true\n"
+            "       then, and {} clauses have none of these. The clause is wrong, or another one "
+            "is missing\n")
 EMPTY = "  derives  the empty clause\n" + HINTS
 
 # The name, the streams, the options, and the explanation; the formula is the four clauses over two
 # variables.
 FAULTS = [
-    ("excess", ["5 2 0 1 2 3 4 0\n"], "", "stream 1 (f1), line 1: excess 3\n" + ONE_FALSE + row(2, "conflict", "-1F 2F", of_formula(2))
-     + row(3, "BAD", "1T -2T", of_formula(3))
-     + "        4  unread\n  why: hint 2, 2, is the conflict, and none may follow: 2 too many\n" + RIGHT),
-    ("no conflict", ["5 2 0 1 0\n"], "", "stream 1 (f1), line 1: no conflict\n" + ONE_FALSE
-     + UNENDED + "       all literals are false in 2 (clause 2 of the formula), which isn't a hint of the line\n" + RIGHT),
-    ("no hints", ["5 2 0 0\n"], "", "stream 1 (f1), line 1: no conflict\n  derives  2    so at first -2 is true\n"
+    ("excess", ["5 2 0 1 2 3 4 0\n"], "", "stream 1 (f1), line 1: excess 3\n" + ONE_FALSE
+     + row(2, "conflict", "-1F 2F", of_formula(2)) + row(3, "BAD", "1T -2T", of_formula(3))
+     + "        4  unread\n"
+     "  why: hint 2, 2, is the conflict, and none may follow: 2 too many\n" + RIGHT),
+    ("no conflict", ["5 2 0 1 0\n"], "",
+     "stream 1 (f1), line 1: no conflict\n" + ONE_FALSE + UNENDED + "       all literals are false "
+     "in 2 (clause 2 of the formula), which isn't a hint of the line\n" + RIGHT),
+    ("no hints", ["5 2 0 0\n"], "",
+     "stream 1 (f1), line 1: no conflict\n  derives  2    so at first -2 is true\n"
      "  why: the line has no hints\n" + RIGHT),
-    ("a wrong sign", ["5 2 0 1 3 0\n"], "", "stream 1 (f1), line 1: not unit 3\n" + ONE_FALSE + row(3, "BAD", "1T -2T", of_formula(3))
-     + "  why: 1 is true already, by hint 1, 1\n" + RIGHT),
-    ("the clause's complement", ["5 2 0 3 2 0\n"], "", "stream 1 (f1), line 1: not unit 3\n  derives  2    so at first -2 is true\n" + HINTS
-     + row(3, "BAD", "1? -2T", of_formula(3)) + "        2  unread\n  why: -2 is true already, since the new clause has 2\n"
+    ("a wrong sign", ["5 2 0 1 3 0\n"], "", "stream 1 (f1), line 1: not unit 3\n" + ONE_FALSE
+     + row(3, "BAD", "1T -2T", of_formula(3)) + "  why: 1 is true already, by hint 1, 1\n" + RIGHT),
+    ("the clause's complement", ["5 2 0 3 2 0\n"], "", "stream 1 (f1), line 1: not unit 3\n"
+     "  derives  2    so at first -2 is true\n" + HINTS + row(3, "BAD", "1? -2T", of_formula(3))
+     + "        2  unread\n  why: -2 is true already, since the new clause has 2\n"
      "  a right chain: 2 1\n"),
-    ("a hint twice", ["5 2 0 1 1 2 0\n"], "", "stream 1 (f1), line 1: not unit 1\n" + ONE_FALSE + row(1, "BAD", "1T 2F", of_formula(1))
-     + "        2  unread\n  why: 1 is true already, by hint 1, the same clause: once is enough\n" + RIGHT),
-    ("in another order", [FIRST + "6 0 3 5 4 0\n"], "", "stream 1 (f1), line 2: not unit 3\n" + EMPTY
-     + row(3, "BAD", "1? -2?", of_formula(3)) + "        5  unread   .. 1 more\n  why: 2 literals are neither true nor false: 1 -2\n"
-     "       2 would follow here from 5 (stream 1, line 1), hint 2 of the line, which comes too late\n  a right chain: 5 3 4\n"),
-    ("one left out", [FIRST + "6 0 3 4 0\n"], "", "stream 1 (f1), line 2: not unit 3\n" + EMPTY
-     + row(3, "BAD", "1? -2?", of_formula(3)) + "        4  unread\n  why: 2 literals are neither true nor false: 1 -2\n"
-     "       2 would follow here from 5 (stream 1, line 1), which isn't a hint of the line\n  a right chain: 5 3 4\n"),
-    ("a clause that doesn't follow", ["5 0 1 2 0\n"], "", "stream 1 (f1), line 1: not unit 1\n" + EMPTY
-     + row(1, "BAD", "1? 2?", of_formula(1)) + "        2  unread\n  why: 2 literals are neither true nor false: 1 2\n"
-     + NO_CHAIN.format(0, 4)),
-    ("dropped", ["4 d 3 1 0\n" + FIRST], "", "stream 1 (f1), line 2: dropped 1\n  derives  2    so at first -2 is true\n" + HINTS
-     + row(1, "BAD", "1? 2F", of_formula(1)) + "        2  unread\n  why: this stream deleted 1 in its line 1, for itself\n"
+    ("a hint twice", ["5 2 0 1 1 2 0\n"], "",
+     "stream 1 (f1), line 1: not unit 1\n" + ONE_FALSE + row(1, "BAD", "1T 2F", of_formula(1))
+     + "        2  unread\n"
+     "  why: 1 is true already, by hint 1, the same clause: once is enough\n" + RIGHT),
+    ("in another order", [FIRST + "6 0 3 5 4 0\n"], "",
+     "stream 1 (f1), line 2: not unit 3\n" + EMPTY + row(3, "BAD", "1? -2?", of_formula(3))
+     + "        5  unread   .. 1 more\n  why: 2 literals are neither true nor false: 1 -2\n"
+     "       2 would follow here from 5 (stream 1, line 1), hint 2 of the line, which comes too "
+     "late\n  a right chain: 5 3 4\n"),
+    ("one left out", [FIRST + "6 0 3 4 0\n"], "",
+     "stream 1 (f1), line 2: not unit 3\n" + EMPTY + row(3, "BAD", "1? -2?", of_formula(3))
+     + "        4  unread\n  why: 2 literals are neither true nor false: 1 -2\n"
+     "       2 would follow here from 5 (stream 1, line 1), which isn't a hint of the line\n"
+     "  a right chain: 5 3 4\n"),
+    ("a clause that doesn't follow", ["5 0 1 2 0\n"], "",
+     "stream 1 (f1), line 1: not unit 1\n" + EMPTY + row(1, "BAD", "1? 2?", of_formula(1))
+     + "        2  unread\n"
+     "  why: 2 literals are neither true nor false: 1 2\n" + NO_CHAIN.format(0, 4)),
+    ("dropped", ["4 d 3 1 0\n" + FIRST], "", "stream 1 (f1), line 2: dropped 1\n"
+     "  derives  2    so at first -2 is true\n" + HINTS + row(1, "BAD", "1? 2F", of_formula(1))
+     + "        2  unread\n  why: this stream deleted 1 in its line 1, for itself\n"
      "  a right chain: 1 2    (if 1 isn't deleted)\n"),
-    ("retired", [FIRST + "5 d 5 0\n6 0 5 3 4 0\n"], "", "stream 1 (f1), line 3: retired 5\n" + EMPTY
-     + row(5, "BAD", "2?", "stream 1, line 1") + "        3  unread   .. 1 more\n"
-     "  why: its owner deleted 5 in stream 1, line 2, for all\n  a right chain: 5 3 4    (if 5 isn't deleted)\n"),
-    ("retired by another", [FIRST + "5 d 5 0\n", "2 i -1 2 0\n2 i 2 -1 0\n6 0 5 3 4 0\n"], "--serial",
-     "stream 2 (f2), line 3: retired 5\n" + EMPTY
-     + row(5, "BAD", "2?", "stream 1, line 1") + "        3  unread   .. 1 more\n  why: its owner deleted 5 in stream 1, line 2, for all\n"
+    ("retired", [FIRST + "5 d 5 0\n6 0 5 3 4 0\n"], "",
+     "stream 1 (f1), line 3: retired 5\n" + EMPTY + row(5, "BAD", "2?", "stream 1, line 1")
+     + "        3  unread   .. 1 more\n"
+     "  why: its owner deleted 5 in stream 1, line 2, for all\n"
+     "  a right chain: 5 3 4    (if 5 isn't deleted)\n"),
+    ("retired by another",
+     [FIRST + "5 d 5 0\n", "2 i -1 2 0\n2 i 2 -1 0\n6 0 5 3 4 0\n"], "--serial",
+     "stream 2 (f2), line 3: retired 5\n" + EMPTY + row(5, "BAD", "2?", "stream 1, line 1")
+     + "        3  unread   .. 1 more\n  why: its owner deleted 5 in stream 1, line 2, for all\n"
      "       threads may reach that line earlier or later: don't delete a clause that others cite\n"
      "  a right chain: 5 3 4    (if 5 isn't deleted)\n"),
-    ("missing, never derived", ["5 2 0 1 9 0\n"], "", "stream 1 (f1), line 1: missing 9\n" + ONE_FALSE
-     + row(9, "BAD", "-", "stream 1, no such line so far") + "  why: 9 is of stream 1, this one, and none of its lines derives it\n" + RIGHT),
-    ("missing, the line's own", ["5 2 0 1 5 0\n"], "", "stream 1 (f1), line 1: missing 5\n" + ONE_FALSE
-     + row(5, "BAD", "-", "stream 1, no such line so far") + "  why: 5 is what this line derives: no line cites itself\n" + RIGHT),
-    ("missing, derived later", ["5 2 0 1 7 0\n7 2 0 1 2 0\n"], "", "stream 1 (f1), line 1: missing 7\n" + ONE_FALSE
+    ("missing, never derived", ["5 2 0 1 9 0\n"], "", "stream 1 (f1), line 1: missing 9\n"
+     + ONE_FALSE + row(9, "BAD", "-", "stream 1, no such line so far")
+     + "  why: 9 is of stream 1, this one, and none of its lines derives it\n" + RIGHT),
+    ("missing, the line's own", ["5 2 0 1 5 0\n"], "", "stream 1 (f1), line 1: missing 5\n"
+     + ONE_FALSE + row(5, "BAD", "-", "stream 1, no such line so far")
+     + "  why: 5 is what this line derives: no line cites itself\n" + RIGHT),
+    ("missing, derived later", ["5 2 0 1 7 0\n7 2 0 1 2 0\n"], "",
+     "stream 1 (f1), line 1: missing 7\n" + ONE_FALSE
      + row(7, "BAD", "-", "stream 1, no such line so far")
      + "  why: 7 is of stream 1, this one, which derives it later, in its line 2\n" + RIGHT),
-    ("missing, beyond the last", ["5 2 0 1 9 0\n"], "--lines 3", "stream 1 (f1), line 1: missing 9\n" + ONE_FALSE
-     + row(9, "BAD", "-", "above the last identity, 7") + "  why: 9 is above 7, the last identity with --lines 3\n"
+    ("missing, beyond the last", ["5 2 0 1 9 0\n"], "--lines 3",
+     "stream 1 (f1), line 1: missing 9\n" + ONE_FALSE
+     + row(9, "BAD", "-", "above the last identity, 7")
+     + "  why: 9 is above 7, the last identity with --lines 3\n"
      "       --lines 5 would be enough\n" + RIGHT),
-    ("missing, of another one", ["5 2 0 1 8 0\n", "6 2 0 1 2 0\n"], "", "stream 1 (f1), line 1: missing 8\n" + ONE_FALSE
-     + row(8, "BAD", "-", "stream 2, no such line so far") + "  why: 8 is of stream 2, and none of its lines derives it\n" + RIGHT),
-    ("missing with --serial", ["5 2 0 1 6 0\n", "6 2 0 1 2 0\n"], "--serial", "stream 1 (f1), line 1: missing 6\n" + ONE_FALSE
-     + row(6, "BAD", "-", "stream 2, no such line so far")
-     + "  why: 6 is of stream 2, which derives it in its line 1, and with --serial only later: threads wait for it\n" + RIGHT),
+    ("missing, of another one", ["5 2 0 1 8 0\n", "6 2 0 1 2 0\n"], "",
+     "stream 1 (f1), line 1: missing 8\n" + ONE_FALSE
+     + row(8, "BAD", "-", "stream 2, no such line so far")
+     + "  why: 8 is of stream 2, and none of its lines derives it\n" + RIGHT),
+    ("missing with --serial", ["5 2 0 1 6 0\n", "6 2 0 1 2 0\n"], "--serial",
+     "stream 1 (f1), line 1: missing 6\n" + ONE_FALSE
+     + row(6, "BAD", "-", "stream 2, no such line so far") + "  why: 6 is of stream 2, which "
+     "derives it in its line 1, and with --serial only later: threads wait for it\n" + RIGHT),
     ("a circle", ["5 2 0 6 0\n", "6 2 0 7 0\n", "7 2 0 6 0\n"], "",
      "stream 2 (f2), line 1: missing 7\n  derives  2    so at first -2 is true\n" + HINTS
      + row(7, "BAD", "-", "stream 3, no such line so far")
-     + "  why: 7 is of stream 3, whose line 1 waits for 6, in a cycle that leads back to this line\n" + RIGHT
-     + "stream 1 (f1), line 1: missing 6, of stream 2, whose line 1 is bad\n"
+     + "  why: 7 is of stream 3, whose line 1 waits for 6, in a cycle that leads back to this "
+     "line\n" + RIGHT + "stream 1 (f1), line 1: missing 6, of stream 2, whose line 1 is bad\n"
      "stream 3 (f3), line 1: missing 6, of stream 2, whose line 1 is bad\n"),
     ("a consequence of another fault", ["5 0 6 8 0\n", "6 2 0 1 0\n8 -2 0 3 4 0\n", "7 x\n"], "",
-     "stream 2 (f2), line 1: no conflict\n" + ONE_FALSE + UNENDED
-     + "       all literals are false in 2 (clause 2 of the formula), which isn't a hint of the line\n" + RIGHT
-     + "stream 1 (f1), line 1: missing 6, of stream 2, whose line 1 is bad\nstream 3 (f3), line 1: spelling, by itself: --all says why\n"),
-    ("a stream that is cut", ["5 0 6 0\n", "6 2 0 1"], "", "stream 2 (f2), line 1: truncated\n"
-     "  why: the stream ends within this line, after 7 bytes: expected a digit or a space\n      6 2 0 1\n             ^ byte 8\n"
-     "       was the solver killed, or its buffer not flushed?\nstream 1 (f1), line 1: missing 6, of stream 2, whose line 1 is bad\n"),
+     "stream 2 (f2), line 1: no conflict\n" + ONE_FALSE + UNENDED + "       all literals are false "
+     "in 2 (clause 2 of the formula), which isn't a hint of the line\n" + RIGHT
+     + "stream 1 (f1), line 1: missing 6, of stream 2, whose line 1 is bad\n"
+     "stream 3 (f3), line 1: spelling, by itself: --all says why\n"),
+    ("a stream that is cut", ["5 0 6 0\n", "6 2 0 1"], "",
+     "stream 2 (f2), line 1: truncated\n"
+     "  why: the stream ends within this line, after 7 bytes: expected a digit or a space\n"
+     "      6 2 0 1\n             ^ byte 8\n"
+     "       was the solver killed, or its buffer not flushed?\n"
+     "stream 1 (f1), line 1: missing 6, of stream 2, whose line 1 is bad\n"),
     ("each by itself", ["5 0 6 8 0\n", "6 2 0 1 0\n8 -2 0 3 4 0\n", "7 x\n"], "--all",
      "stream 2 (f2), line 1: no conflict\n" + ONE_FALSE + UNENDED
-     + "       all literals are false in 2 (clause 2 of the formula), which isn't a hint of the line\n" + RIGHT
-     + "stream 3 (f3), line 1: spelling\n  why: expected a literal, 0, d or i, found 'x'\n      7 x\n        ^ byte 3\n"
+     + "       all literals are false in 2 (clause 2 of the formula), which isn't a hint "
+     "of the line\n" + RIGHT + "stream 3 (f3), line 1: spelling\n"
+     "  why: expected a literal, 0, d or i, found 'x'\n      7 x\n        ^ byte 3\n"
      + "stream 1 (f1), line 1: missing 6, of stream 2, whose line 1 is bad\n"),
-    ("identity of the formula", ["4 2 0 1 2 0\n"], "", "stream 1 (f1), line 1: identity\n  derives  2\n"
-     "  why: 4 is of the formula, whose clauses are 1 to 4\n       right here: 5, or after a gap 6, 7 and so on\n"),
-    ("identity of another stream", [FIRST + "8 2 0 1 2 0\n", ""], "", "stream 1 (f1), line 2: identity\n  derives  2\n"
-     "  why: 8 belongs to stream 2: 2 streams take turns above 4\n       right here: 7, or after a gap 9, 11 and so on\n"),
-    ("identity below the last", ["9 2 0 1 2 0\n7 2 0 1 2 0\n", ""], "", "stream 1 (f1), line 2: identity\n  derives  2\n"
-     "  why: 7 isn't above 9, the identity of line 1\n       right here: 11, or after a gap 13, 15 and so on\n"),
-    ("identity beyond the last", ["5 2 0 1 2 0\n7 2 0 1 2 0\n", ""], "--lines 1", "stream 1 (f1), line 2: identity\n  derives  2\n"
+    ("identity of the formula", ["4 2 0 1 2 0\n"], "",
+     "stream 1 (f1), line 1: identity\n  derives  2\n"
+     "  why: 4 is of the formula, whose clauses are 1 to 4\n"
+     "       right here: 5, or after a gap 6, 7 and so on\n"),
+    ("identity of another stream", [FIRST + "8 2 0 1 2 0\n", ""], "",
+     "stream 1 (f1), line 2: identity\n  derives  2\n"
+     "  why: 8 belongs to stream 2: 2 streams take turns above 4\n"
+     "       right here: 7, or after a gap 9, 11 and so on\n"),
+    ("identity below the last", ["9 2 0 1 2 0\n7 2 0 1 2 0\n", ""], "",
+     "stream 1 (f1), line 2: identity\n  derives  2\n"
+     "  why: 7 isn't above 9, the identity of line 1\n"
+     "       right here: 11, or after a gap 13, 15 and so on\n"),
+    ("identity beyond the last", ["5 2 0 1 2 0\n7 2 0 1 2 0\n", ""], "--lines 1",
+     "stream 1 (f1), line 2: identity\n  derives  2\n"
      "  why: 7 is above 6, the last identity with --lines 1\n       --lines 2 would be enough\n"),
-    ("identity beyond the last, and more", ["5 2 0 1 2 0\n7 2 0 1 2 0\nx\n13 2 0 1 2 0\n14 2 0 1 2 0\n9 2 0 1 2 0\n", ""], "--lines 1",
-     "stream 1 (f1), line 2: identity\n  derives  2\n  why: 7 is above 6, the last identity with --lines 1\n"
+    ("identity beyond the last, and more",
+     ["5 2 0 1 2 0\n7 2 0 1 2 0\nx\n13 2 0 1 2 0\n14 2 0 1 2 0\n9 2 0 1 2 0\n", ""], "--lines 1",
+     "stream 1 (f1), line 2: identity\n  derives  2\n"
+     "  why: 7 is above 6, the last identity with --lines 1\n"
      "       --lines 2 is enough for this line, and 5 for all lines of the stream\n"),
-    ("identity, and none is left", [FIRST + "6 2 0 1 2 0\n", ""], "--lines 1", "stream 1 (f1), line 2: identity\n  derives  2\n"
-     "  why: 6 belongs to stream 2: 2 streams take turns above 4\n       stream 1 has no identity left: its next one would be 7\n"
+    ("identity, and none is left", [FIRST + "6 2 0 1 2 0\n", ""], "--lines 1",
+     "stream 1 (f1), line 2: identity\n  derives  2\n"
+     "  why: 6 belongs to stream 2: 2 streams take turns above 4\n"
+     "       stream 1 has no identity left: its next one would be 7\n"
      "       --lines 2 would be enough\n"),
-    ("an import of an own clause", [FIRST + "5 i 2 0\n"], "", "stream 1 (f1), line 2: identity\n  states   2\n"
-     "  why: 5 is this stream's own: an import names a clause of another stream, or of the formula\n"),
-    ("an import beyond the last", ["9 i 2 0\n"], "--lines 3", "stream 1 (f1), line 1: identity\n  states   2\n"
+    ("an import of an own clause", [FIRST + "5 i 2 0\n"], "",
+     "stream 1 (f1), line 2: identity\n  states   2\n"
+     "  why: 5 is this stream's own: an import names a clause of another stream, or of "
+     "the formula\n"),
+    ("an import beyond the last", ["9 i 2 0\n"], "--lines 3",
+     "stream 1 (f1), line 1: identity\n  states   2\n"
      "  why: 9 is above 7, the last identity\n       --lines 5 would be enough\n"),
     ("literal", ["5 3 -4 0 1 0\n"], "", "stream 1 (f1), line 1: literal\n  derives  3 -4\n"
      "  why: 2 literals are above 2, the variables of the formula's header: the first is 3\n"),
     ("tautology", ["5 1 2 -1 0 1 0\n"], "", "stream 1 (f1), line 1: tautology\n  derives  1 2 -1\n"
      "  why: the clause has 1 and -1, so it is always true: leave the line out\n"),
-    ("no room", [FIRST + "6 1 2 1 0 1 0\n7 1 0 3 5 0\n"], "--room 2", "stream 1 (f1), line 2: no room\n  derives  1 2 1\n"
+    ("no room", [FIRST + "6 1 2 1 0 1 0\n7 1 0 3 5 0\n"], "--room 2",
+     "stream 1 (f1), line 2: no room\n  derives  1 2 1\n"
      "  why: the clause has 2 different literals, and 1 of --room 2 is left: 1 too few\n"
      "       --room 3 is enough for this line, and 5 for all lines of the stream\n"),
     ("not live, deleted before", ["1 d 2 0\n1 d 1 2 0\n"], "", "stream 1 (f1), line 2: not live 2\n"
      "  why: this stream has deleted 2 before, in its line 1\n"),
-    ("not live, twice", ["1 d 2 1 2 0\n"], "", "stream 1 (f1), line 1: not live 2\n  why: 2 is in this line twice\n"),
+    ("not live, twice", ["1 d 2 1 2 0\n"], "",
+     "stream 1 (f1), line 1: not live 2\n  why: 2 is in this line twice\n"),
     ("not live, never derived", ["1 d 5 0\n" + FIRST], "", "stream 1 (f1), line 1: not live 5\n"
      "  why: no line of this stream has derived 5; line 2 does, which comes later\n"),
-    ("not live, never at all", ["1 d 5 0\n"], "", "stream 1 (f1), line 1: not live 5\n  why: no line of this stream has derived 5\n"),
+    ("not live, never at all", ["1 d 5 0\n"], "",
+     "stream 1 (f1), line 1: not live 5\n  why: no line of this stream has derived 5\n"),
     ("not live, beyond the last", ["1 d 9 0\n"], "--lines 3", "stream 1 (f1), line 1: not live 9\n"
      "  why: 9 is above 7, the last identity\n       --lines 5 would be enough\n"),
-    ("differs", ["2 i -1 -2 0\n"], "", "stream 1 (f1), line 1: differs 2\n  states   -1 -2\n"
-     "  why: 2 is -1 2 (clause 2 of the formula)\n       the import leaves out 2\n       only the import has -2\n"),
-    ("an import that is missing", ["6 i 2 0\n", "8 2 0 1 2 0\n"], "", "stream 1 (f1), line 1: missing 6\n  states   2\n"
+    ("differs", ["2 i -1 -2 0\n"], "",
+     "stream 1 (f1), line 1: differs 2\n  states   -1 -2\n"
+     "  why: 2 is -1 2 (clause 2 of the formula)\n       the import leaves out 2\n"
+     "       only the import has -2\n"),
+    ("an import that is missing", ["6 i 2 0\n", "8 2 0 1 2 0\n"], "",
+     "stream 1 (f1), line 1: missing 6\n  states   2\n"
      "  why: 6 is of stream 2, and none of its lines derives it\n"),
-    ("an import of a stream without lines", ["6 i 2 0\n", ""], "", "stream 1 (f1), line 1: missing 6\n  states   2\n"
-     "  why: 6 is of stream 2, and none of its lines derives it\n       stream 2 has no lines: was it left out?\n"),
-    ("one of four streams", ["5 2 0 1 6 0\n9 2 0 1 2 0\n13 2 0 1 2 0\n"], "", "stream 1 (f1), line 1: missing 6\n" + ONE_FALSE
-     + row(6, "BAD", "-", "stream 1, no such line so far") + "  why: 6 is of stream 1, this one, and none of its lines derives it\n"
-     "       the identities of stream 1 go up by 4, as with 4 streams, but 1 is given: was one left out?\n" + RIGHT),
-    ("one stream with a gap", ["5 2 0 1 7 0\n6 2 0 1 2 0\n9 2 0 1 2 0\n"], "", "stream 1 (f1), line 1: missing 7\n" + ONE_FALSE
-     + row(7, "BAD", "-", "stream 1, no such line so far") + "  why: 7 is of stream 1, this one, and none of its lines derives it\n" + RIGHT),
-    ("two of three streams", [FIRST, "7 2 0 1 2 0\n10 2 0 1 2 0\n16 2 0 1 2 0\n"], "", "stream 2 (f2), line 1: identity\n  derives  2\n"
+    ("an import of a stream without lines", ["6 i 2 0\n", ""], "",
+     "stream 1 (f1), line 1: missing 6\n  states   2\n"
+     "  why: 6 is of stream 2, and none of its lines derives it\n"
+     "       stream 2 has no lines: was it left out?\n"),
+    ("one of four streams", ["5 2 0 1 6 0\n9 2 0 1 2 0\n13 2 0 1 2 0\n"], "",
+     "stream 1 (f1), line 1: missing 6\n" + ONE_FALSE
+     + row(6, "BAD", "-", "stream 1, no such line so far")
+     + "  why: 6 is of stream 1, this one, and none of its lines derives it\n"
+     "       the identities of stream 1 go up by 4, as with 4 streams, but 1 is given: was "
+     "one left out?\n" + RIGHT),
+    ("one stream with a gap", ["5 2 0 1 7 0\n6 2 0 1 2 0\n9 2 0 1 2 0\n"], "",
+     "stream 1 (f1), line 1: missing 7\n" + ONE_FALSE
+     + row(7, "BAD", "-", "stream 1, no such line so far")
+     + "  why: 7 is of stream 1, this one, and none of its lines derives it\n" + RIGHT),
+    ("two of three streams", [FIRST, "7 2 0 1 2 0\n10 2 0 1 2 0\n16 2 0 1 2 0\n"], "",
+     "stream 2 (f2), line 1: identity\n  derives  2\n"
      "  why: 7 belongs to stream 1: 2 streams take turns above 4\n"
-     "       the identities of stream 2 go up by 3, as with 3 streams, but 2 are given: was one left out?\n"
+     "       the identities of stream 2 go up by 3, as with 3 streams, but 2 are given: was one "
+     "left out?\n"
      "       right here: 6, or after a gap 8, 10 and so on\n"),
-    ("an import that was dropped", ["1 d 2 0\n2 i -1 2 0\n"], "", "stream 1 (f1), line 2: dropped 2\n  states   -1 2\n"
+    ("an import that was dropped", ["1 d 2 0\n2 i -1 2 0\n"], "",
+     "stream 1 (f1), line 2: dropped 2\n  states   -1 2\n"
      "  why: this stream deleted 2 in its line 1, for itself\n"),
 ]
 
@@ -450,7 +538,8 @@ def form(text: str, words: str, why: str, shown: str, place: int, work: Path) ->
     """Explains a misspelled line, showing its bytes."""
     stream = written(text.encode("latin-1"), work, "f1")
     shown, caret = shown, " " * shown.index("^") + f"^ byte {place}"
-    wanted = f"stream 1 (f1), line 1: {words}\n  why: {why}\n      {shown.replace('^', '')}\n      {caret}\n"
+    wanted = (f"stream 1 (f1), line 1: {words}\n  why: {why}\n      {shown.replace('^', '')}\n"
+              f"      {caret}\n")
     done = explain([written(FOUR, work), stream.name], work)
     want((done.out[:len(wanted)], done.err, done.status), (wanted, "", BAD), "the messages")
     want(reported(run([PROGRAM, written(FOUR, work), stream])), {1: (1, words)}, "lrupd's answer")
@@ -459,35 +548,48 @@ def form(text: str, words: str, why: str, shown: str, place: int, work: Path) ->
 PLACE = "expected {1}, found {0}"
 # The line, the fault, the explanation, the bytes with ^ before the one that decides, its place.
 FORMS = [
-    ("5  2 0 1 2 0\n", "spelling", PLACE.format("a space", "a literal, 0, d or i"), "5 ^ 2 0 1 2 0", 3),
-    ("5 2 0 1 2 0\r\n", "spelling", PLACE.format("a carriage return", "LF, the line's end"), "5 2 0 1 2 0^\\r", 12),
+    ("5  2 0 1 2 0\n", "spelling", PLACE.format("a space", "a literal, 0, d or i"),
+     "5 ^ 2 0 1 2 0", 3),
+    ("5 2 0 1 2 0\r\n", "spelling", PLACE.format("a carriage return", "LF, the line's end"),
+     "5 2 0 1 2 0^\\r", 12),
     ("\n", "spelling", PLACE.format("the line's end", "an identity"), "^\\n", 1),
     ("c x\n", "spelling", PLACE.format("'c'", "an identity"), "^c x", 1),
     ("05 2 0 1 2 0\n", "spelling", PLACE.format("'0'", "an identity"), "^05 2 0 1 2 0", 1),
     ("5 +2 0 1 2 0\n", "spelling", PLACE.format("'+'", "a literal, 0, d or i"), "5 ^+2 0 1 2 0", 3),
     ("5 -0 0 1 2 0\n", "spelling", PLACE.format("'0'", "a digit from 1 to 9"), "5 -^0 0 1 2 0", 4),
-    ("5 2\t0 1 2 0\n", "spelling", PLACE.format("a tab", "a digit or a space"), "5 2^\\t0 1 2 0", 4),
-    ("2 0\n", "spelling", PLACE.format("the line's end", "a space, and then the hints and another 0"), "2 0^\\n", 4),
-    ("5 2 0 1 2\n", "spelling", PLACE.format("the line's end", "a digit or a space"), "5 2 0 1 2^\\n", 10),
-    ("5 2 0 1 2 0 \n", "spelling", PLACE.format("a space", "LF, the line's end"), "5 2 0 1 2 0^ ", 12),
+    ("5 2\t0 1 2 0\n", "spelling", PLACE.format("a tab", "a digit or a space"),
+     "5 2^\\t0 1 2 0", 4),
+    ("2 0\n", "spelling",
+     PLACE.format("the line's end", "a space, and then the hints and another 0"), "2 0^\\n", 4),
+    ("5 2 0 1 2\n", "spelling", PLACE.format("the line's end", "a digit or a space"),
+     "5 2 0 1 2^\\n", 10),
+    ("5 2 0 1 2 0 \n", "spelling", PLACE.format("a space", "LF, the line's end"),
+     "5 2 0 1 2 0^ ", 12),
     ("5 2 0 1 02 0\n", "spelling", PLACE.format("'2'", "LF, the line's end"), "5 2 0 1 0^2 0", 10),
     ("5 d -1 0\n", "spelling", PLACE.format("'-'", "an identity or 0"), "5 d ^-1 0", 5),
     ("5 d1 0\n", "spelling", PLACE.format("'1'", "a space"), "5 d^1 0", 4),
     ("2 i 1 d 0\n", "spelling", PLACE.format("'d'", "a literal or 0"), "2 i 1 ^d 0", 7),
     ("a\x0c\x04\0\n", "spelling", PLACE.format("'a'", "an identity"), "^a\\x0c\\x04\\x00", 1),
     ("5 \xff\n", "spelling", PLACE.format("byte 0xff", "a literal, 0, d or i"), "5 ^\\xff", 3),
-    ("5 2 0 -2 3 0\n", "rat hint", "a negative hint, of a RAT step, which lrupd doesn't check: switch off what makes such steps",
+    ("5 2 0 -2 3 0\n", "rat hint",
+     "a negative hint, of a RAT step, which lrupd doesn't check: switch off what makes such steps",
      "5 2 0 ^-2 3 0", 7),
-    ("5 2 0 1 2", "truncated", "the stream ends within this line, after 9 bytes: expected a digit or a space", "5 2 0 1 2^", 10),
-    ("12345678901234567890 2 0 1 0\n", "too long", "20 digits of a number, 2 too many: a number may have 18",
+    ("5 2 0 1 2", "truncated",
+     "the stream ends within this line, after 9 bytes: expected a digit or a space",
+     "5 2 0 1 2^", 10),
+    ("12345678901234567890 2 0 1 0\n", "too long",
+     "20 digits of a number, 2 too many: a number may have 18",
      "123456789012345678^90 2 0 1 0", 19),
-    ("5 " + "1 " * 65600 + "0 0\n", "too long", "65600 literals, 65 too many: a line may have 65535",
-     ".." + "1 " * 24 + "^" + "1 " * 8 + "..", 2 * 65535 + 3),
-    ("5 0 " + "1 " * 65537 + "0\n", "too long", "65537 hints, 1 too many: a line may have 65536", ".." + "1 " * 24 + "^1 0", 2 * 65536 + 5),
-    ("5 d " + "1 " * 65538 + "0\n", "too long", "65538 identities, 2 too many: a line may have 65536", ".." + "1 " * 24 + "^1 1 0",
+    ("5 " + "1 " * 65600 + "0 0\n", "too long",
+     "65600 literals, 65 too many: a line may have 65535", ".." + "1 " * 24 + "^" + "1 " * 8 + "..",
+     2 * 65535 + 3),
+    ("5 0 " + "1 " * 65537 + "0\n", "too long", "65537 hints, 1 too many: a line may have 65536",
+     ".." + "1 " * 24 + "^1 0", 2 * 65536 + 5),
+    ("5 d " + "1 " * 65538 + "0\n", "too long",
+     "65538 identities, 2 too many: a line may have 65536", ".." + "1 " * 24 + "^1 1 0",
      2 * 65536 + 5),
-    ("2 i " + "1 " * 65536 + "0\n", "too long", "65536 literals, 1 too many: a line may have 65535", ".." + "1 " * 24 + "^1 0",
-     2 * 65535 + 5),
+    ("2 i " + "1 " * 65536 + "0\n", "too long", "65536 literals, 1 too many: a line may have 65535",
+     ".." + "1 " * 24 + "^1 0", 2 * 65535 + 5),
 ]
 
 
@@ -499,7 +601,8 @@ def fault(streams: Sequence[str], options: str, said: str, work: Path) -> None:
     done = explain(words, work)
     want(done, Ran(said, "", BAD), "the messages")
     lrupds = [word for word in words if word != "--all"]
-    want(faults_in(done), reported(run([PROGRAM, "--tries", TRIES, *lrupds], cwd=work)), "the faults")
+    want(faults_in(done),
+         reported(run([PROGRAM, "--tries", TRIES, *lrupds], cwd=work)), "the faults")
 
 
 def good(words: Sequence[object], work: Path) -> None:
@@ -513,8 +616,10 @@ def in_rounds(number: int, work: Path) -> None:
     """Two solvers in three rounds, with a fault in the last one, or in an earlier one, after which
     no round comes."""
     numbers = random.Random(f"{number} rounds")
-    formula, streams = example("pigeonhole.cnf"), [example("pigeonhole-two.1"), example("pigeonhole-two.2")]
-    want(run([sys.executable, EXAMPLES / "chain.py", 3, formula, work / "d", *streams]), Ran("", "", 0), "chain.py's output")
+    formula, streams = (example("pigeonhole.cnf"),
+                        [example("pigeonhole-two.1"), example("pigeonhole-two.2")])
+    want(run([sys.executable, EXAMPLES / "chain.py", 3, formula, work / "d", *streams]),
+         Ran("", "", 0), "chain.py's output")
     bad = 1 + number % 3
     names = [work / "d" / f"round-{bad}.stream-{stream}" for stream in (1, 2)]
     for path, text in zip(names, with_a_fault([path.read_text() for path in names], numbers)):
@@ -522,22 +627,27 @@ def in_rounds(number: int, work: Path) -> None:
     for later in range(bad + 1, 4):
         for path in (work / "d").glob(f"round-{later}.*"):
             path.unlink()
-    lines, room = [int(word) for word in (work / "d" / "round-1.sizes").read_text().split()[1:]] if bad == 0 else (65536, 1048576)
+    lines, room = ([int(word) for word in (work / "d" / "round-1.sizes").read_text().split()[1:]]
+                   if bad == 0 else (65536, 1048576))
     done = explain(["--serial", formula, "d"], work)
-    words = ["--serial", "--lines", lines, "--room", room, "--rounds", "d", formula, "d/round-1.stream-1", "d/round-1.stream-2"]
+    words = ["--serial", "--lines", lines, "--room", room, "--rounds", "d", formula,
+             "d/round-1.stream-1", "d/round-1.stream-2"]
     said = run([PROGRAM, *words], cwd=work)
     want(faults_in(done), reported(said), f"the faults in\n{done.out}{said}")
     for round_number, stream in re.findall(r"^(?:round (\d+), )?stream (\d+)", done.out, re.M):
-        want(f"c round {round_number}\n" in said.out if round_number else "c round" not in said.out, True, f"the round of {stream}")
+        want(f"c round {round_number}\n" in said.out if round_number else "c round" not in said.out,
+             True, f"the round of {stream}")
 
 
-CARRIED = {"round-1.stream-1": FIRST + "4 d 1 2 0\n", "round-2.sizes": "2 5 5\n", "round-2.stream-1": "4 2 0 3 0\n6 1 0 1 0\n",
-           "round-2.stream-2": "5 0 3 2 0\n"}
-SAID_OF_CARRIED = ("round 2, stream 2 (d/round-2.stream-2), line 1: no conflict\n" + EMPTY
-                   + row(3, "-> 2", "2!", "stream 1, line 1 of round 1") + row(2, "-> -1", "-1! -2F", of_formula(4))
-                   + UNENDED + "       all literals are false in 1 (clause 3 of the formula), which isn't a hint of the line\n"
-                   "  a right chain: 3 2 1\n"
-                   "round 2, stream 1 (d/round-2.stream-1), line 2: no conflict, by itself: --all says why\n")
+CARRIED = {"round-1.stream-1": FIRST + "4 d 1 2 0\n", "round-2.sizes": "2 5 5\n",
+           "round-2.stream-1": "4 2 0 3 0\n6 1 0 1 0\n", "round-2.stream-2": "5 0 3 2 0\n"}
+SAID_OF_CARRIED = (
+    "round 2, stream 2 (d/round-2.stream-2), line 1: no conflict\n" + EMPTY
+    + row(3, "-> 2", "2!", "stream 1, line 1 of round 1")
+    + row(2, "-> -1", "-1! -2F", of_formula(4)) + UNENDED + "       all literals are false in 1 "
+    "(clause 3 of the formula), which isn't a hint of the line\n"
+    "  a right chain: 3 2 1\n"
+    "round 2, stream 1 (d/round-2.stream-1), line 2: no conflict, by itself: --all says why\n")
 
 
 def carried(work: Path) -> None:
@@ -550,7 +660,8 @@ def carried(work: Path) -> None:
 # The example solver without one hint: that of the last unit clause at level 0.
 
 RIGHT_LINE = "for (size_t k = 0; k < level_zero.length; k++) PUSH(hints, level_zero.items[k]);"
-LEFT_OUT = r"^       (-?\d+ would follow here from|all literals are false in) \d+ \(.*\), which isn't a hint of the line$"
+LEFT_OUT = (r"^       (-?\d+ would follow here from|"
+            r"all literals are false in) \d+ \(.*\), which isn't a hint of the line$")
 WRONG_LINE = "for (size_t k = 1; k < level_zero.length; k++) PUSH(hints, level_zero.items[k]);"
 
 
@@ -558,14 +669,17 @@ def emitter(work: Path) -> None:
     """With its explanation applied each bad line becomes good, and nothing else changes."""
     learn = (EXAMPLES / "solver" / "learn.c").read_text()
     want(learn.count(RIGHT_LINE), 1, f"how often learn.c has '{RIGHT_LINE}'")
-    sources = shutil.copytree(EXAMPLES / "solver", work / "solver", ignore=shutil.ignore_patterns("out"))
+    sources = shutil.copytree(EXAMPLES / "solver", work / "solver",
+                              ignore=shutil.ignore_patterns("out"))
     written(learn.replace(RIGHT_LINE, WRONG_LINE), sources, "learn.c")
     wrong = work / "wrong"
     flags = compiler("-std=c11", "-O1", "-pthread", "-I", str(ROOT / "tools" / "exact"))
-    want(run([*flags, "-o", wrong, *sources.glob("*.c"), *LIBRARY]).status, 0, "the compiler's status")
+    want(run([*flags, "-o", wrong, *sources.glob("*.c"), *LIBRARY]).status, 0,
+         "the compiler's status")
     formula = generated("random 70 1 6", work)
     want(run([wrong, formula, work / "stream"]).status, 20, "the solver's status")
-    texts, clauses, mended_lines = [(work / "stream").read_text()], int(formula.read_text().split()[3]), 0
+    texts, clauses, mended_lines = ([(work / "stream").read_text()],
+                                    int(formula.read_text().split()[3]), 0)
     for _ in range(200):
         done = compared(texts, [], formula, clauses, True, work)
         if not faults_in(done):
@@ -574,15 +688,18 @@ def emitter(work: Path) -> None:
         follows = re.search(LEFT_OUT, done.out, re.M)
         assert found and follows, f"the output doesn't say what is left out:\n{done.out}"
         texts, mended_lines = found[2], mended_lines + 1
-    want((faults_in(done), mended_lines > 0), ({}, True), "the faults, and whether lines were mended")
-    want(run([PROGRAM, formula, written(texts[0], work, "right")]).status, 0, "lrupd's status in the end")
+    want((faults_in(done), mended_lines > 0), ({}, True),
+         "the faults, and whether lines were mended")
+    want(run([PROGRAM, formula, written(texts[0], work, "right")]).status, 0,
+         "lrupd's status in the end")
 
 
 # Arguments and files.
 
 def on_the_page(work: Path) -> None:
     """The manual page's example is the beginning of the output, which USING has in full."""
-    paths = [shutil.copy(example(f"bmc-four.{number}"), work / f"f{number}.lrup") for number in range(1, 5)]
+    paths = [shutil.copy(example(f"bmc-four.{number}"), work / f"f{number}.lrup")
+             for number in range(1, 5)]
     lines = paths[1].read_text().splitlines(True)
     lines[59] = lines[59].replace(" 207 ", " ")
     paths[1].write_text("".join(lines))
@@ -608,25 +725,35 @@ def refuses(words: str, status: int, said: str, work: Path) -> None:
     piped(work / "p")
     (work / "d").mkdir()
     done = explain(words.split(), work)
-    want((done.out, done.err.splitlines()[-1:], done.status), ("", [f"lrup-explain: {said}"], status), "the messages")
+    want((done.out, done.err.splitlines()[-1:], done.status),
+         ("", [f"lrup-explain: {said}"], status), "the messages")
 
 
-REFUSED = [("", 2, "error: no FORMULA"), ("f", 2, "error: no DIR or STREAM"), ("--line 1 f s", 2, "error: no such option: --line"),
-           ("--lines", 2, "error: no value after --lines"), ("--room 1 --room 2 f s", 2, "error: given twice: --room"),
-           ("--lines x f s", 2, "error: not a number: x"), ("--lines= f s", 2, "error: no number"),
-           ("--tries 1000001 f s", 2, "error: too large: 1000001"), ("--room 268435457 f s", 2, "error: too large: 268435457"),
-           ("f" + " s" * 65, 2, "error: more than 64 streams, from s"), ("f d s", 1, "d: a folder has to be the only input"),
-           ("f d", 1, "d/round-1.stream-1: No such file or directory"), ("f p", 1, "p: not a regular file, but it is read more than once"),
-           ("f none", 1, "none: No such file or directory"), ("none s", 1, "none: No such file or directory"),
-           ("z s", 1, "z: compressed: unpack it with zcat"),
-           ("--lines 268435456 f s", 1, "row too long: 269484045 words, and lrupd takes at most 268435456: smaller --lines or --room")]
+REFUSED = [
+    ("", 2, "error: no FORMULA"), ("f", 2, "error: no DIR or STREAM"),
+    ("--line 1 f s", 2, "error: no such option: --line"),
+    ("--lines", 2, "error: no value after --lines"),
+    ("--room 1 --room 2 f s", 2, "error: given twice: --room"),
+    ("--lines x f s", 2, "error: not a number: x"), ("--lines= f s", 2, "error: no number"),
+    ("--tries 1000001 f s", 2, "error: too large: 1000001"),
+    ("--room 268435457 f s", 2, "error: too large: 268435457"),
+    ("f" + " s" * 65, 2, "error: more than 64 streams, from s"),
+    ("f d s", 1, "d: a folder has to be the only input"),
+    ("f d", 1, "d/round-1.stream-1: No such file or directory"),
+    ("f p", 1, "p: not a regular file, but it is read more than once"),
+    ("f none", 1, "none: No such file or directory"),
+    ("none s", 1, "none: No such file or directory"),
+    ("z s", 1, "z: compressed: unpack it with zcat"),
+    ("--lines 268435456 f s", 1,
+     "row too long: 269484045 words, and lrupd takes at most 268435456: smaller --lines or --room")]
 
 
 def compressed(program: str, work: Path) -> None:
     """A compressed stream: lrupd says that its first byte is misspelled."""
     stream = written(COMPRESSED[program], work, "f1")
     done = explain([written(FOUR, work), "f1"], work)
-    want((faults_in(done), done.out.splitlines()[-1]), ({1: (1, "spelling")}, f"       compressed: unpack it with {program}"), "the messages")
+    want((faults_in(done), done.out.splitlines()[-1]),
+         ({1: (1, "spelling")}, f"       compressed: unpack it with {program}"), "the messages")
 
 
 def help_of(work: Path) -> None:
@@ -638,14 +765,17 @@ def help_of(work: Path) -> None:
 
 
 def rows(count: int, mutants: int) -> List[Row]:
-    found: List[Row] = [("the example solver, a hint left out", emitter), ("carried clauses", carried), ("help", help_of),
-              ("the manual page", on_the_page), ("a file that is cut", cut)]
+    found: List[Row] = [("the example solver, a hint left out", emitter),
+                        ("carried clauses", carried), ("help", help_of),
+                        ("the manual page", on_the_page), ("a file that is cut", cut)]
     found += [(f"rewritten {seed}", while_rewritten, seed) for seed in range(4)]
     found += [(f"fault: {name}", fault, *rest) for name, *rest in FAULTS]
     found += [(f"form {number}", form, *rest) for number, rest in enumerate(FORMS)]
     found += [("a good stream", good, [example("bmc.cnf"), example("bmc.lrup")]),
-              ("four good streams", good, [example("bmc.cnf"), *(example(f"bmc-four.{number}") for number in range(1, 5))])]
-    found += [(f"lrup-explain {words}", refuses, words, status, said) for words, status, said in REFUSED]
+              ("four good streams", good,
+               [example("bmc.cnf"), *(example(f"bmc-four.{number}") for number in range(1, 5))])]
+    found += [(f"lrup-explain {words}", refuses, words, status, said)
+              for words, status, said in REFUSED]
     found += [(f"compressed, {program}", compressed, program) for program in COMPRESSED]
     found += [(f"rounds {number}", in_rounds, number) for number in range(count // 50)]
     found += [(f"hints {seed}", other_hints_alone, seed) for seed in range(count // 20)]

@@ -35,18 +35,22 @@ Text = Union[str, bytes]
 
 def longest_line(text: str) -> int:
     """The number of hints, or deleted clauses, in the longest line."""
-    return max((len(words) - (words.index("0", 1) + 2 if words[1] != "d" else 3) for words in map(str.split, text.splitlines())), default=0)
+    return max((len(words) - (words.index("0", 1) + 2 if words[1] != "d" else 3)
+                for words in map(str.split, text.splitlines())), default=0)
 
 
 def check(formula: Path, text: str, work: Path, stream: int = 1, streams: int = 1) -> None:
     """lrupd accepts each line of the stream, in its place among empty streams, and the formula is
     refuted."""
     added = sum(" d " not in line for line in text.splitlines())
-    paths = [written(text, work, "stream") if number == stream else "/dev/null" for number in range(1, streams + 1)]
+    paths = [written(text, work, "stream") if number == stream else "/dev/null"
+             for number in range(1, streams + 1)]
     done = run([PROGRAM, "--lines", added + 1, "--room", 4000000, formula, *paths])
     lines = done.out.splitlines()
-    wanted = f"c stream {stream}: {added} added, {text.count(' d ') and lines[stream - 1].split()[5] or 0} deleted, ended"
-    want((lines[stream - 1:stream], lines[-1:], done.status), ([wanted], ["s UNSATISFIABLE"], 0), f"{done.err}the report")
+    wanted = (f"c stream {stream}: {added} added, "
+              f"{text.count(' d ') and lines[stream - 1].split()[5] or 0} deleted, ended")
+    want((lines[stream - 1:stream], lines[-1:], done.status), ([wanted], ["s UNSATISFIABLE"], 0),
+         f"{done.err}the report")
 
 
 def filtered(words: Sequence[object], given: Text, program: Path = FILTER) -> str:
@@ -59,7 +63,8 @@ def want_linear(text: str, formula: Path, proof_lines: int, steps: int) -> None:
     """No more bytes than the formula has, and few lines that the proof doesn't have."""
     most = (formula.stat().st_size + 4096, proof_lines + 2 + steps // 16384)
     found = (len(text), len(text.splitlines()))
-    want([one <= other for one, other in zip(found, most)], [True, True], f"bytes and lines are {found}, and at most {most}")
+    want([one <= other for one, other in zip(found, most)], [True, True],
+         f"bytes and lines are {found}, and at most {most}")
     want(longest_line(text) <= MOST, True, "whether each line is as short as it has to be")
 
 
@@ -72,7 +77,8 @@ def by_hand(kind: str, steps: int, form: str, work: Path) -> None:
     formula = make(work, kind, steps)
     clauses = steps + 1 if kind == "units" else steps + 3
     if kind == "units":
-        proof = "0\n" if form == "drat" else f"{clauses + 1} 0 " + " ".join(map(str, range(1, clauses + 1))) + " 0\n"
+        proof = ("0\n" if form == "drat"
+                 else f"{clauses + 1} 0 " + " ".join(map(str, range(1, clauses + 1))) + " 0\n")
     else:
         chain = " ".join(map(str, range(1, steps + 2)))
         last = f"{clauses + 2} 0 {clauses + 1} {clauses - 1} {clauses} 0\n"
@@ -87,7 +93,8 @@ def by_cadical(kind: str, numbers: Sequence[int], backwards: bool, work: Path) -
     formula, proof = make(work, kind, *numbers, backwards=backwards), work / "proof"
     want(run(["cadical", "-q", "--no-binary", formula, proof]).status, 20, "the solver's status")
     text = filtered([formula, proof], b"")
-    want_linear(text, formula, proof.read_text().count("\n") if kind == "failed" else 16, formula.stat().st_size // 8)
+    want_linear(text, formula, proof.read_text().count("\n") if kind == "failed" else 16,
+                formula.stat().st_size // 8)
     check(formula, text, work)
 
 
@@ -99,7 +106,8 @@ def by_solve(kind: str, numbers: Sequence[int], backwards: bool, work: Path) -> 
     want_answer(answer, 20, formula)
     want(answer.lost(), [], "engines that are lost")
     for path in (work / "kept").glob("round-*.stream-*"):
-        want_linear(path.read_text(), formula, formula.stat().st_size // 64, formula.stat().st_size // 8)
+        want_linear(path.read_text(), formula, formula.stat().st_size // 64,
+                    formula.stat().st_size // 8)
 
 
 def simulated(work: Path) -> None:
@@ -124,7 +132,8 @@ def units_needed(steps: int, order: str, work: Path) -> None:
     proof = "".join(f"{variable} 0\n" for variable in asked) + "1 0\n0\n"
     text = filtered(["--format", "drat", formula], proof)
     lines = steps + len(asked) + 2
-    want((len(text.splitlines()) <= lines, len(text) <= 48 * lines), (True, True), f"{len(text)} bytes in lines that are at most {lines}")
+    want((len(text.splitlines()) <= lines, len(text) <= 48 * lines), (True, True),
+         f"{len(text)} bytes in lines that are at most {lines}")
     check(formula, text, work)
 
 
@@ -134,7 +143,8 @@ def circuit(gates: Iterable[Tuple[int, int]], given: Sequence[int], first: int) 
     clauses, value, variable = [], dict.fromkeys(given, True), first
     for variable, (one, other) in enumerate(gates, first):
         value[variable] = value[one] != value[other]
-        clauses += [[-variable, one, other], [-variable, -one, -other], [variable, -one, other], [variable, one, -other]]
+        clauses += [[-variable, one, other], [-variable, -one, -other], [variable, -one, other],
+                    [variable, one, -other]]
     last = -variable if value[variable] else variable
     return [*clauses, [last, variable + 1], [last, -variable - 1]]
 
@@ -143,11 +153,13 @@ def clause_of_many(count: int, gates: int, work: Path) -> None:
     """A clause that needs all gates, each over the one before and any other. Each depends on most
     of its literals."""
     numbers, inputs = random.Random(count), range(1, count + 1)
-    clauses = circuit(((last, numbers.randrange(1, last)) for last in range(count, count + gates)), inputs, count + 1)
+    clauses = circuit(((last, numbers.randrange(1, last)) for last in range(count, count + gates)),
+                      inputs, count + 1)
     free = count + gates + 2
     clauses += [[variable, literal] for variable in inputs for literal in (free, -free)]
     formula = written(dimacs(free, clauses), work)
-    text = filtered(["--format", "drat", formula], " ".join(f"-{variable}" for variable in inputs) + f" 0\n{free} 0\n0\n")
+    text = filtered(["--format", "drat", formula],
+                    " ".join(f"-{variable}" for variable in inputs) + f" 0\n{free} 0\n0\n")
     want_linear(text, formula, 3, gates)
     want(len(text) < 16 * gates, True, f"{len(text)} bytes, of a chain of {gates} hints")
     check(formula, text, work)
@@ -172,10 +184,12 @@ def many_at_once(count: int, work: Path) -> None:
 def wide(count: int, refuted: bool, work: Path) -> None:
     """A clause whose literals are all false. Beyond what two lines can hold there is no chain."""
     units = "".join(f"{variable} 0\n" for variable in range(1, count + 1))
-    formula = written(f"p cnf {count} {count + 1}\n{units}" + " ".join(f"-{variable}" for variable in range(1, count + 1)) + " 0\n", work)
+    formula = written(f"p cnf {count} {count + 1}\n{units}"
+                      + " ".join(f"-{variable}" for variable in range(1, count + 1)) + " 0\n", work)
     text, said, status = run([FILTER, "--format", "drat", formula], "0\n")
     if not refuted:
-        return want((text, said, status), ("", "lrup-exact: line 1: longer than a line may be\n", 1), "the end")
+        return want((text, said, status),
+                    ("", "lrup-exact: line 1: longer than a line may be\n", 1), "the end")
     want((said, status, longest_line(text) <= MOST), ("", 0, True), "the end")
     check(formula, text, work)
 
@@ -209,13 +223,17 @@ def recorded(formula: Path, proof: Text, form: str, work: Path) -> None:
 
 
 def in_rounds(formula: Path, proof: Text, form: str, memory: str, least: int, work: Path) -> None:
-    with started([short_lines(), "--rounds", "d", "--memory", memory, "--format", form, formula, written(proof, work, "proof")], cwd=work,
-                 stdout=subprocess.PIPE, stderr=subprocess.PIPE, bufsize=0, env={**os.environ, **SANITIZING}) as running:
+    with started([short_lines(), "--rounds", "d", "--memory", memory, "--format", form, formula,
+                  written(proof, work, "proof")],
+                 cwd=work, stdout=subprocess.PIPE, stderr=subprocess.PIPE, bufsize=0,
+                 env={**os.environ, **SANITIZING}) as running:
         assert running.stdout and running.stderr
         want(running.stdout.readline(), b"d/round-1.stream-1\n", "the line that the filter writes")
-        done = run([PROGRAM, "--watch", "--rounds", "d", formula, "d/round-1.stream-1"], cwd=work, stdin=running.stdout)
+        done = run([PROGRAM, "--watch", "--rounds", "d", formula, "d/round-1.stream-1"], cwd=work,
+                   stdin=running.stdout)
         running.stdout.close()
-        want((running.stderr.read(), running.wait(), unwatched(done.err), done.status), (b"", 0, "", 0), "the ends")
+        want((running.stderr.read(), running.wait(), unwatched(done.err), done.status),
+             (b"", 0, "", 0), "the ends")
     want(len(watched_ends(done.err)) >= least, True, f"whether there are {least} rounds")
 
 
@@ -230,12 +248,13 @@ def random_formula(seed: int) -> str:
     """A formula with units, and with clauses that are long for a line."""
     numbers = random.Random(seed)
     variables = numbers.randrange(8, 50)
-    clauses = random_clauses(numbers, variables, round(numbers.uniform(3, 5.5) * variables), (2, 3, 3, 3, 4, 5, 9))
+    clauses = random_clauses(numbers, variables, round(numbers.uniform(3, 5.5) * variables),
+                             (2, 3, 3, 3, 4, 5, 9))
     clauses += random_clauses(numbers, variables, numbers.randrange(4), (1,))
     implied = list(range(1, variables + 1))
     numbers.shuffle(implied)
-    clauses += [[implied[place], *(-literal for literal in numbers.sample(implied[:place], min(place, numbers.choice((1, 2, 9)))))]
-                for place in range(1, numbers.choice((1, variables)))]
+    clauses += [[implied[place], *(-literal for literal in numbers.sample(implied[:place], min(
+        place, numbers.choice((1, 2, 9)))))] for place in range(1, numbers.choice((1, variables)))]
     numbers.shuffle(clauses)
     return dimacs(variables, clauses)
 
@@ -250,9 +269,11 @@ def random_proofs(first: int, count: int, work: Path) -> None:
         if run(["cadical", "-q", "--no-binary", formula, work / "proof"]).status != 20:
             continue
         proof = (work / "proof").read_text()
-        lrat = "".join(line if numbers.randrange(3) or " d " in line else re.sub(r" 0 .*", " 0 0", line)
+        lrat = "".join(line if numbers.randrange(3) or " d " in line
+                       else re.sub(r" 0 .*", " 0 0", line)
                        for line in filtered(["--format", "drat", formula], proof).splitlines(True))
-        frat = "".join(f"a {2 * number} {line}\n" for number, line in enumerate(proof.splitlines(), 1) if line[0] != "d")
+        frat = "".join(f"a {2 * number} {line}\n"
+                       for number, line in enumerate(proof.splitlines(), 1) if line[0] != "d")
         for form, text in (("drat", proof), ("lrat", lrat), ("frat", frat)):
             try:
                 recorded(formula, text, form, work)
@@ -269,10 +290,12 @@ def rows_of_chains() -> List[Row]:
     found: List[Row] = []
     for kind in ("units", "failed"):
         for steps in STEPS:
-            found += [(f"{kind}, {steps} steps, {form}", by_hand, kind, steps, form) for form in ("drat", "lrat")]
+            found += [(f"{kind}, {steps} steps, {form}", by_hand, kind, steps, form)
+                      for form in ("drat", "lrat")]
             found += [(f"{kind}, {steps} steps, CaDiCaL", by_cadical, kind, (steps,), False),
                       (f"{kind}, {steps} steps, lrup-solve", by_solve, kind, (steps,), False)]
-    for kind, numbers in (("units", (200000,)), ("failed", (70000,)), ("corridor", (60, 55)), ("lfsr", (32, 20000))):
+    for kind, numbers in (("units", (200000,)), ("failed", (70000,)), ("corridor", (60, 55)),
+                          ("lfsr", (32, 20000))):
         for backwards in (False, True):
             name = kind + ", reversed" * backwards
             found += [(f"{name}, {how}", function, kind, numbers, backwards)
@@ -282,7 +305,8 @@ def rows_of_chains() -> List[Row]:
 
 def rows_of_short_lines() -> List[Row]:
     found: List[Row] = []
-    for name, stream in (("four-clause.cnf", "four-clause.lrup"), ("pigeonhole.cnf", "pigeonhole.lrup"), ("bmc.cnf", "bmc.lrup")):
+    for name, stream in (("four-clause.cnf", "four-clause.lrup"),
+                         ("pigeonhole.cnf", "pigeonhole.lrup"), ("bmc.cnf", "bmc.lrup")):
         for form in FORMS:
             found.append((f"{stream}, {form}, short lines", of_stream, name, stream, form,
                           recorded))
@@ -290,15 +314,20 @@ def rows_of_short_lines() -> List[Row]:
                 found.append((f"{stream}, {form}, short lines in rounds", of_stream, name, stream,
                               form, in_rounds, "12K", 2))
     proof = (TESTS / "proofs" / "random.drat").read_bytes()
-    found += [("random.drat, short lines", recorded, TESTS / "proofs" / "random.cnf", proof, "drat")]
-    return found + [(f"random formulas from {first} on, short lines", random_proofs, first, 50) for first in range(0, RANDOM, 50)]
+    found += [("random.drat, short lines", recorded, TESTS / "proofs" / "random.cnf",
+               proof, "drat")]
+    return found + [(f"random formulas from {first} on, short lines", random_proofs, first, 50)
+                    for first in range(0, RANDOM, 50)]
 
 
 def rows() -> List[Row]:
     found = rows_of_chains() + rows_of_short_lines()
-    found += [(f"units that are needed {order}", units_needed, 20000, order) for order in ("alone", "backwards", "every third")]
-    found += [(f"a clause of {count} literals", wide, count, count <= MOST + 65535 - 1) for count in (65535, 65536, 131070, 131071)]
-    found += [("a clause of 200 literals over exclusive ors", clause_of_many, 200, 66000), ("70,000 literals at once", many_at_once, 70000)]
+    found += [(f"units that are needed {order}", units_needed, 20000, order)
+              for order in ("alone", "backwards", "every third")]
+    found += [(f"a clause of {count} literals", wide, count, count <= MOST + 65535 - 1)
+              for count in (65535, 65536, 131070, 131071)]
+    found += [("a clause of 200 literals over exclusive ors", clause_of_many, 200, 66000),
+              ("70,000 literals at once", many_at_once, 70000)]
     return [*found, ("LRAT of two streams", without_identities)]
 
 

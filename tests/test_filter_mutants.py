@@ -35,15 +35,18 @@ LONG = 9000             # the clauses of a long proof, enough for the filter to 
 LONG_ONES = 0.02        # the share of long proofs
 FAR = 10 ** 12          # the usual distance between names of FRAT
 WORDS = ["lrat", "drat", "frat", "binary-lrat", "binary-drat"]
-HUGE = [1 << 31, (1 << 31) - 1, 1 << 32, (1 << 63) - 1, 1 << 63, 1 << 64, 10 ** 17, 10 ** 18 - 1, 10 ** 18, 10 ** 40,
-        16777215, 16777216, 65536, (1 << 57) - 1]
-LETTERS = [b"a", b"d", b"i", b"l", b"o", b"f", b"r", b"c", b"x", b"-", b"+1", b"0", b"00", b"-0", b"07", b"0x1", b"1.5"]
+HUGE = [1 << 31, (1 << 31) - 1, 1 << 32, (1 << 63) - 1, 1 << 63, 1 << 64, 10 ** 17, 10 ** 18 - 1,
+        10 ** 18, 10 ** 40, 16777215, 16777216, 65536, (1 << 57) - 1]
+LETTERS = [b"a", b"d", b"i", b"l", b"o", b"f", b"r", b"c", b"x", b"-", b"+1", b"0", b"00", b"-0",
+           b"07", b"0x1", b"1.5"]
 
 NUMBER = rb"[1-9][0-9]{0,17}"
 LINE = re.compile(rb"(?:" + NUMBER + rb" (?:-?" + NUMBER + rb" )*0 (?:" + NUMBER + rb" )*0|"
-                  + NUMBER + rb" d (?:" + NUMBER + rb" )*0|" + NUMBER + rb" i (?:-?" + NUMBER + rb" )*0)")
+                  + NUMBER + rb" d (?:" + NUMBER + rb" )*0|" + NUMBER + rb" i (?:-?"
+                  + NUMBER + rb" )*0)")
 # The report on a well-formed stream whose lines are exact.
-ENDS = re.compile(r"c stream \d+: \d+ added, \d+ deleted, (ended|bad line \d+ \((identity|no room|missing \d+)\))")
+ENDS = re.compile(r"c stream \d+: \d+ added, \d+ deleted, (ended|"
+                  r"bad line \d+ \((identity|no room|missing \d+)\))")
 
 
 def in_each_form(name: str, steps_of: Callable[[List[Clause]], List[Step]]) -> List[Base]:
@@ -57,7 +60,8 @@ def copies(formula: List[Clause]) -> List[Step]:
     steps: List[Step] = []
     for number in range(LONG):
         original, identity = number % len(formula), len(formula) + 1 + number
-        steps += [Step("a", identity, formula[original], [original + 1]), Step("d", identity, [], [identity])]
+        steps += [Step("a", identity, formula[original], [original + 1]),
+                  Step("d", identity, [], [identity])]
     return steps
 
 
@@ -74,7 +78,8 @@ def proofs() -> Tuple[List[Base], List[Base]]:
         short += in_each_form(formula, lambda _: read_steps(example(name))[:count])
     steps = read_steps(example("pigeonhole.lrup"))
     short += in_each_form("pigeonhole.cnf", lambda _: list(map(backwards, steps[:60])))
-    short += [("frat", example("pigeonhole.cnf").read_bytes(), frat(read_formula(example("pigeonhole.cnf")), steps, seed, 1, FAR))
+    short += [("frat", example("pigeonhole.cnf").read_bytes(),
+               frat(read_formula(example("pigeonhole.cnf")), steps, seed, 1, FAR))
               for seed in range(3)]
     return short, in_each_form("pigeonhole.cnf", copies)
 
@@ -104,7 +109,8 @@ def other_word(proof: bytes, numbers: random.Random) -> bytes:
     if not words:
         return proof
     word = numbers.choice(words)
-    new = numbers.choice(LETTERS) if numbers.random() < 0.5 else numbers.choice((b"", b"-")) + str(numbers.choice(HUGE)).encode()
+    new = (numbers.choice(LETTERS) if numbers.random() < 0.5
+           else numbers.choice((b"", b"-")) + str(numbers.choice(HUGE)).encode())
     return proof[:word.start()] + new + proof[word.end():]
 
 
@@ -115,18 +121,21 @@ def other_bytes(proof: bytes, numbers: random.Random) -> bytes:
     if what == 0:
         return proof[:at] + proof[at + 1:]
     if what == 1:
-        return proof[:at] + bytes(numbers.choices(range(256), k=numbers.choice((1, 2, 9)))) + proof[at:]
+        return (proof[:at]
+                + bytes(numbers.choices(range(256), k=numbers.choice((1, 2, 9)))) + proof[at:])
     if what == 2:
         return proof[:at] + varint(numbers.choice(HUGE)) + proof[at:]
     if what == 3:
         byte = numbers.choice((b"\xff", b"\x80", b"\0", b" ", b"\n", b"9"))
         return proof[:at] + byte * numbers.choice((1, 30, 5000)) + proof[at:]
-    return proof[:at] + bytes(byte ^ 1 << numbers.randrange(8) for byte in proof[at:at + 1]) + proof[at + 1:]
+    return (proof[:at] + bytes(byte ^ 1 << numbers.randrange(8) for byte in proof[at:at + 1])
+            + proof[at + 1:])
 
 
 def mutated_bytes(proof: bytes, binary: bool, numbers: random.Random) -> bytes:
     for _ in range(numbers.choice((0, 1, 1, 1, 2, 4))):
-        proof = other_bytes(proof, numbers) if binary or numbers.random() < 0.5 else other_word(proof, numbers)
+        proof = (other_bytes(proof, numbers) if binary or numbers.random() < 0.5
+                 else other_word(proof, numbers))
     if numbers.random() < 0.2:
         proof = proof[:numbers.randrange(len(proof) + 1)]
     return proof
@@ -142,12 +151,14 @@ class Mutant:
         proof = mutated_bytes(mutated_steps(steps, numbers), "binary" in word, numbers)
         self.streams = numbers.choice((1, 1, 1, 2, 3))
         self.stream = numbers.randint(1, self.streams)
-        self.words = ["--stream", str(self.stream), "--streams", str(self.streams)] if self.streams > 1 else []
+        self.words = (["--stream", str(self.stream), "--streams", str(self.streams)]
+                      if self.streams > 1 else [])
         if numbers.random() < 0.7:
             self.words += ["--format", word if numbers.random() < 0.9 else numbers.choice(WORDS)]
         if self.streams > 1 and numbers.random() < 0.3:
             other = mutated_bytes(mutated_steps(numbers.choice(short)[2], numbers), False, numbers)
-            self.words += ["--other", f"{self.stream % self.streams + 1}={written(other, work, 'other')}"]
+            self.words += ["--other",
+                           f"{self.stream % self.streams + 1}={written(other, work, 'other')}"]
         self.spoiled = numbers.random() < 0.1
         if self.spoiled:
             formula = mutated_bytes(formula, False, numbers)
@@ -177,8 +188,10 @@ def spelling(text: bytes) -> Optional[str]:
 def report_of(mutant: Mutant, text: bytes, work: Path) -> Optional[str]:
     """The fault in the report on the stream, or None."""
     path = written(text, work, "stream")
-    streams = [path if number == mutant.stream else "/dev/null" for number in range(1, mutant.streams + 1)]
-    done = run([PROGRAM, "--tries", "0", "--lines", "20000", "--room", "100000", mutant.formula, *streams], limit=SECONDS)
+    streams = [path if number == mutant.stream else "/dev/null"
+               for number in range(1, mutant.streams + 1)]
+    done = run([PROGRAM, "--tries", "0", "--lines", "20000", "--room", "100000", mutant.formula,
+                *streams], limit=SECONDS)
     lines = done.out.splitlines()
     if len(lines) <= mutant.streams or not ENDS.fullmatch(lines[mutant.stream - 1]):
         return f"status {done.status}, {done.out}{done.err}"
@@ -195,7 +208,8 @@ def formula_fault(mutant: Mutant, said: str) -> Optional[str]:
 
 def fault_of(mutant: Mutant, work: Path) -> Optional[str]:
     try:
-        out, err, status = run([sanitized_filter(), *mutant.words], mutant.proof if mutant.piped else None, SECONDS,
+        out, err, status = run([sanitized_filter(), *mutant.words],
+                               mutant.proof if mutant.piped else None, SECONDS,
                                env={**os.environ, **SANITIZING})
     except subprocess.TimeoutExpired:
         return f"no end after {SECONDS} seconds"

@@ -53,8 +53,9 @@ cadical -q formula.cnf proof > answer &
 tools/exact/out/exact --rounds live --format binary-drat formula.cnf proof |
     { read ready && lrupd --rounds live formula.cnf live/round-1.stream-1; }
 """
-COMMANDS = [("CaDiCaL", CADICAL), ("two of CaDiCaL", CADICAL_TWICE), ("CryptoMiniSat", CRYPTOMINISAT),
-            ("two of CryptoMiniSat", CRYPTOMINISAT_TWICE), ("PicoSAT", PICOSAT), ("CaDiCaL and CryptoMiniSat", BOTH)]
+COMMANDS = [("CaDiCaL", CADICAL), ("two of CaDiCaL", CADICAL_TWICE),
+            ("CryptoMiniSat", CRYPTOMINISAT), ("two of CryptoMiniSat", CRYPTOMINISAT_TWICE),
+            ("PicoSAT", PICOSAT), ("CaDiCaL and CryptoMiniSat", BOTH)]
 
 
 def wanted_on_path(commands: str) -> None:
@@ -76,8 +77,9 @@ def in_bash(program: str, commands: str, work: Path) -> Ran:
     for pipe in ("proof", "proof1", "proof2"):
         piped(work / pipe)
     path = os.pathsep.join([str(work), os.environ["PATH"]])
-    with subprocess.Popen(["bash", "-c", commands], cwd=work, env={**os.environ, "PATH": path}, stdout=subprocess.PIPE,
-                          stderr=subprocess.PIPE, text=True, start_new_session=True) as running:
+    with subprocess.Popen(["bash", "-c", commands], cwd=work, env={**os.environ, "PATH": path},
+                          stdout=subprocess.PIPE, stderr=subprocess.PIPE, text=True,
+                          start_new_session=True) as running:
         try:
             out, err = running.communicate(timeout=LIMIT)
             return Ran(out, err, running.returncode)
@@ -93,17 +95,22 @@ def beside(program: str, commands: str, words: str, work: Path) -> None:
     out, said, status = in_bash(program, commands, work)
     *lines, verdict = out.splitlines() or [""]
     want((verdict, said, status), ("s UNSATISFIABLE", "", 0), "the verdict")
-    want([line.endswith(", ended") for line in lines], [True] * commands.count("tools/exact"), "streams that ended")
+    want([line.endswith(", ended") for line in lines], [True] * commands.count("tools/exact"),
+         "streams that ended")
 
 
 def in_rounds(program: str, memory: str, rounds: int, work: Path) -> None:
     """The proof is checked in at least that many rounds."""
     wanted_on_path(IN_ROUNDS)
     make_formula("random 180 3", work)
-    out, said, status = in_bash(program, IN_ROUNDS.replace("exact --rounds live", f"exact --rounds live --memory {memory}"), work)
-    found = re.fullmatch(r"(?:c round (\d+)\n)?c stream 1: \d+ added, \d+ deleted, ended\ns UNSATISFIABLE\n", out)
+    out, said, status = in_bash(
+        program, IN_ROUNDS.replace("exact --rounds live", f"exact --rounds live --memory {memory}"),
+        work)
+    found = re.fullmatch(
+        r"(?:c round (\d+)\n)?c stream 1: \d+ added, \d+ deleted, ended\ns UNSATISFIABLE\n", out)
     number = int((found and found[1]) or 1)
-    want((bool(found), number >= rounds, said, status), (True, True, "", 0), f"{out}: the report, the rounds, and the status")
+    want((bool(found), number >= rounds, said, status), (True, True, "", 0),
+         f"{out}: the report, the rounds, and the status")
     want(os.listdir(work / "live"), [f"round-{number + 1}.cnf"], "the files left")
 
 
@@ -114,8 +121,8 @@ def while_it_runs(commands: str, words: str, work: Path) -> None:
     formula, proof = make_formula(words, work), piped(work / "proof")
     solver = commands.splitlines()[0].split(" > ")[0].split()
     form = ["--format", "binary-drat"] * (solver[0] == "cadical")
-    with started(solver, cwd=work, stdout=subprocess.DEVNULL) as running, \
-            started([FILTER, *form, formula, proof], stdout=subprocess.PIPE, bufsize=0) as filtering:
+    with started(solver, cwd=work, stdout=subprocess.DEVNULL) as running, started(
+            [FILTER, *form, formula, proof], stdout=subprocess.PIPE, bufsize=0) as filtering:
         assert filtering.stdout
         line = read_line(filtering.stdout)
         want((line[-3:], running.poll()), (" 0\n", None), "a line, while the solver runs")
@@ -125,10 +132,13 @@ def solvers(program: str) -> List[Row]:
     formulas = ("random 150 1", "pigeons 7", "order 15", "bmc.cnf")
     runs: List[Row] = [(f"{name}, {words}", beside, program, commands.replace(SIZES, ""), words)
                        for name, commands in COMMANDS for words in formulas]
-    runs += [("CaDiCaL, more than the default sizes hold", with_memory, beside, program, CADICAL, "pigeons 9")]
-    runs += [(f"in rounds with {memory}", in_rounds, program, memory, rounds) for memory, rounds in (("500K", 3), ("512M", 1))]
+    runs += [("CaDiCaL, more than the default sizes hold", with_memory, beside, program,
+              CADICAL, "pigeons 9")]
+    runs += [(f"in rounds with {memory}", in_rounds, program, memory, rounds)
+             for memory, rounds in (("500K", 3), ("512M", 1))]
     return runs + [("CaDiCaL writes while it runs", while_it_runs, CADICAL, "random 200 3"),
-                   ("CryptoMiniSat writes while it runs", while_it_runs, CRYPTOMINISAT, "random 200 3")]
+                   ("CryptoMiniSat writes while it runs", while_it_runs, CRYPTOMINISAT,
+                    "random 200 3")]
 
 
 test_row = parametrized(solvers(PROGRAM))

@@ -23,17 +23,21 @@ FIRST = "p cnf 2 1\n1 2 0\n"
 XOR = dimacs(2, [[1, 2], [-1, 2], [1, -2], [-1, -2]])
 
 
-def check(words: Sequence[object], tested: Optional[Mapping[str, object]] = None, **how: object) -> Answer:
+def check(words: Sequence[object], tested: Optional[Mapping[str, object]] = None,
+          **how: object) -> Answer:
     program = (TESTED if tested is not None else SOLVE).with_name("lrup-check")
-    return Answer(run([str(word) for word in (program, "--lrupd", PROGRAM, *words)], env=in_environment(tested), **how))
+    return Answer(run([str(word) for word in (program, "--lrupd", PROGRAM, *words)],
+                      env=in_environment(tested), **how))
 
 
 def want_proved(answer: Answer, verdict: str = "s UNSATISFIABLE") -> None:
-    want((answer.answers, answer.status, answer.said), ([verdict], 20, ""), f"the answer of\n{answer.out[-2000:]}")
+    want((answer.answers, answer.status, answer.said), ([verdict], 20, ""),
+         f"the answer of\n{answer.out[-2000:]}")
 
 
 def want_none(answer: Answer, cause: str) -> None:
-    want((answer.answers, answer.status, answer.said), (["s UNKNOWN"], 0, ""), f"the answer of\n{answer.out[-2000:]}")
+    want((answer.answers, answer.status, answer.said), (["s UNKNOWN"], 0, ""),
+         f"the answer of\n{answer.out[-2000:]}")
     want(answer.comments[:1], [cause], f"the first comment of\n{answer.out[-2000:]}")
 
 
@@ -41,7 +45,8 @@ def proof_by(command: str, formula: Path, work: Path) -> Path:
     """A solver's proof; `proof` in its command is the proof's file."""
     words, proof = command.split(), work / "proof"
     needs(words[0])
-    done = run([str(formula) if word == "formula" else str(proof) if word == "proof" else word for word in words])
+    done = run([str(formula) if word == "formula" else str(proof) if word == "proof" else word
+                for word in words])
     want(done.status, 20, f"the status of {command}")
     return proof
 
@@ -75,7 +80,8 @@ def in_rounds(work: Path) -> None:
     proof, kept = proof_by("cadical -q formula proof", formula, work), work / "kept"
     answer = check(["-v", "--proofs", kept, formula, proof], tested=MANY_ROUNDS)
     want_proved(answer)
-    want(sum(line.startswith("round ") for line in answer.comments) >= 2, True, f"whether there are rounds in\n{answer.out}")
+    want(sum(line.startswith("round ") for line in answer.comments) >= 2, True,
+         f"whether there are rounds in\n{answer.out}")
     check_again(kept)
 
 
@@ -96,26 +102,31 @@ def side_by_side(work: Path) -> None:
     """Proofs of three forms by two solvers, and one that ends early."""
     formula = generated("pigeons 6", work)
     proofs: List[Path] = []
-    for number, command in enumerate(("cadical -q formula proof", "cadical -q --no-binary formula proof",
+    for number, command in enumerate(("cadical -q formula proof",
+                                      "cadical -q --no-binary formula proof",
                                       "picosat formula -R proof")):
         proofs.append(proof_by(command, formula, work).rename(work / f"proof-{number}"))
     cut = written("".join(proofs[1].read_text().splitlines(True)[:5]), work, "cut")
     answer = check([formula, cut, *proofs])
     want_proved(answer)
     want([line for line in answer.comments if line.startswith(f"{cut}: ")],
-         [f"{cut}: the proof ends without the empty clause"], f"the message on the truncated one, in\n{answer.out}")
+         [f"{cut}: the proof ends without the empty clause"],
+         f"the message on the truncated one, in\n{answer.out}")
 
 
 def core_and_lrat(work: Path) -> None:
     formula = generated("random 150 1", work)
     proof = proof_by("cadical -q formula proof", formula, work)
     want_proved(check(["--core", work / "core", "--lrat", work / "lrat", formula, proof]))
-    want(lrat_fault(read_formula(formula), (work / "lrat").read_text()), "", "the LRAT checker's message")
+    want(lrat_fault(read_formula(formula), (work / "lrat").read_text()), "",
+         "the LRAT checker's message")
 
 
 def assumed(work: Path) -> None:
-    formula, assumptions = written("p cnf 3 2\n-1 2 0\n-2 3 0\n", work), written("1 -3 0\n", work, "assumptions")
-    want_proved(check(["--assume", assumptions, formula, written("-1 3 0\n", work, "proof")]), "s UNSATISFIABLE UNDER ASSUMPTIONS")
+    formula, assumptions = (written("p cnf 3 2\n-1 2 0\n-2 3 0\n", work),
+                            written("1 -3 0\n", work, "assumptions"))
+    want_proved(check(["--assume", assumptions, formula, written("-1 3 0\n", work, "proof")]),
+                "s UNSATISFIABLE UNDER ASSUMPTIONS")
 
 
 # Faulty proofs.
@@ -132,7 +143,8 @@ def of_satisfiable(seed: int, work: Path) -> None:
     formula = generated(f"random 60 {seed} 3.0", work)
     other = work / "other"
     other.mkdir()
-    proof = proof_by("cadical -q --no-binary formula proof", generated(f"random 60 {seed} 6.0", other), work)
+    proof = proof_by("cadical -q --no-binary formula proof",
+                     generated(f"random 60 {seed} 6.0", other), work)
     answer = check([formula, proof])
     want((answer.answers, answer.status), (["s UNKNOWN"], 0), f"the answer of\n{answer.out}")
 
@@ -141,15 +153,18 @@ def mutated(seed: int, work: Path) -> None:
     """There is a verdict only for a proof whose lines all follow, as another checker confirms for
     the LRAT text."""
     formula, numbers = generated(f"random 40 {seed} 7.0", work), random.Random(seed)
-    lines = proof_by("cadical -q --no-binary formula proof", formula, work).read_text().splitlines(True)
+    lines = proof_by("cadical -q --no-binary formula proof", formula,
+                     work).read_text().splitlines(True)
     for at in numbers.choices([at for at, line in enumerate(lines) if line != "0\n"], k=3):
         words = lines[at].split()
-        words[numbers.randrange(len(words) - 1)] = str(numbers.choice((-1, 1)) * numbers.randrange(1, 41))
+        words[numbers.randrange(len(words) - 1)] = str(
+            numbers.choice((-1, 1)) * numbers.randrange(1, 41))
         lines[at] = " ".join(words) + "\n"
     answer = check(["--lrat", work / "lrat", formula, written("".join(lines), work, "proof")])
     want(answer.status in (0, 20), True, f"the status {answer.status} of\n{answer.out}")
     if answer.status == 20:
-        want(lrat_fault(read_formula(formula), (work / "lrat").read_text()), "", "the LRAT checker's message")
+        want(lrat_fault(read_formula(formula), (work / "lrat").read_text()), "",
+             "the LRAT checker's message")
 
 
 def misused(words: Sequence[str], said: str, work: Path) -> None:
@@ -185,12 +200,15 @@ def late_writer(work: Path) -> None:
 def by_substitution(work: Path) -> None:
     formula, proof = written(FOUR, work), written("2 0\n0\n", work, "proof")
     program = SOLVE.with_name("lrup-check")
-    want_proved(Answer(run(["bash", "-c", '"$0" --lrupd "$1" <(cat "$2") <(cat "$3")', program, PROGRAM, formula, proof])))
+    want_proved(Answer(run(["bash", "-c", '"$0" --lrupd "$1" <(cat "$2") <(cat "$3")', program,
+                            PROGRAM, formula, proof])))
 
 
 def help_of(work: Path) -> None:
     answer = check(["--help"])
-    want((answer.out.startswith("usage: lrup-check [OPTIONS] FORMULA PROOF"), answer.said, answer.status), (True, "", 0), "--help")
+    want((answer.out.startswith("usage: lrup-check [OPTIONS] FORMULA PROOF"), answer.said,
+          answer.status),
+         (True, "", 0), "--help")
 
 
 def anywhere(work: Path) -> None:
@@ -203,23 +221,29 @@ def anywhere(work: Path) -> None:
     want_proved(Answer(run([str(link), "--lrupd", PROGRAM, "--", "-formula", "-proof"], cwd=work)))
 
 
-FORMS = ["cadical -q formula proof", "cadical -q --no-binary formula proof", "cryptominisat5 --verb 0 formula proof",
-         "picosat formula -R proof"]
+FORMS = ["cadical -q formula proof", "cadical -q --no-binary formula proof",
+         "cryptominisat5 --verb 0 formula proof", "picosat formula -R proof"]
 NONE = "no conflict by unit propagation: the clause "
-RAT, NOT_RAT = " is a RAT step, which lrupd doesn't check", " doesn't follow from those that weren't deleted, and it isn't RAT"
-DELETED, NOT_DELETED = ". It follows with clauses that were deleted before it", ". Nor does it follow with those that were deleted"
+RAT, NOT_RAT = (" is a RAT step, which lrupd doesn't check",
+                " doesn't follow from those that weren't deleted, and it isn't RAT")
+DELETED, NOT_DELETED = (". It follows with clauses that were deleted before it",
+                        ". Nor does it follow with those that were deleted")
 ROWS: List[Row] = [
-    *((f"{command}, {name}", of_solver, command, name, "file") for command in FORMS for name in ("bmc.cnf", "random 150 1")),
+    *((f"{command}, {name}", of_solver, command, name, "file") for command in FORMS
+      for name in ("bmc.cnf", "random 150 1")),
     *((f"by {how}", of_solver, FORMS[0], "random 150 1", how)
       for how in ("standard input", "formula from standard input", "a pipe")),
     ("in rounds", in_rounds), ("one stream", one_stream), ("four streams", streams, (1, 2, 3, 4)),
     ("side by side", side_by_side), ("core and LRAT", core_and_lrat), ("assumptions", assumed),
-    ("DRUP by hand", by_hand, XOR, "1 0\n0\n"), ("LRAT by hand", by_hand, XOR, "5 1 0 1 3 0\n6 0 5 2 4 0\n"),
-    ("no empty clause, and one follows", by_hand, XOR, "1 0\n"), ("an empty proof, and one follows", by_hand, "p cnf 1 2\n1 0\n-1 0\n", ""),
-    ("a clause that doesn't follow", refused, XOR.replace("-1 -2 0\n", "").replace("2 4", "2 3"), "1 0\n-2 0\n",
-     f"line 2: {NONE}-2 0{NOT_RAT}{NOT_DELETED}"),
+    ("DRUP by hand", by_hand, XOR, "1 0\n0\n"),
+    ("LRAT by hand", by_hand, XOR, "5 1 0 1 3 0\n6 0 5 2 4 0\n"),
+    ("no empty clause, and one follows", by_hand, XOR, "1 0\n"),
+    ("an empty proof, and one follows", by_hand, "p cnf 1 2\n1 0\n-1 0\n", ""),
+    ("a clause that doesn't follow", refused, XOR.replace("-1 -2 0\n", "").replace("2 4", "2 3"),
+     "1 0\n-2 0\n", f"line 2: {NONE}-2 0{NOT_RAT}{NOT_DELETED}"),
     ("a RAT step", refused, FIRST, "1 0\n", f"line 1: {NONE}1 0{RAT}"),
-    ("a deletion that came too early", refused, XOR, "d 1 2 0\n1 0\n2 0\n0\n", f"line 2: {NONE}1 0{NOT_RAT}{DELETED}"),
+    ("a deletion that came too early", refused, XOR, "d 1 2 0\n1 0\n2 0\n0\n",
+     f"line 2: {NONE}1 0{NOT_RAT}{DELETED}"),
     ("a proof that ends early", refused, FIRST, "", "the proof ends without the empty clause"),
     ("a new variable", refused, FIRST, "3 0\n", "line 1: a variable that the formula doesn't have"),
     ("compressed", refused, FIRST, "\x1f\x8b garbled", "byte 1: compressed: unpack it with zcat"),
@@ -231,14 +255,16 @@ ROWS: List[Row] = [
     ("no proof that is there", misused, ["%formula", "%none"], "%none: No such file or directory"),
     ("a folder", misused, ["%formula", "%folder"], "%folder is a folder"),
     ("standard input twice", misused, ["-", "-"], "standard input can be read only once"),
-    *((f"an option of engines, {words[0]}", misused, [*words, "%formula", "%proof"], f"{words[0]} is lrup-solve's: lrup-check starts no engine")
-      for words in (["-j", "2"], ["--mpi", "mpirun"], ["--solver", "x %formula %proof"], ["--seed", "1"], ["--share-size", "4"],
-                    ["--no-share"])),
-    ("such an option after the proof", misused, ["%formula", "%proof", "--seed=1"], "--seed is lrup-solve's: lrup-check starts no engine"),
+    *((f"an option of engines, {words[0]}", misused, [*words, "%formula", "%proof"],
+       f"{words[0]} is lrup-solve's: lrup-check starts no engine")
+      for words in (["-j", "2"], ["--mpi", "mpirun"], ["--solver", "x %formula %proof"],
+                    ["--seed", "1"], ["--share-size", "4"], ["--no-share"])),
+    ("such an option after the proof", misused, ["%formula", "%proof", "--seed=1"],
+     "--seed is lrup-solve's: lrup-check starts no engine"),
     ("an answer that no proof has", misused, ["--expect", "sat", "%formula", "%proof"],
      "--expect takes unsat or unsat-under-assumptions, not sat"),
-    ("--help", help_of), ("anywhere", anywhere), ("no writer", no_writer), ("a late writer", late_writer),
-    ("by substitution", by_substitution),
+    ("--help", help_of), ("anywhere", anywhere), ("no writer", no_writer),
+    ("a late writer", late_writer), ("by substitution", by_substitution),
 ]
 
 pytestmark = FOR_TESTS

@@ -43,7 +43,8 @@ def answers(text: str, status: int, words: List[str], work: Path) -> None:
 
 
 def answers_of(words_or_name: str, status: int, options: List[str], work: Path) -> None:
-    formula = example(words_or_name) if words_or_name.endswith(".cnf") else generated(words_or_name, work)
+    formula = (example(words_or_name) if words_or_name.endswith(".cnf")
+               else generated(words_or_name, work))
     want_answer(solve([*options, formula]), status, formula)
 
 
@@ -62,7 +63,8 @@ def randomly(seed: int, work: Path) -> None:
     words = ["-v", "--memory", "64M", "--seed", seed, "-j", numbers.randint(2, 4), formula]
     kept = work / "proofs"
     keeps = seed % 10 == 0
-    early = {"SET": EARLY, "SLICE": numbers.choice((20, 50, 200)), "FIRST_WORDS": numbers.choice((1000, 1 << 20))}
+    early = {"SET": EARLY, "SLICE": numbers.choice((20, 50, 200)),
+             "FIRST_WORDS": numbers.choice((1000, 1 << 20))}
     answer = solve([*["--proofs", kept] * keeps, *words], tested=early)
     want(answer.lost(), [], "engines that are lost")
     want_answer(answer, answer.status if answer.status in (10, 20) else 20, formula)
@@ -109,12 +111,15 @@ def holes(work: Path) -> None:
     """As many pigeonholes as pigeons, which a lucky assignment satisfies. CaDiCaL looks for it only
     once."""
     names = [[pigeon * 40 + hole + 1 for pigeon in range(40)] for hole in range(40)]
-    clauses = [list(pigeon) for pigeon in zip(*names)] + [[-one, -other] for hole in names for one in hole for other in hole if one < other]
+    clauses = [list(pigeon) for pigeon in zip(*names)] + [
+        [-one, -other] for hole in names for one in hole for other in hole if one < other]
     formula = written(dimacs(1600, clauses), work)
     answer = solve(["-v", "-j", "2", formula])
     want_answer(answer, 10, formula)
-    first, = [re.match(r"engine 1: ([\d.]+) s, .*; 0 conflicts;", line) for line in answer.comments if line.startswith("engine 1: ")]
-    want(first is not None and float(first[1]) < 0.3, True, f"whether engine 1 was quick\n{answer.comments}")
+    first, = [re.match(r"engine 1: ([\d.]+) s, .*; 0 conflicts;", line) for line in answer.comments
+              if line.startswith("engine 1: ")]
+    want(first is not None and float(first[1]) < 0.3, True,
+         f"whether engine 1 was quick\n{answer.comments}")
 
 
 def impostor(body: str, cause: str, work: Path) -> None:
@@ -140,14 +145,16 @@ class Running:
             for number in ignored:
                 signal.signal(number, signal.SIG_IGN)
         self.folder = Path(tempfile.mkdtemp(dir=work))
-        self.process = subprocess.Popen(command(["-v", "-j", "2", formula], self.HOOKS), cwd=self.folder, text=True,
-                                        stdout=subprocess.PIPE, stderr=subprocess.PIPE, preexec_fn=ignore, start_new_session=True,
-                                        env=in_environment(self.HOOKS, {"TMPDIR": str(self.folder)}))
+        self.process = subprocess.Popen(
+            command(["-v", "-j", "2", formula], self.HOOKS), cwd=self.folder, text=True,
+            stdout=subprocess.PIPE, stderr=subprocess.PIPE, preexec_fn=ignore,
+            start_new_session=True, env=in_environment(self.HOOKS, {"TMPDIR": str(self.folder)}))
         self.children: Dict[str, int] = {}
 
     def __enter__(self) -> "Running":
         try:
-            until("five children, or the end", lambda: self.process.poll() is not None or self.has_all())
+            until("five children, or the end",
+                  lambda: self.process.poll() is not None or self.has_all())
         except AssertionError:
             self.__exit__()
             raise
@@ -189,7 +196,8 @@ def killed(names: List[str], number: int, status: int, cause: str, work: Path) -
 
 def dealt(answer: Answer) -> List[int]:
     """How many cubes were dealt out, refuted, and handed on."""
-    found = [re.findall(r"\d[\d,]*", line) for line in answer.comments if line.startswith("cubes: ")]
+    found = [re.findall(r"\d[\d,]*", line) for line in answer.comments
+             if line.startswith("cubes: ")]
     return [int(number.replace(",", "")) for number in found[0]] if found else [0, 0, 0]
 
 
@@ -210,22 +218,30 @@ def randomly_cubed(seed: int, work: Path) -> None:
     """Any answer but 'unknown', as in `randomly`, in rounds and with assumptions."""
     numbers = random.Random(f"{seed} cubes")
     size = numbers.randrange(60, 150)
-    formula = written(dimacs(size, random_clauses(numbers, size, round(numbers.uniform(4, 4.6) * size))), work)
-    literals = [variable * numbers.choice((-1, 1)) for variable in numbers.sample(range(1, size), numbers.choice((0, 0, 1, 3)))]
+    formula = written(
+        dimacs(size, random_clauses(numbers, size, round(numbers.uniform(4, 4.6) * size))), work)
+    literals = [variable * numbers.choice((-1, 1))
+                for variable in numbers.sample(range(1, size), numbers.choice((0, 0, 1, 3)))]
     cube = written(" ".join(map(str, [*literals, 0])) + "\n", work, "cube")
-    early = {"SET": EARLY, "SLICE": numbers.choice((5, 10, 30)), "FIRST_WORDS": numbers.choice((1000, 1 << 20))}
-    answer = solve(["-v", "--memory", "64M", "--seed", seed, "-j", numbers.choice((3, 4)), "--assume", cube, formula], tested=early)
+    early = {"SET": EARLY, "SLICE": numbers.choice((5, 10, 30)),
+             "FIRST_WORDS": numbers.choice((1000, 1 << 20))}
+    answer = solve(["-v", "--memory", "64M", "--seed", seed, "-j", numbers.choice((3, 4)),
+                    "--assume", cube, formula], tested=early)
     want(answer.lost(), [], "engines that are lost")
-    want(answer.status in (10, 20) and (answer.status == 20 or set(literals) <= set(answer.values)), True, f"the answer\n{answer.out}")
-    under = answer.answers if answer.answers in ([ANSWERS[20]], ["s UNSATISFIABLE UNDER ASSUMPTIONS"]) else [ANSWERS[answer.status]]
+    want(answer.status in (10, 20) and (answer.status == 20 or set(literals) <= set(answer.values)),
+         True, f"the answer\n{answer.out}")
+    under = (answer.answers
+             if answer.answers in ([ANSWERS[20]], ["s UNSATISFIABLE UNDER ASSUMPTIONS"])
+             else [ANSWERS[answer.status]])
     want_answer(answer, answer.status, formula, under[0])
 
 
 def killed_with_a_cube(name: str, work: Path) -> None:
     """Another engine takes the cube of a killed one, and the answer comes."""
     formula, hooks = generated("pigeons 9", work), {"SLICE": 200}
-    with subprocess.Popen(command(["-v", "-j", "4", formula], hooks), env=in_environment(hooks), text=True, start_new_session=True,
-                          stdout=subprocess.PIPE, stderr=subprocess.PIPE) as process:
+    with subprocess.Popen(command(["-v", "-j", "4", formula], hooks), env=in_environment(hooks),
+                          text=True, start_new_session=True, stdout=subprocess.PIPE,
+                          stderr=subprocess.PIPE) as process:
         try:
             assert process.stdout
             before = ""
@@ -237,7 +253,8 @@ def killed_with_a_cube(name: str, work: Path) -> None:
             end_group(process)
     answer = Answer(Ran(out, said, process.returncode))
     want_answer(answer, 20, formula)
-    want((len(answer.lost()), dealt(answer)[2] >= 1), (1, True), f"the lost engines, and whether another one gets the cube\n{out}")
+    want((len(answer.lost()), dealt(answer)[2] >= 1), (1, True),
+         f"the lost engines, and whether another one gets the cube\n{out}")
 
 
 def ended_by(number: int, work: Path) -> None:
@@ -258,14 +275,16 @@ def ignored(number: int, work: Path) -> None:
         running.process.send_signal(signal.SIGTERM)
         answer = running.end()
     want((answer.answers, answer.status), (["s UNKNOWN"], -signal.SIGTERM), "the end")
-    want("ended by a signal: Terminated" in answer.comments, True, f"a word on the other signal in\n{answer.out}")
+    want("ended by a signal: Terminated" in answer.comments, True,
+         f"a word on the other signal in\n{answer.out}")
 
 
 def stopped(work: Path) -> None:
     """Ctrl-Z stops engines and filters with the front, which has its own process group, and they
     continue with it."""
     with Running(generated("pigeons 11", work), work) as running:
-        pids = [running.process.pid, *(running.children[name] for name in ("lrup-engines", "engine 1", "filter 2"))]
+        pids = [running.process.pid,
+                *(running.children[name] for name in ("lrup-engines", "engine 1", "filter 2"))]
         states = lambda: {of_process(pid, "stat").rsplit(")", 1)[-1].split()[0] for pid in pids}
         running.process.send_signal(signal.SIGTSTP)
         until("all are stopped", lambda: states() == {"T"})
@@ -297,9 +316,11 @@ def gives_way(work: Path) -> None:
     most, and nobody lowers it."""
     own = of_process(os.getpid(), "oom_score_adj")
     with Running(generated("pigeons 11", work), work) as running:
-        until("engines and filters give way", lambda: {of_process(pid, "oom_score_adj") for name, pid in running.children.items()
-                                                       if name[:6] in ("engine", "filter")} == {"1000\n"})
-        found = [of_process(pid, "oom_score_adj") for pid in (running.process.pid, running.children["lrupd"])]
+        until("engines and filters give way",
+              lambda: {of_process(pid, "oom_score_adj") for name, pid in running.children.items()
+                       if name[:6] in ("engine", "filter")} == {"1000\n"})
+        found = [of_process(pid, "oom_score_adj")
+                 for pid in (running.process.pid, running.children["lrupd"])]
         running.process.terminate()
         running.end()
     want(found, [own, own], "the numbers of the first process and lrupd")
@@ -309,7 +330,8 @@ def time_is_up(work: Path) -> None:
     formula, begin = generated("pigeons 11", work), time.monotonic()
     answer = solve(["--time", "0.7", formula])
     want_answer(answer, 0)
-    want(("time is up" in answer.comments, 0.7 <= time.monotonic() - begin < SOON), (True, True), f"the messages\n{answer.out}")
+    want(("time is up" in answer.comments, 0.7 <= time.monotonic() - begin < SOON), (True, True),
+         f"the messages\n{answer.out}")
 
 
 def full(words: List[str], out: str, most: int, cause: str, work: Path) -> None:
@@ -318,8 +340,10 @@ def full(words: List[str], out: str, most: int, cause: str, work: Path) -> None:
         pytest.skip("there is no /dev/full")
     limit = lambda: resource.setrlimit(resource.RLIMIT_FSIZE, (most, most)) if most else None
     with open(out, "w") as file:
-        answer = solve([*(word.format(work=work) for word in words), example("bmc.cnf")], stdout=file, preexec_fn=limit)
-    want((answer.status, answer.said.count("\n"), cause in answer.said), (1, 1, True), f"the message: {answer.said}")
+        answer = solve([*(word.format(work=work) for word in words), example("bmc.cnf")],
+                       stdout=file, preexec_fn=limit)
+    want((answer.status, answer.said.count("\n"), cause in answer.said), (1, 1, True),
+         f"the message: {answer.said}")
 
 
 def closed(formula: str, work: Path) -> None:
@@ -358,10 +382,11 @@ def shown_on_terminal(words: List[str], count: int, columns: int, work: Path) ->
         seen.extend(read_terminal(leader))
         return len(PROGRESS.findall(seen)) >= count
 
-    with started(command(["-j", "2", *words, generated("pigeons 11", work)]), stdout=subprocess.PIPE, stderr=terminal,
-                 text=True) as running:
+    with started(command(["-j", "2", *words, generated("pigeons 11", work)]),
+                 stdout=subprocess.PIPE, stderr=terminal, text=True) as running:
         os.close(terminal)
-        until("an engine is there", lambda: "engine 1" in children_of(running.pid) or running.poll() is not None)
+        until("an engine is there",
+              lambda: "engine 1" in children_of(running.pid) or running.poll() is not None)
         goes_on(running)
         until(f"{count} lines of progress", lambda: has_shown() or running.poll() is not None)
         running.terminate()
@@ -378,7 +403,8 @@ def progress(words: List[str], wanted: bool, columns: int, work: Path) -> None:
     shown, width = PROGRESS.findall(seen), (columns or 80) - 1
     found = min(len(shown), 3), b"\n" in seen, not shown or seen.endswith(b"\r\x1b[K")
     want(found, (3 * wanted, False, True), f"on the terminal: {seen[:300]!r}")
-    whole = [line for line in shown if len(line) == width or len(line) < width and columns != 30 and line.endswith(b" %")]
+    whole = [line for line in shown if len(line) == width or len(line) < width and columns != 30
+             and line.endswith(b" %")]
     want(whole, shown, "lines within the columns")
     hidden, lines = seen.count(b"\r\x1b[K"), sum(line.startswith("c ") for line in out.splitlines())
     want(hidden <= lines + 1, True, f"{hidden} times the line was hidden, for {lines} lines")
@@ -401,7 +427,8 @@ def large_formula(words: List[str], work: Path) -> None:
         seen.extend(read_terminal(leader))
         return f"reading {formula} ..".encode() in seen
 
-    with started(command([*words, formula]), stdout=subprocess.PIPE, stderr=terminal, text=True) as running:
+    with started(command([*words, formula]), stdout=subprocess.PIPE, stderr=terminal,
+                 text=True) as running:
         os.close(terminal)
         until("that it is read", lambda: has_shown() or running.poll() is not None)
         begun = time.monotonic()
@@ -410,11 +437,13 @@ def large_formula(words: List[str], work: Path) -> None:
         out = running.communicate(timeout=LIMIT)[0]
         lasts = time.monotonic() - begun
     why = "time is up, and the formula isn't read" if words else "ended by a signal: Terminated"
-    want((out, running.returncode), (f"c {why}\ns UNKNOWN\n", 0 if words else -signal.SIGTERM), "the end")
+    want((out, running.returncode),
+         (f"c {why}\ns UNKNOWN\n", 0 if words else -signal.SIGTERM), "the end")
     want(lasts < 4, True, f"whether it ended soon, after {lasts} seconds")
     seen.extend(read_terminal(leader))
     os.close(leader)
-    want(bytes(seen).endswith(b"\r\x1b[K"), True, f"whether the line is erased: {bytes(seen)[-100:]!r}")
+    want(bytes(seen).endswith(b"\r\x1b[K"), True,
+         f"whether the line is erased: {bytes(seen)[-100:]!r}")
 
 
 def terminal_that_stops(work: Path) -> None:
@@ -425,10 +454,12 @@ def terminal_that_stops(work: Path) -> None:
     settings[3] |= termios.TOSTOP
     termios.tcsetattr(terminal, termios.TCSANOW, settings)
     fcntl.fcntl(leader, fcntl.F_SETFL, os.O_NONBLOCK)
-    answer = solve(["--time", "1", generated("pigeons 11", work)], stderr=terminal, start_new_session=True,
+    answer = solve(["--time", "1", generated("pigeons 11", work)], stderr=terminal,
+                   start_new_session=True,
                    preexec_fn=lambda: fcntl.ioctl(terminal, termios.TIOCSCTTY, 0))
     os.close(terminal)
-    want(("time is up" in answer.comments, len(PROGRESS.findall(read_terminal(leader))) > 0), (True, True), f"the comments\n{answer.out}")
+    want(("time is up" in answer.comments, len(PROGRESS.findall(read_terminal(leader))) > 0),
+         (True, True), f"the comments\n{answer.out}")
     os.close(leader)
 
 
@@ -463,29 +494,36 @@ def options_listed(work: Path) -> None:
     listed = re.findall(r"^  (?:(-\w), )?(--?[a-z-]+)", summary.out, re.M)
     tagged = re.findall(r"^\.It (Fl .*)$", (ROOT / "docs" / "lrup-solve.1").read_text(), re.M)
     in_manual = {"-" + word for line in tagged for word in re.findall(r"Fl ([\w-]+)", line)}
-    want(in_manual, {word for pair in listed for word in pair if word}, "options of the manual page")
+    want(in_manual, {word for pair in listed for word in pair if word},
+         "options of the manual page")
 
 
 # Rules of sharing: leaving one out is noticed, and with it nothing of the kind happens.
 
 
-def rests_on(what: str, count: int, found: str, variables: Tuple[int, int], early: str, work: Path) -> None:
+def rests_on(what: str, count: int, found: str, variables: Tuple[int, int], early: str,
+             work: Path) -> None:
     """Runs that many formulas, with the rule and without; more if none of them broke, which depends
     on timing. Without it a stream waits a second, not a minute, for a clause that never comes."""
     seen = {True: 0, False: 0}
     for seed in range(10 * count):
         numbers = random.Random(seed)
         size = numbers.randrange(*variables)
-        formula = written(dimacs(size, random_clauses(numbers, size, round(numbers.uniform(4, 4.9) * size))), work)
+        formula = written(dimacs(size, random_clauses(numbers, size,
+                                                      round(numbers.uniform(4, 4.9) * size))), work)
         for left_out in (True, False):
-            tested: Dict[str, object] = {"SET": early, "SLICE": 30, **({"WITHOUT": what, "TRIES": 20000} if left_out else {})}
-            answer = solve(["-v", "--memory", "64M", "--time", "20", "-j", "3", formula], tested=tested)
+            tested: Dict[str, object] = {"SET": early, "SLICE": 30,
+                                         **({"WITHOUT": what, "TRIES": 20000} if left_out else {})}
+            answer = solve(
+                ["-v", "--memory", "64M", "--time", "20", "-j", "3", formula], tested=tested)
             seen[left_out] += any(re.search(found, line) for line in answer.comments)
-            if not left_out and "time is up" not in answer.comments:       # short slices hardly ever finish
+            # Short slices hardly ever finish.
+            if not left_out and "time is up" not in answer.comments:
                 want_answer(answer, answer.status if answer.status in (10, 20) else 20, formula)
         if seen[True] and seed > 10 or seen[False]:
             break
-    want((seen[True] > 0, seen[False]), (True, 0), f"runs that broke without it, and with it: {seen}")
+    want((seen[True] > 0, seen[False]), (True, 0),
+         f"runs that broke without it, and with it: {seen}")
 
 
 def published_late(work: Path) -> None:
@@ -497,7 +535,8 @@ def published_late(work: Path) -> None:
         for left_out in (True, False):
             tested: Dict[str, object] = {"SLICE": 30, "LAST_GIFT": 40 + 7 * seed}
             tested.update({"WITHOUT": "flush", "TRIES": 20000} if left_out else {})
-            answer = solve(["-v", "--memory", "64M", "--time", "20", "-j", "3", formula], tested=tested)
+            answer = solve(
+                ["-v", "--memory", "64M", "--time", "20", "-j", "3", formula], tested=tested)
             if left_out:
                 broke += any("missing" in line for line in answer.comments)
             elif "time is up" not in answer.comments:
@@ -511,7 +550,8 @@ def published_late(work: Path) -> None:
 
 
 def known() -> List[Row]:
-    many = [["-j", str(engines)] for engines in (1, 2, 3, 5, 8)] + [["-j", "3", "--no-share"], ["-v"], ["--share-size", "0"], []]
+    many = ([["-j", str(engines)] for engines in (1, 2, 3, 5, 8)]
+            + [["-j", "3", "--no-share"], ["-v"], ["--share-size", "0"], []])
     runs: List[Row] = []
     for words in many:
         title = " ".join(["", *words])
@@ -523,61 +563,84 @@ def known() -> List[Row]:
                  ("nothing" + title, answers, "p cnf 0 0\n", 10, words),
                  ("the empty clause alone" + title, answers, "p cnf 0 1\n0\n", 20, words),
                  ("units" + title, answers, "p cnf 2 3\n1 0\n-1 2 0\n-2 0\n", 20, words),
-                 ("tautologies" + title, answers, "p cnf 3 4\n1 -1 0\n2 2 3 0\n-2 3 3 0\n-3 -3 0\n", 20, words)]
-    runs += [("without a clause", without_a_clause), ("four engines", answers_of, "random 200 2", 20, ["-j", "4"]),
-             ("pigeonholes", answers_of, "pigeons 7", 20, ["-j", "3"]), ("an order", answers_of, "order 20", 20, ["-j", "2"]),
-             ("comments", answers, "c a comment\n" + FOUR.replace("-1 2 0\n", "c another\n-1 2 0\n"), 20, [])]
+                 ("tautologies" + title, answers,
+                  "p cnf 3 4\n1 -1 0\n2 2 3 0\n-2 3 3 0\n-3 -3 0\n", 20, words)]
+    runs += [("without a clause", without_a_clause),
+             ("four engines", answers_of, "random 200 2", 20, ["-j", "4"]),
+             ("pigeonholes", answers_of, "pigeons 7", 20, ["-j", "3"]),
+             ("an order", answers_of, "order 20", 20, ["-j", "2"]),
+             ("comments", answers,
+              "c a comment\n" + FOUR.replace("-1 2 0\n", "c another\n-1 2 0\n"), 20, [])]
     return runs
 
 
 def what_happens() -> List[Row]:
     kill, term = signal.SIGKILL, signal.SIGTERM
-    runs: List[Row] = [("lrupd killed", killed, ["lrupd"], kill, 0, "lrupd ended by a signal"),
-            ("engine 1 killed", killed, ["engine 1"], kill, 20, "engine 1 is lost"),
-            ("engine 2 killed", killed, ["engine 2"], term, 20, "engine 2 is lost"),
-            ("filter 1 killed", killed, ["filter 1"], kill, 20, "engine 1 is lost"),
-            ("filter 2 killed", killed, ["filter 2"], term, 20, "engine 2 is lost"),
-            ("an engine and a filter killed", killed, ["engine 1", "filter 2"], kill, 0, "no engine is left"),
-            ("the front killed", front_killed), ("stopped", stopped), ("ended while it is stopped", ended_while_stopped),
-            ("a terminal that stops", terminal_that_stops), ("a large formula", large_formula, []),
-            ("a large formula, and the time", large_formula, ["--time", "0.3"]),
-            ("who gives way", gives_way), ("time", time_is_up),
-            ("a full disk for streams", full, ["-j", "1", "--proofs", "{work}"], os.devnull, 4096, "round-1.stream-1: File too large"),
-            ("a full disk for the answer", full, [], "/dev/full", 0, "cannot write the answer"),
-            ("a closed output", closed, "bmc.cnf"), ("a closed output, satisfiable", closed, "assumed.cnf"),
-            ("a reader that left", reader_left), ("no progress", progress, ["-q"], False, 80)]
-    runs += [(f"progress {words} {columns}", progress, words, True, columns) for words in ([], ["-v"]) for columns in (0, 30, 120)]
-    runs += [(f"signal {number}, ignored", ignored, number) for number in (signal.SIGHUP, signal.SIGINT)]
-    runs += [(f"signal {number}", ended_by, number) for number in (signal.SIGINT, signal.SIGTERM, signal.SIGHUP)]
-    runs += [(f"{name} killed with a cube", killed_with_a_cube, name) for name in ("engine 2", "engine 3", "filter 4")]
-    runs += [(f"cubes, {engines} engines, {words}", cubes, words, status, engines) for engines in (3, 4, 6)
-             for words, status in (("random 200 2", 20), ("pigeons 8", 20), ("order 20", 20), ("random 260 3 4.1", 10))]
+    runs: List[Row] = [
+        ("lrupd killed", killed, ["lrupd"], kill, 0, "lrupd ended by a signal"),
+        ("engine 1 killed", killed, ["engine 1"], kill, 20, "engine 1 is lost"),
+        ("engine 2 killed", killed, ["engine 2"], term, 20, "engine 2 is lost"),
+        ("filter 1 killed", killed, ["filter 1"], kill, 20, "engine 1 is lost"),
+        ("filter 2 killed", killed, ["filter 2"], term, 20, "engine 2 is lost"),
+        ("an engine and a filter killed", killed, ["engine 1", "filter 2"], kill, 0,
+         "no engine is left"),
+        ("the front killed", front_killed), ("stopped", stopped),
+        ("ended while it is stopped", ended_while_stopped),
+        ("a terminal that stops", terminal_that_stops), ("a large formula", large_formula, []),
+        ("a large formula, and the time", large_formula, ["--time", "0.3"]),
+        ("who gives way", gives_way), ("time", time_is_up),
+        ("a full disk for streams", full, ["-j", "1", "--proofs", "{work}"], os.devnull, 4096,
+         "round-1.stream-1: File too large"),
+        ("a full disk for the answer", full, [], "/dev/full", 0, "cannot write the answer"),
+        ("a closed output", closed, "bmc.cnf"),
+        ("a closed output, satisfiable", closed, "assumed.cnf"),
+        ("a reader that left", reader_left), ("no progress", progress, ["-q"], False, 80)]
+    runs += [(f"progress {words} {columns}", progress, words, True, columns)
+             for words in ([], ["-v"]) for columns in (0, 30, 120)]
+    runs += [(f"signal {number}, ignored", ignored, number)
+             for number in (signal.SIGHUP, signal.SIGINT)]
+    runs += [(f"signal {number}", ended_by, number)
+             for number in (signal.SIGINT, signal.SIGTERM, signal.SIGHUP)]
+    runs += [(f"{name} killed with a cube", killed_with_a_cube, name)
+             for name in ("engine 2", "engine 3", "filter 4")]
+    runs += [(f"cubes, {engines} engines, {words}", cubes, words, status, engines)
+             for engines in (3, 4, 6)
+             for words, status in (("random 200 2", 20), ("pigeons 8", 20), ("order 20", 20),
+                                   ("random 260 3 4.1", 10))]
     untaken = "lrupd (hasn't taken the proof|ended with status 3)"
-    for body, cause in (("exit 3", untaken), ("exit 6", "ended with status 6"), ("exit 10", "ended with status 10"),
-                        ("echo s UNSATISFIABLE; exit 3", untaken), ("kill -9 $$", "ended by a signal"),
-                        ("echo 'c stream 1: 0 added, 0 deleted, bad line 1 (missing 555)'; echo s UNKNOWN; exit 3", "missing 555")):
+    for body, cause in (("exit 3", untaken), ("exit 6", "ended with status 6"),
+                        ("exit 10", "ended with status 10"),
+                        ("echo s UNSATISFIABLE; exit 3", untaken),
+                        ("kill -9 $$", "ended by a signal"),
+                        ("echo 'c stream 1: 0 added, 0 deleted, bad line 1 (missing 555)'; echo s "
+                         "UNKNOWN; exit 3",
+                         "missing 555")):
         runs.append((f"another lrupd: {body}", impostor, body, cause))
     return runs
 
 
 def others_formulas() -> List[Row]:
-    return [("miter of adders", miter, "adders", None, 20), ("of multipliers", miter, "multipliers", None, 20),
+    return [("miter of adders", miter, "adders", None, 20),
+            ("of multipliers", miter, "multipliers", None, 20),
             ("of sorters", miter, "sorters", None, 20),
             ("of adders, one wrong", miter, "adders", ("(a[k] & b[k]) |", "(a[k] | b[k]) &"), 10),
             ("of multipliers, one wrong", miter, "multipliers", (" + row5", ""), 10),
-            ("of sorters, one wrong", miter, "sorters", ("exchange second(b,", "exchange second(a,"), 10),
+            ("of sorters, one wrong", miter, "sorters",
+             ("exchange second(b,", "exchange second(a,"), 10),
             ("options listed", options_listed)]
 
 
 def searches() -> List[Row]:
-    return [("as many holes as pigeons", holes)] + [(f"as alone, {words} {seed}", as_alone, words, seed) for seed in (0, 1, 2)
-            for words in ("order 20", "pigeons 7", "random 150 1", "random 150 7 3.6")]
+    return ([("as many holes as pigeons", holes)]
+            + [(f"as alone, {words} {seed}", as_alone, words, seed) for seed in (0, 1, 2)
+               for words in ("order 20", "pigeons 7", "random 150 1", "random 150 7 3.6")])
 
 
 def sharing() -> List[Row]:
     lost = r"is lost: .*no conflict by unit propagation"
     return [("witnesses", rests_on, "guard", 30, lost, (140, 200), ELIMINATING),
-            ("imports first", rests_on, "order", 30, r"is lost: its filter stopped: ", (60, 140), EARLY),
+            ("imports first", rests_on, "order", 30, r"is lost: its filter stopped: ",
+             (60, 140), EARLY),
             ("kept clauses", rests_on, "keeping", 30, r"bad line \d+ \(retired ", (60, 140), EARLY),
             ("published late", published_late)]
 

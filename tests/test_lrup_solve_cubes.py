@@ -38,14 +38,17 @@ def refuted(answer: Answer) -> List[int]:
 
 def taken(answer: Answer) -> List[int]:
     """Cubes that were dealt out, and handed on."""
-    found = [re.fullmatch(r"cubes: ([\d,]+) dealt out, [\d,]+ refuted, ([\d,]+) of lost engines handed on", line) for line in answer.comments]
+    found = [re.fullmatch(r"cubes: ([\d,]+) dealt out, [\d,]+ refuted, ([\d,]+) of lost "
+                          r"engines handed on", line) for line in answer.comments]
     return [int(number.replace(",", "")) for one in found if one for number in one.groups()]
 
 
-def solved(words: str, cubes: str, all_cubes: int, status: int, options: List[str], tested: Optional[Mapping[str, object]], work: Path) -> None:
+def solved(words: str, cubes: str, all_cubes: int, status: int, options: List[str],
+           tested: Optional[Mapping[str, object]], work: Path) -> None:
     formula = example(words) if words.endswith(".cnf") else generated(words, work)
     kept, lrat = work / "kept", work / "proof.lrat"
-    answer = solve(["-v", "--cubes", written(cubes, work, "cubes"), "--proofs", kept, "--lrat", lrat, *options, formula], tested=tested)
+    answer = solve(["-v", "--cubes", written(cubes, work, "cubes"), "--proofs", kept, "--lrat",
+                    lrat, *options, formula], tested=tested)
     want_answer(answer, status, formula)
     want((answer.lost(), "engines take cubes" in answer.comments or not all_cubes), ([], True),
          f"lost engines, and whether cubes are taken\n{answer.out}")
@@ -64,7 +67,8 @@ def assuming(engines: int, work: Path) -> None:
     cubes = written(cube_lines(covering([9999, 3, 4, 5])), work, "cubes")
     for literal, status in (("-9999", 20), ("9999", 10)):
         assumed = written(f"{literal} 0\n", work, "assumed")
-        answer = solve(["-v", "-j", engines, "--assume", assumed, "--cubes", cubes, formula], tested={"SLICE": 40})
+        answer = solve(["-v", "-j", engines, "--assume", assumed, "--cubes", cubes, formula],
+                       tested={"SLICE": 40})
         want_answer(answer, status, formula, UNDER if status == 20 else None)
         want(refuted(answer)[1], 8, f"cubes of\n{answer.out}")
 
@@ -74,14 +78,19 @@ def randomly(seed: int, work: Path) -> None:
     record is checked again."""
     numbers = random.Random(f"{seed} cubes of a file")
     size = numbers.randrange(60, 150)
-    formula = written(dimacs(size, random_clauses(numbers, size, round(numbers.uniform(4, 4.6) * size))), work)
-    cubes = covering(numbers.sample(range(1, size + 1), numbers.randrange(1, 6))) if numbers.random() < 0.5 else []
+    formula = written(
+        dimacs(size, random_clauses(numbers, size, round(numbers.uniform(4, 4.6) * size))), work)
+    cubes = (covering(numbers.sample(range(1, size + 1), numbers.randrange(1, 6)))
+             if numbers.random() < 0.5 else [])
     for _ in range(numbers.randrange(12)):
-        cubes.append([one * numbers.choice((-1, 1)) for one in numbers.choices(range(1, size + 1), k=numbers.randrange(9))])
+        cubes.append([one * numbers.choice((-1, 1))
+                      for one in numbers.choices(range(1, size + 1), k=numbers.randrange(9))])
     numbers.shuffle(cubes)
     file, kept = written(cube_lines(cubes), work, "cubes"), work / "kept"
-    tested = {"SET": EARLY, "SLICE": numbers.choice((5, 10, 30)), "FIRST_WORDS": numbers.choice((1000, 1 << 20)), "SAME_WORDS": 1}
-    answer = solve(["-v", "--seed", seed, "-j", numbers.randint(1, 4), "--proofs", kept, "--cubes", file, formula], tested=tested)
+    tested = {"SET": EARLY, "SLICE": numbers.choice((5, 10, 30)),
+              "FIRST_WORDS": numbers.choice((1000, 1 << 20)), "SAME_WORDS": 1}
+    answer = solve(["-v", "--seed", seed, "-j", numbers.randint(1, 4), "--proofs", kept, "--cubes",
+                    file, formula], tested=tested)
     want(answer.lost(), [], "engines that are lost")
     want_answer(answer, answer.status if answer.status in (10, 20) else 20, formula)
     if answer.status == 20:
@@ -93,7 +102,8 @@ def killed(name: str, engines: int, options: List[str], work: Path) -> None:
     formula = generated("pigeons 9", work)
     file = written(cube_lines(covering([1, 10, 19])), work, "cubes")
     words = command(["-v", "-j", engines, "--cubes", file, *options, formula])
-    with subprocess.Popen(words, text=True, start_new_session=True, stdout=subprocess.PIPE, stderr=subprocess.PIPE) as process:
+    with subprocess.Popen(words, text=True, start_new_session=True, stdout=subprocess.PIPE,
+                          stderr=subprocess.PIPE) as process:
         try:
             until(f"{name} is there", lambda: name in children_of(process.pid))
             time.sleep(0.3)
@@ -103,14 +113,16 @@ def killed(name: str, engines: int, options: List[str], work: Path) -> None:
             end_group(process)
     answer = Answer(Ran(out, said, process.returncode))
     want_answer(answer, 20, formula)
-    want((len(answer.lost()), taken(answer)[1]), (1, 1), f"the lost engines, and the cubes that others get\n{out}")
+    want((len(answer.lost()), taken(answer)[1]), (1, 1),
+         f"the lost engines, and the cubes that others get\n{out}")
 
 
 def solved_as_they_go(work: Path) -> None:
     """What a lost engine has refuted stays refuted."""
     formula, kept = generated("pigeons 8", work), work / "kept"
     file = written(cube_lines(covering([1, 9, 17, 25])), work, "cubes")
-    answer = solve(["-v", "-j", "3", "--memory", "20K,100K", "--proofs", kept, "--cubes", file, formula])
+    answer = solve(["-v", "-j", "3", "--memory", "20K,100K", "--proofs", kept, "--cubes",
+                    file, formula])
     want_answer(answer, 20)
     want(len(answer.lost()) < 3, True, f"engines that are lost in\n{answer.out}")
     check_again(kept)
@@ -129,7 +141,8 @@ def accepted(text: str, count: int, work: Path) -> None:
 def refused(text: Optional[str], options: List[str], said: str, work: Path) -> None:
     path = work / "cubes" if text is None else written(text, work, "cubes")
     answer = solve(["--cubes", path, *options, example("bmc.cnf")])
-    want((answer.out, answer.said, answer.status), ("", f"lrup-solve: {said.format(path=path)}\n", 1), "the messages")
+    want((answer.out, answer.said, answer.status),
+         ("", f"lrup-solve: {said.format(path=path)}\n", 1), "the messages")
 
 
 def of_a_record(work: Path) -> None:
@@ -138,7 +151,8 @@ def of_a_record(work: Path) -> None:
     kept.mkdir()
     file = written("a 1 0\n", kept, "round-1.stream-1")
     answer = solve(["--cubes", file, "--proofs", kept, example("bmc.cnf")])
-    want((answer.answers, answer.status, file.read_text()), ([], 1, "a 1 0\n"), f"the answer, with {answer.said}")
+    want((answer.answers, answer.status, file.read_text()), ([], 1, "a 1 0\n"),
+         f"the answer, with {answer.said}")
 
 
 def shown_example(work: Path) -> None:
@@ -147,8 +161,10 @@ def shown_example(work: Path) -> None:
     formula = written(made.out, work)
     split = run([EXAMPLES / "split.py", "50", formula])
     cubes = [[int(word) for word in line.split()[1:-1]] for line in split.out.splitlines()]
-    want((made.status, split.status, len(cubes) >= 50), (0, 0, True), f"the cubes, with {split.err}")
-    uncovered = dimacs(55, [*read_formula(formula), *([-literal for literal in cube] for cube in cubes)])
+    want((made.status, split.status, len(cubes) >= 50), (0, 0, True),
+         f"the cubes, with {split.err}")
+    uncovered = dimacs(55, [*read_formula(formula),
+                            *([-literal for literal in cube] for cube in cubes)])
     want_answer(solve(["-j", "1", written(uncovered, work, "uncovered")]), 20)
     want_answer(solve(["-j", "2", "--cubes", written(split.out, work, "cubes"), formula]), 20)
 
@@ -159,32 +175,41 @@ def shown_example(work: Path) -> None:
 def known() -> List[Row]:
     rows: List[Row] = []
     all_of_six, some = covering([1, 9, 17, 25, 33, 41]), covering([1, 8, 15])[:5]
-    kinds = [("covering", cube_lines(all_of_six), 64), ("not covering", cube_lines(some), 5), ("none", "", 0),
-             ("the whole", "a 0\n", 1), ("overlapping", cube_lines([*some, *all_of_six, *some]), 74),
+    kinds = [("covering", cube_lines(all_of_six), 64), ("not covering", cube_lines(some), 5),
+             ("none", "", 0), ("the whole", "a 0\n", 1),
+             ("overlapping", cube_lines([*some, *all_of_six, *some]), 74),
              ("contradicting each other", "a 1 0\na -1 0\na 1 2 0\na -1 -2 0\n", 4)]
     for name, cubes, count in kinds:
         for engines in (1, 2, 4):
-            rows.append((f"{name}, {engines} engines", solved, "pigeons 7", cubes, count, 20, ["-j", str(engines)], None))
-            rows.append((f"{name}, satisfiable, {engines} engines", solved, "random 200 22 4.2", cubes, count, 10,
+            rows.append((f"{name}, {engines} engines", solved, "pigeons 7", cubes, count, 20,
                          ["-j", str(engines)], None))
+            rows.append((f"{name}, satisfiable, {engines} engines", solved, "random 200 22 4.2",
+                         cubes, count, 10, ["-j", str(engines)], None))
     small = {"FIRST_WORDS": 20000, "SAME_WORDS": 1, "SLICE": 40}
-    rows += [(f"in rounds, {engines} engines", solved, "pigeons 7", cube_lines(all_of_six), 64, 20, ["-j", str(engines)], small)
-             for engines in (1, 2, 4)]
-    rows += [("engines go", solved_as_they_go), ("beside a solver", solved, "pigeons 7", cube_lines(some), 5, 20,
-                                                 ["-j", "2", "--solver", "cadical -q %formula %proof"], None)]
+    rows += [(f"in rounds, {engines} engines", solved, "pigeons 7", cube_lines(all_of_six), 64, 20,
+              ["-j", str(engines)], small) for engines in (1, 2, 4)]
+    rows += [("engines go", solved_as_they_go),
+             ("beside a solver", solved, "pigeons 7", cube_lines(some), 5, 20,
+              ["-j", "2", "--solver", "cadical -q %formula %proof"], None)]
     rows += [(f"under assumptions, {engines} engines", assuming, engines) for engines in (1, 3)]
-    return rows + [(f"{name} killed, {engines} engines", killed, name, engines, []) for name, engines in (("engine 2", 2), ("filter 3", 4))]
+    return rows + [(f"{name} killed, {engines} engines", killed, name, engines, [])
+                   for name, engines in (("engine 2", 2), ("filter 3", 4))]
 
 
 def files() -> List[Row]:
     no_cube = "{path}, line %d: not a cube of the formula's literals, like 'a 1 -2 0'"
-    rows: List[Row] = [(f"refused {text!r}", refused, text, [], no_cube % line) for text, line in
-                       (("a 1 2\n", 1), ("a 1 0\na 117 0\n", 2), ("a x 0\n", 1), ("b 1 0\n", 1), ("a 1 0 2\n", 1), ("a 1 0\n\na 1.5 0\n", 3))]
+    rows: List[Row] = [(f"refused {text!r}", refused, text, [], no_cube % line)
+                       for text, line in (("a 1 2\n", 1), ("a 1 0\na 117 0\n", 2), ("a x 0\n", 1),
+                                          ("b 1 0\n", 1), ("a 1 0 2\n", 1),
+                                          ("a 1 0\n\na 1.5 0\n", 3))]
     rows += [("no file", refused, None, [], "{path}: No such file or directory"),
-             ("nothing shared", refused, "a 1 0\n", ["--no-share", "-j", "2"], "--cubes and --no-share: refuted cubes are shared"),
-             ("no engine", refused, "a 1 0\n", ["--solver", "x %formula %proof"], "--cubes without engines: -j sets how many")]
-    rows += [(f"accepted {text!r}", accepted, text, count) for text, count in
-             (("p inccnf\nc a\n1 -2 0\na 1 0\n\na -1 0\n", 2), ("a 1 -1 0\na 1 1 2 0", 1), ("", 0), ("  a 3 -4 0\r\n", 1))]
+             ("nothing shared", refused, "a 1 0\n", ["--no-share", "-j", "2"],
+              "--cubes and --no-share: refuted cubes are shared"),
+             ("no engine", refused, "a 1 0\n", ["--solver", "x %formula %proof"],
+              "--cubes without engines: -j sets how many")]
+    rows += [(f"accepted {text!r}", accepted, text, count)
+             for text, count in (("p inccnf\nc a\n1 -2 0\na 1 0\n\na -1 0\n", 2),
+                                 ("a 1 -1 0\na 1 1 2 0", 1), ("", 0), ("  a 3 -4 0\r\n", 1))]
     return [*rows, ("in the record", of_a_record), ("the example", shown_example)]
 
 

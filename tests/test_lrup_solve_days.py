@@ -50,12 +50,15 @@ def of_fewer(numbers: random.Random, work: Path) -> Tuple[Path, Optional[int]]:
 
 def of_parity(numbers: random.Random, work: Path) -> Tuple[Path, Optional[int]]:
     is_odd = numbers.random() < 0.8
-    return written(parity(numbers, numbers.randrange(70, 78, 2) + 14 * SIZE, is_odd), work), 20 if is_odd else 10
+    return (written(parity(numbers, numbers.randrange(70, 78, 2) + 14 * SIZE, is_odd), work),
+            20 if is_odd else 10)
 
 
 def at_random(numbers: random.Random, work: Path) -> Tuple[Path, Optional[int]]:
     size = numbers.randrange(190, 210) + 50 * SIZE
-    return written(dimacs(size, random_clauses(numbers, size, round(numbers.uniform(4.2, 4.4) * size))), work), None
+    return written(dimacs(size,
+                          random_clauses(numbers, size, round(numbers.uniform(4.2, 4.4) * size))),
+                   work), None
 
 
 def of_multipliers(numbers: random.Random, work: Path) -> Tuple[Path, Optional[int]]:
@@ -63,7 +66,8 @@ def of_multipliers(numbers: random.Random, work: Path) -> Tuple[Path, Optional[i
     return written(miter(7 + SIZE, numbers, is_faulty), work), 10 if is_faulty else 20
 
 
-KINDS = {"pigeons": of_pigeons, "fewer pigeons": of_fewer, "parity": of_parity, "random": at_random, "miter": of_multipliers}
+KINDS = {"pigeons": of_pigeons, "fewer pigeons": of_fewer, "parity": of_parity, "random": at_random,
+         "miter": of_multipliers}
 
 
 # Runs, and the processes that are killed.
@@ -80,7 +84,8 @@ class Chain:
         self.temporary, self.here = work / "temporary", work / "here"
         self.temporary.mkdir()
         self.here.mkdir()
-        slice_size, words = self.numbers.choice((20, 50, 200)), self.numbers.choice((10000, 30000, 100000))
+        slice_size, words = (self.numbers.choice((20, 50, 200)),
+                             self.numbers.choice((10000, 30000, 100000)))
         small = {"SET": EARLY, "SAME_WORDS": 1, "SLICE": slice_size, "FIRST_WORDS": words}
         self.tested = small if self.numbers.random() < 0.7 else None
         self.log: List[str] = []
@@ -91,15 +96,17 @@ class Chain:
         how = ["--resume" if (self.kept / "files").exists() else "--proofs", self.kept]
         clock = ["--save-every", numbers.choice((0.1, 0.3))] if self.tested is None else []
         alone = ["--no-share"] * (numbers.random() < 0.2)
-        return ["-j", numbers.randint(1, 3), *alone, "--seed", numbers.randrange(5), *clock, *how, self.formula]
+        return ["-j", numbers.randint(1, 3), *alone, "--seed", numbers.randrange(5), *clock,
+                *how, self.formula]
 
     def environment(self) -> "dict[str, str]":
         return in_environment(self.tested, {"TMPDIR": str(self.temporary)})
 
     @contextlib.contextmanager
     def begun(self, before: Callable[[], None]) -> Iterator["subprocess.Popen[str]"]:
-        with started(command(self.words(), self.tested), env=self.environment(), cwd=self.here, text=True, stdout=subprocess.PIPE,
-                     stderr=subprocess.PIPE, preexec_fn=before) as running:
+        with started(command(self.words(), self.tested), env=self.environment(), cwd=self.here,
+                     text=True, stdout=subprocess.PIPE, stderr=subprocess.PIPE,
+                     preexec_fn=before) as running:
             yield running
 
     def killed(self, pause: Optional[float], before: Callable[[], None] = lambda: None) -> Answer:
@@ -109,22 +116,26 @@ class Chain:
         with self.begun(before) as running:
             while running.poll() is None:
                 try:
-                    out, said = running.communicate(timeout=self.numbers.uniform(0, pause) if pause else LIMIT)
+                    out, said = running.communicate(
+                        timeout=self.numbers.uniform(0, pause) if pause else LIMIT)
                     break
                 except subprocess.TimeoutExpired:
                     want(pause is not None, True, f"whether it ends within {LIMIT} seconds")
                     names += self.kill_one(running.pid)
             else:
                 out, said = running.communicate()
-        self.log.append(f"{', '.join(names) or 'nothing'}: status {running.returncode}, {saved_rounds(self.kept) - 1} rounds")
+        self.log.append(f"{', '.join(names) or 'nothing'}: status {running.returncode}, "
+                        f"{saved_rounds(self.kept) - 1} rounds")
         self.none_left("cleaner" in names)
         is_proved = (self.kept / "command").exists()
-        want(is_proved or saved_rounds(self.kept) >= saved, True, f"whether no round of {saved - 1} is lost")
+        want(is_proved or saved_rounds(self.kept) >= saved, True,
+             f"whether no round of {saved - 1} is lost")
         return Answer(Ran(out, said, running.returncode))
 
     def kill_one(self, front: int) -> List[str]:
         found = processes_of_run(front)
-        shared = [line for pid in found.values() for line in of_process(pid, "maps").splitlines() if "/dev/shm/" in line or "/SYSV" in line]
+        shared = [line for pid in found.values() for line in of_process(pid, "maps").splitlines()
+                  if "/dev/shm/" in line or "/SYSV" in line]
         want(shared, [], "shared memory that has a name")
         name = self.numbers.choice(sorted(found))
         if not is_alive(found[name]):
@@ -150,7 +161,8 @@ class Chain:
             self.found(20)
             return True
         if not answer.answers or answer.answers == [UNKNOWN]:
-            want(answer.status in (0, -signal.SIGKILL), True, f"the status {answer.status} of\n{answer.out}{answer.said}")
+            want(answer.status in (0, -signal.SIGKILL), True,
+                 f"the status {answer.status} of\n{answer.out}{answer.said}")
             return False
         status = {line: number for number, line in ANSWERS.items()}[answer.answers[0]]
         if answer.status == -signal.SIGKILL:        # the front had said it by then
@@ -161,25 +173,29 @@ class Chain:
         return True
 
     def found(self, status: int) -> None:
-        want(self.status in (None, status), True, f"whether {status} is right, and not {self.status}")
+        want(self.status in (None, status), True,
+             f"whether {status} is right, and not {self.status}")
         self.status = status
         if status == 10:
             return
         whole(self.kept, self.formula, self.work)
         done = run(["sh", self.kept / "command", self.formula], cwd=self.here)
-        want((done.out.splitlines()[-1:], done.status), ([ANSWERS[20]], 0), f"what the record's command says, with {done.err}")
+        want((done.out.splitlines()[-1:], done.status), ([ANSWERS[20]], 0),
+             f"what the record's command says, with {done.err}")
 
 
 def solved(kind: str, seed: int, work: Path, log: List[str]) -> None:
     chain = Chain(kind, seed, work)
     chain.log = log
-    log.append(f"{chain.formula.read_text().splitlines()[0]}, {'small rows' if chain.tested else 'one row'}")
+    log.append(f"{chain.formula.read_text().splitlines()[0]}, "
+               f"{'small rows' if chain.tested else 'one row'}")
     has_changed = False
     for count in range(RUNS):
         answer = chain.killed(0.3 * 1.4 ** count)
         if chain.is_answered(answer):
             return
-        if saved_rounds(chain.kept) > 2 and (not has_changed or chain.numbers.random() < 0.2 * SIZE):
+        if (saved_rounds(chain.kept) > 2
+                and (not has_changed or chain.numbers.random() < 0.2 * SIZE)):
             has_changed = True
             changed(chain)
             of_another(chain)
@@ -199,11 +215,13 @@ def changed(chain: Chain) -> None:
     except (IndexError, ValueError):        # there is no such file, or an empty one
         return shutil.rmtree(kept)
     chain.log.append(f"a copy with {name}, {names}")
-    answer = solve(["-j", 2, "--time", 3, "--resume", kept, chain.formula], tested=chain.tested, env_more={"TMPDIR": str(chain.temporary)})
+    answer = solve(["-j", 2, "--time", 3, "--resume", kept, chain.formula], tested=chain.tested,
+                   env_more={"TMPDIR": str(chain.temporary)})
     if answer.status in (10, 20) and chain.status is None:
         want_answer(answer, answer.status, chain.formula)
     elif answer.status != 0 or "time is up" not in answer.comments:
-        want_no_other(answer, -1 if chain.status is None else chain.status, chain.formula, kept, names)
+        want_no_other(answer, -1 if chain.status is None else chain.status,
+                      chain.formula, kept, names)
     if answer.status == 20:
         whole(kept, chain.formula, chain.work)
     chain.none_left(False)
@@ -216,7 +234,8 @@ def contents(folder: Path) -> "dict[str, bytes]":
 
 def of_another(chain: Chain) -> None:
     """With another formula the record is refused, and nothing in it is touched."""
-    other, before = written(chain.formula.read_text() + "c more\n", chain.work, "other.cnf"), contents(chain.kept)
+    other, before = (written(chain.formula.read_text() + "c more\n", chain.work, "other.cnf"),
+                     contents(chain.kept))
     answer = solve(["--resume", chain.kept, other], tested=chain.tested)
     said = f"lrup-solve: {other} isn't the formula of {chain.kept}, or was changed since\n"
     want((answer.out, answer.said, answer.status), ("", said, 1), "what is said of another formula")
@@ -230,7 +249,8 @@ def of_another(chain: Chain) -> None:
 def disk(place: Path) -> Iterator[Callable[[int], None]]:
     """Mounts a file system of its own there; the result sets its size in kilobytes."""
     def sized(kilobytes: int, how: str = "remount,") -> bool:
-        return run(["mount", "-t", "tmpfs", "-o", f"{how}size={kilobytes}k", "none", place]).status == 0
+        return run(["mount", "-t", "tmpfs", "-o", f"{how}size={kilobytes}k", "none",
+                    place]).status == 0
     place.mkdir()
     if not shutil.which("mount") or not sized(64, ""):
         pytest.skip("no file system can be mounted")
@@ -248,8 +268,10 @@ def with_little(chain: Chain, why: str, limited: Callable[[int], Callable[[], No
         answer = chain.killed(1.5 if 0 < count < 5 else None, limited(kilobytes))
         text = answer.out + answer.said
         if count == 0 or (answer.status == 1 and not answer.said.endswith(" checks it\n")):
-            want(("cannot write " in text, why in text), (True, True), f"whether it says what can't be written in\n{text}")
-            want(answer.answers in ([], [UNKNOWN], [ANSWERS[20]]), True, f"whether this is right:\n{text}")
+            want(("cannot write " in text, why in text), (True, True),
+                 f"whether it says what can't be written in\n{text}")
+            want(answer.answers in ([], [UNKNOWN], [ANSWERS[20]]), True,
+                 f"whether this is right:\n{text}")
         elif chain.is_answered(answer):
             return
     raise AssertionError(f"no answer by {RUNS} runs")
@@ -270,7 +292,8 @@ def on_disks(seed: int, work: Path, log: List[str]) -> None:
 def in_small_files(seed: int, work: Path, log: List[str]) -> None:
     chain = Chain("fewer pigeons", seed, work)
     chain.log, chain.tested = log, chain.tested or {"SAME_WORDS": 1, "FIRST_WORDS": 20000}
-    with_little(chain, "File too large", lambda kilobytes: lambda: within(kilobytes * KILOBYTE // 20))
+    with_little(chain, "File too large",
+                lambda kilobytes: lambda: within(kilobytes * KILOBYTE // 20))
 
 
 # Rows.
@@ -284,11 +307,13 @@ def repeatable(function: Callable[..., None], *arguments: object) -> None:
         function(*given, work, log)
     except (AssertionError, OSError, LookupError, ValueError, subprocess.SubprocessError) as found:
         again = f"make days SEED={given[-1]} MINUTES={0.01 * SIZE}"
-        raise AssertionError(f"{type(found).__name__}: {found}\nbefore it, in turn:\n  " + "\n  ".join(log) + f"\nagain: {again}") from found
+        raise AssertionError(f"{type(found).__name__}: {found}\nbefore it, in turn:\n  "
+                             + "\n  ".join(log) + f"\nagain: {again}") from found
 
 
 def rows(seed: int) -> List[Row]:
-    found: List[Row] = [(f"seed {seed}, {kind}", repeatable, solved, kind, seed) for kind in KINDS if kind != "fewer pigeons"]
+    found: List[Row] = [(f"seed {seed}, {kind}", repeatable, solved, kind, seed)
+                        for kind in KINDS if kind != "fewer pigeons"]
     return found + [(f"seed {seed}, a full disk", repeatable, on_disks, seed),
                     (f"seed {seed}, small files", repeatable, in_small_files, seed)]
 

@@ -25,9 +25,12 @@ def hostile(body: str, wanted: str, words: List[str], text: str, work: Path) -> 
     """The answer is this, or none; with a status for none."""
     answer = run_with(body, words, text, work)
     if wanted.isdigit():
-        return want((answer.answers, answer.status), ([], int(wanted)), f"the answer of\n{answer.out}{answer.said}")
-    status = {"s UNSATISFIABLE": 20, "s SATISFIABLE": 10, "s UNSATISFIABLE UNDER ASSUMPTIONS": 20, "s UNKNOWN": 0}[wanted]
-    want((answer.answers, answer.status), ([wanted], status), f"the answer of\n{answer.out[-2000:]}{answer.said[-2000:]}")
+        return want((answer.answers, answer.status), ([], int(wanted)),
+                    f"the answer of\n{answer.out}{answer.said}")
+    status = {"s UNSATISFIABLE": 20, "s SATISFIABLE": 10, "s UNSATISFIABLE UNDER ASSUMPTIONS": 20,
+              "s UNKNOWN": 0}[wanted]
+    want((answer.answers, answer.status), ([wanted], status),
+         f"the answer of\n{answer.out[-2000:]}{answer.said[-2000:]}")
     if status == 10:
         want(is_model(answer, work / "formula.cnf"), True, f"whether {answer.values} satisfies it")
 
@@ -51,37 +54,42 @@ stream(1, "3 0 1 2 0\\n")
 check()
 told("lrupd")""" % (work / "seen")
     answer = run_with(body, [], SATISFIABLE, work, given=SATISFIABLE)
-    want((answer.answers, answer.status), (["s UNKNOWN"], 0), f"the answer of\n{answer.out}{answer.said}")
+    want((answer.answers, answer.status), (["s UNKNOWN"], 0),
+         f"the answer of\n{answer.out}{answer.said}")
     want((work / "seen").read_text(), SATISFIABLE, "the formula that it read")
 
 
 def assuming(literals: str, body: str, wanted: str, status: int, work: Path) -> None:
     cube = written(literals, work, "cube")
     answer = run_with(body, ["--assume", str(cube)], SATISFIABLE, work)
-    want((answer.answers, answer.status), ([wanted], status), f"the answer of\n{answer.out}{answer.said}")
+    want((answer.answers, answer.status), ([wanted], status),
+         f"the answer of\n{answer.out}{answer.said}")
 
 
 def dies_at_each_moment(number: int, work: Path) -> None:
     """The program dies after each of its steps towards a verdict, by a signal, with a status, or
     while others hold its files open."""
-    steps = ["told('probe')", "stream(1, %r)" % PROOF[:14], "stream(2, '')", "check('2 10 10 1000000')",
-             "stream(1, %r)" % PROOF, "told('lrupd')"]
-    for end in ("os.kill(os.getpid(), 9)", "os.kill(os.getpid(), 11)", "os._exit(0)", "os._exit(1)", "os._exit(20)",
-                "os.fork() or time.sleep(1000)"):
+    steps = ["told('probe')", "stream(1, %r)" % PROOF[:14], "stream(2, '')",
+             "check('2 10 10 1000000')", "stream(1, %r)" % PROOF, "told('lrupd')"]
+    for end in ("os.kill(os.getpid(), 9)", "os.kill(os.getpid(), 11)", "os._exit(0)", "os._exit(1)",
+                "os._exit(20)", "os.fork() or time.sleep(1000)"):
         folder = work / re.sub(r"\W", "", end)
         folder.mkdir()
         body = "\n".join([*steps[:number], end])
         answer = run_with(body, ["--time", "3"], FOUR, folder)
         whole = number == len(steps) and answer.answers == ["s UNSATISFIABLE"]
-        want(answer.answers in ([], ["s UNKNOWN"]) or whole, True, f"the answer of\n{answer.out}{answer.said}")
+        want(answer.answers in ([], ["s UNKNOWN"]) or whole, True,
+             f"the answer of\n{answer.out}{answer.said}")
 
 
 def expects(body: str, expected: str, line: str, status: int, text: str, work: Path) -> None:
     """Only the printed line decides: 0 if it is the expected one, otherwise 1, with a message."""
-    words = ["--assume", str(written("-2 0\n", work, "cube"))] if line.endswith("ASSUMPTIONS") else []
+    words = (["--assume", str(written("-2 0\n", work, "cube"))]
+             if line.endswith("ASSUMPTIONS") else [])
     answer = run_with(body, ["--expect", expected, *words], text, work)
     said = f"lrup-solve: --expect {expected}, and the answer is {line}\n" if status else ""
-    want((answer.answers, answer.status, answer.said.splitlines(True)[-1:]), ([line], status, [said] * status),
+    want((answer.answers, answer.status, answer.said.splitlines(True)[-1:]),
+         ([line], status, [said] * status),
          f"the answer of\n{answer.out[-2000:]}{answer.said[-2000:]}")
 
 
@@ -91,14 +99,16 @@ def expects_nothing(body: str, work: Path) -> None:
         folder = work / re.sub(r"\W", "", expected)
         folder.mkdir()
         answer = run_with(body, ["--expect", expected], FOUR, folder)
-        want((answer.status, answer.answers in ([], ["s UNKNOWN"])), (1, True), f"the answer of\n{answer.out}{answer.said}")
+        want((answer.status, answer.answers in ([], ["s UNKNOWN"])), (1, True),
+             f"the answer of\n{answer.out}{answer.said}")
 
 
 def help_expected(work: Path) -> None:
     """lrup-engines answers --help, so its status counts for nothing beside --expect."""
     engines = in_place_of_lrupd("exit 0", work)
     for word in ("--help", "--version", "-h"):
-        done = run([SOLVE, "--lrupd", PROGRAM, "--engines", engines, "--expect", "unsat", word, written(FOUR, work)])
+        done = run([SOLVE, "--lrupd", PROGRAM, "--engines", engines, "--expect", "unsat", word,
+                    written(FOUR, work)])
         want(done.status, 1, f"the status of {word}")
 
 
@@ -106,7 +116,8 @@ def never_began(words: List[str], work: Path) -> None:
     """lrup-engines, or MPI's command, can't be run: no answer."""
     answer = run_with("os._exit(127)", words, FOUR, work)
     want((answer.out, answer.status, answer.said),
-         ("", 1, "lrup-solve: lrup-engines ended with status 127, so nothing could run\n"), "the answer")
+         ("", 1, "lrup-solve: lrup-engines ended with status 127, so nothing could run\n"),
+         "the answer")
 
 
 def without_lines(work: Path) -> None:
@@ -122,13 +133,16 @@ write(b"c " + 10000 * b"x")"""
         answer = run_with(body, words, FOUR, folder)
         want((answer.answers, answer.status), (["s UNKNOWN"], 0), "the answer")
         comments = [line[:40] for line in answer.comments if "lrup-engines" not in line]
-        want(all(len(line) <= 4094 for line in answer.comments), True, "whether each is at most a block")
-        want(comments, [] if words else ["one?[2J?s UNSATISFIABLE??", "s UNSATISFIABLE", 40 * "x"], "the comments")
+        want(all(len(line) <= 4094 for line in answer.comments), True,
+             "whether each is at most a block")
+        want(comments, [] if words else ["one?[2J?s UNSATISFIABLE??", "s UNSATISFIABLE", 40 * "x"],
+             "the comments")
 
 
 def impostor(status: int, words: List[str], wanted: str, work: Path) -> None:
     """An lrupd with another status, in a requested run. 8 counts only under assumptions."""
-    path = before_lrupd(f"echo s UNSATISFIABLE{' UNDER ASSUMPTIONS' * (status == 8)}; exit {status}", work)
+    path = before_lrupd(
+        f"echo s UNSATISFIABLE{' UNDER ASSUMPTIONS' * (status == 8)}; exit {status}", work)
     cube = written("2 0\n", work, "cube")
     body = "stream(1, '')\ncheck('1 1 1 0')\ntold('lrupd')"
     answer = run_with(body, [word.format(cube=cube) for word in words], SATISFIABLE, work, path)
@@ -137,11 +151,13 @@ def impostor(status: int, words: List[str], wanted: str, work: Path) -> None:
 
 def refused_formula(work: Path) -> None:
     """lrupd refuses the formula, however an assignment was found."""
-    for text, values in (("p cnf 1 1\n1 -2 0\n", "+"), ("p cnf 2 1\n1 x 2 0\n", "++"), ("p cnf 2 3\n1 0\n", "++"), ("", "+")):
+    for text, values in (("p cnf 1 1\n1 -2 0\n", "+"), ("p cnf 2 1\n1 x 2 0\n", "++"),
+                         ("p cnf 2 3\n1 0\n", "++"), ("", "+")):
         folder = work / str(len(text))
         folder.mkdir()
         answer = run_with(f"model('{values}')\ntime.sleep(1)", [], text, folder)
-        want((answer.answers, answer.status, answer.said), ([], 1, "lrup-solve: lrupd took no formula\n"), "the answer")
+        want((answer.answers, answer.status, answer.said),
+             ([], 1, "lrup-solve: lrupd took no formula\n"), "the answer")
 
 
 def signalled(number: int, body: str, whole_group: bool, work: Path) -> None:
@@ -149,9 +165,10 @@ def signalled(number: int, body: str, whole_group: bool, work: Path) -> None:
     ends."""
     formula, files, mark = written(FOUR, work), work / "temporary", marked(work)
     files.mkdir()
-    with started([SOLVE, "--lrupd", PROGRAM, "--engines", program(f"open({str(work / 'begun')!r}, 'w')\n" + body, work), formula],
-                 env={**os.environ, "TMPDIR": str(files)}, stdout=subprocess.PIPE, stderr=subprocess.DEVNULL, text=True,
-                 start_new_session=True) as running:
+    with started([SOLVE, "--lrupd", PROGRAM, "--engines",
+                  program(f"open({str(work / 'begun')!r}, 'w')\n" + body, work), formula],
+                 env={**os.environ, "TMPDIR": str(files)}, stdout=subprocess.PIPE,
+                 stderr=subprocess.DEVNULL, text=True, start_new_session=True) as running:
         until("it has begun", lambda: (work / "begun").exists())
         (os.killpg if whole_group else os.kill)(running.pid, number)
         out = running.communicate(timeout=LIMIT)[0]
@@ -163,13 +180,16 @@ def signalled(number: int, body: str, whole_group: bool, work: Path) -> None:
 
 def refused_proof(work: Path) -> None:
     """lrupd's words are printed even if the report can't be kept."""
-    answer = run_with(f"stream(1, {PROOF!r})\ncheck()\ntold('lrupd')\nsay('refused')", [], FOUR, work)
+    answer = run_with(f"stream(1, {PROOF!r})\ncheck()\ntold('lrupd')\nsay('refused')",
+                      [], FOUR, work)
     want((answer.answers, answer.status), (["s UNSATISFIABLE"], 1), "the answer")
 
 
 def reading_killed(text: str, body: str, wanted: str, status: int, work: Path) -> None:
     """The probe is killed: that says nothing about the formula, and no assignment counts."""
-    lrupd = in_place_of_lrupd("case \"$*\" in *' /dev/null') kill -9 $$;; esac\nexec " + shlex.quote(PROGRAM) + ' "$@"', work)
+    lrupd = in_place_of_lrupd(
+        "case \"$*\" in *' /dev/null') kill -9 $$;; esac\nexec " + shlex.quote(PROGRAM) + ' "$@"',
+        work)
     answer = run_with(body, [], text, work, lrupd)
     want((answer.answers, answer.status, answer.said), ([wanted], status, ""), "the answer")
 
@@ -197,12 +217,15 @@ again(pid, 0, here + '/again')""", [], SATISFIABLE, work)
 def readers_id_again(work: Path) -> None:
     """After lrupd has refused the formula, an orphan with its process id ends with the status of a
     probe that has read it."""
-    lrupd = in_place_of_lrupd("case \"$*\" in *' /dev/null') sleep 1;; esac\nexec " + shlex.quote(PROGRAM) + ' "$@"', work)
+    lrupd = in_place_of_lrupd(
+        "case \"$*\" in *' /dev/null') sleep 1;; esac\nexec " + shlex.quote(PROGRAM) + ' "$@"',
+        work)
     answer = run_with(AGAIN + """pid = lrupd_of(front, '/dev/null')
 told('probe')
 again(pid, 3, here + '/again')
 model('+')""", [], "p cnf 1 1\n1 -2 0\n", work, lrupd)
-    want((answer.answers, answer.status, answer.said), ([], 1, "lrup-solve: lrupd took no formula\n"), "the answer")
+    want((answer.answers, answer.status, answer.said),
+         ([], 1, "lrup-solve: lrupd took no formula\n"), "the answer")
     came_again(work)
 
 
@@ -236,14 +259,15 @@ with open(sys.argv[1], "w") as proof:
     os.kill(engines, signal.SIGCONT)
 """, work, "attack.py")
     done = Answer(run([SOLVE, "--lrupd", PROGRAM, "--time", "20", "--solver",
-                       f"{sys.executable} {attack} %proof; : %formula", written(SATISFIABLE, work)], limit=60))
+                       f"{sys.executable} {attack} %proof; : %formula", written(SATISFIABLE, work)],
+                      limit=60))
     want((done.answers, done.status), (["s UNKNOWN"], 0), f"the answer of\n{done.out}{done.said}")
     came_again(work)
 
 
 def asked_again(body: str, wanted: str, text: str, how: str, work: Path) -> None:
-    """lrupd waits for its stream, and is killed; then the program asks for another one, which begins with
-    the formula. That is named, or comes by a pipe."""
+    """lrupd waits for its stream, and is killed; then the program asks for another one, which
+    begins with the formula. That is named, or comes by a pipe."""
     begin = AGAIN + """
 def killed():
     os.mkfifo(folder + '/round-1.stream-1')
@@ -258,28 +282,34 @@ def killed():
 told('probe')
 """
     given = {"given": text} if how == "by a pipe" else {}
-    answer = run_with(begin + body, ["--time", "1" if how == "for a second" else "15"], text, work, **given)
+    answer = run_with(begin + body, ["--time", "1" if how == "for a second" else "15"],
+                      text, work, **given)
     status = {"s UNKNOWN": 0, "s UNSATISFIABLE": 20}[wanted]
-    want((answer.answers, answer.status), ([wanted], status), f"the answer of\n{answer.out}{answer.said}")
+    want((answer.answers, answer.status), ([wanted], status),
+         f"the answer of\n{answer.out}{answer.said}")
     if "again(" in body:
         came_again(work)
 
 
 def asked_for_more(body: str, starts: int, wanted: str, work: Path) -> None:
-    """A program in lrupd's place counts its starts, as it is asked for three times. Only after a signal
-    there is another one, and nothing that the killed one wrote counts."""
-    lrupd = in_place_of_lrupd(f"case \"$*\" in *' /dev/null') exit 3;; esac\necho x >> {work}/starts; "
-                              f"count=$(wc -l < {work}/starts)\n{body}", work)
-    asks = "told('probe')\nstream(1, '')\ncheck()\ntold('lrupd')\ncheck()\ntime.sleep(0.5)\ncheck()\ntime.sleep(0.5)"
+    """A program in lrupd's place counts its starts, as it is asked for three times. Only after a
+    signal there is another one, and nothing that the killed one wrote counts."""
+    lrupd = in_place_of_lrupd(f"case \"$*\" in *' /dev/null') exit 3;; esac\n"
+                              f"echo x >> {work}/starts; count=$(wc -l < {work}/starts)\n{body}",
+                              work)
+    asks = ("told('probe')\nstream(1, '')\ncheck()\ntold('lrupd')\ncheck()\ntime.sleep(0.5)\n"
+            "check()\ntime.sleep(0.5)")
     answer = run_with(asks, [], SATISFIABLE, work, lrupd)
     status = {"s UNKNOWN": 0, "s UNSATISFIABLE": 20}[wanted]
-    want((answer.answers, answer.status), ([wanted], status), f"the answer of\n{answer.out}{answer.said}")
+    want((answer.answers, answer.status), ([wanted], status),
+         f"the answer of\n{answer.out}{answer.said}")
     want(len((work / "starts").read_text().splitlines()), starts, "how often it is started")
 
 
 def reading_stopped(work: Path) -> None:
     """The probe is stopped, and --time still ends the run."""
-    lrupd = in_place_of_lrupd("case \"$*\" in *' /dev/null') kill -STOP $$;; esac\nexec " + shlex.quote(PROGRAM) + ' "$@"', work)
+    lrupd = in_place_of_lrupd("case \"$*\" in *' /dev/null') kill -STOP $$;; esac\nexec "
+                              + shlex.quote(PROGRAM) + ' "$@"', work)
     answer = run_with("time.sleep(1000)", ["-q", "--time", "1"], SATISFIABLE, work, lrupd)
     want((answer.answers, answer.status), (["s UNKNOWN"], 0), "the answer")
 
@@ -294,7 +324,8 @@ def empty_checker(work: Path) -> None:
         os.environ["PATH"], before = f"{work}:{os.environ['PATH']}", os.environ["PATH"]
         answer = run_with("stream(1, '')\ncheck()\ntold('lrupd')", [], SATISFIABLE, folder, word)
         os.environ["PATH"] = before
-        want((answer.answers, answer.status, answer.said), ([], 1, "lrup-solve: lrupd took no formula\n"), "the answer")
+        want((answer.answers, answer.status, answer.said),
+             ([], 1, "lrup-solve: lrupd took no formula\n"), "the answer")
 
 
 def signals_of_the_end(work: Path) -> None:
@@ -312,8 +343,10 @@ while True: time.sleep(1)"""
 
 def version_in_little_memory(work: Path) -> None:
     """The front allocates no memory for an assignment before there is one."""
-    done = run(["sh", "-c", "ulimit -v 16000 && exec \"$@\"", "sh", SOLVE, "--engines", "/bin/echo", "--version"])
-    want((done.out, done.status), ("--engines /bin/echo --version\n", 0), f"the message: {done.err}")
+    done = run(["sh", "-c", "ulimit -v 16000 && exec \"$@\"", "sh", SOLVE, "--engines",
+                "/bin/echo", "--version"])
+    want((done.out, done.status), ("--engines /bin/echo --version\n", 0),
+         f"the message: {done.err}")
 
 
 def missing(work: Path) -> None:
@@ -322,7 +355,8 @@ def missing(work: Path) -> None:
     written("", work, "text")
     for option, program_name in (("--engines", "lrup-engines"), ("--lrupd", "lrupd")):
         for name in ("none", "folder", "text"):
-            answer = Answer(run([SOLVE, "--lrupd", PROGRAM, option, work / name, written(FOUR, work)]))
+            answer = Answer(run([SOLVE, "--lrupd", PROGRAM, option, work / name,
+                                 written(FOUR, work)]))
             said = f"lrup-solve: no {program_name} that can be run: {work}/{name}\n"
             want((answer.out, answer.status, answer.said), ("", 1, said), "the messages")
 
@@ -339,101 +373,142 @@ def endless(work: Path) -> None:
 def length(work: Path) -> None:
     """The length of the trusted code, and that only the supervisor is compiled with it."""
     lines = FRONT.read_text().splitlines()
-    want((len(lines) <= 470, max(map(len, lines)) <= 100), (True, True), f"lines of the front, {len(lines)}, and their columns")
-    want([line for line in lines if line.startswith('#include "')], ['#include "supervisor.h"'], "headers of the project")
+    want((len(lines) <= 470, max(map(len, lines)) <= 100), (True, True),
+         f"lines of the front, {len(lines)}, and their columns")
+    want([line for line in lines if line.startswith('#include "')], ['#include "supervisor.h"'],
+         "headers of the project")
 
 
 def rows() -> List[Row]:
     unknown, proved, found = "s UNKNOWN", "s UNSATISFIABLE", "s SATISFIABLE"
     ends, lasting = "told('lrupd')", ["--time", "1"]
     proves = f"stream(1, {PROOF!r})\ncheck()\n"
-    listed: List[Row] = [("a proof", hostile, proves + ends, proved, [], FOUR),
-                         ("a model", hostile, "model('++-')", found, [], SATISFIABLE),
-                         ("a model in pieces", hostile, "for k in '+', '', '+-': say('v ' + k)\nsay('model')", found, [], SATISFIABLE),
-                         ("a proof and a crash", hostile, proves + ends + "\nos.abort()", proved, [], FOUR),
-                         ("a proof, and it stays", hostile, proves + "while True: time.sleep(100)", proved, [], FOUR)]
-    for words in ("1 99999999999999999999 1 1", "1 268435457 1 1", "99 1 1 1", "65 1 1 1", "0 1 1 1", "1 1 1 1000001", "1 -1 1 1",
-                  "-1 1 1 1", "1 1 1", "", "1", "1 1 1 1 1", "1 1 1 1 --help", "1 1 1 1;", "x 1 1 1", "1 0x10 1 1", "1 1 1 x1",
+    listed: List[Row] = [
+        ("a proof", hostile, proves + ends, proved, [], FOUR),
+        ("a model", hostile, "model('++-')", found, [], SATISFIABLE),
+        ("a model in pieces", hostile, "for k in '+', '', '+-': say('v ' + k)\nsay('model')", found,
+         [], SATISFIABLE),
+        ("a proof and a crash", hostile, proves + ends + "\nos.abort()", proved, [], FOUR),
+        ("a proof, and it stays", hostile, proves + "while True: time.sleep(100)",
+         proved, [], FOUR)]
+    for words in ("1 99999999999999999999 1 1", "1 268435457 1 1", "99 1 1 1", "65 1 1 1",
+                  "0 1 1 1", "1 1 1 1000001", "1 -1 1 1", "-1 1 1 1", "1 1 1", "", "1", "1 1 1 1 1",
+                  "1 1 1 1 --help", "1 1 1 1;", "x 1 1 1", "1 0x10 1 1", "1 1 1 x1",
                   "1 1e3 1 1", "1 1.5 1 1"):
-        listed.append((f"check {words}", hostile, proves.replace("check()", f"check('{words}')") + "time.sleep(100)", unknown, lasting, FOUR))
-    listed += [("checked twice", hostile, proves + "check()\ntime.sleep(100)", unknown, lasting, SATISFIABLE)]
-    for name, body in (("a verdict", "say('s UNSATISFIABLE')\nsay('s SATISFIABLE')\nsay('lrupd 0')"),
-                       ("a verdict everywhere", "everywhere(b's UNSATISFIABLE\\n' * 3)"),
-                       ("garbage everywhere", "everywhere(os.urandom(100000))"),
-                       ("a wrong model", "model('---')"), ("a partial one", "model('++')"), ("none", "say('model')"),
-                       ("too many variables", "model('++-+')"), ("other variables", "model('   ++-')"), ("no signs", "model('1 2 -3 0')"),
-                       ("no end", "say('v ++-')"), ("without v", "say('++-')\nsay('model')"),
-                       ("empty", "say('v ')\nsay('v')\nsay('')\nsay('model')"), ("in a line", "write(b'v ++-\\nmodel\\n')"),
-                       ("endless", "for k in range(6000): say('v ' + 4094 * '+')\nsay('model')"),
-                       ("a stream that is garbage", "stream(1, os.urandom(5000).hex())\ncheck()\n" + ends),
-                       ("of another formula", proves + ends), ("without an end", "stream(1, '5 2 0 1')\ncheck()\n" + ends),
-                       ("a folder as a stream", "os.mkdir(folder + '/round-1.stream-1')\ncheck()\n" + ends),
-                       ("no stream", "check()\n" + ends),
-                       ("a round that is forged", "stream(1, '')\nopen(folder + '/round-2.sizes', 'w').write('1 10 10\\n')\n"
-                        "open(folder + '/round-2.cnf', 'w').write('p cnf 1 2\\n1 0\\n-1 0\\n')\n"
-                        "open(folder + '/round-2.stream-1', 'w').write('3 0 1 2 0\\n')\ncheck()\n" + ends),
-                       ("a second round", "stream(1, '')\nopen(folder + '/round-2.sizes', 'w').write('1 10 10\\n')\n"
-                        "open(folder + '/round-2.stream-1', 'w').write('3 0 1 2 0\\n')\ncheck()\n" + ends),
-                       ("a report", "stream(1, '')\ncheck()\ntold('lrupd')\n"
-                        "for name in os.listdir(folder): open(folder + '/' + name, 'w').write('s UNSATISFIABLE\\n')"),
-                       ("nothing", ""), ("status 20", "os._exit(20)"), ("status 10", "os._exit(10)"), ("a crash", "os.abort()"),
-                       ("it ends its group", "os.killpg(0, signal.SIGKILL)"), ("status 1", "os._exit(1)"),
-                       ("forks", "if not os.fork():\n    os.fork()\n    os.fork()\n    time.sleep(1000)"),
-                       ("another folder", proves.replace("check()", "FOLDER = os.open('/', os.O_PATH)\ncheck()") + ends),
-                       ("no file of its own", proves.replace("check()", "FOLDER = 99\ncheck()") + ends),
-                       ("no folder", "subprocess.run(['rm', '-rf', folder])\ncheck()\n" + ends)):
+        listed.append((f"check {words}", hostile,
+                       proves.replace("check()", f"check('{words}')") + "time.sleep(100)", unknown,
+                       lasting, FOUR))
+    listed += [("checked twice", hostile, proves + "check()\ntime.sleep(100)", unknown,
+                lasting, SATISFIABLE)]
+    for name, body in (
+            ("a verdict", "say('s UNSATISFIABLE')\nsay('s SATISFIABLE')\nsay('lrupd 0')"),
+            ("a verdict everywhere", "everywhere(b's UNSATISFIABLE\\n' * 3)"),
+            ("garbage everywhere", "everywhere(os.urandom(100000))"),
+            ("a wrong model", "model('---')"), ("a partial one", "model('++')"),
+            ("none", "say('model')"), ("too many variables", "model('++-+')"),
+            ("other variables", "model('   ++-')"), ("no signs", "model('1 2 -3 0')"),
+            ("no end", "say('v ++-')"), ("without v", "say('++-')\nsay('model')"),
+            ("empty", "say('v ')\nsay('v')\nsay('')\nsay('model')"),
+            ("in a line", "write(b'v ++-\\nmodel\\n')"),
+            ("endless", "for k in range(6000): say('v ' + 4094 * '+')\nsay('model')"),
+            ("a stream that is garbage", "stream(1, os.urandom(5000).hex())\ncheck()\n" + ends),
+            ("of another formula", proves + ends),
+            ("without an end", "stream(1, '5 2 0 1')\ncheck()\n" + ends),
+            ("a folder as a stream", "os.mkdir(folder + '/round-1.stream-1')\ncheck()\n" + ends),
+            ("no stream", "check()\n" + ends),
+            ("a round that is forged",
+             "stream(1, '')\nopen(folder + '/round-2.sizes', 'w').write('1 10 10\\n')\n"
+             "open(folder + '/round-2.cnf', 'w').write('p cnf 1 2\\n1 0\\n-1 0\\n')\n"
+             "open(folder + '/round-2.stream-1', 'w').write('3 0 1 2 0\\n')\ncheck()\n" + ends),
+            ("a second round",
+             "stream(1, '')\nopen(folder + '/round-2.sizes', 'w').write('1 10 10\\n')\n"
+             "open(folder + '/round-2.stream-1', 'w').write('3 0 1 2 0\\n')\ncheck()\n" + ends),
+            ("a report", "stream(1, '')\ncheck()\ntold('lrupd')\n"
+                         "for name in os.listdir(folder): open(folder + '/' + name, 'w').write('s "
+                         "UNSATISFIABLE\\n')"),
+            ("nothing", ""), ("status 20", "os._exit(20)"), ("status 10", "os._exit(10)"),
+            ("a crash", "os.abort()"),
+            ("it ends its group", "os.killpg(0, signal.SIGKILL)"), ("status 1", "os._exit(1)"),
+            ("forks", "if not os.fork():\n    os.fork()\n    os.fork()\n    time.sleep(1000)"),
+            ("another folder",
+             proves.replace("check()", "FOLDER = os.open('/', os.O_PATH)\ncheck()") + ends),
+            ("no file of its own", proves.replace("check()", "FOLDER = 99\ncheck()") + ends),
+            ("no folder", "subprocess.run(['rm', '-rf', folder])\ncheck()\n" + ends)):
         listed.append((name, hostile, body, unknown, ["--time", "20"], SATISFIABLE))
-    for name, body in (("sleeps", "time.sleep(1000)"), ("stopped", "os.kill(os.getpid(), signal.SIGSTOP)"),
-                       ("closes all", "os.closerange(0, 1000)\ntime.sleep(1000)"),
-                       ("no end of pieces", "while True: write(b'c ' + b'x' * 1000)"),
-                       ("no end of comments", "while True: say('c x' * 1000)"),
-                       ("no end of nonsense", "while True: write(b'x\\n' * 1000)"),
-                       ("heeds nothing", "for k in range(1, 65):\n    try: signal.signal(k, signal.SIG_IGN)\n"
-                        "    except (OSError, ValueError): pass\ntime.sleep(1000)"),
-                       ("its children stay", "if os.fork(): os._exit(0)\ntime.sleep(1000)"),
-                       ("lrupd waits", "os.mkfifo(folder + '/round-1.stream-1')\ncheck()\ntime.sleep(1000)")):
+    for name, body in (
+            ("sleeps", "time.sleep(1000)"), ("stopped", "os.kill(os.getpid(), signal.SIGSTOP)"),
+            ("closes all", "os.closerange(0, 1000)\ntime.sleep(1000)"),
+            ("no end of pieces", "while True: write(b'c ' + b'x' * 1000)"),
+            ("no end of comments", "while True: say('c x' * 1000)"),
+            ("no end of nonsense", "while True: write(b'x\\n' * 1000)"),
+            ("heeds nothing", "for k in range(1, 65):\n    try: signal.signal(k, signal.SIG_IGN)\n"
+                              "    except (OSError, ValueError): pass\ntime.sleep(1000)"),
+            ("its children stay", "if os.fork(): os._exit(0)\ntime.sleep(1000)"),
+            ("lrupd waits", "os.mkfifo(folder + '/round-1.stream-1')\ncheck()\ntime.sleep(1000)")):
         listed.append((name, hostile, body, unknown, ["-q", *lasting], SATISFIABLE))
-    listed += [("refused", hostile, "say('refused')", "1", [], FOUR), ("refused, and a crash", hostile, "say('refused')\nos.abort()", "1", [], FOUR),
+    listed += [("refused", hostile, "say('refused')", "1", [], FOUR),
+               ("refused, and a crash", hostile, "say('refused')\nos.abort()", "1", [], FOUR),
                ("refused, and a proof", refused_proof),
-               ("its reading killed, a model", reading_killed, SATISFIABLE, "model('++-')\ntime.sleep(1)", unknown, 0),
-               ("its reading killed, nothing", reading_killed, SATISFIABLE, "told('probe')", unknown, 0),
-               ("its reading killed, a proof", reading_killed, FOUR, proves + ends, proved, 20), ("by a pipe", by_pipe), ("comments", without_lines),
-               ("a formula that lrupd refuses", refused_formula), ("no program", missing), ("length", length),
-               ("a formula without end", endless)]
+               ("its reading killed, a model", reading_killed, SATISFIABLE,
+                "model('++-')\ntime.sleep(1)", unknown, 0),
+               ("its reading killed, nothing", reading_killed, SATISFIABLE, "told('probe')",
+                unknown, 0),
+               ("its reading killed, a proof", reading_killed, FOUR, proves + ends, proved, 20),
+               ("by a pipe", by_pipe), ("comments", without_lines),
+               ("a formula that lrupd refuses", refused_formula), ("no program", missing),
+               ("length", length), ("a formula without end", endless)]
     again = "killed()\nstream(1, {!r})\ncheck()\n" + ends
     forged, takes_id = "forge('s UNSATISFIABLE')", "again({}, 0, here + '/again')"
     for how in ("named", "by a pipe"):
-        listed += [(f"{name}, {how}", asked_again, body, line, text, how) for name, body, text, line in (
-            ("killed, and a proof", again.format(PROOF), FOUR, proved),
-            ("killed twice, and a proof", "killed()\n" + again.format(PROOF), FOUR, proved),
-            ("killed, and no proof", again.format(""), FOUR, unknown),
-            ("killed, and another's proof", again.format(PROOF), SATISFIABLE, unknown),
-            ("killed, and a forged line", f"killed()\n{forged}\nstream(1, '')\ncheck()\n{ends}\n{forged}", SATISFIABLE, unknown),
-            ("killed, and its id again", f"pid = killed()\n{forged}\n{takes_id.format('pid')}\nstream(1, '')\ncheck()\n{ends}",
-             SATISFIABLE, unknown),
-            ("killed, its id again, and nothing", f"{takes_id.format('killed()')}\n{forged}", SATISFIABLE, unknown))]
-    listed += [(name, asked_again, body, unknown, SATISFIABLE, "for a second") for name, body in (
-        ("killed without end", "while True: killed()"), ("killed, and it stays", "killed()\ntime.sleep(1000)"))]
+        listed += [
+            (f"{name}, {how}", asked_again, body, line, text, how) for name, body, text, line in (
+                ("killed, and a proof", again.format(PROOF), FOUR, proved),
+                ("killed twice, and a proof", "killed()\n" + again.format(PROOF), FOUR, proved),
+                ("killed, and no proof", again.format(""), FOUR, unknown),
+                ("killed, and another's proof", again.format(PROOF), SATISFIABLE, unknown),
+                ("killed, and a forged line",
+                 f"killed()\n{forged}\nstream(1, '')\ncheck()\n{ends}\n{forged}",
+                 SATISFIABLE, unknown),
+                ("killed, and its id again", f"pid = killed()\n{forged}\n{takes_id.format('pid')}\n"
+                                             f"stream(1, '')\ncheck()\n{ends}",
+                 SATISFIABLE, unknown),
+                ("killed, its id again, and nothing", f"{takes_id.format('killed()')}\n{forged}",
+                 SATISFIABLE, unknown))]
+    listed += [(name, asked_again, body, unknown, SATISFIABLE, "for a second")
+               for name, body in (("killed without end", "while True: killed()"),
+                                  ("killed, and it stays", "killed()\ntime.sleep(1000)"))]
     dead = "kill -9 $$"
-    listed += [(f"asked for more: {body}", asked_for_more, body, starts, line) for body, starts, line in (
-        (dead, 3, unknown), ("kill -SEGV $$", 3, unknown), ("exit 3", 1, unknown), ("exit 0", 1, unknown), ("exit 137", 1, unknown),
-        (f"[ $count -gt 1 ] || {dead}; exit 3", 2, unknown), (f"echo s UNSATISFIABLE; {dead}", 3, unknown),
-        (f"[ $count -gt 1 ] || {{ echo s UNSATISFIABLE; {dead}; }}; exit 0", 2, unknown),
-        (f"[ $count -gt 1 ] || {{ echo s UNSATISFIABLE; {dead}; }}; echo s UNKNOWN; exit 0", 2, unknown),
-        (f"[ $count -gt 1 ] || {{ printf 's UNSAT'; {dead}; }}; echo ISFIABLE; exit 0", 2, unknown),
-        (f"[ $count -gt 1 ] || {{ echo s UNKNOWN; {dead}; }}; echo s UNSATISFIABLE; exit 0", 2, proved),
-        (f"[ $count -gt 1 ] || {{ echo s UNSATISFIABLE; {dead}; }}; echo s UNSATISFIABLE; exit 3", 2, unknown))]
-    listed += [("lrupd's id again", checkers_id_again), ("the reading's id again", readers_id_again),
-               ("lrupd's id again, by a solver", solvers_id_again), ("its reading stopped", reading_stopped),
-               ("an empty file as lrupd", empty_checker), ("signals of the end", signals_of_the_end),
+    listed += [
+        (f"asked for more: {body}", asked_for_more, body, starts, line) for body, starts, line in (
+            (dead, 3, unknown), ("kill -SEGV $$", 3, unknown), ("exit 3", 1, unknown),
+            ("exit 0", 1, unknown), ("exit 137", 1, unknown),
+            (f"[ $count -gt 1 ] || {dead}; exit 3", 2, unknown),
+            (f"echo s UNSATISFIABLE; {dead}", 3, unknown),
+            (f"[ $count -gt 1 ] || {{ echo s UNSATISFIABLE; {dead}; }}; exit 0", 2, unknown),
+            (f"[ $count -gt 1 ] || {{ echo s UNSATISFIABLE; {dead}; }}; echo s UNKNOWN; exit 0",
+             2, unknown),
+            (f"[ $count -gt 1 ] || {{ printf 's UNSAT'; {dead}; }}; echo ISFIABLE; exit 0",
+             2, unknown),
+            (f"[ $count -gt 1 ] || {{ echo s UNKNOWN; {dead}; }}; echo s UNSATISFIABLE; exit 0", 2,
+             proved), (f"[ $count -gt 1 ] || {{ echo s UNSATISFIABLE; {dead}; }}; echo s "
+                       "UNSATISFIABLE; exit 3", 2, unknown))]
+    listed += [("lrupd's id again", checkers_id_again),
+               ("the reading's id again", readers_id_again),
+               ("lrupd's id again, by a solver", solvers_id_again),
+               ("its reading stopped", reading_stopped), ("an empty file as lrupd", empty_checker),
+               ("signals of the end", signals_of_the_end),
                ("a version in little memory", version_in_little_memory)]
     for name, body, text, line in (
-            ("a proof", proves + ends, FOUR, proved), ("a model", "model('++-')", SATISFIABLE, found),
-            ("nothing", "told('probe')", FOUR, unknown), ("a wrong model", "model('---')", SATISFIABLE, unknown),
-            ("a proof under assumptions", "stream(1, '5 2 0 1 2 0\\n')\ncheck()\n" + ends, "p cnf 2 4\n1 2 0\n-1 2 0\n1 2 0\n1 2 0\n",
-             "s UNSATISFIABLE UNDER ASSUMPTIONS")):
-        listed += [(f"{name}, expecting {expected}", expects, body, expected, line, int(line != wanted), text)
-                   for expected, wanted in (("unsat", proved), ("sat", found), ("unsat-under-assumptions", "s UNSATISFIABLE UNDER ASSUMPTIONS"))]
+            ("a proof", proves + ends, FOUR, proved),
+            ("a model", "model('++-')", SATISFIABLE, found),
+            ("nothing", "told('probe')", FOUR, unknown),
+            ("a wrong model", "model('---')", SATISFIABLE, unknown),
+            ("a proof under assumptions", "stream(1, '5 2 0 1 2 0\\n')\ncheck()\n" + ends,
+             "p cnf 2 4\n1 2 0\n-1 2 0\n1 2 0\n1 2 0\n", "s UNSATISFIABLE UNDER ASSUMPTIONS")):
+        listed += [(f"{name}, expecting {expected}", expects, body, expected, line,
+                    int(line != wanted), text) for expected, wanted in (
+                        ("unsat", proved), ("sat", found),
+                        ("unsat-under-assumptions", "s UNSATISFIABLE UNDER ASSUMPTIONS"))]
     listed += [(f"{name}, expecting an answer", expects_nothing, body) for name, body in (
         ("status 0", "os._exit(0)"), ("status 20", "os._exit(20)"), ("refused", "say('refused')"),
         ("a verdict", "say('s UNSATISFIABLE')\nsay('s SATISFIABLE')"), ("a crash", "os.abort()"))]
@@ -441,16 +516,22 @@ def rows() -> List[Row]:
                ("never began, with -q", never_began, ["-q"])]
     listed += [(f"dies after {number}", dies_at_each_moment, number) for number in range(7)]
     under = "stream(1, '5 1 0 1 2 0\\n')\ncheck()\ntold('lrupd')"
-    listed += [("under assumptions", assuming, "-2 0\n", "stream(1, '5 2 0 1 2 0\\n')\ncheck()\ntold('lrupd')",
-                "s UNSATISFIABLE UNDER ASSUMPTIONS", 20), ("not under these", assuming, "2 0\n", under, unknown, 0),
+    listed += [("under assumptions", assuming, "-2 0\n",
+                "stream(1, '5 2 0 1 2 0\\n')\ncheck()\ntold('lrupd')",
+                "s UNSATISFIABLE UNDER ASSUMPTIONS", 20),
+               ("not under these", assuming, "2 0\n", under, unknown, 0),
                ("a model under assumptions", assuming, "2 -3 0\n", "model('++-')", found, 10),
                ("one that breaks them", assuming, "2 3 0\n", "model('++-')", unknown, 0)]
-    listed += [(f"lrupd ends with {status}, {words}", impostor, status, words, wanted) for status, words, wanted in (
-        (3, [], unknown), (8, [], unknown), (8, ["--assume", "{cube}"], "s UNSATISFIABLE UNDER ASSUMPTIONS"), (20, [], unknown),
-        (10, [], unknown), (1, [], unknown), (0, [], proved))]
-    listed += [(f"signal {number}, {name}" + ", all of its group" * whole_group, signalled, number, body, whole_group)
-               for number in (signal.SIGTERM, signal.SIGINT, signal.SIGQUIT, signal.SIGKILL) for whole_group in (False, True)
-               for name, body in (("it sleeps", "time.sleep(1000)"), ("it writes", "while True: say('c x')"))]
+    listed += [(f"lrupd ends with {status}, {words}", impostor, status, words, wanted)
+               for status, words, wanted in (
+                   (3, [], unknown), (8, [], unknown),
+                   (8, ["--assume", "{cube}"], "s UNSATISFIABLE UNDER ASSUMPTIONS"),
+                   (20, [], unknown), (10, [], unknown), (1, [], unknown), (0, [], proved))]
+    listed += [(f"signal {number}, {name}" + ", all of its group" * whole_group, signalled, number,
+                body, whole_group)
+               for number in (signal.SIGTERM, signal.SIGINT, signal.SIGQUIT, signal.SIGKILL)
+               for whole_group in (False, True) for name, body in (
+                   ("it sleeps", "time.sleep(1000)"), ("it writes", "while True: say('c x')"))]
     return listed
 
 

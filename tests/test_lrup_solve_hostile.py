@@ -252,7 +252,8 @@ def signalled(numbers: random.Random, most: int, given: Given, work: Path) -> in
                 until("its files are removed", lambda: not os.listdir(files), SOON)
         except AssertionError as found:
             left = [of_process(pid, "stat")[:40] for pid in processes_of(mark)]
-            raise AssertionError(f"{found}\nafter {history}; left {left}, {os.listdir(files)}") from found
+            raise AssertionError(
+                f"{found}\nafter {history}; left {left}, {os.listdir(files)}") from found
         finally:
             end_all(mark)
     return len(history)

@@ -35,8 +35,10 @@ def keeps(words: List[str], work: Path) -> None:
 def keeps_lrat(words: str, work: Path) -> None:
     """The stream of a single engine, in one round, is LRAT for any LRAT checker."""
     kept, formula = work / "kept", generated(words, work)
-    want_answer(solve(["-j", "1", "--memory", "256M", "--proofs", kept, formula], tested={"FIRST_WORDS": 1 << 24}), 20)
-    want(sorted(os.listdir(kept)), ["about", "command", "files", "formula.sha256", "report", "round-1.sizes", "round-1.stream-1"],
+    want_answer(solve(["-j", "1", "--memory", "256M", "--proofs", kept, formula],
+                      tested={"FIRST_WORDS": 1 << 24}), 20)
+    want(sorted(os.listdir(kept)), ["about", "command", "files", "formula.sha256", "report",
+                                    "round-1.sizes", "round-1.stream-1"],
          "the kept files")
     want(lrat_fault(read_formula(formula), (kept / "round-1.stream-1").read_text()), "", "as LRAT")
 
@@ -53,7 +55,8 @@ def keeps_not_utf8(words: List[str], tested: Dict[str, object], work: Path) -> N
     folder = work / os.fsdecode(b"\xff \xed\xa0\x80")
     formula = written(example("bmc.cnf").read_text(), folder, os.fsdecode(b"formula\xc0\x80"))
     written("0\n", folder, CUBE)
-    want_answer(solve(["-v", "-j", "2", *words, formula.name], cwd=folder, tested=tested, env_more={"TMPDIR": str(folder)}), 20)
+    want_answer(solve(["-v", "-j", "2", *words, formula.name], cwd=folder, tested=tested,
+                      env_more={"TMPDIR": str(folder)}), 20)
     if "--proofs" in words:
         check_again(folder / words[-1])
     want(list(folder.glob("lrup-solve-*")), [], "folders of rounds that are left")
@@ -65,7 +68,8 @@ def keeps_by_short_names(work: Path) -> None:
     written("0\n", work, "cube")
     os.symlink(PROGRAM, work / "lrupd")
     shutil.copy(example("bmc.cnf"), work / "formula.cnf")
-    done = run([SOLVE, "--lrupd", "./lrupd", "--proofs", "a record", "--assume", "cube", "formula.cnf"], cwd=work)
+    done = run([SOLVE, "--lrupd", "./lrupd", "--proofs", "a record", "--assume", "cube",
+                "formula.cnf"], cwd=work)
     want((done.err, done.status), ("", 20), "the run")
     check_again(work / "a record")
 
@@ -78,11 +82,13 @@ def writes_over(words: List[str], work: Path) -> None:
     os.link(path, work / "other")
     with open(path) as file:
         out, said, status = run([SOLVE, "--lrupd", PROGRAM, "--proofs", kept,
-                                 *(word.format(path=path, work=work, cube=cube) for word in words[1:])], stdin=file)
+                                 *(word.format(path=path, work=work, cube=cube)
+                                   for word in words[1:])], stdin=file)
     over = " would be overwritten: choose another --proofs\n"
-    want((out, said.count("\n"), said.endswith(over), status), ("", 1, True, 1), f"the message: {said}")
-    want((path.read_text(), cube.read_text(), sorted(os.listdir(kept))), (text, "0\n", sorted({path.name, "assumptions"})),
-         "the files' contents")
+    want((out, said.count("\n"), said.endswith(over), status), ("", 1, True, 1),
+         f"the message: {said}")
+    want((path.read_text(), cube.read_text(), sorted(os.listdir(kept))),
+         (text, "0\n", sorted({path.name, "assumptions"})), "the files' contents")
 
 
 def links_in_a_record(work: Path) -> None:
@@ -101,30 +107,41 @@ def earlier_run(work: Path) -> None:
     """A new run leaves nothing of the old record; its formula may come from that record, by a pipe.
     What the record doesn't list isn't removed."""
     kept = work / "kept"
-    rounds = [f"round-{k}.{name}" for k in (1, 2, 9, 10, 123) for name in ("sizes", "stream-1", "stream-2", "stream-64")]
-    others = ["another", "round-0.sizes", "round-1.stream-", "round-1.stream-x", "round-2.cnf", "round-2.cnf.old", "round.cnf", "stream1"]
-    names = ["files", "about", "report", "command", "formula.sha256", "formula.cnf", "assumptions", ".round-9.sizes.new", *rounds, "round-7.sizes"]
+    rounds = [f"round-{k}.{name}" for k in (1, 2, 9, 10, 123)
+              for name in ("sizes", "stream-1", "stream-2", "stream-64")]
+    others = ["another", "round-0.sizes", "round-1.stream-", "round-1.stream-x", "round-2.cnf",
+              "round-2.cnf.old", "round.cnf", "stream1"]
+    names = ["files", "about", "report", "command", "formula.sha256", "formula.cnf", "assumptions",
+             ".round-9.sizes.new", *rounds, "round-7.sizes"]
     for name in [*names[1:-1], *others]:
         written("of an earlier run\n", kept, name)
-    written("\n".join([*names, "round-1.str"]), kept, "files")     # the run was killed before it had written a name
+    # The run was killed before it had written a name.
+    written("\n".join([*names, "round-1.str"]), kept, "files")
     shutil.copy(example("bmc.cnf"), kept / "formula.cnf")
-    in_shell('cat "$2"/formula.cnf | "$0" --lrupd "$1" -j 2 --replace --proofs "$2" -', SOLVE, PROGRAM, kept)
+    in_shell('cat "$2"/formula.cnf | "$0" --lrupd "$1" -j 2 --replace --proofs "$2" -',
+             SOLVE, PROGRAM, kept)
     one = ["round-1.sizes", "round-1.stream-1"]
-    found = ["about", "command", "files", "formula.cnf", "formula.sha256", "report", *one, "round-1.stream-2"]
+    found = ["about", "command", "files", "formula.cnf", "formula.sha256", "report", *one,
+             "round-1.stream-2"]
     want(sorted(os.listdir(kept)), sorted([*others, *found]), "the files")
     want([name for name in listed(kept) if name[0] != "."], found, "the listed files")
     want((kept / "formula.cnf").read_text(), example("bmc.cnf").read_text(), "the formula")
     check_again(kept)
     one_round = {"FIRST_WORDS": 1 << 24}      # no machine fills this row before the run ends
-    with started(command(["-j", "1", "--replace", "--proofs", kept, generated("pigeons 11", work)], one_round), env=in_environment(one_round),
-                 stdout=subprocess.PIPE, text=True) as running:
-        until("lrupd is there", lambda: "lrupd" in children_of(running.pid) or running.poll() is not None)
+    with started(command(["-j", "1", "--replace", "--proofs", kept, generated("pigeons 11", work)],
+                         one_round),
+                 env=in_environment(one_round), stdout=subprocess.PIPE, text=True) as running:
+        until("lrupd is there",
+              lambda: "lrupd" in children_of(running.pid) or running.poll() is not None)
         running.terminate()
         out = running.communicate(timeout=LIMIT)[0]
-    want((out.splitlines()[-1], running.returncode), ("s UNKNOWN", -signal.SIGTERM), "the answer of a run that was ended")
+    want((out.splitlines()[-1], running.returncode), ("s UNKNOWN", -signal.SIGTERM),
+         "the answer of a run that was ended")
     saved = ["checkpoint-2.cnf", "rounds.sha256"]
-    want(sorted(os.listdir(kept)), sorted([*others, "files", "formula.sha256", *one, *saved]), "the files after 's UNKNOWN'")
-    want([path.read_text() for path in map(kept.joinpath, others)], ["of an earlier run\n"] * len(others), "the other files' contents")
+    want(sorted(os.listdir(kept)), sorted([*others, "files", "formula.sha256", *one, *saved]),
+         "the files after 's UNKNOWN'")
+    want([path.read_text() for path in map(kept.joinpath, others)],
+         ["of an earlier run\n"] * len(others), "the other files' contents")
 
 
 def others_write(mode: int, taken: bool, work: Path) -> None:
@@ -141,7 +158,8 @@ def others_write(mode: int, taken: bool, work: Path) -> None:
 
 
 def made_where_all_may_write(work: Path) -> None:
-    in_shell('umask 0; exec "$@"', "sh", SOLVE, "--lrupd", PROGRAM, "-j", "1", "--proofs", work / "kept", example("bmc.cnf"))
+    in_shell('umask 0; exec "$@"', "sh", SOLVE, "--lrupd", PROGRAM, "-j", "1", "--proofs",
+             work / "kept", example("bmc.cnf"))
     want((work / "kept").stat().st_mode & 0o7777, 0o775, "the mode of the folder that is made")
     check_again(work / "kept")
 
@@ -149,13 +167,18 @@ def made_where_all_may_write(work: Path) -> None:
 def locked(name: str, ends: int, work: Path) -> None:
     """Another run locks the folder until it ends, however it ends. The second run is refused at
     once, and touches nothing."""
-    kept, words, mark = work / "kept", ["--proofs", work / name, "-j", "1", example("bmc.cnf")], marked(work)
+    kept, words, mark = (work / "kept",
+                         ["--proofs", work / name, "-j", "1", example("bmc.cnf")], marked(work))
     os.symlink("kept", work / "link")
-    with started(command(["-j", "1", "--proofs", kept, generated("pigeons 11", work)]), stdout=subprocess.DEVNULL) as running:
-        until("lrupd's sizes are there", lambda: (kept / "round-1.sizes").exists() or running.poll() is not None)
+    with started(command(["-j", "1", "--proofs", kept, generated("pigeons 11", work)]),
+                 stdout=subprocess.DEVNULL) as running:
+        until("lrupd's sizes are there",
+              lambda: (kept / "round-1.sizes").exists() or running.poll() is not None)
         before = sorted(os.listdir(kept))
-        refused(words, f"{work / name}: another run has its files there, and hasn't ended: choose another --proofs", work)
-        want((sorted(os.listdir(kept)), running.poll()), (before, None), "the files, and the run's status")
+        refused(words, f"{work / name}: another run has its files there, and hasn't ended: choose "
+                       "another --proofs", work)
+        want((sorted(os.listdir(kept)), running.poll()), (before, None),
+             "the files, and the run's status")
         running.send_signal(ends)
         running.wait(LIMIT)
         none_left(mark)
@@ -169,60 +192,77 @@ def own_files(name: str, work: Path) -> None:
     its formula leaves a record."""
     own = work / "own"
     path, other = written("mine\n", own, name), written("mine\n", own, "round-5.cnf")
-    refused(["--proofs", own, example("bmc.cnf")], f"{path} is there, and isn't of an earlier run: choose another --proofs", work)
-    want((path.read_text(), sorted(os.listdir(own))), ("mine\n", sorted([name, other.name])), "the files' contents")
+    refused(["--proofs", own, example("bmc.cnf")],
+            f"{path} is there, and isn't of an earlier run: choose another --proofs", work)
+    want((path.read_text(), sorted(os.listdir(own))), ("mine\n", sorted([name, other.name])),
+         "the files' contents")
     path.unlink()
     want_answer(solve(["--proofs", own, example("bmc.cnf")]), 20)
     want(other.read_text(), "mine\n", "the files' contents")
     (own / "files").unlink()
     said = solve(["--proofs", own, example("bmc.cnf")]).said
-    wanted = f"lrup-solve: {own}/about is there, and isn't of an earlier run: choose another --proofs\n"
+    wanted = (
+        f"lrup-solve: {own}/about is there, and isn't of an earlier run: choose another --proofs\n")
     want(said, wanted, "the message on a record without a list")
     check_again(own)
-    for text, status in ((FOUR, 20), ("x", 1), ("p cnf 1 0\n", 10), ("p cnf 1 1\n2 0\n", 1), (FOUR, 20)):
-        want(solve(["--replace", "--proofs", work / "kept", "-"], given=text).status, status, f"the status with {text}")
+    for text, status in ((FOUR, 20), ("x", 1), ("p cnf 1 0\n", 10),
+                         ("p cnf 1 1\n2 0\n", 1), (FOUR, 20)):
+        want(solve(["--replace", "--proofs", work / "kept", "-"], given=text).status, status,
+             f"the status with {text}")
 
 
 def own_list(text: Optional[str], work: Path) -> None:
     """A list that isn't a record's, or is a link or a pipe, doesn't cause removals, and isn't
     written to."""
-    own, target, mine = work / "own", written("files\nreport\n", work, "target"), written("mine\n", work, "mine")
+    own, target, mine = (work / "own", written("files\nreport\n", work, "target"),
+                         written("mine\n", work, "mine"))
     report = written("mine\n", own, "report")
-    {"link": lambda: (own / "files").symlink_to(target), "hard link": lambda: os.link(target, own / "files"),
-     "pipe": lambda: os.mkfifo(own / "files")}.get(str(text), lambda: written(str(text), own, "files"))()
+    {"link": lambda: (own / "files").symlink_to(target),
+     "hard link": lambda: os.link(target, own / "files"), "pipe": lambda: os.mkfifo(
+         own / "files")}.get(str(text), lambda: written(str(text), own, "files"))()
     answer = solve(["--proofs", own, example("bmc.cnf")], limit=60)
     want((answer.out, answer.said, answer.status),
-         ("", f"lrup-solve: {own}/files is there, and isn't of an earlier run: choose another --proofs\n", 1), "the messages")
-    want([path.read_text() for path in (report, target, mine)], ["mine\n", "files\nreport\n", "mine\n"], "the files' contents")
+         ("", f"lrup-solve: {own}/files is there, and isn't of an earlier run: choose "
+              "another --proofs\n", 1),
+         "the messages")
+    want([path.read_text() for path in (report, target, mine)],
+         ["mine\n", "files\nreport\n", "mine\n"], "the files' contents")
     want(sorted(os.listdir(own)), ["files", "report"], "the files")
 
 
 def replaced(work: Path) -> None:
     """A record with a proof stays unless --replace is given; one without is replaced."""
     kept, words = work / "kept", ["-j", "1", "--proofs", work / "kept"]
-    said = f"lrup-solve: {kept} has the proof of an earlier run: add --replace, or choose another --proofs\n"
-    cube, under = written("-2 0\n", work, "cube"), written("p cnf 2 2\n1 2 0\n-1 2 0\n", work, "under")
+    said = (f"lrup-solve: {kept} has the proof of an earlier run: add --replace, or choose "
+            "another --proofs\n")
+    cube, under = (written("-2 0\n", work, "cube"),
+                   written("p cnf 2 2\n1 2 0\n-1 2 0\n", work, "under"))
     sat = written("p cnf 1 1\n1 0\n", work, "sat")
-    for more, status in (([sat], 10), ([example("bmc.cnf")], 20), (["--assume", cube, under], 20), ([sat], 10), ([sat], 10)):
+    for more, status in (([sat], 10), ([example("bmc.cnf")], 20), (["--assume", cube, under], 20),
+                         ([sat], 10), ([sat], 10)):
         want(solve([*words, "--replace", *more]).status, status, "the status")
         files = {path.name: path.read_bytes() for path in kept.iterdir()}
         answer = solve([*words, example("four-clause.cnf")])
         if status == 10:
             want_answer(answer, 20)
         else:
-            want((answer.out, answer.said, answer.status), ("", said, 1), "the message on a record with a proof")
+            want((answer.out, answer.said, answer.status), ("", said, 1),
+                 "the message on a record with a proof")
             want({path.name: path.read_bytes() for path in kept.iterdir()}, files, "the record")
     other = written(b"", kept, "round-9.stream-1.xz")
     answer = solve([*words, "--replace", sat])
     own = f"lrup-solve: {other} is there, and isn't of an earlier run: choose another --proofs\n"
-    want((answer.out, answer.said, answer.status), ("", own, 1), "the message on another compressed stream")
+    want((answer.out, answer.said, answer.status), ("", own, 1),
+         "the message on another compressed stream")
     other.unlink()
     stream = (kept / "round-1.stream-1").rename(kept / "round-1.stream-1.xz")
-    want((solve([*words, "--replace", sat]).status, stream.exists()), (10, False), "the answer with a compressed stream, and whether that is left")
+    want((solve([*words, "--replace", sat]).status, stream.exists()), (10, False),
+         "the answer with a compressed stream, and whether that is left")
 
 
-LISTS = ["link", "hard link", "pipe", "", "\n", "files", "report\n", "files\n../mine\n", "files\n\nreport\n", "files\nround-1.cnf\n",
-         "files\nmine\n", "files\nround-1.stream-0\n", "files\n.new\n", "files\nreport\0\n", "files\nfiles/../report\n"]
+LISTS = ["link", "hard link", "pipe", "", "\n", "files", "report\n", "files\n../mine\n",
+         "files\n\nreport\n", "files\nround-1.cnf\n", "files\nmine\n", "files\nround-1.stream-0\n",
+         "files\n.new\n", "files\nreport\0\n", "files\nfiles/../report\n"]
 
 
 def formula_of_a_round(work: Path) -> None:
@@ -253,7 +293,8 @@ def another_name(words: List[str], work: Path) -> None:
     formula = example("bmc.cnf")
     os.symlink("/dev/stdin", work / "link")
     for how in ('"$@" < "$formula"', 'cat "$formula" | "$@"', '"$@" 5< "$formula" < "$formula"'):
-        done = in_shell(how, "sh", SOLVE, "--lrupd", PROGRAM, *(word.format(work=work) for word in words),
+        done = in_shell(how, "sh", SOLVE, "--lrupd", PROGRAM,
+                        *(word.format(work=work) for word in words),
                         env={**os.environ, "formula": str(formula)})
         if "/dev/fd/5" not in words or "5<" in how:
             want_answer(Answer(done), 20)
@@ -263,14 +304,17 @@ def name_with_an_end_of_line(work: Path) -> None:
     kept, formula = work / "a\nrecord", written("p cnf 1 2\n1 0\n-1 0\n", work, "a\nformula")
     answer = solve(["-v", "-j", "1", "--proofs", kept, formula])
     want_answer(answer, 20)
-    want([line for line in answer.out.splitlines() if line[:2] not in ("c ", "s ")], [], "lines that are neither")
-    want(sum("1 clause checked" in line for line in answer.comments), 1, f"clauses in\n{answer.out}")
+    want([line for line in answer.out.splitlines() if line[:2] not in ("c ", "s ")], [],
+         "lines that are neither")
+    want(sum("1 clause checked" in line for line in answer.comments), 1,
+         f"clauses in\n{answer.out}")
     check_again(kept)
 
 
 def relative_link(work: Path) -> None:
     """The links of `make solve` still work if the repository is moved."""
-    want(os.readlink(OUT / "lrupd"), os.path.relpath(ROOT / "crates" / "lrupd" / "out" / "lrupd", OUT), "the link to lrupd")
+    want(os.readlink(OUT / "lrupd"),
+         os.path.relpath(ROOT / "crates" / "lrupd" / "out" / "lrupd", OUT), "the link to lrupd")
 
 
 def standard_input(words: List[str], work: Path) -> None:
@@ -297,7 +341,8 @@ def beside(work: Path) -> None:
     for folder in ("two", "one"):
         os.symlink(PROGRAM, work / folder / "lrupd")
         done = run(words, env=where)
-        want((done.out.splitlines()[-1:], done.status), (["s UNSATISFIABLE"], 20), f"with lrupd in {folder}")
+        want((done.out.splitlines()[-1:], done.status), (["s UNSATISFIABLE"], 20),
+             f"with lrupd in {folder}")
         (work / folder / "lrupd").unlink()
 
 
@@ -314,7 +359,8 @@ def contradicting(work: Path) -> None:
     formula, cube = written("p cnf 3 2\n1 2 0\n-1 2 0\n", work), written("3 1 -1 0\n", work, "cube")
     answer = solve(["-j", "2", "--assume", cube, formula])
     want_answer(answer, 0)
-    want(answer.comments[:-1], ["assumptions 1 and -1 contradict each other, which no proof can show"], "the messages")
+    want(answer.comments[:-1],
+         ["assumptions 1 and -1 contradict each other, which no proof can show"], "the messages")
 
 
 # The run's temporary folder, and programs.
@@ -329,7 +375,8 @@ def open_to_others(mode: int, taken: bool, work: Path) -> None:
     if taken:
         want_answer(answer, 20)
     else:
-        want(answer.said, f"lrup-solve: {files}: others may write there: choose another TMPDIR\n", "the messages")
+        want(answer.said, f"lrup-solve: {files}: others may write there: choose another TMPDIR\n",
+             "the messages")
     want(os.listdir(files), [], "the files left")
 
 
@@ -338,9 +385,10 @@ def another_in_place(ends: int, work: Path) -> None:
     folder; the run's own files are."""
     files, mine = work / "files", written("mine", work / "mine", "mine")
     files.mkdir()
-    with started(command(["-j", "1", generated("pigeons 11", work)]), env={**os.environ, "TMPDIR": str(files)},
-                 stdout=subprocess.DEVNULL) as running:
-        until("lrupd is there", lambda: "lrupd" in children_of(running.pid) or running.poll() is not None)
+    with started(command(["-j", "1", generated("pigeons 11", work)]),
+                 env={**os.environ, "TMPDIR": str(files)}, stdout=subprocess.DEVNULL) as running:
+        until("lrupd is there",
+              lambda: "lrupd" in children_of(running.pid) or running.poll() is not None)
         engines, (folder,) = children_of(running.pid)["lrup-engines"], files.iterdir()
         moved = folder.rename(work / "moved")
         (moved / "a link").symlink_to(mine.parent)
@@ -348,7 +396,8 @@ def another_in_place(ends: int, work: Path) -> None:
         written("mine", folder, "mine")
         os.kill(engines, ends)
         running.wait(60)
-    want((os.listdir(moved), (folder / "mine").read_text(), mine.read_text()), ([], "mine", "mine"), "the files left")
+    want((os.listdir(moved), (folder / "mine").read_text(), mine.read_text()), ([], "mine", "mine"),
+         "the files left")
 
 
 def without_processes(work: Path) -> None:
@@ -361,11 +410,13 @@ def without_processes(work: Path) -> None:
     files.mkdir(mode=0o1777)
     files.chmod(0o1777)
     for most in range(1, 25):
-        answer = Answer(by_another([work / "bin" / "lrup-solve", "-j", "1", formula], work, 60000 + (32 * os.getpid() + most) % 5000,
-                                   lambda: resource.setrlimit(resource.RLIMIT_NPROC, (most, most)), limit=60,
-                                   env={**os.environ, "TMPDIR": str(files)}))
+        answer = Answer(by_another([work / "bin" / "lrup-solve", "-j", "1", formula], work,
+                                   60000 + (32 * os.getpid() + most) % 5000,
+                                   lambda: resource.setrlimit(resource.RLIMIT_NPROC, (most, most)),
+                                   limit=60, env={**os.environ, "TMPDIR": str(files)}))
         proved += answer.status == 20
-        want(os.listdir(files), [], f"the files left by at most {most} processes, with {answer.said}{answer.out}")
+        want(os.listdir(files), [],
+             f"the files left by at most {most} processes, with {answer.said}{answer.out}")
     want(0 < proved < 24, True, f"whether {proved} of 24 are some, not all")
 
 
@@ -375,20 +426,24 @@ def cleaner_stopped(work: Path) -> None:
     files, go = work / "files", work / "go"
     files.mkdir()
     lrupd = before_lrupd(f"while [ ! -e {go} ]; do sleep 0.1; done", work)
-    with started([SOLVE, "--lrupd", lrupd, "-j", "1", written(FOUR, work)], env={**os.environ, "TMPDIR": str(files)},
-                 stdout=subprocess.PIPE, text=True) as running:
-        until("the cleaner is there", lambda: "cleaner" in children_of(running.pid) or running.poll() is not None)
+    with started([SOLVE, "--lrupd", lrupd, "-j", "1", written(FOUR, work)],
+                 env={**os.environ, "TMPDIR": str(files)}, stdout=subprocess.PIPE,
+                 text=True) as running:
+        until("the cleaner is there",
+              lambda: "cleaner" in children_of(running.pid) or running.poll() is not None)
         os.kill(children_of(running.pid)["cleaner"], signal.SIGSTOP)
         go.touch()
         out = running.communicate(timeout=60)[0]
-    want((out.splitlines()[-1:], running.returncode, os.listdir(files)), (["s UNSATISFIABLE"], 20, []), "the answer, and what is left")
+    want((out.splitlines()[-1:], running.returncode, os.listdir(files)),
+         (["s UNSATISFIABLE"], 20, []), "the answer, and what is left")
 
 
 def from_the_current_folder(how: str, work: Path) -> None:
     """A tool in the current folder isn't run: neither if the PATH has that folder, nor if the
     program's own path is unknown since it is too long."""
     for name in ("lrup-trim", "lrup-explain", "lrupd", "-mpi"):
-        written(f"#!/bin/sh\n{f': > {work}/ran' * (name != 'lrupd')}\nexit 3\n", work, name).chmod(0o755)
+        written(f"#!/bin/sh\n{f': > {work}/ran' * (name != 'lrupd')}\nexit 3\n", work,
+                name).chmod(0o755)
     (work / "bin").mkdir()
     for name in ("lrup-solve", "lrup-engines"):
         shutil.copy(SOLVE.with_name(name), work / "bin")
@@ -397,15 +452,20 @@ def from_the_current_folder(how: str, work: Path) -> None:
         os.mkdir("x" * 200, dir_fd=place)
         place = os.open("x" * 200, os.O_PATH, dir_fd=place)
     if how != "PATH":
-        with open(os.open("lrup-engines", os.O_WRONLY | os.O_CREAT, 0o755, dir_fd=place), "wb") as copy:
+        with open(os.open("lrup-engines", os.O_WRONLY | os.O_CREAT, 0o755, dir_fd=place),
+                  "wb") as copy:
             copy.write(SOLVE.with_name("lrup-engines").read_bytes())
     formula = written(FOUR, work)
-    words: List[object] = [work / "bin" / "lrup-solve", *["--engines", f"/proc/self/fd/{place}/lrup-engines"] * (how != "PATH")]
+    words: List[object] = [work / "bin" / "lrup-solve",
+                           *["--engines", f"/proc/self/fd/{place}/lrup-engines"] * (how != "PATH")]
     no_mpi = ": cannot be run: " if how == "PATH" else "cannot find this program"
-    for more, said in ((["--lrupd", PROGRAM, "--core", "core"], "no lrup-trim next to this program"), ([], "no lrupd that can be run"),
-                       (["--lrupd", PROGRAM, "--mpi", "echo"], no_mpi)):
-        done = run([*words, *more, formula], cwd=work, env={**os.environ, "PATH": ":.:bin/..:/usr/bin:/bin:"}, pass_fds=[place])
-        want((done.out, said in done.err, done.status), ("", True, 1), f"the message with {more}: {done.err}")
+    for more, said in (
+            (["--lrupd", PROGRAM, "--core", "core"], "no lrup-trim next to this program"),
+            ([], "no lrupd that can be run"), (["--lrupd", PROGRAM, "--mpi", "echo"], no_mpi)):
+        done = run([*words, *more, formula], cwd=work,
+                   env={**os.environ, "PATH": ":.:bin/..:/usr/bin:/bin:"}, pass_fds=[place])
+        want((done.out, said in done.err, done.status), ("", True, 1),
+             f"the message with {more}: {done.err}")
     want((work / "ran").exists(), False, "whether a command was run")
     if how != "PATH":
         shutil.rmtree(work / "bin")
@@ -427,14 +487,16 @@ def control_bytes(what: bytes, shown: str, work: Path) -> None:
 def quiet(work: Path) -> None:
     """-q prints only the answer, even with -v."""
     for words in (["-q"], ["--quiet"], ["-qv"], ["-vq"], ["-v", "-q"], ["--quiet", "--verbose"]):
-        want(solve([*words, example("bmc.cnf")]).out, "s UNSATISFIABLE\n", f"the answer after {words}")
+        want(solve([*words, example("bmc.cnf")]).out, "s UNSATISFIABLE\n",
+             f"the answer after {words}")
 
 
 def verbose(work: Path) -> None:
     for word in ("-v", "-vv", "--verbose"):
         answer = solve([word, example("bmc.cnf")])
         want_answer(answer, 20)
-        want(any(line.startswith("engine 1: ") for line in answer.comments), True, f"whether {word} shows an engine\n{answer.out}")
+        want(any(line.startswith("engine 1: ") for line in answer.comments), True,
+             f"whether {word} shows an engine\n{answer.out}")
 
 
 # Refusals.
@@ -446,8 +508,9 @@ def refused(words: Sequence[object], cause: str, work: Path) -> None:
     for name, begins in COMPRESSED.items():
         written(begins, work, name)
     answer = solve([str(word).format(work=work, formula=formula) for word in words])
-    want((answer.out, answer.status, answer.said.count("\n"), answer.said.startswith("lrup-solve: ")), ("", 1, 1, True),
-         f"the message on {words}: {answer.said}")
+    want((answer.out, answer.status, answer.said.count("\n"),
+          answer.said.startswith("lrup-solve: ")),
+         ("", 1, 1, True), f"the message on {words}: {answer.said}")
     cause = cause.format(work=work)
     assert cause in answer.said, f"expected a message on '{cause}', but found\n{answer.said}"
 
@@ -457,9 +520,11 @@ def refused_by_lrupd(text: Text, words: List[str], known: str, work: Path) -> No
     pipe."""
     formula = written(text, work, "a formula")
     words = [word.format(work=work) for word in words]
-    for name, literals in (("bad", "-2 x 0\n"), ("beyond", "-7 0\n"), ("spaces", "1  2 0\n"), ("open", "1 2\n"),
-                           ("crlf", "1 2 0\r\n"), ("noend", "1 2 0"), ("two", "1 0\n2 0\n"), ("blank", "1 2 0 \n"), ("tab", "1\t2 0\n"),
-                           ("least", f"-{1 << 63} 0\n"), ("less", f"-{(1 << 64) + 1} 0\n"), ("long", "1" * 100 + " 0\n")):
+    for name, literals in (("bad", "-2 x 0\n"), ("beyond", "-7 0\n"), ("spaces", "1  2 0\n"),
+                           ("open", "1 2\n"), ("crlf", "1 2 0\r\n"), ("noend", "1 2 0"),
+                           ("two", "1 0\n2 0\n"), ("blank", "1 2 0 \n"), ("tab", "1\t2 0\n"),
+                           ("least", f"-{1 << 63} 0\n"), ("less", f"-{(1 << 64) + 1} 0\n"),
+                           ("long", "1" * 100 + " 0\n")):
         written(literals, work, name)
     said = run([PROGRAM, *words, formula, "/dev/null"]).err.rstrip("\n")
     want((said[:7], said.count("\n")), ("lrupd: ", 0), "lrupd's refusal")
@@ -473,7 +538,8 @@ def refused_by_lrupd(text: Text, words: List[str], known: str, work: Path) -> No
 def refused_by_all(text: Text, fault: str, line: int, known: str, work: Path) -> None:
     """A formula that lrupd refuses is refused by the filter and lrup-solve, with more details."""
     formula = written(text, work, "a formula")
-    want(run([PROGRAM, formula, "/dev/null"]), Ran("", f"lrupd: formula refused: {fault}\n", 4), "lrupd's answer")
+    want(run([PROGRAM, formula, "/dev/null"]), Ran("", f"lrupd: formula refused: {fault}\n", 4),
+         "lrupd's answer")
     said = f"lrup-exact: {formula}, line {line}: {known}\n"
     want(run([FILTER, "--format", "drat", formula, "/dev/null"]), Ran("", said, 1), "the filter's")
     refused_by_lrupd(text, [], f"{{name}}, line {line}: {known}", work)
@@ -486,7 +552,8 @@ def taken_by_all(text: Text, status: int, work: Path) -> None:
     want((stream.count("\n"), said, ended), (int(status == 20), "", 0), "the filter's messages")
     wanted, verdict = (0, "s UNSATISFIABLE") if status == 20 else (3, "s UNKNOWN")
     done = run([PROGRAM, formula, written(stream, work, "stream")])
-    want((done.out.splitlines()[-1:], done.err, done.status), ([verdict], "", wanted), "lrupd's answer")
+    want((done.out.splitlines()[-1:], done.err, done.status), ([verdict], "", wanted),
+         "lrupd's answer")
     want_answer(solve([formula]), status, formula)
 
 
@@ -499,38 +566,47 @@ def refused_folder(work: Path) -> None:
 
 def read_late(text: str, said: str, work: Path) -> None:
     """lrupd doesn't finish reading the formula: --time ends the waiting at once."""
-    path = in_place_of_lrupd("case \"$*\" in *' /dev/null') exec sleep 100;; esac\nexec " + shlex.quote(PROGRAM) + ' "$@"', work)
+    path = in_place_of_lrupd("case \"$*\" in *' /dev/null') exec sleep 100;; esac\nexec "
+                             + shlex.quote(PROGRAM) + ' "$@"', work)
     begun, formula = time.monotonic(), written(text, work)
     answer = solve(["--lrupd", path, "-j", "1", "--time", "1", formula])
     lasts = time.monotonic() - begun
-    want((answer.answers, answer.status), ([], 1) if said else (["s UNKNOWN"], 0), f"the answer of\n{answer.out}{answer.said}")
+    want((answer.answers, answer.status), ([], 1) if said else (["s UNKNOWN"], 0),
+         f"the answer of\n{answer.out}{answer.said}")
     want(answer.said, said and f"lrup-solve: {formula}, {said}\n", "standard error")
     want(1 <= lasts < 5, True, f"whether it ended by its time limit, after {lasts} seconds")
 
 
 def refused_late(text: str, work: Path) -> None:
     """lrupd refuses the formula late, after the solving has ended; a signal ends the waiting."""
-    path = in_place_of_lrupd("case \"$*\" in *' /dev/null') touch read; sleep 2; echo 'lrupd: formula refused: limit' >&2; exit 4;; esac\n"
+    path = in_place_of_lrupd("case \"$*\" in *' /dev/null') touch read; sleep 2; echo 'lrupd: "
+                             "formula refused: limit' >&2; exit 4;; esac\n"
                              "exit 4", work)
     formula = written(text, work)
     words = ["--lrupd", str(path), "-j", "1", formula]
     answer = solve(words, cwd=work)
-    want((answer.out, answer.said, answer.status), ("", f"lrupd: formula refused: limit ({formula})\n", 1), "the messages")
+    want((answer.out, answer.said, answer.status),
+         ("", f"lrupd: formula refused: limit ({formula})\n", 1), "the messages")
     (work / "read").unlink()
     with started([SOLVE, *words], cwd=work, stdout=subprocess.PIPE, text=True) as running:
         until("the formula is read", lambda: (work / "read").exists())
         time.sleep(0.5)
         running.terminate()
         out = running.communicate(timeout=LIMIT)[0]
-    want((out.splitlines()[-1:], running.returncode), (["s UNKNOWN"], -signal.SIGTERM), "the end by a signal")
+    want((out.splitlines()[-1:], running.returncode), (["s UNKNOWN"], -signal.SIGTERM),
+         "the end by a signal")
 
 
 def reading_killed(text: str, work: Path) -> None:
     """lrupd is killed while it reads the formula, which counts like any killed lrupd."""
-    path = in_place_of_lrupd("case \"$*\" in *' /dev/null') kill -9 $$;; esac\nexec " + shlex.quote(PROGRAM) + ' "$@"', work)
+    path = in_place_of_lrupd(
+        "case \"$*\" in *' /dev/null') kill -9 $$;; esac\nexec " + shlex.quote(PROGRAM) + ' "$@"',
+        work)
     answer = solve(["--lrupd", path, "-j", "1", written(text, work)])
-    want((answer.answers, answer.status, answer.said), (["s UNKNOWN"], 0, ""), f"the answer of\n{answer.out}")
-    want("lrupd ended by a signal: Killed" in answer.comments, True, f"whether a comment says so:\n{answer.out}")
+    want((answer.answers, answer.status, answer.said), (["s UNKNOWN"], 0, ""),
+         f"the answer of\n{answer.out}")
+    want("lrupd ended by a signal: Killed" in answer.comments, True,
+         f"whether a comment says so:\n{answer.out}")
 
 
 # The tests.
@@ -539,72 +615,99 @@ def reading_killed(text: str, work: Path) -> None:
 def words_and_files() -> List[Row]:
     cube = "p cnf 3 3\n1 2 0\n-1 2 0\n3 -3 0\n"
     under = "s UNSATISFIABLE UNDER ASSUMPTIONS"
-    runs: List[Row] = [("standard input" + word, standard_input, [word] * bool(word)) for word in ("", "-")]
-    runs += [("a FIFO", from_fifo), ("where lrupd is", beside), ("-q", quiet), ("verbose", verbose), ("keeps", keeps, []),
+    runs: List[Row] = [("standard input" + word, standard_input, [word] * bool(word))
+                       for word in ("", "-")]
+    runs += [("a FIFO", from_fifo), ("where lrupd is", beside), ("-q", quiet), ("verbose", verbose),
+             ("keeps", keeps, []),
              ("keeps four", keeps, ["-j", "4"]), ("keeps LRAT", keeps_lrat, "pigeons 7"),
-             ("keeps LRAT, random", keeps_lrat, "random 150 1"), ("keeps standard input", keeps_standard_input),
+             ("keeps LRAT, random", keeps_lrat, "random 150 1"),
+             ("keeps standard input", keeps_standard_input),
              ("keeps by short names", keeps_by_short_names), ("an earlier run", earlier_run),
-             ("another run's record", locked, "kept", signal.SIGTERM), ("of one that is killed", locked, "link", signal.SIGKILL),
+             ("another run's record", locked, "kept", signal.SIGTERM),
+             ("of one that is killed", locked, "link", signal.SIGKILL),
              ("links in a record", links_in_a_record), ("a report that can't be kept", unkept),
-             ("a name with an end of line", name_with_an_end_of_line), ("the link to lrupd", relative_link),
+             ("a name with an end of line", name_with_an_end_of_line),
+             ("the link to lrupd", relative_link),
              ("assumptions that contradict", assuming, cube, "-2 0\n", 20, under),
              ("assumptions of which one does", assuming, cube, "3 1 -2 0\n", 20, under),
              ("assumptions that fit", assuming, cube, "2 -1 0\n", 10, None),
              ("no assumptions", assuming, cube, "0\n", 10, None),
-             ("assumptions, and no need of them", assuming, FOUR.replace("cnf 2", "cnf 3"), "3 0\n", 20, None),
+             ("assumptions, and no need of them", assuming, FOUR.replace("cnf 2", "cnf 3"),
+              "3 0\n", 20, None),
              ("assumptions against each other", contradicting),
              ("a unit against the assumption", assuming, "p cnf 1 1\n1 0\n", "-1 0\n", 20, under)]
     runs += [(" ".join(["standard input as", *words]), another_name, words) for words in
              (["/dev/stdin"], ["/proc/self/fd/0"], ["{work}/link"], ["/dev/fd/5"], ["--", "-"],
               ["--replace", "--proofs", "{work}/kept", "/dev/stdin"])]
     many = {"FIRST_WORDS": 4000, "SAME_WORDS": 1}
-    runs += [(f"names that aren't UTF-8 {number}", keeps_not_utf8, words, tested) for tested in ({"SLICE": 50}, {**many, "SLICE": 50})
-             for number, words in enumerate(([], ["--assume", CUBE], ["--proofs", "kept"], ["--proofs", os.fsdecode(b"kept\xff")],
-                                             ["--assume", CUBE, "--proofs", "kept"]))]
+    runs += [(f"names that aren't UTF-8 {number}", keeps_not_utf8, words, tested)
+             for tested in ({"SLICE": 50}, {**many, "SLICE": 50}) for number, words in enumerate(
+                 ([], ["--assume", CUBE], ["--proofs", "kept"],
+                  ["--proofs", os.fsdecode(b"kept\xff")], ["--assume", CUBE, "--proofs", "kept"]))]
     runs += [("a folder that is made", made_where_all_may_write)]
     runs += [(f"a folder of mode {mode:o}", others_write, mode, taken)
-             for mode, taken in ((0o777, False), (0o757, False), (0o1777, True), (0o775, True), (0o700, True))]
+             for mode, taken in ((0o777, False), (0o757, False), (0o1777, True), (0o775, True),
+                                 (0o700, True))]
     runs += [(f"an own {name}", own_files, name) for name in (
-        "about", "formula.cnf", "formula.sha256", "assumptions", "report", "command", ".report.new", "round-7.sizes", "round-2.stream-3")]
+        "about", "formula.cnf", "formula.sha256", "assumptions", "report", "command", ".report.new",
+        "round-7.sizes", "round-2.stream-3")]
     runs += [(f"an own list {text!r}", own_list, text) for text in LISTS]
     runs += [("a formula of a round", formula_of_a_round), ("a record with a proof", replaced)]
     runs += [(f"TMPDIR of mode {mode:o}", open_to_others, mode, taken)
              for mode, taken in ((0o777, False), (0o757, False), (0o1777, True), (0o775, True))]
-    runs += [(f"another folder in place, {ends.name}", another_in_place, ends) for ends in (signal.SIGKILL, signal.SIGTERM)]
+    runs += [(f"another folder in place, {ends.name}", another_in_place, ends)
+             for ends in (signal.SIGKILL, signal.SIGTERM)]
     runs += [("without processes", without_processes), ("the cleaner is stopped", cleaner_stopped)]
-    runs += [(f"from the current folder: {how}", from_the_current_folder, how) for how in ("PATH", "own path")]
+    runs += [(f"from the current folder: {how}", from_the_current_folder, how)
+             for how in ("PATH", "own path")]
     runs += [(f"control bytes {what!r}", control_bytes, what, shown) for what, shown in (
-        (b"\x1b[31m", "?[31m"), (b"\xc2\x9b31m", "?31m"), (b"\x9b", "?"), (b"\x07\x7f\b", "???"), (b"\xc3\xa9", "\xe9"),
-        (b"\xe2\x9b\x80", "\u26c0"), (b"\xe9", "\udce9"))]
-    runs += [(" ".join(["over", *words]), writes_over, words) for words in
-             (["formula.cnf"], ["formula.cnf", "{path}"], ["round-1.stream-1", "{path}"], ["round-12.stream-64", "{path}"],
-              ["report", "{work}/link"], ["command", "{work}/other"], ["round-1.stream-2", "/dev/stdin"],
-              ["round-3.sizes", "{path}"], ["x", "--assume", "{cube}", "{path}"])]
+        (b"\x1b[31m", "?[31m"), (b"\xc2\x9b31m", "?31m"), (b"\x9b", "?"), (b"\x07\x7f\b", "???"),
+        (b"\xc3\xa9", "\xe9"), (b"\xe2\x9b\x80", "\u26c0"), (b"\xe9", "\udce9"))]
+    runs += [(" ".join(["over", *words]), writes_over, words)
+             for words in (["formula.cnf"], ["formula.cnf", "{path}"],
+                           ["round-1.stream-1", "{path}"], ["round-12.stream-64", "{path}"],
+                           ["report", "{work}/link"], ["command", "{work}/other"],
+                           ["round-1.stream-2", "/dev/stdin"],
+                           ["round-3.sizes", "{path}"], ["x", "--assume", "{cube}", "{path}"])]
     return runs
 
 
 def refused_texts() -> List[Tuple[Text, str, int, str]]:
     """Formulas, lrupd's answer, and the line and message of the filter and of lrup-solve."""
-    header, more = "no header 'p cnf VARIABLES CLAUSES': not DIMACS CNF", "more clauses than the header's 1"
-    no_number = [(f"p cnf 2 1\n{text}\n", f"bad number in line {line}", line, f"not a number: {word}") for text, line, word in (
-        ("1 x 0", 2, "x"), ("1 -0", 2, "-0"), ("c 0\n1 -0", 3, "-0"), ("-", 2, "-"), ("+1 0", 2, "+1"), ("01 0", 2, "01"),
-        ("-01 0", 2, "-01"), ("1 00", 2, "00"), ("1 0\n%\n0", 3, "%: SATLIB's files end with it, and sed '/^%/,$d' removes it"), ("1 0 c", 2, "c"), (" c x\n1 0", 2, "c"), ("1\v2 0", 2, "1?2"), ("1 2\f0", 2, "2?0"),
-        ("1\0 0", 2, "1?"), ("1 0\0", 2, "0?"), ("1 0\n\x1a", 3, "?"), ("1,2 0", 2, "1,2"), ("1 2.0 0", 2, "2.0"), ("1 0x2 0", 2, "0x2"))]
+    header, more = ("no header 'p cnf VARIABLES CLAUSES': not DIMACS CNF",
+                    "more clauses than the header's 1")
+    no_number = [
+        (f"p cnf 2 1\n{text}\n", f"bad number in line {line}", line, f"not a number: {word}")
+        for text, line, word in (
+            ("1 x 0", 2, "x"), ("1 -0", 2, "-0"), ("c 0\n1 -0", 3, "-0"), ("-", 2, "-"),
+            ("+1 0", 2, "+1"), ("01 0", 2, "01"), ("-01 0", 2, "-01"), ("1 00", 2, "00"),
+            ("1 0\n%\n0", 3, "%: SATLIB's files end with it, and sed '/^%/,$d' removes it"),
+            ("1 0 c", 2, "c"), (" c x\n1 0", 2, "c"), ("1\v2 0", 2, "1?2"), ("1 2\f0", 2, "2?0"),
+            ("1\0 0", 2, "1?"), ("1 0\0", 2, "0?"), ("1 0\n\x1a", 3, "?"), ("1,2 0", 2, "1,2"),
+            ("1 2.0 0", 2, "2.0"), ("1 0x2 0", 2, "0x2"))]
     no_header = [(text, "no header", line, header) for text, line in (
-        ("", 1), ("c x\n", 2), ("1 2 0\n", 1), ("pcnf 1 1\n1 0\n", 1), ("P CNF 1 1\n1 0\n", 1), (" c x\np cnf 1 1\n1 0\n", 1),
-        ("\ufeffp cnf 1 1\n1 0\n", 1), ("p\vcnf 1 1\n1 0\n", 1), ("p\0 cnf 1 1\n1 0\n", 1), ("%\np cnf 1 1\n1 0\n", 1))]
+        ("", 1), ("c x\n", 2), ("1 2 0\n", 1), ("pcnf 1 1\n1 0\n", 1), ("P CNF 1 1\n1 0\n", 1),
+        (" c x\np cnf 1 1\n1 0\n", 1), ("\ufeffp cnf 1 1\n1 0\n", 1), ("p\vcnf 1 1\n1 0\n", 1),
+        ("p\0 cnf 1 1\n1 0\n", 1), ("%\np cnf 1 1\n1 0\n", 1))]
     bad_header = [(text, "bad header", line, header) for text, line in (
-        ("c x\np cnf 2\n", 2), ("p cnf 02 1\n1 0\n", 1), ("p cnf 1 01\n1 0\n", 1), ("p cnf 00 0\n", 1), ("p cnf +1 1\n1 0\n", 1),
-        ("p cnf 1 -1\n1 0\n", 1), ("p cnf -0 0\n", 1), ("p cnf 1 x\n1 0\n", 1), ("p cnf\n1 1\n1 0\n", 1), ("p\ncnf 1 1\n1 0\n", 1),
-        ("p cnf 1 1\v\n1 0\n", 1), ("p cnf 1\f1\n1 0\n", 1), ("p CNF 1 1\n1 0\n", 1), ("p sat 1\n", 1))]
-    bad_header += [(text, "bad header", 1, "unexpected words after the header 'p cnf VARIABLES CLAUSES'") for text in
-                   ("p cnf 2 1 1 2 0\n", "p cnf 1 1 c x\n1 0\n", "p cnf 1 1\r1 0\r", "p cnf 1 1 \v\n1 0\n", "p cnf 1 1 1\n1 0\n")]
+        ("c x\np cnf 2\n", 2), ("p cnf 02 1\n1 0\n", 1), ("p cnf 1 01\n1 0\n", 1),
+        ("p cnf 00 0\n", 1), ("p cnf +1 1\n1 0\n", 1),
+        ("p cnf 1 -1\n1 0\n", 1), ("p cnf -0 0\n", 1), ("p cnf 1 x\n1 0\n", 1),
+        ("p cnf\n1 1\n1 0\n", 1), ("p\ncnf 1 1\n1 0\n", 1), ("p cnf 1 1\v\n1 0\n", 1),
+        ("p cnf 1\f1\n1 0\n", 1), ("p CNF 1 1\n1 0\n", 1), ("p sat 1\n", 1))]
+    bad_header += [
+        (text, "bad header", 1, "unexpected words after the header 'p cnf VARIABLES CLAUSES'")
+        for text in ("p cnf 2 1 1 2 0\n", "p cnf 1 1 c x\n1 0\n", "p cnf 1 1\r1 0\r",
+                     "p cnf 1 1 \v\n1 0\n", "p cnf 1 1 1\n1 0\n")]
     return [*no_number, *no_header, *bad_header,
             ("p cnf 2 2\n1 0\n", "too few clauses", 3,
              "file ends after 1 of 2 clauses; truncated? If not, the header should be 'p cnf 2 1'"),
-            ("p cnf 2 1\n1 0\n2 0\n", "too many clauses in line 3", 3, f"{more}: the header should be 'p cnf 2 2'"),
-            ("p cnf 2 1\n1 0\n0\nc\n-2 1\n0 -1 0", "too many clauses in line 3", 3, f"{more}: the header should be 'p cnf 2 4'"),
-            ("p cnf 2 1\n1 0\n2 0\n1 7 0", "too many clauses in line 3", 3, f"{more}: the header should be 'p cnf 7 3'"),
+            ("p cnf 2 1\n1 0\n2 0\n", "too many clauses in line 3", 3,
+             f"{more}: the header should be 'p cnf 2 2'"),
+            ("p cnf 2 1\n1 0\n0\nc\n-2 1\n0 -1 0", "too many clauses in line 3", 3,
+             f"{more}: the header should be 'p cnf 2 4'"),
+            ("p cnf 2 1\n1 0\n2 0\n1 7 0", "too many clauses in line 3", 3,
+             f"{more}: the header should be 'p cnf 7 3'"),
             ("p cnf 2 1\n1 0\n2 0\n1 x 0", "too many clauses in line 3", 3, more),
             ("p cnf 2 1\n1 0\n2 0\n1", "too many clauses in line 3", 3, more),
             ("p cnf 2 1\n1 -3 0\n", "variable out of range in line 2", 2,
@@ -613,20 +716,27 @@ def refused_texts() -> List[Tuple[Text, str, int, str]]:
              "variable 3, above the header's 2: the header should be 'p cnf 3 2'"),
             ("p cnf 2 1\n1 3\n-16777215 0\n9 0\n", "variable out of range in line 2", 2,
              "variable 3, above the header's 2: the header should be 'p cnf 16777215 2'"),
-            ("p cnf 2 1\n1 3 16777216 0\n", "variable out of range in line 2", 2, "variable 3, above the header's 2"),
+            ("p cnf 2 1\n1 3 16777216 0\n", "variable out of range in line 2", 2,
+             "variable 3, above the header's 2"),
             ("p cnf 2 1\n1 99999999999999999999 0\n", "variable out of range in line 2", 2,
              "variable 99999999999999999999, above the header's 2"),
             ("p cnf 2 1\n1 2", "open clause", 2, "the last clause doesn't end with 0"),
-            ("p cnf 99999999 1\n1 0\n", "limit", 1, "99999999 variables, above lrupd's limit of 16777215"),
-            ("p cnf 1 16777216\n1 0\n", "limit", 1, "16777216 clauses, above lrupd's limit of 16777215"),
-            ("p cnf 1 1\n" + "1 " * 1048576 + "0\n", "limit", 2, "more than 1048575 literals in a clause, lrupd's limit")]
+            ("p cnf 99999999 1\n1 0\n", "limit", 1,
+             "99999999 variables, above lrupd's limit of 16777215"),
+            ("p cnf 1 16777216\n1 0\n", "limit", 1,
+             "16777216 clauses, above lrupd's limit of 16777215"),
+            ("p cnf 1 1\n" + "1 " * 1048576 + "0\n", "limit", 2,
+             "more than 1048575 literals in a clause, lrupd's limit")]
 
 
 def taken_texts() -> List[Row]:
     """Oddly spelled formulas that are accepted; and whether they are satisfiable."""
-    texts = [("p cnf 1 2\n1 0\n-1 0", 20), ("p cnf 1 2\r\n1 0\r\n-1 0\r\n", 20), ("\n \t\r\nc x\n\t p  cnf\t1 2 \t\n1\t0 -1 \r 0\n", 20),
-             ("p cnf 2 2\n1\nc 0 2 -2 x\n2 0\n-1 0\n", 10), ("p cnf 2 3\n1 2\n0 -1 0 -2\n\n0", 20), ("p cnf 1 2\n1 0\n-1 0\nc no LF", 20),
-             (b"c \0\xff\nc\ncnf 1 1\np cnf 1 2\nc\0\n1 0 -1 0\n", 20), ("p cnf 0 1\n0\n", 20), ("p cnf 0 0", 10), ("p cnf 3 0\n\n", 10),
+    texts = [("p cnf 1 2\n1 0\n-1 0", 20), ("p cnf 1 2\r\n1 0\r\n-1 0\r\n", 20),
+             ("\n \t\r\nc x\n\t p  cnf\t1 2 \t\n1\t0 -1 \r 0\n", 20),
+             ("p cnf 2 2\n1\nc 0 2 -2 x\n2 0\n-1 0\n", 10), ("p cnf 2 3\n1 2\n0 -1 0 -2\n\n0", 20),
+             ("p cnf 1 2\n1 0\n-1 0\nc no LF", 20),
+             (b"c \0\xff\nc\ncnf 1 1\np cnf 1 2\nc\0\n1 0 -1 0\n", 20), ("p cnf 0 1\n0\n", 20),
+             ("p cnf 0 0", 10), ("p cnf 3 0\n\n", 10),
              ("p cnf 1 2\n1 1 1 0\n-1 -1 0\n", 20), ("p cnf 1 2\n1 -1 0\n-1 0\n", 10)]
     return [(f"taken {text!r}", taken_by_all, text, status) for text, status in texts]
 
@@ -636,42 +746,59 @@ SPACED = ": more than single spaces between its literals"
 
 def refusals() -> List[Row]:
     runs: List[Row] = []
-    for words, cause in ((["--nothing", "{formula}"], "--nothing"), (["-vx", "{formula}"], "-vx"),
-                         (["{formula}", "{formula}"], "unexpected argument"),
-                         (["-j"], "no value after -j"), (["-j", "0", "{formula}"], "-j takes 1 to 64, not 0"),
-                         (["-j", "65", "{formula}"], "-j takes 1 to 64, not 65"), (["-j", "x", "{formula}"], "not x"),
-                         (["--time", "-1", "{formula}"], "--time takes seconds above 0, not -1"),
-                         (["--time", "nan", "{formula}"], "not nan"), (["--time", "0", "{formula}"], "not 0"),
-                         (["--memory", "", "{formula}"], "not ''"), (["--memory", "2g", "{formula}"], "2000M or 2G, not 2g"),
-                         (["--memory", "3G", "{formula}"], "--memory takes at most 2147483648 bytes, not 3G"),
-                         (["--memory", "2147483649", "{formula}"], "at most"),
-                         (["--memory", "99999999999999999999", "{formula}"], "at most"),
-                         (["--memory", "2M,1M", "{formula}"], "--memory takes a second number that isn't below the first, not 1M"),
-                         (["--memory", "1M,", "{formula}"], "not ''"), (["--memory", "1M,3G", "{formula}"], "at most"),
-                         (["--share-size", "-1", "{formula}"], "--share-size takes 0 to 1000, not -1"),
-                         (["--seed", "1.5", "{formula}"], "--seed takes 0 to 1000000000, not 1.5"),
-                         (["--lrupd", "{work}/none", "{formula}"], "none"), (["--lrupd", "", "{formula}"], "not ''"),
-                         (["--lrupd", "{work}", "{formula}"], "no lrupd"), (["--lrupd", "none", "{formula}"], "no lrupd"),
-                         (["--proofs", "{work}/none/none", "{formula}"], "none/none"), (["--proofs", "", "{formula}"], "not ''"),
-                         (["--proofs", "{formula}", "{formula}"], "Not a directory"),
-                         (["--replace", "{formula}"], "--replace without --proofs"), (["--", "{formula}", "-v"], "unexpected argument: -v"),
-                         (["{work}/none"], "{work}/none: No such file or directory"),
-                         (["{work}/a\nb"], "a\\nb': No such file or directory"),
-                         (["--assume", "{work}/none", "{formula}"], "{work}/none: No such file or directory"),
-                         (["--proofs", "{work}/new", "{work}/none"], "none: No such file or directory"),
-                         *((["{work}/" + name], f"{name}: compressed: unpack it with {name}") for name in COMPRESSED)):
+    for words, cause in (
+            (["--nothing", "{formula}"], "--nothing"), (["-vx", "{formula}"], "-vx"),
+            (["{formula}", "{formula}"], "unexpected argument"),
+            (["-j"], "no value after -j"), (["-j", "0", "{formula}"], "-j takes 1 to 64, not 0"),
+            (["-j", "65", "{formula}"], "-j takes 1 to 64, not 65"),
+            (["-j", "x", "{formula}"], "not x"),
+            (["--time", "-1", "{formula}"], "--time takes seconds above 0, not -1"),
+            (["--time", "nan", "{formula}"], "not nan"), (["--time", "0", "{formula}"], "not 0"),
+            (["--memory", "", "{formula}"], "not ''"),
+            (["--memory", "2g", "{formula}"], "2000M or 2G, not 2g"),
+            (["--memory", "3G", "{formula}"], "--memory takes at most 2147483648 bytes, not 3G"),
+            (["--memory", "2147483649", "{formula}"], "at most"),
+            (["--memory", "99999999999999999999", "{formula}"], "at most"),
+            (["--memory", "2M,1M", "{formula}"],
+             "--memory takes a second number that isn't below the first, not 1M"),
+            (["--memory", "1M,", "{formula}"], "not ''"),
+            (["--memory", "1M,3G", "{formula}"], "at most"),
+            (["--share-size", "-1", "{formula}"], "--share-size takes 0 to 1000, not -1"),
+            (["--seed", "1.5", "{formula}"], "--seed takes 0 to 1000000000, not 1.5"),
+            (["--lrupd", "{work}/none", "{formula}"], "none"),
+            (["--lrupd", "", "{formula}"], "not ''"),
+            (["--lrupd", "{work}", "{formula}"], "no lrupd"),
+            (["--lrupd", "none", "{formula}"], "no lrupd"),
+            (["--proofs", "{work}/none/none", "{formula}"], "none/none"),
+            (["--proofs", "", "{formula}"], "not ''"),
+            (["--proofs", "{formula}", "{formula}"], "Not a directory"),
+            (["--replace", "{formula}"], "--replace without --proofs"),
+            (["--", "{formula}", "-v"], "unexpected argument: -v"),
+            (["{work}/none"], "{work}/none: No such file or directory"),
+            (["{work}/a\nb"], "a\\nb': No such file or directory"),
+            (["--assume", "{work}/none", "{formula}"], "{work}/none: No such file or directory"),
+            (["--proofs", "{work}/new", "{work}/none"], "none: No such file or directory"),
+            *((["{work}/" + name], f"{name}: compressed: unpack it with {name}")
+              for name in COMPRESSED)):
         runs.append((" ".join(["lrup-solve", *words]), refused, words, cause))
-    runs += [(f"refused {text[:20]!r}", refused_by_all, text, *rest) for text, *rest in refused_texts()]
+    runs += [(f"refused {text[:20]!r}", refused_by_all, text, *rest)
+             for text, *rest in refused_texts()]
     beyond = "the literal {}, and the formula has the variables 1 to 2"
-    for name, known in (("bad", ": not a number: x"), ("beyond", ": " + beyond.format(-7)), ("spaces", SPACED), ("crlf", ": it has a CR, but lines end with LF alone"),
-                        ("noend", ": no LF at its end"), ("two", ": a second line"), ("blank", SPACED), ("tab", SPACED),
-                        ("open", ": no line of literals that ends with 0"), ("least", ": " + beyond.format(-(1 << 63))),
-                        ("less", ": " + beyond.format(str(-(1 << 64) - 1)[:20])), ("long", ": " + beyond.format("1" * 20)),
+    for name, known in (("bad", ": not a number: x"), ("beyond", ": " + beyond.format(-7)),
+                        ("spaces", SPACED), ("crlf", ": it has a CR, but lines end with LF alone"),
+                        ("noend", ": no LF at its end"), ("two", ": a second line"),
+                        ("blank", SPACED), ("tab", SPACED),
+                        ("open", ": no line of literals that ends with 0"),
+                        ("least", ": " + beyond.format(-(1 << 63))),
+                        ("less", ": " + beyond.format(str(-(1 << 64) - 1)[:20])),
+                        ("long", ": " + beyond.format("1" * 20)),
                         ("", ": no line of literals that ends with 0")):
-        runs.append((f"refused --assume {name}", refused_by_lrupd, FOUR, ["--assume", "{work}/" + name], "{work}/" + name + known))
+        runs.append((f"refused --assume {name}", refused_by_lrupd, FOUR,
+                     ["--assume", "{work}/" + name], "{work}/" + name + known))
     return runs + [("refused, a folder", refused_folder), ("refused late", refused_late, FOUR),
                    ("refused late, satisfiable", refused_late, "p cnf 1 0\n"),
-                   ("its reading killed", reading_killed, "p cnf 1 0\n"), ("read late", read_late, dimacs(1, [[1]]), ""),
+                   ("its reading killed", reading_killed, "p cnf 1 0\n"),
+                   ("read late", read_late, dimacs(1, [[1]]), ""),
                    ("read late, what engines refuse", read_late, "p cnf 1 1\n2 0\n",
                     "line 2: variable 2, above the header's 1: the header should be 'p cnf 2 1'")]
 

@@ -28,19 +28,24 @@ from solving import (Answer, built, check_again, children_of, command, in_enviro
                      marked, of_process, want_answer)
 
 SMALL_FORMULAS = (("bmc.cnf", 20), ("pigeonhole.cnf", 20), ("random 200 22 4.2", 10))
-SMALL = {"SAME_WORDS": 1, "SLICE": 100, "EXCHANGING": 50}     # rows that don't grow, and frequent exchanges
-PATIENCE = ["--mca", "odls_base_sigkill_timeout", "3"]      # seconds that mpirun gives to processes that it ends, to report why
+# Rows that don't grow, and frequent exchanges.
+SMALL = {"SAME_WORDS": 1, "SLICE": 100, "EXCHANGING": 50}
+# Seconds that mpirun gives to processes that it ends, to report why.
+PATIENCE = ["--mca", "odls_base_sigkill_timeout", "3"]
 ENDED = 30      # seconds within which a hopeless run has to end; it takes ten on an idle machine
 LATE = ["sh", "-c", 'test "$OMPI_COMM_WORLD_RANK" != 0 || sleep 2; exec "$@"', "sh"]    # process 0
 BROKEN = "bad line|hasn't taken|hasn't saved"
-ENGINE_KILLED = "the engine ended by a signal: Killed|its filter stopped: .*the proof ends "     # whichever is seen first
+# Whichever is seen first.
+ENGINE_KILLED = "the engine ended by a signal: Killed|its filter stopped: .*the proof ends "
 GROWING = 16_000_000    # bytes: two streams with 4 MB on the way, 2 MB waiting, and the pipes
 
 
 def by_mpi(processes: int, before: Sequence[str] = (), more: Sequence[str] = ()) -> List[str]:
-    """Words that start that many processes on this host, also as root; none for 0 processes. mpirun's own lines are left out."""
+    """Words that start that many processes on this host, also as root; none for 0 processes.
+    mpirun's own lines are left out."""
     as_root = ["--allow-run-as-root"] * (os.getuid() == 0)
-    launcher = ["mpirun", "-q", *as_root, "--oversubscribe", "--bind-to", "none", *more, "-n", str(processes), *before]
+    launcher = ["mpirun", "-q", *as_root, "--oversubscribe", "--bind-to", "none", *more, "-n",
+                str(processes), *before]
     return ["--mpi", shlex.join(launcher)] if processes else []
 
 
@@ -49,7 +54,8 @@ def launched(processes: int, words: Sequence[object], tested: Optional[Mapping[s
     return command([*by_mpi(processes, before, more), *words], tested)
 
 
-def solve(processes: int, words: Sequence[object], tested: Optional[Mapping[str, object]] = None) -> Answer:
+def solve(processes: int, words: Sequence[object],
+          tested: Optional[Mapping[str, object]] = None) -> Answer:
     return Answer(run(launched(processes, words, tested), env=in_environment(tested)))
 
 
@@ -64,7 +70,8 @@ def rounds_of(answer: Answer) -> int:
 
 def of_processes(answer: Answer, what: str) -> List[int]:
     """That number of each process."""
-    return [int(number.replace(",", "")) for number in re.findall(rf"^c process \d+: .*?([\d,]+) {what}", answer.out, re.M)]
+    return [int(number.replace(",", ""))
+            for number in re.findall(rf"^c process \d+: .*?([\d,]+) {what}", answer.out, re.M)]
 
 
 def alone(work: Path) -> None:
@@ -72,7 +79,8 @@ def alone(work: Path) -> None:
     tool = ROOT / "tools" / "solve"
     outbox = compiled(work / "outbox.o", [tool / "outbox.c"], "-std=c11", "-c")
     sources = [TESTS / "exchange.cpp", tool / "mpi_exchange.cpp", outbox]
-    done = run([*shlex.split(os.environ.get("CXX", "c++")), "-std=c++17", "-Wall", "-Wextra", "-o", work / "exchange", *sources])
+    done = run([*shlex.split(os.environ.get("CXX", "c++")), "-std=c++17", "-Wall", "-Wextra", "-o",
+                work / "exchange", *sources])
     want((done.err, done.status), ("", 0), "what the compiler says")
     want(run([work / "exchange"]), Ran("", "", 0), "what is off")
 
@@ -86,7 +94,8 @@ def answers(processes: int, words: str, options: List[str], status: int, work: P
     want_answer(answer, status, formula)
     want(answer.lost(), [], "engines that are lost")
     engines = processes * int(options[options.index("-j") + 1])
-    want(len([line for line in answer.comments if re.match(r"engine \d+: ", line)]), engines, "engines that are listed")
+    want(len([line for line in answer.comments if re.match(r"engine \d+: ", line)]), engines,
+         "engines that are listed")
 
 
 def cubes(status: int, words: str, work: Path) -> None:
@@ -94,7 +103,8 @@ def cubes(status: int, words: str, work: Path) -> None:
     formula = generated(words, work)
     answer = solve(2, ["-v", "-j", "3", formula], {"SLICE": 20})
     want_answer(answer, status, formula)
-    want((answer.lost(), "engines take cubes" in answer.comments), ([], True), f"whether cubes were dealt out\n{answer.out}")
+    want((answer.lost(), "engines take cubes" in answer.comments), ([], True),
+         f"whether cubes were dealt out\n{answer.out}")
 
 
 def cubes_of_a_file(processes: int, engines: int, work: Path) -> None:
@@ -102,30 +112,38 @@ def cubes_of_a_file(processes: int, engines: int, work: Path) -> None:
     formula, kept = generated("random 200 3 4.6", work), work / "kept"
     signs = itertools.product(*((-one, one) for one in range(1, 7)))
     file = written("".join(f"a {' '.join(map(str, cube))} 0\n" for cube in signs), work, "cubes")
-    answer = solve(processes, ["-v", "-j", str(engines), "--proofs", kept, "--cubes", file, formula], {"SLICE": 20, "EXCHANGING": 10})
+    answer = solve(processes,
+                   ["-v", "-j", str(engines), "--proofs", kept, "--cubes", file, formula],
+                   {"SLICE": 20, "EXCHANGING": 10})
     want_answer(answer, 20)
     check_again(kept)
-    refuted, dealt = (int(re.findall(pattern, answer.out, re.M)[0]) for pattern in (r"^c (\d+) of 64 cubes refuted$", r"^c cubes: (\d+) "))
+    refuted, dealt = (int(re.findall(pattern, answer.out, re.M)[0])
+                      for pattern in (r"^c (\d+) of 64 cubes refuted$", r"^c cubes: (\d+) "))
     found = answer.lost(), 0 < dealt < 64, refuted >= 64 - processes * engines
-    want(found, ([], True, True), f"what is lost, and cubes of process 0 and of all in\n{answer.out}")
+    want(found, ([], True, True),
+         f"what is lost, and cubes of process 0 and of all in\n{answer.out}")
 
 
 def exchanges(work: Path) -> None:
     """Clauses that are sent arrive or are late; some are used. Without sharing none are sent."""
     for options, share in ([], True), (["--no-share"], False):
-        answer = solve(3, ["-v", "-j", "1", *options, generated("pigeons 8", work)], {"EXCHANGING": 50})
+        answer = solve(3, ["-v", "-j", "1", *options, generated("pigeons 8", work)],
+                       {"EXCHANGING": 50})
         want_answer(answer, 20)
         sent, came = of_processes(answer, "sent"), of_processes(answer, "came")
         citing = of_processes(answer, "% of lines cite another process")
         found = (len(sent), all(sent), all(came), any(citing))
         want(found, (3, share, share, share), f"what is sent, comes and is cited\n{answer.out}")
-        want(sum(came) + sum(of_processes(answer, "late")) <= 2 * sum(sent), True, "clauses that came, of those sent to two others")
+        want(sum(came) + sum(of_processes(answer, "late")) <= 2 * sum(sent), True,
+             "clauses that came, of those sent to two others")
 
 
-def in_rounds(processes: int, words: str, size: int, options: List[str], status: int, work: Path) -> None:
+def in_rounds(processes: int, words: str, size: int, options: List[str], status: int,
+              work: Path) -> None:
     """Several rounds in all processes; the record is checked again."""
     formula, kept = named(words, work), work / "a record"
-    answer = solve(processes, ["-v", "-j", "1", "--proofs", kept, *options, formula], {**SMALL, "FIRST_WORDS": size})
+    answer = solve(processes, ["-v", "-j", "1", "--proofs", kept, *options, formula],
+                   {**SMALL, "FIRST_WORDS": size})
     want_answer(answer, status, formula)
     want(answer.lost(), [], "engines that are lost")
     if status == 20:
@@ -137,7 +155,8 @@ def resumed(first: int, second: int, tested: Optional[Dict[str, object]], work: 
     """A run with the first number of processes is killed, and one with the second number resumes
     it. 0 means without MPI."""
     marked(work)
-    formula, kept, often = generated("pigeons 8", work), work / "kept", ["--save-every", "0.1"] * (tested is None)
+    formula, kept, often = (generated("pigeons 8", work), work / "kept",
+                            ["--save-every", "0.1"] * (tested is None))
     recorded([*by_mpi(first), "-j", "1", *often, formula], kept, 1, tested)
     saved = saved_rounds(kept)
     answer = solve(second, ["-v", "-j", "1", *often, "--resume", kept, formula], tested)
@@ -156,7 +175,8 @@ def assuming(work: Path) -> None:
     for literal, status in (("-9999", 20), ("9999", 10)):
         cube = written(f"{literal} 0\n", work, "cube")
         answer = solve(2, ["-j", "1", "--assume", cube, formula], {**SMALL, "FIRST_WORDS": 3000})
-        want_answer(answer, status, formula, "s UNSATISFIABLE UNDER ASSUMPTIONS" if status == 20 else None)
+        want_answer(answer, status, formula,
+                    "s UNSATISFIABLE UNDER ASSUMPTIONS" if status == 20 else None)
 
 
 def cores(processes: int, words: str, tested: Optional[Dict[str, object]], work: Path) -> None:
@@ -166,12 +186,15 @@ def cores(processes: int, words: str, tested: Optional[Dict[str, object]], work:
     files.mkdir()
     kept = {"--core": work / "core.cnf", "--lrat": work / "proof.lrat"}
     options = [word for option, path in kept.items() for word in (option, path)]
-    answer = Answer(run(launched(processes, ["-j", "1", *options, formula], tested), env=in_environment(tested, {"TMPDIR": str(files)})))
+    answer = Answer(run(launched(processes, ["-j", "1", *options, formula], tested),
+                        env=in_environment(tested, {"TMPDIR": str(files)})))
     want_answer(answer, 20)
-    told = [f"{path}: lrupd's verdict: s UNSATISFIABLE" in answer.comments for path in kept.values()]
+    told = [f"{path}: lrupd's verdict: s UNSATISFIABLE" in answer.comments
+            for path in kept.values()]
     want(told, [True, True], f"whether both are told of in\n{answer.out}{answer.said}")
     clauses, core = read_formula(formula), read_formula(kept["--core"])
-    want([clause for clause in core if clause not in clauses], [], "clauses of the core that aren't the formula's")
+    want([clause for clause in core if clause not in clauses], [],
+         "clauses of the core that aren't the formula's")
     want(lrat_fault(clauses, kept["--lrat"].read_text()), "", "what the LRAT checker says")
     until("its files are removed", lambda: not list(files.glob("lrup-solve-*")))
 
@@ -184,7 +207,8 @@ def engines_go(work: Path) -> None:
     want_answer(answer, 20)
     check_again(kept)
     causes = [line.split(" is lost: ")[1] for line in answer.lost()]
-    want((len(causes) in (1, 2), set(causes)), (True, {"the clauses of all leave no room in a row of 100,000 bytes"}),
+    want((len(causes) in (1, 2), set(causes)),
+         (True, {"the clauses of all leave no room in a row of 100,000 bytes"}),
          f"engines that are lost in\n{answer.out}")
 
 
@@ -206,8 +230,10 @@ def rests_on(what: str, late: str, work: Path) -> None:
         tested = {**SMALL, "FIRST_WORDS": 150000, "EXCHANGING": 10, "LATE": late}
         answer = solve(3, words, tested)
         want_answer(answer, 20)
-        want((breaks(answer), sum(of_processes(answer, "late")) > 0), (False, True), f"a break, and what came late\n{answer.out}")
-        broken += breaks(solve(3, ["--time", "20", *words], {**tested, "WITHOUT": what, "TRIES": 20000}))
+        want((breaks(answer), sum(of_processes(answer, "late")) > 0), (False, True),
+             f"a break, and what came late\n{answer.out}")
+        broken += breaks(solve(3, ["--time", "20", *words],
+                               {**tested, "WITHOUT": what, "TRIES": 20000}))
     want(broken > 1, True, f"{broken} of 3 runs broke without it")
 
 
@@ -216,10 +242,12 @@ def lines_first(work: Path) -> None:
     one round engine 1 gets no gift. Without the rule it does."""
     for omitted in ({}, {"WITHOUT": "clearing"}):
         tested = {**SMALL, "FIRST_WORDS": 8000000, "EXCHANGING": 10, "LATE": "lines"}
-        answer = solve(3, ["-v", "-j", "1", generated("random 220 0 5", work)], {**tested, **omitted})
+        answer = solve(3, ["-v", "-j", "1", generated("random 220 0 5", work)],
+                       {**tested, **omitted})
         want_answer(answer, 20)
         taken = re.search("^c engine 1: .* clauses: ([0-9,]+) taken over", answer.out, re.M)
-        want(bool(taken) and taken[1] != "0", bool(omitted), f"whether engine 1 takes over any in\n{answer.out}")
+        want(bool(taken) and taken[1] != "0", bool(omitted),
+             f"whether engine 1 takes over any in\n{answer.out}")
 
 
 # Refusals.
@@ -228,7 +256,8 @@ def lines_first(work: Path) -> None:
 def refused(processes: int, words: List[str], said: str, before: Sequence[str], work: Path) -> None:
     """One line, from process 0, even if it starts after the others. The formula is the last
     argument, if none is given."""
-    words = launched(processes, [*(word.format(work=work) for word in words), written(FOUR, work)], before=before)
+    words = launched(processes, [*(word.format(work=work) for word in words), written(FOUR, work)],
+                     before=before)
     answer = Answer(run(words))
     want((answer.out, answer.status), ("", 1), f"the answer, which says {answer.said}")
     want(re.sub(r"/\S*/", "", answer.said), said, "what is said")
@@ -237,13 +266,15 @@ def refused(processes: int, words: List[str], said: str, before: Sequence[str], 
 def shows(word: str, beginning: str, work: Path) -> None:
     """Reported once, by the program that MPI starts."""
     out, said, status = run(launched(3, [word]))
-    want((out.count(beginning), out.startswith(beginning), said, status), (1, True, "", 0), f"what is shown: {out}")
+    want((out.count(beginning), out.startswith(beginning), said, status), (1, True, "", 0),
+         f"what is shown: {out}")
 
 
 def bad_formula(work: Path) -> None:
     """The message has lrupd's words, with details about the file."""
     formula = written("p cnf 2 1\n1 3 0\n", work)
-    known = f"({formula}, line 2: variable 3, above the header's 2: the header should be 'p cnf 3 1')"
+    known = (
+        f"({formula}, line 2: variable 3, above the header's 2: the header should be 'p cnf 3 1')")
     said = f"lrupd: formula refused: variable out of range in line 2 {known}\n"
     answer = solve(2, ["-j", "1", formula])
     want((answer.out, answer.said, answer.status), ("", said, 1), "what is said")
@@ -252,7 +283,8 @@ def bad_formula(work: Path) -> None:
 def not_started(body: str, end: str, work: Path) -> None:
     """MPI's command ends before any process exists, like mpirun when it refuses root."""
     answer = Answer(run(command(["--mpi", f"sh -c '{body}' sh", written(FOUR, work)])))
-    want((answer.out, answer.said, answer.status), (f"c MPI's command ended {end}\ns UNKNOWN\n", "why\n", 0), "the answer")
+    want((answer.out, answer.said, answer.status),
+         (f"c MPI's command ended {end}\ns UNKNOWN\n", "why\n", 0), "the answer")
 
 
 # Deaths.
@@ -261,12 +293,13 @@ def not_started(body: str, end: str, work: Path) -> None:
 class Running:
     """A long run, with the ids of its processes: by MPI process, by name."""
 
-    def __init__(self, formula: Path, processes: int, tested: Optional[Mapping[str, object]] = None, more: Sequence[str] = (),
-                 options: Sequence[object] = ()) -> None:
+    def __init__(self, formula: Path, processes: int, tested: Optional[Mapping[str, object]] = None,
+                 more: Sequence[str] = (), options: Sequence[object] = ()) -> None:
         words = launched(processes, ["-v", "-j", "1", *options, formula], tested, more=more)
         self.folder = formula.parent / "temporary"
         self.folder.mkdir()
-        self.main = subprocess.Popen(words, stdout=subprocess.PIPE, stderr=subprocess.PIPE, text=True,
+        self.main = subprocess.Popen(words, stdout=subprocess.PIPE,
+                                     stderr=subprocess.PIPE, text=True,
                                      env=in_environment(tested, {"TMPDIR": str(self.folder)}))
         self.ids: List[Dict[str, int]] = []
         try:
@@ -281,10 +314,13 @@ class Running:
         for pid in children_of_all(fronts.get("mpirun", 0)):
             rank = re.search(r"\0OMPI_COMM_WORLD_RANK=(\d+)\0", of_process(pid, "environ"))
             if rank:
-                found[int(rank[1])] = {"run": pid, **children_of(pid), **(fronts if rank[1] == "0" else {})}
+                found[int(rank[1])] = {"run": pid, **children_of(pid),
+                                       **(fronts if rank[1] == "0" else {})}
         self.ids = [found[rank] for rank in sorted(found)]
-        names = [{"carrier", f"engine {number}", f"filter {number}"} for number in range(1, processes + 1)]
-        return len(self.ids) == processes and all(map(set.issubset, names, self.ids)) and "lrupd" in self.ids[0]
+        names = [{"carrier", f"engine {number}", f"filter {number}"}
+                 for number in range(1, processes + 1)]
+        return (len(self.ids) == processes and all(map(set.issubset, names, self.ids))
+                and "lrupd" in self.ids[0])
 
     def segments(self) -> int:
         """Open MPI's files for shared memory, in the processes' folders."""
@@ -317,8 +353,10 @@ def ends(process: int, name: str, number: int, cause: str, work: Path) -> None:
     want(running.seconds < ENDED, True, f"{running.seconds} seconds to the end")
     if (name, number) == ("front", signal.SIGKILL):
         return want((answer.answers, answer.status), ([], -number), "the answer")
-    want((answer.answers, answer.status), (["s UNKNOWN"], -number if name == "front" else 0), f"the end of\n{answer.out}{answer.said}")
-    want(any(re.search(cause, line) for line in answer.comments), True, f"the cause in\n{answer.out}")
+    want((answer.answers, answer.status), (["s UNKNOWN"], -number if name == "front" else 0),
+         f"the end of\n{answer.out}{answer.said}")
+    want(any(re.search(cause, line) for line in answer.comments), True,
+         f"the cause in\n{answer.out}")
 
 
 def files_of_mpi(work: Path) -> None:
@@ -337,18 +375,21 @@ def goes_on(processes: int, process: int, name: str, lost: str, work: Path) -> N
     os.kill(running.ids[process][name], signal.SIGKILL)
     answer = Answer(running.end())
     want_answer(answer, 20)
-    want(len([line for line in answer.lost() if re.match(lost, line)]), 1, f"engines that are lost in\n{answer.out}")
+    want(len([line for line in answer.lost() if re.match(lost, line)]), 1,
+         f"engines that are lost in\n{answer.out}")
 
 
 def checks_again(work: Path) -> None:
     """Another lrupd gets all streams of the record."""
     kept = work / "kept"
-    running = Running(generated("pigeons 9", work), 2, options=["--save-every", "0.5", "--proofs", kept])
+    running = Running(generated("pigeons 9", work), 2,
+                      options=["--save-every", "0.5", "--proofs", kept])
     until("a round has ended", lambda: saved_rounds(kept) > 1)
     os.kill(running.ids[0]["lrupd"], signal.SIGKILL)
     answer = Answer(running.end())
     want_answer(answer, 20)
-    want("lrupd ended by a signal: Killed, and is started again" in answer.comments, True, f"whether a comment says so, in\n{answer.out}")
+    want("lrupd ended by a signal: Killed, and is started again" in answer.comments, True,
+         f"whether a comment says so, in\n{answer.out}")
     want(answer.lost(), [], "engines that are lost")
     check_again(kept)
 
@@ -385,47 +426,60 @@ def slow_checker(work: Path) -> None:
 
 
 def answering(processes: int, engines: int, formulas: Sequence[Tuple[str, int]]) -> List[Row]:
-    return [(f"{words}, {processes} of {engines}", answers, processes, words, ["-j", str(engines)], status)
-            for words, status in formulas]
+    return [(f"{words}, {processes} of {engines}", answers, processes, words, ["-j", str(engines)],
+             status) for words, status in formulas]
 
 
 def known() -> List[Row]:
-    rows = [row for processes, engines in ((2, 2), (8, 1)) for row in answering(processes, engines, SMALL_FORMULAS)]
+    rows = [row for processes, engines in ((2, 2), (8, 1))
+            for row in answering(processes, engines, SMALL_FORMULAS)]
     rows += [row for processes, engines in ((1, 1), (2, 1), (2, 2), (4, 1), (8, 1))
              for row in answering(processes, engines, [("pigeons 9", 20)])]
-    return rows + [("nothing shared", answers, 2, "pigeons 8", ["-j", "1", "--no-share"], 20), ("exchanges", exchanges),
-                   ("engines go", engines_go), ("time is up", time_is_up), ("cubes", cubes, 20, "pigeons 9"),
-                   *((f"cubes of a file, {processes} of {engines}", cubes_of_a_file, processes, engines) for processes, engines in
-                     ((2, 1), (3, 1), (2, 3)))]
+    return rows + [("nothing shared", answers, 2, "pigeons 8", ["-j", "1", "--no-share"], 20),
+                   ("exchanges", exchanges), ("engines go", engines_go), ("time is up", time_is_up),
+                   ("cubes", cubes, 20, "pigeons 9"),
+                   *((f"cubes of a file, {processes} of {engines}", cubes_of_a_file, processes,
+                      engines) for processes, engines in ((2, 1), (3, 1), (2, 3)))]
 
 
 def rounds() -> List[Row]:
     rows: List[Row] = []
     for processes in (1, 2, 4):
-        rows += [(f"rounds of bmc, {processes}", in_rounds, processes, "bmc.cnf", 1500 * processes, [], 20),
-                 (f"rounds of pigeonholes, {processes}", in_rounds, processes, "pigeons 8", 20000 * processes, [], 20),
-                 (f"rounds of a random formula, {processes}", in_rounds, processes, "random 170 4", 12000 * processes, [], 20),
-                 (f"rounds, satisfiable, {processes}", in_rounds, processes, "random 260 5 4.15", 30000 * processes, [], 10)]
-    rows += [(f"a run of {first} processes goes on with {second}", resumed, first, second, {**SMALL, "FIRST_WORDS": 20000})
+        rows += [(f"rounds of bmc, {processes}", in_rounds, processes, "bmc.cnf",
+                  1500 * processes, [], 20),
+                 (f"rounds of pigeonholes, {processes}", in_rounds, processes, "pigeons 8",
+                  20000 * processes, [], 20),
+                 (f"rounds of a random formula, {processes}", in_rounds, processes, "random 170 4",
+                  12000 * processes, [], 20),
+                 (f"rounds, satisfiable, {processes}", in_rounds, processes, "random 260 5 4.15",
+                  30000 * processes, [], 10)]
+    rows += [(f"a run of {first} processes goes on with {second}", resumed, first, second,
+              {**SMALL, "FIRST_WORDS": 20000})
              for first, second in ((2, 2), (2, 4), (0, 3), (3, 0), (1, 2))]
-    return rows + [("rounds, a core and LRAT", cores, 3, "random 170 4", {**SMALL, "FIRST_WORDS": 36000}),
-                   ("rounds, nothing shared", in_rounds, 2, "pigeons 8", 40000, ["--no-share"], 20), ("assumptions", assuming),
-                   ("gifts of an earlier round", rests_on, "lateness", "gifts"),
-                   ("gifts of the next round", rests_on, "passing", "saved"),
-                   ("lines before what follows from them", lines_first)]
+    return rows + [
+        ("rounds, a core and LRAT", cores, 3, "random 170 4", {**SMALL, "FIRST_WORDS": 36000}),
+        ("rounds, nothing shared", in_rounds, 2, "pigeons 8", 40000, ["--no-share"], 20),
+        ("assumptions", assuming), ("gifts of an earlier round", rests_on, "lateness", "gifts"),
+        ("gifts of the next round", rests_on, "passing", "saved"),
+        ("lines before what follows from them", lines_first)]
 
 
 def refusals() -> List[Row]:
     program = "lrup-solve: "
-    return [("65 engines", refused, 5, ["-j", "13"], program + "65 engines in all processes: at most 64\n", []),
+    return [("65 engines", refused, 5, ["-j", "13"],
+             program + "65 engines in all processes: at most 64\n", []),
             ("no engine", refused, 3, ["-j", "0"], program + "-j takes 1 to 64, not 0\n", []),
-            ("no engine, process 0 is late", refused, 3, ["-j", "0"], program + "-j takes 1 to 64, not 0\n", LATE),
-            ("no formula", refused, 3, ["-j", "1", "--", "{work}/none"], program + "unexpected argument: formula.cnf\n", []),
+            ("no engine, process 0 is late", refused, 3, ["-j", "0"],
+             program + "-j takes 1 to 64, not 0\n", LATE),
+            ("no formula", refused, 3, ["-j", "1", "--", "{work}/none"],
+             program + "unexpected argument: formula.cnf\n", []),
             ("a solver", refused, 2, ["--solver", "cadical %formula %proof"],
              program + "--solver and --mpi: a solver shares nothing with engines elsewhere\n", []),
             ("MPI's command ends with 1", not_started, "echo why >&2; exit 1", "with status 1"),
-            ("MPI's command is killed", not_started, "echo why >&2; kill -KILL $$", "by a signal: Killed"),
-            ("help", shows, "--help", "usage: lrup-solve "), ("version", shows, "--version", "lrup-solve "),
+            ("MPI's command is killed", not_started, "echo why >&2; kill -KILL $$",
+             "by a signal: Killed"),
+            ("help", shows, "--help", "usage: lrup-solve "),
+            ("version", shows, "--version", "lrup-solve "),
             ("a formula that lrupd refuses", bad_formula)]
 
 
@@ -444,24 +498,26 @@ def deaths() -> List[Row]:
         (0, "mpirun", "terminated", signal.SIGTERM, "Terminated"),
         (0, "front", "interrupted", signal.SIGINT, "ended by a signal: Interrupt"))]
     rows.append(("a checker that stands still", slow_checker))
-    return rows + [(f"{name} of process {process} of {processes} killed", goes_on, processes, process, name, lost)
-                   for processes, process, name, lost in (
-                       (3, 0, "engine 1", f"engine 1 is lost: ({ENGINE_KILLED})"),
-                       (3, 1, "engine 2", f"engine 2 is lost: ({ENGINE_KILLED})"),
-                       (3, 1, "filter 2", "engine 2 is lost: "),
-                       (2, 1, "filter 2", "engine 2 is lost: "))]
+    return rows + [(f"{name} of process {process} of {processes} killed", goes_on, processes,
+                    process, name, lost) for processes, process, name, lost in (
+                        (3, 0, "engine 1", f"engine 1 is lost: ({ENGINE_KILLED})"),
+                        (3, 1, "engine 2", f"engine 2 is lost: ({ENGINE_KILLED})"),
+                        (3, 1, "filter 2", "engine 2 is lost: "),
+                        (2, 1, "filter 2", "engine 2 is lost: "))]
 
 
 def small_rows() -> List[Row]:
     """Rows without long waits or races."""
-    return [("an exchange without MPI", alone), *refusals(),
-            *(row for processes in (1, 2, 4) for row in answering(processes, 1, SMALL_FORMULAS)),
-            ("a core and LRAT", cores, 2, "pigeons 6", None), ("a run goes on", resumed, 2, 2, None),
-            ending(0, "lrupd", "killed", signal.SIGKILL, "lrupd ended by a signal: Killed$"), ("lrupd killed, with a record", checks_again),
-            ending(1, "run", "killed", signal.SIGKILL, "Terminated"),
-            ending(0, "run", "killed", signal.SIGKILL, "MPI's command ended with status "),
-            ending(0, "mpirun", "killed", signal.SIGKILL, "MPI's command ended by a signal: Killed"),
-            ending(0, "front", "killed", signal.SIGKILL, ""), ("all killed at once", files_of_mpi)]
+    return [
+        ("an exchange without MPI", alone), *refusals(),
+        *(row for processes in (1, 2, 4) for row in answering(processes, 1, SMALL_FORMULAS)),
+        ("a core and LRAT", cores, 2, "pigeons 6", None), ("a run goes on", resumed, 2, 2, None),
+        ending(0, "lrupd", "killed", signal.SIGKILL, "lrupd ended by a signal: Killed$"),
+        ("lrupd killed, with a record", checks_again),
+        ending(1, "run", "killed", signal.SIGKILL, "Terminated"),
+        ending(0, "run", "killed", signal.SIGKILL, "MPI's command ended with status "),
+        ending(0, "mpirun", "killed", signal.SIGKILL, "MPI's command ended by a signal: Killed"),
+        ending(0, "front", "killed", signal.SIGKILL, ""), ("all killed at once", files_of_mpi)]
 
 
 @pytest.fixture(scope="session")

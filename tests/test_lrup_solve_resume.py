@@ -19,7 +19,8 @@ import pytest
 
 from harness import (COUNT, LIMIT, ROOT, Ran, Row, dimacs, generated, needs, parametrized,
                      random_clauses, run, started, until, want, written)
-from records import CHANGES, UNKNOWN, checkpoints, recorded, saved_rounds, want_no_other, whole, with_digests
+from records import (CHANGES, UNKNOWN, checkpoints, recorded, saved_rounds, want_no_other,
+                     whole, with_digests)
 from solving import (ANSWERS, EARLY, PROGRAM, SOLVE, Answer, before_lrupd, check_again, children_of,
                      command, end_all, end_group, in_environment, marked, none_left, solve,
                      want_answer)
@@ -30,10 +31,13 @@ SCRIPT = ROOT / "examples" / "resume" / "slurm.sh"
 SOON = 20       # seconds, after which a run should have ended
 
 
-def ended(words: Sequence[object], tested: Mapping[str, object], after: float, number: int = signal.SIGKILL) -> Answer:
-    """A run that gets a signal this many seconds after its start, unless it has ended by then. No process is left."""
+def ended(words: Sequence[object], tested: Mapping[str, object], after: float,
+          number: int = signal.SIGKILL) -> Answer:
+    """A run that gets a signal this many seconds after its start, unless it has ended by then. No
+    process is left."""
     mark = f"LRUP_MARK={os.environ['LRUP_MARK']}"
-    with started(command(words, tested), env=in_environment(tested), text=True, stdout=subprocess.PIPE, stderr=subprocess.PIPE) as running:
+    with started(command(words, tested), env=in_environment(tested), text=True,
+                 stdout=subprocess.PIPE, stderr=subprocess.PIPE) as running:
         try:
             out, said = running.communicate(timeout=after)
         except subprocess.TimeoutExpired:
@@ -51,19 +55,25 @@ def killed(seed: int, work: Path) -> None:
     numbers = random.Random(f"{seed} resumed")
     marked(work)
     size = numbers.randrange(130, 190)
-    formula = written(dimacs(size, random_clauses(numbers, size, round(numbers.uniform(4.1, 4.6) * size))), work)
-    tested = {"SET": EARLY, "SAME_WORDS": 1, "SLICE": numbers.choice((20, 50)), "FIRST_WORDS": numbers.choice((1000, 3000, 10000))}
+    formula = written(
+        dimacs(size, random_clauses(numbers, size, round(numbers.uniform(4.1, 4.6) * size))), work)
+    tested = {"SET": EARLY, "SAME_WORDS": 1, "SLICE": numbers.choice((20, 50)),
+              "FIRST_WORDS": numbers.choice((1000, 3000, 10000))}
     begun, kept = time.monotonic(), work / "kept"
     right = solve([formula], tested=tested)
     lasts, words = time.monotonic() - begun, ["--proofs", kept]
     want_answer(right, right.status if right.status in (10, 20) else 20, formula)
     for count in range(1, 60):
-        options = ["-j", numbers.randint(1, 3), *["--no-share"] * (numbers.random() < 0.2), "--seed", numbers.randrange(5)]
-        answer = ended([*options, *words, formula], tested, numbers.uniform(0, lasts) * (0.3 + count / 10))
+        options = ["-j", numbers.randint(1, 3), *["--no-share"] * (numbers.random() < 0.2),
+                   "--seed", numbers.randrange(5)]
+        answer = ended([*options, *words, formula], tested,
+                       numbers.uniform(0, lasts) * (0.3 + count / 10))
         if answer.said.endswith(" checks it\n") and right.status == 20:
             return whole(kept, formula, work)       # it was killed once it had the proof
-        said = "" if answer.status == -signal.SIGKILL else answer.said    # of engines whose front is gone
-        want((answer.answers in ([], right.answers), said), (True, ""), f"whether this is right:\n{answer.out[-2000:]}")
+        # Of engines whose front is gone.
+        said = "" if answer.status == -signal.SIGKILL else answer.said
+        want((answer.answers in ([], right.answers), said), (True, ""),
+             f"whether this is right:\n{answer.out[-2000:]}")
         if answer.answers:
             break
         if (kept / "files").exists():
@@ -79,19 +89,23 @@ def with_others(first: Sequence[str], second: Sequence[str], text: str, work: Pa
     if "--solver" in second:
         needs("cadical")
     marked(work)
-    kept, formula, cube = work / "kept", generated("pigeons 7", work), written("1 0\n", work, "cube")
+    kept, formula, cube = (work / "kept", generated("pigeons 7", work),
+                           written("1 0\n", work, "cube"))
     words = [[word.replace("CUBE", str(cube)) for word in some] for some in (first, second)]
     recorded([*words[0], formula], kept, 3, SMALL)
     answer = solve(["-v", *words[1], "--resume", kept, formula], tested=SMALL)
     want_answer(answer, 20, verdict=text)
     begun = re.search(r"^c \S+: round (\d+) begins, with ", answer.out, re.M)
-    want(begun is not None and int(begun[1]) > 3, True, f"whether it goes on, in\n{answer.out[:2000]}")
-    want("lrupd has read what was saved" in answer.comments, True, f"whether a comment says so, in\n{answer.out[-2000:]}")
+    want(begun is not None and int(begun[1]) > 3, True,
+         f"whether it goes on, in\n{answer.out[:2000]}")
+    want("lrupd has read what was saved" in answer.comments, True,
+         f"whether a comment says so, in\n{answer.out[-2000:]}")
     if text == PROVED:
         whole(kept, formula, work)
     else:
         done = run(["sh", kept / "command"], cwd="/")
-        want((done.out.splitlines()[-1], done.status), (text, 8), f"what is said when it is checked again, with {done.err}")
+        want((done.out.splitlines()[-1], done.status), (text, 8),
+             f"what is said when it is checked again, with {done.err}")
 
 
 def by_a_pipe(work: Path) -> None:
@@ -100,8 +114,8 @@ def by_a_pipe(work: Path) -> None:
     text, kept = generated("pigeons 7", work).read_text(), work / "kept"
     for given, words in ((text, []), (None, [kept / "formula.cnf"])):
         how = {"given": text}
-        with started(command(["--proofs", kept, "--replace"], SMALL), env=in_environment(SMALL), stdin=subprocess.PIPE,
-                     stdout=subprocess.DEVNULL) as running:
+        with started(command(["--proofs", kept, "--replace"], SMALL), env=in_environment(SMALL),
+                     stdin=subprocess.PIPE, stdout=subprocess.DEVNULL) as running:
             assert running.stdin
             running.stdin.write(text.encode())
             running.stdin.close()
@@ -118,7 +132,8 @@ def moved(work: Path) -> None:
     formula, kept = generated("pigeons 7", work), work / "kept"
     recorded(["-j", "2", formula], kept, 2, SMALL)
     formula, kept = formula.rename(work / "an other;name"), kept.rename(work / "-d")
-    want_answer(solve(["-j", "2", "--resume", "-d", "--", formula.name], tested=SMALL, cwd=work), 20)
+    want_answer(
+        solve(["-j", "2", "--resume", "-d", "--", formula.name], tested=SMALL, cwd=work), 20)
     whole(kept, formula, work)
 
 
@@ -130,7 +145,8 @@ def nothing_saved(work: Path) -> None:
         running.kill()
     answer = solve(["--resume", kept, formula])
     want_answer(answer, 20)
-    want(answer.comments[0], f"{kept}: no round was saved, so the run begins anew", "the first line")
+    want(answer.comments[0], f"{kept}: no round was saved, so the run begins anew",
+         "the first line")
     whole(kept, formula, work)
 
 
@@ -140,44 +156,53 @@ def lasting(work: Path) -> None:
     formula, kept = generated("pigeons 7", work), work / "kept"
     recorded(["-j", "2", formula], kept, 3, SMALL)
     lrupd = before_lrupd("sleep 1", work)
-    answer = solve(["-v", "-j", "2", "--lrupd", lrupd, "--resume", kept, formula], tested={**SMALL, "AHEAD": 1000})
+    answer = solve(["-v", "-j", "2", "--lrupd", lrupd, "--resume", kept, formula],
+                   tested={**SMALL, "AHEAD": 1000})
     want_answer(answer, 20)
     whole(kept, formula, work)
 
 
 # Runs that have to end.
 
-ENDS = {signal.SIGTERM: "Terminated", signal.SIGINT: "Interrupt", signal.SIGHUP: "Hangup", None: "time is up"}
+ENDS = {signal.SIGTERM: "Terminated", signal.SIGINT: "Interrupt", signal.SIGHUP: "Hangup",
+        None: "time is up"}
 
 
 def way_on(answer: Answer, kept: Path, formula: Path) -> Tuple[int, bool]:
     """What the comment says: the number of saved rounds, and whether something is lost. It also
     shows the command that resumes the run."""
-    said = [re.fullmatch(rf"{kept} has (\d+) rounds?(, but not what came after)?: lrup-solve --resume {kept} {formula} continues the run", line)
-            for line in answer.comments]
+    said = [re.fullmatch(rf"{kept} has (\d+) rounds?(, but not what came after)?: lrup-solve "
+                         rf"--resume {kept} {formula} continues the run",
+                         line) for line in answer.comments]
     found = [one for one in said if one]
     want(len(found), 1, f"whether a comment says how to go on, in\n{answer.out}{answer.said}")
     return int(found[0][1]), found[0][2] is not None
 
 
-def saved_at_the_end(number: Optional[signal.Signals], tested: Mapping[str, object], work: Path) -> None:
+def saved_at_the_end(number: Optional[signal.Signals], tested: Mapping[str, object],
+                     work: Path) -> None:
     """The current round is saved, within some seconds, and the run can be resumed from there."""
     marked(work)
     formula, kept, words = generated("pigeons 10", work), work / "kept", ["--proofs"]
     rounds = 0
     for _ in range(2):
         limit = ["--time", "1.5"] if number is None else []
-        with started(command(["-j", "2", *limit, *words, kept, formula], tested), env=in_environment(tested), text=True, stdout=subprocess.PIPE,
+        with started(command(["-j", "2", *limit, *words, kept, formula], tested),
+                     env=in_environment(tested), text=True, stdout=subprocess.PIPE,
                      stderr=subprocess.PIPE) as running:
             if number is not None:
-                until("there is something to save", lambda: any(path.stat().st_size > 0 for path in kept.glob(f"round-{rounds + 1}.stream-*")))
+                until("there is something to save",
+                      lambda: any(path.stat().st_size > 0
+                                  for path in kept.glob(f"round-{rounds + 1}.stream-*")))
                 time.sleep(1)
                 running.send_signal(number)
             answer = Answer(Ran(*running.communicate(timeout=SOON), running.returncode))
         none_left(f"LRUP_MARK={os.environ['LRUP_MARK']}")
-        want((answer.answers, answer.status), ([UNKNOWN], -number if number else 0), f"the answer of\n{answer.out}{answer.said}")
+        want((answer.answers, answer.status), ([UNKNOWN], -number if number else 0),
+             f"the answer of\n{answer.out}{answer.said}")
         before, (rounds, is_lost) = rounds, way_on(answer, kept, formula)
-        want((is_lost, rounds > before, saved_rounds(kept) - 1), (False, True, rounds), f"what is saved, in\n{answer.out}")
+        want((is_lost, rounds > before, saved_rounds(kept) - 1), (False, True, rounds),
+             f"what is saved, in\n{answer.out}")
         words = ["--resume"]
 
 
@@ -188,7 +213,8 @@ def second_signal(work: Path) -> None:
     recorded(["-j", "2", formula], kept, 1, SMALL)
     for count in (1, 2):
         before = saved_rounds(kept)
-        with started(command(["-j", "2", "--resume", kept, formula], SMALL), env=in_environment(SMALL), text=True, stdout=subprocess.PIPE,
+        with started(command(["-j", "2", "--resume", kept, formula], SMALL),
+                     env=in_environment(SMALL), text=True, stdout=subprocess.PIPE,
                      stderr=subprocess.PIPE) as running:
             until("a round more is saved", lambda: saved_rounds(kept) > before)
             os.kill(children_of(running.pid)["lrupd"], signal.SIGSTOP)
@@ -200,8 +226,10 @@ def second_signal(work: Path) -> None:
                 running.send_signal(signal.SIGINT)
             answer = Answer(Ran(*running.communicate(timeout=SOON), running.returncode))
         lasted = time.monotonic() - begun
-        want((answer.answers, answer.status), ([UNKNOWN], -signal.SIGTERM), f"the answer of\n{answer.out}{answer.said}")
-        want((lasted < 4) if count == 2 else 4 < lasted < 12, True, f"{lasted} seconds after the first signal")
+        want((answer.answers, answer.status), ([UNKNOWN], -signal.SIGTERM),
+             f"the answer of\n{answer.out}{answer.said}")
+        want((lasted < 4) if count == 2 else 4 < lasted < 12, True,
+             f"{lasted} seconds after the first signal")
         want(saved_rounds(kept) > before, True, "whether what was saved is still there")
 
 
@@ -209,14 +237,19 @@ def by_the_clock(work: Path) -> None:
     """--save-every ends a round although its row has room."""
     marked(work)
     formula, kept = generated("pigeons 11", work), work / "kept"
-    answer = solve(["-v", "-j", "2", "--time", "3", "--save-every", "0.25", "--proofs", kept, formula])
+    answer = solve(["-v", "-j", "2", "--time", "3", "--save-every", "0.25", "--proofs",
+                    kept, formula])
     want_answer(answer, 0)
     rounds, is_lost = way_on(answer, kept, formula)
     want((4 <= rounds <= 13, is_lost), (True, False), f"{rounds} rounds in\n{answer.out}")
-    rows = [int(row.replace(",", "")) for row in re.findall(r"^c round \d+: .* in a row of ([\d,]+) words", answer.out, re.M)]
-    want(max(rows) < 6 * min(rows), True, f"whether rows grow that aren't full: {rows}")       # a quick machine may fill one
+    rows = [int(row.replace(",", ""))
+            for row in re.findall(r"^c round \d+: .* in a row of ([\d,]+) words", answer.out, re.M)]
+    # A quick machine may fill one.
+    want(max(rows) < 6 * min(rows), True, f"whether rows grow that aren't full: {rows}")
     answer = solve(["-j", "2", "--time", "2", "--resume", kept, formula])
-    want((answer.comments[0].startswith(f"{kept}: round {rounds + 1} begins, with "), answer.status), (True, 0), f"the first line of\n{answer.out}")
+    want((answer.comments[0].startswith(f"{kept}: round {rounds + 1} begins, with "),
+          answer.status),
+         (True, 0), f"the first line of\n{answer.out}")
 
 
 def in_jobs(work: Path) -> None:
@@ -226,8 +259,10 @@ def in_jobs(work: Path) -> None:
     formula, kept = generated("pigeons 9", work), work / "it's kept"
     path = ":".join([str(SOLVE.parent), str(Path(PROGRAM).parent), os.environ["PATH"]])
     for count in range(1, 100):
-        with started(["sh", SCRIPT, formula, kept], env={**os.environ, "PATH": path, "SLURM_CPUS_PER_TASK": "4"}, start_new_session=True,
-                     stdout=subprocess.DEVNULL, stderr=subprocess.DEVNULL) as job:
+        with started(["sh", SCRIPT, formula, kept],
+                     env={**os.environ, "PATH": path, "SLURM_CPUS_PER_TASK": "4"},
+                     start_new_session=True, stdout=subprocess.DEVNULL,
+                     stderr=subprocess.DEVNULL) as job:
             try:
                 job.wait(0.5 + 0.3 * count)
             except subprocess.TimeoutExpired:
@@ -283,15 +318,18 @@ def cut_short(number: int, work: Path) -> None:
     want(said in answer.comments, True, f"whether it is said in\n{answer.out}")
     if number == 1:
         after = {name: (kept / name).read_bytes() for name in names}
-        return want((saved_rounds(kept), after == before), (rounds, True), "whether the record is as it was")
-    want((way_on(answer, kept, formula), saved_rounds(kept)), ((number - 1, True), number), f"what is left, in\n{answer.out}")
+        return want((saved_rounds(kept), after == before), (rounds, True),
+                    "whether the record is as it was")
+    want((way_on(answer, kept, formula), saved_rounds(kept)), ((number - 1, True), number),
+         f"what is left, in\n{answer.out}")
     want_answer(solve(["-j", "2", "--resume", kept, formula], tested=SMALL), 20)
     whole(kept, formula, work)
 
 
 def hard(status: int, work: Path) -> Path:
     """A formula that takes some rounds in small rows."""
-    return generated("pigeons 7", work) if status == 20 else written(dimacs(230, random_clauses(random.Random(17), 230, 975)), work)
+    return (generated("pigeons 7", work) if status == 20
+            else written(dimacs(230, random_clauses(random.Random(17), 230, 975)), work))
 
 
 def contradictory(kept: Path) -> None:
@@ -308,7 +346,8 @@ def another_beginning(kept: Path) -> None:
     formula."""
     checkpoint = kept / f"checkpoint-{saved_rounds(kept)}.cnf"
     lines = checkpoint.read_text().splitlines(True)
-    checkpoint.write_text("".join([lines[0], *("1 -1 0\n" if line[0] != "c" else line for line in lines[1:])]))
+    checkpoint.write_text(
+        "".join([lines[0], *("1 -1 0\n" if line[0] != "c" else line for line in lines[1:])]))
 
 
 def refuting_stream(kept: Path) -> None:
@@ -338,8 +377,8 @@ def forged(status: int, change: Callable[[Path], None], work: Path) -> None:
     with_digests(kept)
     answer = solve(["-j", "2", "--resume", kept, formula], tested={**SMALL, "TRIES": 1000})
     answer.said = answer.said if answer.status == 1 else ""
-    want((answer.answers in ([], [UNKNOWN], [ANSWERS[status]]), answer.status in (0, 1, status)), (True, True),
-         f"the answer of\n{answer.out}{answer.said}")
+    want((answer.answers in ([], [UNKNOWN], [ANSWERS[status]]), answer.status in (0, 1, status)),
+         (True, True), f"the answer of\n{answer.out}{answer.said}")
     if answer.status == status:
         want_answer(answer, status, formula)
 
@@ -352,23 +391,30 @@ def refused(words: Sequence[object], said: str, work: Path) -> None:
     before = {path: path.read_bytes() for path in work.rglob("*") if path.is_file()}
     answer = solve(words, tested=SMALL, cwd=work)
     want((answer.out, answer.said, answer.status), ("", f"lrup-solve: {said}\n", 1), "what is said")
-    want({path: path.read_bytes() for path in work.rglob("*") if path.is_file()}, before, "the files")
+    want({path: path.read_bytes() for path in work.rglob("*") if path.is_file()},
+         before, "the files")
 
 
 def of_another(work: Path) -> None:
     """Another formula or other assumptions than the record's, and records that can't be resumed."""
     marked(work)
-    formula, cube, other = generated("pigeons 8", work), written("1 0\n", work, "cube"), written("2 0\n", work, "other")
+    formula, cube, other = (generated("pigeons 8", work), written("1 0\n", work, "cube"),
+                            written("2 0\n", work, "other"))
     recorded(["-j", "2", "--assume", cube, formula], work / "d", 2, SMALL)
     more = written(formula.read_text() + "c more\n", work, "more.cnf")
     under = ["--assume", cube, "--resume", "d"]
     refused([*under, more], f"{more} isn't the formula of d, or was changed since", work)
-    refused([*under, work / "d" / "round-1.stream-1"], f"{work}/d/round-1.stream-1 isn't the formula of d, or was changed since", work)
-    refused(["--assume", other, "--resume", "d", formula], f"{other} isn't the assumptions of d, or was changed since", work)
+    refused([*under, work / "d" / "round-1.stream-1"],
+            f"{work}/d/round-1.stream-1 isn't the formula of d, or was changed since", work)
+    refused(["--assume", other, "--resume", "d", formula],
+            f"{other} isn't the assumptions of d, or was changed since", work)
     refused(["--resume", "d", formula], "d is the record of a run with --assume", work)
-    refused(["--proofs", "d", *under, formula], "--resume and --proofs: a resumed run keeps its streams where it kept them before", work)
+    refused(["--proofs", "d", *under, formula],
+            "--resume and --proofs: a resumed run keeps its streams where it kept them before",
+            work)
     refused(["--replace", *under, formula], "--resume and --replace: nothing is replaced", work)
-    refused(["--save-every", "0", *under, formula], "--save-every takes seconds above 0, not 0", work)
+    refused(["--save-every", "0", *under, formula],
+            "--save-every takes seconds above 0, not 0", work)
     refused(["--save-every", "1", formula], "--save-every without --proofs or --resume", work)
     refused(["--resume", "none", formula], "none: No such file or directory", work)
     (work / "empty").mkdir()
@@ -377,9 +423,12 @@ def of_another(work: Path) -> None:
     (work / "d" / "formula.sha256").write_text("x\n")
     refused([*under, formula], f"{formula} isn't the formula of d, or was changed since", work)
     (work / "d" / "formula.sha256").unlink()
-    refused([*under, formula], "d/formula.sha256 doesn't have the SHA-256 of the formula: the run can't be resumed", work)
+    refused([*under, formula],
+            "d/formula.sha256 doesn't have the SHA-256 of the formula: the run can't be resumed",
+            work)
     (work / "d" / "formula.sha256").write_text(digest)
-    want_answer(solve([*under, formula], tested=SMALL, cwd=work), 20, verdict="s UNSATISFIABLE UNDER ASSUMPTIONS")
+    want_answer(solve([*under, formula], tested=SMALL, cwd=work), 20,
+                verdict="s UNSATISFIABLE UNDER ASSUMPTIONS")
     refused([*under, formula], "d has its proof: sh d/command checks it", work)
 
 
@@ -387,10 +436,12 @@ def of_two(work: Path) -> None:
     """Another run holds the record; a run that has just been killed ends first."""
     marked(work)
     formula, kept = generated("pigeons 11", work), work / "d"
-    with started(command(["-j", "1", "--proofs", kept, formula]), stdout=subprocess.DEVNULL) as running:
+    with started(command(["-j", "1", "--proofs", kept, formula]),
+                 stdout=subprocess.DEVNULL) as running:
         until("it has begun", lambda: (kept / "formula.sha256").exists())
         answer = solve(["--resume", kept, formula])
-        said = f"lrup-solve: {kept}: another run has its files there, and hasn't ended: choose another --proofs\n"
+        said = (f"lrup-solve: {kept}: another run has its files there, and hasn't ended: choose "
+                "another --proofs\n")
         want((answer.said, answer.status), (said, 1), "what is said")
         running.kill()
         answer = solve(["--resume", kept, "--time", "1", formula])
@@ -405,27 +456,38 @@ def unsaved(work: Path) -> None:
     answer = solve(["-j", "2", "--lrupd", lrupd, "--proofs", kept, formula], tested=SMALL)
     want_answer(answer, 20)
     expected = f"round 1 isn't saved: cannot write {kept}/checkpoint-2.cnf: "
-    want(any(line.startswith(expected) for line in answer.comments), True, f"whether a comment says so, in\n{answer.out}")
+    want(any(line.startswith(expected) for line in answer.comments), True,
+         f"whether a comment says so, in\n{answer.out}")
     check_again(kept)
 
 
 def rows(count: int) -> List[Row]:
     found: List[Row] = [(f"killed {seed}", killed, seed) for seed in range(count)]
     under = "s UNSATISFIABLE UNDER ASSUMPTIONS"
-    found += [(f"{' '.join(first)}, then {' '.join(second)}", with_others, first, second, text) for first, second, text in (
-        (["-j", "1"], ["-j", "3"], PROVED), (["-j", "3"], ["-j", "1"], PROVED), (["-j", "2", "--no-share"], ["-j", "2"], PROVED),
-        (["-j", "2"], ["-j", "2", "--no-share"], PROVED),
-        (["-j", "2", "--assume", "CUBE"], ["-j", "3", "--assume", "CUBE"], under))]
-    found += [("a solver goes on", with_others, ["-j", "1"], ["--solver", "cadical -q %formula %proof"], PROVED)]
-    found += [(f"saved at the end, {ENDS[number]}, {'small rows' if tested else 'one row'}", saved_at_the_end, number, tested)
-              for number, tested in ((signal.SIGTERM, SMALL), (signal.SIGTERM, {}), (signal.SIGINT, {}), (signal.SIGHUP, SMALL), (None, {}),
-                                     (None, SMALL))]
-    found += [("in jobs", in_jobs), ("a second signal", second_signal), ("saved by the clock", by_the_clock)]
-    found += [("by a pipe", by_a_pipe), ("moved", moved), ("nothing saved", nothing_saved), ("a slow lrupd", lasting)]
-    found += [(f"changed, {ANSWERS[status]}", changed, status, seed) for status in (10, 20) for seed in range(1 + count // 50)]
-    found += [(f"a stream of round {number} was changed", cut_short, number) for number in (1, 2, 3)]
-    found += [(f"forged, {change.__name__}, {ANSWERS[status]}", forged, status, change) for change in FORGED for status in (10, 20)]
-    return found + [("another formula", of_another), ("of two runs", of_two), ("can't be saved", unsaved)]
+    found += [(f"{' '.join(first)}, then {' '.join(second)}", with_others, first, second, text)
+              for first, second, text in (
+                  (["-j", "1"], ["-j", "3"], PROVED), (["-j", "3"], ["-j", "1"], PROVED),
+                  (["-j", "2", "--no-share"], ["-j", "2"], PROVED),
+                  (["-j", "2"], ["-j", "2", "--no-share"], PROVED),
+                  (["-j", "2", "--assume", "CUBE"], ["-j", "3", "--assume", "CUBE"], under))]
+    found += [("a solver goes on", with_others, ["-j", "1"],
+               ["--solver", "cadical -q %formula %proof"], PROVED)]
+    found += [(f"saved at the end, {ENDS[number]}, {'small rows' if tested else 'one row'}",
+               saved_at_the_end, number, tested) for number, tested in (
+                   (signal.SIGTERM, SMALL), (signal.SIGTERM, {}), (signal.SIGINT, {}),
+                   (signal.SIGHUP, SMALL), (None, {}), (None, SMALL))]
+    found += [("in jobs", in_jobs), ("a second signal", second_signal),
+              ("saved by the clock", by_the_clock)]
+    found += [("by a pipe", by_a_pipe), ("moved", moved), ("nothing saved", nothing_saved),
+              ("a slow lrupd", lasting)]
+    found += [(f"changed, {ANSWERS[status]}", changed, status, seed) for status in (10, 20)
+              for seed in range(1 + count // 50)]
+    found += [(f"a stream of round {number} was changed", cut_short, number)
+              for number in (1, 2, 3)]
+    found += [(f"forged, {change.__name__}, {ANSWERS[status]}", forged, status, change)
+              for change in FORGED for status in (10, 20)]
+    return found + [("another formula", of_another), ("of two runs", of_two),
+                    ("can't be saved", unsaved)]
 
 
 pytestmark = pytest.mark.usefixtures("solve_for_tests")     # none is tried again

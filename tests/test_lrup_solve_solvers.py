@@ -25,10 +25,12 @@ PICOSAT = "picosat %formula -R %proof"
 EARLY = ["--elimint=10", "--probeint=10", "--subsumeint=10", "--reduceint=20"]
 COMMANDS = [[CADICAL], [AS_TEXT], [CRYPTOMINISAT], [PICOSAT], [CADICAL, CRYPTOMINISAT, PICOSAT],
             [CADICAL, CADICAL + " --seed=2", AS_TEXT + " --seed=3"]]
-FORMULAS = [("four clauses", FOUR, 20), ("no clauses", "p cnf 3 0\n", 10), ("nothing", "p cnf 0 0\n", 10),
-            ("an empty clause", "p cnf 2 2\n1 2 0\n0\n", 20), ("the empty clause alone", "p cnf 0 1\n0\n", 20),
+FORMULAS = [("four clauses", FOUR, 20), ("no clauses", "p cnf 3 0\n", 10),
+            ("nothing", "p cnf 0 0\n", 10), ("an empty clause", "p cnf 2 2\n1 2 0\n0\n", 20),
+            ("the empty clause alone", "p cnf 0 1\n0\n", 20),
             ("units", "p cnf 2 3\n1 0\n-1 2 0\n-2 0\n", 20), ("one unit", "p cnf 3 1\n-3 0\n", 10),
-            ("a form that isn't clear", dimacs(40, [[39, 40], [-39, 40], [39, -40], [-39, -40]]), 20),
+            ("a form that isn't clear",
+             dimacs(40, [[39, 40], [-39, 40], [39, -40], [-39, -40]]), 20),
             ("tautologies", "p cnf 3 4\n1 -1 0\n2 2 3 0\n-2 3 3 0\n-3 -3 0\n", 20)]
 LARGER = [("bmc.cnf", 20), ("random 150 1", 20), ("pigeons 7", 20), ("random 120 7 3.6", 10)]
 MANY_ROUNDS = {"FIRST_WORDS": 4000, "SAME_WORDS": 1}
@@ -44,13 +46,16 @@ def by(commands: Sequence[str]) -> List[str]:
 def example_solver(work: Path) -> str:
     """LRUP text, with hints."""
     exact = EXAMPLES.parent / "tools" / "exact"
-    sources = [*sorted((EXAMPLES / "solver").glob("*.c")), *(exact / f"{name}.c" for name in ("errors", "formula", "lists", "literals"))]
-    program = compiled(work / "example solver", sources, "-std=c11", "-O2", "-pthread", "-I", str(exact))
+    sources = [*sorted((EXAMPLES / "solver").glob("*.c")),
+               *(exact / f"{name}.c" for name in ("errors", "formula", "lists", "literals"))]
+    program = compiled(work / "example solver", sources, "-std=c11", "-O2", "-pthread",
+                       "-I", str(exact))
     return f"{shlex.quote(str(program))} %formula %proof"
 
 
 def given(words_or_name: str, work: Path) -> Path:
-    return example(words_or_name) if words_or_name.endswith(".cnf") else generated(words_or_name, work)
+    return (example(words_or_name) if words_or_name.endswith(".cnf")
+            else generated(words_or_name, work))
 
 
 # Answers.
@@ -83,7 +88,8 @@ def in_rounds(name: str, commands: List[str], words: List[str], work: Path) -> N
 def late(form: str, work: Path) -> None:
     """The proof begins after some rounds, and the engine is still running. LRAT names the formula's
     clauses, in order."""
-    formula, commands = given("random 220 5", work), {"DRAT": CADICAL, "DRUP": AS_TEXT, "FRAT": CRYPTOMINISAT, "PicoSAT": PICOSAT}
+    formula, commands = given("random 220 5", work), {"DRAT": CADICAL, "DRUP": AS_TEXT,
+                                                      "FRAT": CRYPTOMINISAT, "PicoSAT": PICOSAT}
     if form == "LRAT":
         commands[form] = with_gaps(formula, work)
     begins = f"until [ -e {work}/kept/round-4.sizes ]; do sleep 0.01; done; {commands[form]}"
@@ -98,7 +104,8 @@ def late(form: str, work: Path) -> None:
 
 def with_gaps(formula: Path, work: Path) -> str:
     """A solver writes LRAT, and leaves out two identities after each clause."""
-    want_answer(solve(["--proofs", work / "exact", *by([CADICAL]), formula], tested={"FIRST_WORDS": 1 << 24}), 20)
+    want_answer(solve(["--proofs", work / "exact", *by([CADICAL]), formula],
+                      tested={"FIRST_WORDS": 1 << 24}), 20)
     lines = (work / "exact" / "round-1.stream-1").read_text().splitlines()
     first = int(lines[0].split()[0])
     gaps = {str(first + number): str(first + 3 * number) for number in range(len(lines))}
@@ -115,17 +122,21 @@ def small_outbox(work: Path) -> None:
     """Engines beside a solver, which reads no outbox: more goes through a small outbox than it
     holds, three words or more each. The proof is longer than a pipe, so that engines don't get
     ahead of their filters, which are slow in a build for tests."""
-    answer = solve(["-v", "-j", "2", *by(["sleep 1000 # %formula %proof"]), given("random 235 3", work)],
+    answer = solve(["-v", "-j", "2", *by(["sleep 1000 # %formula %proof"]),
+                    given("random 235 3", work)],
                    tested={"OUTBOX": 240, "SLICE": 100})
     want_answer(answer, 20)
-    given_away = [int(found.replace(",", "")) for found in re.findall(r"([\d,]+) given away", answer.out)]
-    want(min(given_away[:2]) > 240 // 3, True, f"clauses given away, in\n{answer.out[-3000:]}: whether of each are more than 80")
+    given_away = [int(found.replace(",", ""))
+                  for found in re.findall(r"([\d,]+) given away", answer.out)]
+    want(min(given_away[:2]) > 240 // 3, True,
+         f"clauses given away, in\n{answer.out[-3000:]}: whether of each are more than 80")
 
 
 def renamed(words: List[str], names: Mapping[str, str]) -> List[str]:
     """Renumbers an addition or a deletion; literals stay."""
     end = words.index("0") if words[1] != "d" else 1
-    return [names.get(words[0], words[0]), *words[1:end + 1], *(names.get(word, word) for word in words[end + 1:])]
+    return [names.get(words[0], words[0]), *words[1:end + 1],
+            *(names.get(word, word) for word in words[end + 1:])]
 
 
 def by_example(name: str, status: int, work: Path) -> None:
@@ -142,7 +153,8 @@ def early(seed: int) -> str:
 def randomly(seed: int, work: Path) -> None:
     numbers = random.Random(f"{seed} solvers")
     formula, kept = written(random_formula(seed), work), work / "kept"
-    commands = [early(seed), AS_TEXT, CRYPTOMINISAT, CRYPTOMINISAT + f" --random {seed}", PICOSAT + f" -s {seed}"]
+    commands = [early(seed), AS_TEXT, CRYPTOMINISAT, CRYPTOMINISAT + f" --random {seed}",
+                PICOSAT + f" -s {seed}"]
     chosen = numbers.sample(commands, numbers.randint(1, 3))
     words = ["-j", "2"] * numbers.randint(0, 1) + ["--proofs", kept] * (seed % 5 == 0)
     tested = {"SLICE": 50, "FIRST_WORDS": numbers.choice((2000, 1 << 20))}
@@ -156,23 +168,27 @@ def randomly(seed: int, work: Path) -> None:
 def names(work: Path) -> None:
     """The formula's name is one word for the shell, quoted in any way; standard input is a file for
     the solver."""
-    for name in ("it's $a \"formula\"\nof `two` lines", "x$(touch $MADE).cnf", "x`touch $MADE`", "x; touch $MADE; \\", "%proof %formula",
-                 "a%proof.cnf", "größe.cnf"):
+    for name in ("it's $a \"formula\"\nof `two` lines", "x$(touch $MADE).cnf", "x`touch $MADE`",
+                 "x; touch $MADE; \\", "%proof %formula", "a%proof.cnf", "größe.cnf"):
         formula, made = shutil.copy(example("bmc.cnf"), work / name), work / "made"
-        for command in (CADICAL, 'cadical -q "%formula" "%proof"', "cadical -q '%formula' %proof", "sh -c 'cadical -q %formula %proof'",
+        for command in (CADICAL, 'cadical -q "%formula" "%proof"', "cadical -q '%formula' %proof",
+                        "sh -c 'cadical -q %formula %proof'",
                         "eval 'cadical -q \"%formula\" %proof'"):
             want_answer(solve([*by([command]), formula], env_more={"MADE": str(made)}), 20)
         want(made.exists(), False, f"whether {name} was run as a command")
     for word in ("-", "/dev/stdin"):
-        want_answer(solve([*by([CADICAL, AS_TEXT]), word], given=example("bmc.cnf").read_text()), 20)
-    want_answer(solve([*by([CADICAL]), "--proofs", work / "kept"], given=example("bmc.cnf").read_text()), 20)
+        want_answer(
+            solve([*by([CADICAL, AS_TEXT]), word], given=example("bmc.cnf").read_text()), 20)
+    want_answer(solve([*by([CADICAL]), "--proofs", work / "kept"],
+                      given=example("bmc.cnf").read_text()), 20)
     check_again(work / "kept")
 
 
 def sealed(work: Path) -> None:
     """A solver can't write to the copy of a formula from a pipe, which would then be refuted."""
     text = generated("random 120 7 3.6", work).read_text()
-    writing = "(printf 'p cnf 1 2\\n1 0\\n-1 0\\n' > %formula; printf '1 0' 1<> %formula) 2> /dev/null; " + CADICAL
+    writing = ("(printf 'p cnf 1 2\\n1 0\\n-1 0\\n' > %formula; printf '1 0' 1<> %formula) "
+               "2> /dev/null; " + CADICAL)
     answer = solve([*by([writing]), "-"], given=text)
     want_answer(answer, 10, work / "formula.cnf")
 
@@ -187,36 +203,49 @@ NOTHING = [("exit 1 # %formula %proof", "the solver ended with status 1"),
            ("kill -9 $$ # %formula %proof", "the solver ended by a signal: Killed"),
            ("kill -PIPE $$ # %formula %proof", "the solver ended by a signal: Broken pipe"),
            ("no-such-solver %formula %proof", "the solver ended with status 127: "),
-           ("exec > /dev/null < /dev/null; exit 1 # %formula %proof", "the solver ended with status 1"),
-           ("(echo one; echo; echo last words; echo) >&2; exit 2 # %formula %proof", "the solver ended with status 2: last words"),
-           ("printf 'no end\\033' >&2; exit 2 # %formula %proof", "the solver ended with status 2: no end?"),
-           ("yes 1 | head -c 1000000 | tr -d '\\n' >&2; exit 2 # %formula %proof", "the solver ended with status 2: 11111")]
-WRONG = [("exit 0 # %formula %proof", "the solver ended with status 0"),
-         ("exit 20 # %formula %proof", "its filter stopped: the proof ends without the empty clause"),
-         ("echo s UNSATISFIABLE # %formula %proof", "its filter stopped: the proof ends without the empty clause"),
-         ("echo s SATISFIABLE; exit 20 # %formula %proof", "the solver ended with status 20"),
-         ("echo s UNSATISFIABLE; exit 10 # %formula %proof", "the solver ended with status 10"),
-         ("echo s UNSATISFIABLE; kill -ABRT $$ # %formula %proof",
-          "the solver ended by a signal: Aborted; its filter stopped: the proof ends without the empty clause"),
-         ("exit 10 # %formula %proof", UNFOUNDED), ("echo s SATISFIABLE; exit 10 # %formula %proof", UNFOUNDED),
-         ("echo s SATISFIABLE # %formula %proof", UNFOUNDED), (MODEL.format("x -") + " # %formula %proof", UNFOUNDED),
-         (MODEL.format("1 -2 3 0") + " # %formula %proof", "its assignment doesn't satisfy the formula"),
-         (MODEL.format("0") + " # %formula %proof", "its assignment doesn't satisfy the formula"),
-         (MODEL.format("99999999999999999999 x -0 1e5 0") + " # %formula %proof", "its assignment doesn't satisfy the formula"),
-         (MODEL.format(f"-{1 << 63} {1 << 63} -{(1 << 64) + 1} 0") + " # %formula %proof", "its assignment doesn't satisfy the formula"),
-         ("head -c 300000 /dev/urandom > %proof # %formula", "its filter stopped: "),
-         ("cat %formula > %proof", "its filter stopped: "),
-         ("yes '1 0' > %proof # %formula", "its filter stopped: line 1: no conflict by unit propagation"),
-         ("yes > %proof # %formula", "its filter stopped: line 1: "),
-         ("cat /dev/zero > %proof # %formula", "its filter stopped: line 1: a line of more than 268435456 bytes"),
-         ("echo 0 > %proof # %formula", "its filter stopped: line 1: no conflict by unit propagation"),
-         ("printf a > %proof # %formula", "its filter stopped: "),
-         ("echo '1 i 1 2 0' > %proof # %formula", "its filter stopped: line 1: an import"),
-         ("yes s UNSATISFIABLE | head -n 100000; yes v 1 | head -n 100000; exit 3 # %formula %proof",
-          "the solver ended with status 3; its filter stopped: ")]
-STANDING = ["sleep 1000 # %formula %proof", "sleep 1000 > %proof # %formula", "yes # %formula %proof",
-            "cat %formula; sleep 1000 # %proof",
-            "trap '' TERM INT HUP; while :; do sleep 1; done # %formula %proof", "setsid sleep 1000 & wait # %formula %proof"]
+           ("exec > /dev/null < /dev/null; exit 1 # %formula %proof",
+            "the solver ended with status 1"),
+           ("(echo one; echo; echo last words; echo) >&2; exit 2 # %formula %proof",
+            "the solver ended with status 2: last words"),
+           ("printf 'no end\\033' >&2; exit 2 # %formula %proof",
+            "the solver ended with status 2: no end?"),
+           ("yes 1 | head -c 1000000 | tr -d '\\n' >&2; exit 2 # %formula %proof",
+            "the solver ended with status 2: 11111")]
+WRONG = [
+    ("exit 0 # %formula %proof", "the solver ended with status 0"),
+    ("exit 20 # %formula %proof", "its filter stopped: the proof ends without the empty clause"),
+    ("echo s UNSATISFIABLE # %formula %proof",
+     "its filter stopped: the proof ends without the empty clause"),
+    ("echo s SATISFIABLE; exit 20 # %formula %proof", "the solver ended with status 20"),
+    ("echo s UNSATISFIABLE; exit 10 # %formula %proof", "the solver ended with status 10"),
+    ("echo s UNSATISFIABLE; kill -ABRT $$ # %formula %proof", "the solver ended by a signal: "
+     "Aborted; its filter stopped: the proof ends without the empty clause"),
+    ("exit 10 # %formula %proof", UNFOUNDED),
+    ("echo s SATISFIABLE; exit 10 # %formula %proof", UNFOUNDED),
+    ("echo s SATISFIABLE # %formula %proof", UNFOUNDED),
+    (MODEL.format("x -") + " # %formula %proof", UNFOUNDED),
+    (MODEL.format("1 -2 3 0") + " # %formula %proof", "its assignment doesn't satisfy the formula"),
+    (MODEL.format("0") + " # %formula %proof", "its assignment doesn't satisfy the formula"),
+    (MODEL.format("99999999999999999999 x -0 1e5 0") + " # %formula %proof",
+     "its assignment doesn't satisfy the formula"),
+    (MODEL.format(f"-{1 << 63} {1 << 63} -{(1 << 64) + 1} 0") + " # %formula %proof",
+     "its assignment doesn't satisfy the formula"),
+    ("head -c 300000 /dev/urandom > %proof # %formula", "its filter stopped: "),
+    ("cat %formula > %proof", "its filter stopped: "),
+    ("yes '1 0' > %proof # %formula",
+     "its filter stopped: line 1: no conflict by unit propagation"),
+    ("yes > %proof # %formula", "its filter stopped: line 1: "),
+    ("cat /dev/zero > %proof # %formula",
+     "its filter stopped: line 1: a line of more than 268435456 bytes"),
+    ("echo 0 > %proof # %formula", "its filter stopped: line 1: no conflict by unit propagation"),
+    ("printf a > %proof # %formula", "its filter stopped: "),
+    ("echo '1 i 1 2 0' > %proof # %formula", "its filter stopped: line 1: an import"),
+    ("yes s UNSATISFIABLE | head -n 100000; yes v 1 | head -n 100000; exit 3 # %formula %proof",
+     "the solver ended with status 3; its filter stopped: ")]
+STANDING = ["sleep 1000 # %formula %proof", "sleep 1000 > %proof # %formula",
+            "yes # %formula %proof", "cat %formula; sleep 1000 # %proof",
+            "trap '' TERM INT HUP; while :; do sleep 1; done # %formula %proof",
+            "setsid sleep 1000 & wait # %formula %proof"]
 
 
 def wrong(command: str, cause: str, work: Path) -> None:
@@ -224,7 +253,8 @@ def wrong(command: str, cause: str, work: Path) -> None:
     formula = given("random 120 5", work)
     answer = solve(["--time", "60", *by([command]), formula])
     want_answer(answer, 0)
-    want([line.startswith("solver 1 is lost: " + cause) for line in answer.comments[:1]], [True], f"the cause in\n{answer.out}")
+    want([line.startswith("solver 1 is lost: " + cause) for line in answer.comments[:1]], [True],
+         f"the cause in\n{answer.out}")
     want(answer.comments[1], "no engine is left", "the next comment")
     beside_others(command, formula)
 
@@ -234,11 +264,13 @@ def nothing_runs(command: str, cause: str, work: Path) -> None:
     formula = given("random 120 5", work)
     answer = solve(by([command]) + [formula])
     said = f"lrup-solve: nothing could run: {cause}"
-    want((answer.answers, answer.status, answer.said.count("\n"), answer.said[:len(said)]), ([], 1, 1, said),
-         f"the message: {answer.said}")
-    want(answer.comments[0].startswith("solver 1 is lost: " + cause), True, f"whether a comment says so:\n{answer.out}")
+    want((answer.answers, answer.status, answer.said.count("\n"), answer.said[:len(said)]),
+         ([], 1, 1, said), f"the message: {answer.said}")
+    want(answer.comments[0].startswith("solver 1 is lost: " + cause), True,
+         f"whether a comment says so:\n{answer.out}")
     refused = solve(by([command]) + [written("p cnf 1 1\n", work, "bad")])
-    want((refused.status, "too few clauses" in refused.said), (1, True), f"the message on a formula that lrupd refuses: {refused.said}")
+    want((refused.status, "too few clauses" in refused.said), (1, True),
+         f"the message on a formula that lrupd refuses: {refused.said}")
     beside_others(command, formula)
 
 
@@ -249,21 +281,27 @@ def beside_others(command: str, formula: Path) -> None:
 
 def missing(work: Path) -> None:
     """Beside a good one: the loss is reported, and the summary counts the remaining ones."""
-    answer = solve([*by(["sleep 1; " + CADICAL, "no-such-solver %formula %proof"]), given("random 120 5", work)])
+    answer = solve([*by(["sleep 1; " + CADICAL, "no-such-solver %formula %proof"]),
+                    given("random 120 5", work)])
     want_answer(answer, 20)
     said = "solver 2 is lost: the solver ended with status 127: "
-    want((answer.comments[0][:len(said)], ", 1 of 2 engines, " in answer.comments[-1]), (said, True), f"the comments in\n{answer.out}")
+    want((answer.comments[0][:len(said)], ", 1 of 2 engines, " in answer.comments[-1]),
+         (said, True), f"the comments in\n{answer.out}")
 
 
 def after_a_model(work: Path) -> None:
     """A wrong assignment is noticed, and the others continue; a right one counts, no matter who has
     it. Variables that it leaves out are false."""
     formula = written("p cnf 3 3\n1 2 0\n-1 2 0\n-3 1 0\n", work)
-    want_answer(solve(by(["echo s SATISFIABLE; echo v 2; echo v 0; exit 10 # %formula %proof"]) + [formula]), 10, formula)
-    want_answer(solve(by(["echo s SATISFIABLE; echo v 2 7 -9 0 # %formula %proof"]) + [formula]), 10, formula)
-    long = "printf 's SATISFIABLE\\nv'; yes ' 2' | head -n 100000 | tr -d '\\n'; echo ' 0'; exit 10 # %formula %proof"
+    want_answer(solve(by(["echo s SATISFIABLE; echo v 2; echo v 0; exit 10 # %formula %proof"])
+                      + [formula]), 10, formula)
+    want_answer(solve(by(["echo s SATISFIABLE; echo v 2 7 -9 0 # %formula %proof"]) + [formula]),
+                10, formula)
+    long = ("printf 's SATISFIABLE\\nv'; yes ' 2' | head -n 100000 | tr -d '\\n'; echo ' 0'; exit "
+            "10 # %formula %proof")
     want_answer(solve([*by([long]), formula]), 10, formula)
-    want_answer(solve([*by([MODEL.format("-2 0") + " # %formula %proof", CADICAL]), formula]), 10, formula)
+    want_answer(
+        solve([*by([MODEL.format("-2 0") + " # %formula %proof", CADICAL]), formula]), 10, formula)
 
 
 def silent_solver(command: str, work: Path) -> None:
@@ -271,7 +309,8 @@ def silent_solver(command: str, work: Path) -> None:
     that one answers. The silent one is ended, with its children."""
     mark, formula = marked(work), given("random 120 5", work)
     answer = solve(["--time", "1", *by([command]), formula])
-    want((answer.answers, answer.comments[0], answer.status), (["s UNKNOWN"], "time is up", 0), "the answer")
+    want((answer.answers, answer.comments[0], answer.status),
+         (["s UNKNOWN"], "time is up", 0), "the answer")
     none_left(mark)
     want_answer(solve([*by([command, CADICAL]), formula]), 20)
     none_left(mark)
@@ -290,13 +329,15 @@ def killed(number: int, whom: str, work: Path) -> None:
     mark, command = marked(work), "sleep 1000 & " + CADICAL
     words = [SOLVE, "--lrupd", PROGRAM, *by([command]), given("pigeons 11", work)]
     with started(words, stdout=subprocess.PIPE, text=True) as running:
-        until("the solver is there", lambda: "cadical" in [of_process(found, "comm").strip() for found in processes_of(mark)])
+        until("the solver is there", lambda: "cadical" in [of_process(found, "comm").strip()
+                                                           for found in processes_of(mark)])
         at_work = {of_process(found, "comm").strip(): found for found in processes_of(mark)}
         os.kill(running.pid if whom == "first" else at_work[whom], number)
         out = running.communicate(timeout=LIMIT)[0]
         none_left(mark)
     if whom != "first":
-        want("solver 1 is lost: " in out and out.endswith("s UNKNOWN\n"), True, f"whether the engine is lost, in\n{out}")
+        want("solver 1 is lost: " in out and out.endswith("s UNKNOWN\n"), True,
+             f"whether the engine is lost, in\n{out}")
     elif number != signal.SIGKILL:
         want((out.endswith("s UNKNOWN\n"), running.returncode), (True, -number), "the end")
 
@@ -305,7 +346,8 @@ def stopped(work: Path) -> None:
     """A solver is stopped and continued when engines are, for instance while another one's filter
     catches up."""
     mark = marked(work)
-    with started([SOLVE, "--lrupd", PROGRAM, *by([CADICAL]), given("pigeons 11", work)], stdout=subprocess.PIPE) as running:
+    with started([SOLVE, "--lrupd", PROGRAM, *by([CADICAL]), given("pigeons 11", work)],
+                 stdout=subprocess.PIPE) as running:
         found: Dict[str, int] = {}
 
         def all_there() -> bool:
@@ -313,7 +355,8 @@ def stopped(work: Path) -> None:
             return {"cadical", "engine 1"} <= set(found)
 
         until("the solver is there", all_there)
-        want(of_process(found["cadical"], "oom_score_adj"), "1000\n", "by which it gives way where memory is short")
+        want(of_process(found["cadical"], "oom_score_adj"), "1000\n",
+             "by which it gives way where memory is short")
         state = lambda: of_process(found["cadical"], "stat").rsplit(")", 1)[-1].split()[0]
         os.kill(found["engine 1"], signal.SIGTSTP)
         until("the solver is stopped", lambda: state() == "T")
@@ -332,15 +375,18 @@ def stopped(work: Path) -> None:
 def refused(words: List[str], cause: str, work: Path) -> None:
     cube = written("1 0\n", work, "cube")
     answer = solve([*(word.format(cube=cube) for word in words), example("bmc.cnf")])
-    want((answer.out, answer.said, answer.status), ("", f"lrup-solve: {cause}\n", 1), "the messages")
+    want((answer.out, answer.said, answer.status), ("", f"lrup-solve: {cause}\n", 1),
+         "the messages")
 
 
 def summary_counts(work: Path) -> None:
     """-v shows the command; the summary counts engines and solvers."""
     answer = solve(["-v", "-j", "2", *by([CADICAL]), example("bmc.cnf")])
     want_answer(answer, 20)
-    commands = [line for line in answer.comments if line.startswith("solver 3: cadical -q ") and "/dev/fd/" in line]
-    want((len(commands), ", 3 engines, " in answer.comments[-1]), (1, True), f"the comments in\n{answer.out}")
+    commands = [line for line in answer.comments if line.startswith("solver 3: cadical -q ")
+                and "/dev/fd/" in line]
+    want((len(commands), ", 3 engines, " in answer.comments[-1]), (1, True),
+         f"the comments in\n{answer.out}")
 
 
 def rows() -> List[Row]:
@@ -348,28 +394,34 @@ def rows() -> List[Row]:
     for commands in COMMANDS:
         title = " and ".join(commands)
         for words in [], ["-j", "2"]:
-            found += [(f"{title}, {name}", answers, text, status, commands, words) for name, text, status in FORMULAS]
-            found += [(f"{title}, {name}", answers_of, name, status, commands, words) for name, status in LARGER]
+            found += [(f"{title}, {name}", answers, text, status, commands, words)
+                      for name, text, status in FORMULAS]
+            found += [(f"{title}, {name}", answers_of, name, status, commands, words)
+                      for name, status in LARGER]
         found.append((f"{title} in rounds", in_rounds, "random 150 1", commands, []))
-    found += [("rounds beside engines", in_rounds, "random 170 4", [CADICAL, CRYPTOMINISAT], ["-j", "2"]),
-              ("rounds of the example solver", in_rounds, "random 150 1", [], []), ("names", names), ("the summary", summary_counts),
-              ("missing", missing), ("sealed", sealed)]
+    found += [("rounds beside engines", in_rounds, "random 170 4", [CADICAL, CRYPTOMINISAT],
+               ["-j", "2"]),
+              ("rounds of the example solver", in_rounds, "random 150 1", [], []), ("names", names),
+              ("the summary", summary_counts), ("missing", missing), ("sealed", sealed)]
     found += [("gaps", gaps), ("outboxes beside a solver", small_outbox)]
     found += [(f"late {form}", late, form) for form in ("DRAT", "DRUP", "FRAT", "LRAT", "PicoSAT")]
     found += [(f"the example solver, {name}", by_example, name, status) for name, status in LARGER]
     found += [(f"random {seed}", randomly, seed) for seed in range(60)]
     found += [(f"wrong: {command}", wrong, command, cause) for command, cause in WRONG]
-    found += [(f"nothing runs: {command}", nothing_runs, command, cause) for command, cause in NOTHING]
+    found += [(f"nothing runs: {command}", nothing_runs, command, cause)
+              for command, cause in NOTHING]
     found += [(f"silent: {command}", silent_solver, command) for command in STANDING]
     found += [("models", after_a_model), ("in the background", background), ("stopped", stopped)]
-    found += [(f"{whom} ended by {number}", killed, number, whom) for whom in ("first", "engine 1", "cadical")
+    found += [(f"{whom} ended by {number}", killed, number, whom)
+              for whom in ("first", "engine 1", "cadical")
               for number in (signal.SIGTERM, signal.SIGKILL)]
     need = "--solver takes a command with both %formula and %proof, not "
     found += [(f"refused {words}", refused, words, cause) for words, cause in (
         (["--solver", "cadical"], need + "cadical"), (["--solver", ""], need + "''"),
         (["--solver=cadical %formula"], need + "'cadical %formula'"),
         (["--solver", "cadical %proof"], need + "'cadical %proof'"),
-        (["--solver", CADICAL, "--assume", "{cube}"], "--assume and --solver: a solver doesn't get the assumptions"),
+        (["--solver", CADICAL, "--assume", "{cube}"],
+         "--assume and --solver: a solver doesn't get the assumptions"),
         (["--solver", CADICAL, "-j", "64"], "more than 64 engines, with those of --solver"),
         (["--solver", CADICAL] * 65, "more than 64 engines, with those of --solver"))]
     return found

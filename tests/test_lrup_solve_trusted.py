@@ -28,10 +28,12 @@ told('lrupd')"""
 Attack = Callable[[Path, Path], bool]
 
 
-def answer_of(front: Path, work: Path, body: str, words: Sequence[object] = (), text: str = SATISFIABLE,
-              lrupd: object = PROGRAM, **how: Any) -> Answer:
+def answer_of(front: Path, work: Path, body: str, words: Sequence[object] = (),
+              text: str = SATISFIABLE, lrupd: object = PROGRAM, **how: Any) -> Answer:
     word = "-" if "given" in how else written(text, work)
-    return Answer(run([front, "--lrupd", lrupd, "--engines", program(body, work), "--time", "10", *words, word], limit=60, **how))
+    return Answer(run([front, "--lrupd", lrupd, "--engines", program(body, work), "--time", "10",
+                       *words, word],
+                      limit=60, **how))
 
 
 def says(line: str, *how: Any, **more: Any) -> Attack:
@@ -44,25 +46,29 @@ def gives(signs: str, text: str = SATISFIABLE, variables: int = 3) -> Attack:
     def attack(front: Path, work: Path) -> bool:
         answer = answer_of(front, work, f"model({signs!r})\ntime.sleep(0.5)", text=text)
         values = {abs(value) for value in answer.values} - {0}
-        return answer.status == 10 and (len(values) != variables or not is_model(answer, work / "formula.cnf"))
+        return (answer.status == 10
+                and (len(values) != variables or not is_model(answer, work / "formula.cnf")))
     return attack
 
 
 def assumes(body: str, literals: str) -> Callable[[Path, Path], Answer]:
-    return lambda front, work: answer_of(front, work, body, ["--assume", written(literals, work, "cube")])
+    return lambda front, work: answer_of(front, work, body,
+                                         ["--assume", written(literals, work, "cube")])
 
 
 def breaks(literals: str, body: str = "") -> Attack:
     """Gives the assignment 1 2 -3, which contradicts these assumptions; `body` runs before the line
     that completes it."""
-    return lambda front, work: assumes(f"say('v ++-')\n{body}say('model')\ntime.sleep(0.5)", literals)(front, work).status == 10
+    return lambda front, work: assumes(f"say('v ++-')\n{body}say('model')\ntime.sleep(0.5)",
+                                       literals)(front, work).status == 10
 
 
 def killed_by_its_status(front: Path, work: Path) -> bool:
     """SIGFPE has the number of the status for a proof under assumptions."""
-    body = "os.mkfifo(folder + '/round-1.stream-1')\ntold('probe')\ncheck()\nopen(folder + '/round-1.stream-1', 'w')\n" + \
-        "pid = int(open(f'/proc/{front}/task/{front}/children').read().split()[-1])\n" + \
-        FORGES.format(end="os.kill(pid, signal.SIGFPE)", line=UNDER)
+    body = ("os.mkfifo(folder + '/round-1.stream-1')\ntold('probe')\ncheck()\n"
+            "open(folder + '/round-1.stream-1', 'w')\n"
+            + "pid = int(open(f'/proc/{front}/task/{front}/children').read().split()[-1])\n"
+            + FORGES.format(end="os.kill(pid, signal.SIGFPE)", line=UNDER))
     return assumes(body, "2 0\n")(front, work).answers == [UNDER]
 
 
@@ -78,24 +84,28 @@ def planted(work: Path, *names: str) -> Path:
 
 def in_the_current_folder(front: Path, work: Path) -> bool:
     """The running program was removed, so its path is unknown."""
-    folder, formula, copy = planted(work, "lrup-engines"), written(SATISFIABLE, work), Path(shutil.copy(front, work / "removed"))
+    folder, formula, copy = (planted(work, "lrup-engines"), written(SATISFIABLE, work),
+                             Path(shutil.copy(front, work / "removed")))
     with open(copy) as file:
         copy.unlink()
-        done = run([f"/proc/self/fd/{file.fileno()}", formula], cwd=folder, pass_fds=[file.fileno()])
+        done = run([f"/proc/self/fd/{file.fileno()}", formula], cwd=folder,
+                   pass_fds=[file.fileno()])
     return UNSATISFIABLE in done.out.splitlines()
 
 
 def looked_up(words: Sequence[str], path: str) -> Attack:
     def attack(front: Path, work: Path) -> bool:
         folder, formula = planted(work, "engines"), written(SATISFIABLE, work)
-        done = run([front, "--engines", folder / "engines", *words, formula], cwd=folder, env={**os.environ, "PATH": path})
+        done = run([front, "--engines", folder / "engines", *words, formula], cwd=folder,
+                   env={**os.environ, "PATH": path})
         return UNSATISFIABLE in done.out.splitlines()
     return attack
 
 
 def prints(front: Path, work: Path) -> bool:
     engines = in_place_of_lrupd("echo s UNSATISFIABLE", work)
-    return UNSATISFIABLE in run([front, "--lrupd", PROGRAM, "--engines", engines, written(SATISFIABLE, work)]).out.splitlines()
+    return UNSATISFIABLE in run([front, "--lrupd", PROGRAM, "--engines", engines,
+                                 written(SATISFIABLE, work)]).out.splitlines()
 
 
 def as_expected(front: Path, work: Path) -> bool:
@@ -103,7 +113,8 @@ def as_expected(front: Path, work: Path) -> bool:
     return answer_of(front, work, "told('probe')", ["--expect", "unsat"]).status == 0
 
 
-ENDS = "os.mkfifo(folder + '/round-1.stream-1')\ntold('probe')\ncheck()\nfeeding = open(folder + '/round-1.stream-1', 'w')\n"
+ENDS = ("os.mkfifo(folder + '/round-1.stream-1')\ntold('probe')\ncheck()\n"
+        "feeding = open(folder + '/round-1.stream-1', 'w')\n")
 CHANGES = """os.pwrite(os.open(formula, os.O_RDWR), b"p cnf 1 2\\n1 0\\n-1 0\\n", 0)
 os.truncate(formula, 19)
 stream(1, "3 0 1 2 0\\n")
@@ -119,20 +130,28 @@ FORGED = ENDS + FORGES.format(end="feeding.close()", line=UNSATISFIABLE)
 # By the words of the marks.
 ATTACKS: Dict[str, Attack] = {
     "current folder": in_the_current_folder, "PATH": looked_up([], f".::{os.environ['PATH']}"),
-    "name": looked_up(["--lrupd", "lrupd"], "/usr/bin"), "output": prints, "copy": says(UNSATISFIABLE, CHANGES, given=SATISFIABLE),
-    "ends of clauses": gives("++", "p cnf 2 2\n1 2 0\n-1 0\n", 2), "clause by clause": gives("+--"), "variables": gives("++"),
-    "clauses": gives("---"), "model": gives("--+"), "assumptions": breaks("-2 0\n"), "assumed": breaks("2 3 0\n"), "assume": breaks("2 3 0\n"),
-    "whole file": breaks("2 " * 60000 + "3 0\n", STARVES), "lrupd reads them": breaks("c 3 0\n", "told('probe')\n"),
-    "formula": says(UNSATISFIABLE, "stream(1, 'p cnf 1 2\\n1 0\\n-1 0\\n')\nstream(2, '3 0 1 2 0\\n')\ncheck('2 10 10 0')\ntold('lrupd')"),
-    "comments": says(UNSATISFIABLE, "say('s UNSATISFIABLE')"), "one line": says(UNSATISFIABLE, "say('c x\\ns UNSATISFIABLE')"),
-    "expected": as_expected, "signal": killed_by_its_status, "status": says(UNSATISFIABLE, FORGED), "exit": says(UNSATISFIABLE, FORGED),
+    "name": looked_up(["--lrupd", "lrupd"], "/usr/bin"), "output": prints,
+    "copy": says(UNSATISFIABLE, CHANGES, given=SATISFIABLE),
+    "ends of clauses": gives("++", "p cnf 2 2\n1 2 0\n-1 0\n", 2), "clause by clause": gives("+--"),
+    "variables": gives("++"), "clauses": gives("---"), "model": gives("--+"),
+    "assumptions": breaks("-2 0\n"), "assumed": breaks("2 3 0\n"), "assume": breaks("2 3 0\n"),
+    "whole file": breaks("2 " * 60000 + "3 0\n", STARVES),
+    "lrupd reads them": breaks("c 3 0\n", "told('probe')\n"),
+    "formula": says(UNSATISFIABLE, "stream(1, 'p cnf 1 2\\n1 0\\n-1 0\\n')\n"
+                                   "stream(2, '3 0 1 2 0\\n')\ncheck('2 10 10 0')\ntold('lrupd')"),
+    "comments": says(UNSATISFIABLE, "say('s UNSATISFIABLE')"),
+    "one line": says(UNSATISFIABLE, "say('c x\\ns UNSATISFIABLE')"), "expected": as_expected,
+    "signal": killed_by_its_status, "status": says(UNSATISFIABLE, FORGED),
+    "exit": says(UNSATISFIABLE, FORGED),
     "last line": lambda front, work: UNSATISFIABLE in answer_of(
         front, work, "told('probe')\nstream(1, '')\ncheck()\ntold('lrupd')",
-        lrupd=in_place_of_lrupd("echo another program; case \"$*\" in *' /dev/null') exit 3;; esac", work)).answers,
+        lrupd=in_place_of_lrupd("echo another program; case \"$*\" in *' /dev/null') exit 3;; esac",
+                                work)).answers,
     "own line": lambda front, work: UNSATISFIABLE in answer_of(
         front, work, "told('probe')\nstream(1, '')\ncheck()\ntold('lrupd')\ncheck()\ntold('lrupd')",
-        lrupd=in_place_of_lrupd(f"case \"$*\" in *' /dev/null') exit 3;; esac\n[ ! -e {work}/killed ] || exit 0\n"
-                                f"> {work}/killed\necho {UNSATISFIABLE}\nkill -9 $$", work)).answers,
+        lrupd=in_place_of_lrupd(
+            f"case \"$*\" in *' /dev/null') exit 3;; esac\n[ ! -e {work}/killed ] || exit 0\n"
+            f"> {work}/killed\necho {UNSATISFIABLE}\nkill -9 $$", work)).answers,
     "refused": lambda front, work: answer_of(
         front, work, "told('probe')\nmodel('+')\ntime.sleep(0.5)", text="p cnf 1 1\n1 -2 0\n",
         lrupd=in_place_of_lrupd("kill -9 $$", work)).status == 10,
@@ -146,7 +165,8 @@ def front_without(number: int, work: Path) -> Path:
     (folder / "front.c").write_text("".join(line for at, line in enumerate(LINES) if at != number))
     (folder / "bin").mkdir()
     sources = [folder / "front.c", FOLDER / "supervisor.c"]
-    return compiled(folder / "bin" / "lrup-solve", sources, "-std=c11", "-w", f"-I{FOLDER}", *shlex.split(FLAGS))
+    return compiled(folder / "bin" / "lrup-solve", sources, "-std=c11", "-w", f"-I{FOLDER}",
+                    *shlex.split(FLAGS))
 
 
 def left_out(number: int, name: str, work: Path) -> None:
@@ -154,18 +174,20 @@ def left_out(number: int, name: str, work: Path) -> None:
         here = work / ("whole" if whole else "without")
         here.mkdir()
         found = ATTACKS[name](front_without(-1 if whole else number, here), here)
-        want(found, not whole, "a wrong answer of the whole front" if whole else f"a wrong answer without\n{LINES[number]}")
+        want(found, not whole, "a wrong answer of the whole front" if whole
+                               else f"a wrong answer without\n{LINES[number]}")
 
 
 def named(work: Path) -> None:
     """Each mark has an attack, and each attack a line."""
-    marks = [MARK.search(LINES[number]).group(1) for number in MARKED]      # type: ignore[union-attr]
+    marks = [MARK.search(LINES[number]).group(1) for number in MARKED]  # type: ignore[union-attr]
     want(sorted(marks), sorted(ATTACKS), "the words of the marks")
 
 
 def rows() -> List[Row]:
     names = {number: MARK.search(LINES[number]).group(1) for number in MARKED}      # type: ignore[union-attr]
-    return [("marks", named)] + [(f"without: {name}", left_out, number, name) for number, name in names.items() if name in ATTACKS]
+    return [("marks", named)] + [(f"without: {name}", left_out, number, name)
+                                 for number, name in names.items() if name in ATTACKS]
 
 
 pytestmark = LRUP_SOLVE

@@ -22,8 +22,10 @@ ASSUMED = [example("assumed.cnf"), example("assumed.lrup")]
 CUBE = example("assumed.cube")
 # Watched runs, and how many lines --watch prints: the end of each stream in each round, and the
 # start of each round but the first.
-TOLD = [(["--watch", *options, "formula", *["one"] * count], count) for options in ([], ["--serial"]) for count in (1, 5)]
-TOLD += [(["--watch", *options, "--rounds", "d", "formula", "d/round-1.stream-1"], 3) for options in ([], ["--serial"])]
+TOLD = [(["--watch", *options, "formula", *["one"] * count], count)
+        for options in ([], ["--serial"]) for count in (1, 5)]
+TOLD += [(["--watch", *options, "--rounds", "d", "formula", "d/round-1.stream-1"], 3)
+         for options in ([], ["--serial"])]
 ADDED = "1 added, 0 deleted, ended"
 BOTH_ADDED = "2 added, 0 deleted, ended"
 
@@ -37,12 +39,14 @@ def recorded(name: str, options: str, *files: str) -> Named:
     return f"{name} {options}", Wanted(words, 0, example(f"{name}.out").read_text())
 
 
-def streams(name: str, options: str, status: int, *said_and_text: Any, formula: str = FOUR) -> Named:
+def streams(name: str, options: str, status: int, *said_and_text: Any,
+            formula: str = FOUR) -> Named:
     """The report's line for each stream, and the streams' texts, or what makes them."""
     said, texts = said_and_text[::2], said_and_text[1::2]
     names = [f"stream{number}" for number in range(1, len(texts) + 1)]
     files = {"formula": formula, **dict(zip(names, texts))}
-    return name, Wanted([*options.split(), "formula", *names], status, report(said, status), files=files)
+    return name, Wanted([*options.split(), "formula", *names], status,
+                        report(said, status), files=files)
 
 
 def bad(fault: str, text: str, options: str = "") -> Named:
@@ -57,7 +61,8 @@ def refused(cause: str, status: int, *words: object, shell: str = 'exec "$@"') -
 
 
 def refused_formula(fault: str, text: str) -> Named:
-    return fault, Wanted(["refused", "one"], 4, err=f"lrupd: formula refused: {fault}\n", files={"refused": text, "one": ONE})
+    return fault, Wanted(["refused", "one"], 4, err=f"lrupd: formula refused: {fault}\n",
+                         files={"refused": text, "one": ONE})
 
 
 def assumed(name: str, status: int, text: str, options: str) -> Named:
@@ -67,7 +72,8 @@ def assumed(name: str, status: int, text: str, options: str) -> Named:
 
 
 def refused_cube(fault: str, text: str) -> Named:
-    return fault, Wanted(["--assume", "cube", *ASSUMED], 4, err=f"lrupd: assumptions refused: {fault}\n", files={"cube": text})
+    return fault, Wanted(["--assume", "cube", *ASSUMED], 4,
+                         err=f"lrupd: assumptions refused: {fault}\n", files={"cube": text})
 
 
 # The rows.
@@ -78,7 +84,8 @@ def examples() -> Iterator[Named]:
     yield recorded("pigeonhole", "", "pigeonhole.cnf", "pigeonhole.lrup")
     yield recorded("bmc", "", "bmc.cnf", "bmc.lrup")
     for options in ["--tries 1000000", "--serial"]:
-        yield recorded("pigeonhole-two", options, "pigeonhole.cnf", "pigeonhole-two.1", "pigeonhole-two.2")
+        yield recorded("pigeonhole-two", options, "pigeonhole.cnf", "pigeonhole-two.1",
+                       "pigeonhole-two.2")
         yield recorded("bmc-four", options, "bmc.cnf", *FOUR_SOLVERS)
 
 
@@ -86,17 +93,25 @@ def one_stream() -> Iterator[Named]:
     """Over the four clauses of two literals: each assignment makes one of them false."""
     yield streams("two additions", "", 0, BOTH_ADDED, TWO)
     yield streams("a repeated literal", "--room 1", 3, ADDED, "5 2 2 0 1 2 0\n")
-    yield streams("a bad line after the empty clause", "", 0, "2 added, 0 deleted, bad line 3 (no conflict)", TWO + "7 2 0 1 0\n")
-    yield streams("an identity that is behind", "", 3, "1 added, 0 deleted, bad line 2 (identity)", "7 2 0 1 2 0\n6 0 7 3 4 0\n")
-    yield streams("no identities left", "--lines 1", 3, "1 added, 0 deleted, bad line 2 (identity)", TWO)
-    yield streams("a clause deleted", "", 3, "1 added, 1 deleted, bad line 3 (retired 5)", ONE + "5 d 5 0\n6 0 5 3 4 0\n")
-    yield streams("a clause deleted twice", "", 3, "1 added, 1 deleted, bad line 2 (not live 5)", ONE + "5 d 5 5 0\n")
-    yield streams("a clause of the formula deleted", "", 3, "0 added, 1 deleted, bad line 2 (dropped 1)", "5 d 1 0\n" + ONE)
-    yield streams("one deleted twice", "", 3, "0 added, 1 deleted, bad line 1 (not live 1)", "5 d 1 1 0\n")
+    yield streams("a bad line after the empty clause", "", 0,
+                  "2 added, 0 deleted, bad line 3 (no conflict)", TWO + "7 2 0 1 0\n")
+    yield streams("an identity that is behind", "", 3, "1 added, 0 deleted, bad line 2 (identity)",
+                  "7 2 0 1 2 0\n6 0 7 3 4 0\n")
+    yield streams("no identities left", "--lines 1", 3,
+                  "1 added, 0 deleted, bad line 2 (identity)", TWO)
+    yield streams("a clause deleted", "", 3, "1 added, 1 deleted, bad line 3 (retired 5)",
+                  ONE + "5 d 5 0\n6 0 5 3 4 0\n")
+    yield streams("a clause deleted twice", "", 3, "1 added, 1 deleted, bad line 2 (not live 5)",
+                  ONE + "5 d 5 5 0\n")
+    yield streams("a clause of the formula deleted", "", 3,
+                  "0 added, 1 deleted, bad line 2 (dropped 1)", "5 d 1 0\n" + ONE)
+    yield streams("one deleted twice", "", 3,
+                  "0 added, 1 deleted, bad line 1 (not live 1)", "5 d 1 1 0\n")
     yield streams("imports of the formula", "", 0, BOTH_ADDED, f"1 i 2 1 1 0\n{TWO}2 i -1 2 0\n")
-    yield streams("an import of a clause that was dropped", "", 3, "0 added, 1 deleted, bad line 2 (dropped 1)",
-                  "5 d 1 0\n1 i 1 2 0\n")
-    yield streams("an empty clause in the formula", "", 0, ADDED, "2 0 1 0\n", formula="p cnf 0 1\n0\n")
+    yield streams("an import of a clause that was dropped", "", 3,
+                  "0 added, 1 deleted, bad line 2 (dropped 1)", "5 d 1 0\n1 i 1 2 0\n")
+    yield streams("an empty clause in the formula", "", 0, ADDED, "2 0 1 0\n",
+                  formula="p cnf 0 1\n0\n")
     yield streams("nothing", "", 3, "0 added, 0 deleted, ended", "", formula="p cnf 0 0\n")
 
 
@@ -124,23 +139,27 @@ def faults() -> Iterator[Named]:
 
 def several_streams() -> Iterator[Named]:
     other = "6 -2 0 3 4 0\n"
-    yield streams("a stream that adds nothing", "", 3, "0 added, 0 deleted, bad line 1 (identity)", "6 2 0 1 2 0\n",
-                  "0 added, 0 deleted, ended", "")
+    yield streams("a stream that adds nothing", "", 3, "0 added, 0 deleted, bad line 1 (identity)",
+                  "6 2 0 1 2 0\n", "0 added, 0 deleted, ended", "")
     for options in ["--serial", "--tries 1000000"]:
-        yield streams(f"the other stream's clause {options}", options, 0, BOTH_ADDED, ONE + "7 0 5 6 0\n", ADDED, other)
+        yield streams(f"the other stream's clause {options}", options, 0, BOTH_ADDED,
+                      ONE + "7 0 5 6 0\n", ADDED, other)
         yield streams(f"the other stream's clause, imported {options}", options, 0,
                       BOTH_ADDED, ONE + "6 i -2 0\n7 0 5 6 0\n", ADDED, other + "5 i 2 2 0\n")
         yield streams(f"other literals imported than the other stream's {options}", options, 3,
-                      "1 added, 0 deleted, bad line 2 (differs 6)", ONE + "6 i 2 0\n7 0 5 6 0\n", ADDED, other)
+                      "1 added, 0 deleted, bad line 2 (differs 6)",
+                      ONE + "6 i 2 0\n7 0 5 6 0\n", ADDED, other)
     yield streams("an import of the other stream's clause, too early", "--serial", 3,
                   "0 added, 0 deleted, bad line 1 (missing 6)", "6 i -2 0\n", ADDED, other)
     deleted = ["1 added, 1 deleted, ended", other + "6 d 6 0\n"]
     yield streams("an import of the other stream's clause, deleted by it", "--serial", 3,
-                  "2 added, 0 deleted, bad line 3 (retired 6)", ONE + "7 2 0 1 2 0\n6 i -2 0\n", *deleted)
+                  "2 added, 0 deleted, bad line 3 (retired 6)",
+                  ONE + "7 2 0 1 2 0\n6 i -2 0\n", *deleted)
     yield streams("the other stream's clause, too early", "--serial --tries 0", 3,
                   "0 added, 0 deleted, bad line 1 (missing 6)", "5 0 6 0\n", ADDED, other)
     yield streams("the other stream's clause, deleted by it", "--serial", 3,
-                  "2 added, 0 deleted, bad line 3 (retired 6)", ONE + "7 2 0 1 2 0\n9 0 5 6 0\n", *deleted)
+                  "2 added, 0 deleted, bad line 3 (retired 6)",
+                  ONE + "7 2 0 1 2 0\n9 0 5 6 0\n", *deleted)
     yield streams("the other stream's clause, dropped by this one", "", 3,
                   "0 added, 1 deleted, bad line 2 (dropped 6)", "5 d 6 0\n5 0 6 0\n", ADDED, other)
     many = [(ADDED, f"{number} 2 0 1 2 0\n") for number in range(5, 69)]
@@ -150,13 +169,14 @@ def several_streams() -> Iterator[Named]:
 def pipes() -> Iterator[Named]:
     """Opened in the order of the arguments, and written while they are checked; a file named twice;
     a folder."""
-    both: Dict[str, Pieces] = {"pipe1": [b"5 2 0 1 2 0\n7", 0.2, b" 0 5 6 0\n"], "pipe2": [b"6 -2 0 3", 0.1, b" 4 0\n"]}
-    yield "two pipes", Wanted(["--tries", "1000000", "formula", "pipe1", "pipe2"], 0, report([BOTH_ADDED, ADDED], 0),
-                              files=FILES, pipes=both)
+    both: Dict[str, Pieces] = {"pipe1": [b"5 2 0 1 2 0\n7", 0.2, b" 0 5 6 0\n"],
+                               "pipe2": [b"6 -2 0 3", 0.1, b" 4 0\n"]}
+    yield "two pipes", Wanted(["--tries", "1000000", "formula", "pipe1", "pipe2"], 0,
+                              report([BOTH_ADDED, ADDED], 0), files=FILES, pipes=both)
     for size in 1, 2:
         pieces = [TWO.encode()[at:at + size] for at in range(0, len(TWO), size)]
-        yield f"a pipe, in pieces of {size}", Wanted(["formula", "pipe"], 0, report([BOTH_ADDED], 0), files=FILES,
-                                                     pipes={"pipe": pieces})
+        yield f"a pipe, in pieces of {size}", Wanted(
+            ["formula", "pipe"], 0, report([BOTH_ADDED], 0), files=FILES, pipes={"pipe": pieces})
     said = [ADDED, "0 added, 0 deleted, bad line 1 (identity)"]
     yield "a stream named twice", Wanted(["formula", "one", "one"], 3, report(said, 3), files=FILES)
     unread = report(["0 added, 0 deleted, read failed at line 1"], 3)
@@ -165,16 +185,21 @@ def pipes() -> Iterator[Named]:
 
 def paths() -> Iterator[Named]:
     """A path is taken literally: a hyphen isn't standard input, and spaces are kept."""
-    absent = [("a formula at a hyphen that is not there", "lrupd: cannot read formula\n", ["-", "one"]),
-              ("a stream at a hyphen that is not there", "lrupd: cannot open stream 1\n", ["formula", "-"])]
+    absent = [("a formula at a hyphen that is not there", "lrupd: cannot read formula\n",
+               ["-", "one"]),
+              ("a stream at a hyphen that is not there", "lrupd: cannot open stream 1\n",
+               ["formula", "-"])]
     for name, cause, words in absent:
         yield name, Wanted(words, 5, err=cause, files=FILES, given=TWO)
     added = report([ADDED], 3)
-    yield "a stream at a hyphen", Wanted(["formula", "-"], 3, added, files={**FILES, "-": ONE}, given=TWO)
-    yield "a formula at a hyphen", Wanted(["-", "one"], 3, added, files={**FILES, "-": FOUR}, given=TWO)
+    yield "a stream at a hyphen", Wanted(["formula", "-"], 3, added,
+                                         files={**FILES, "-": ONE}, given=TWO)
+    yield ("a formula at a hyphen",
+           Wanted(["-", "one"], 3, added, files={**FILES, "-": FOUR}, given=TWO))
     spaced = {"a  folder/ a formula ": FOUR, "a  folder/ a stream ": ONE}
     yield "paths with spaces", Wanted([*spaced], 3, added, files=spaced)
-    yield "paths with spaces, from here", Wanted(["./" + name for name in spaced], 3, added, files=spaced, given=TWO)
+    yield "paths with spaces, from here", Wanted(["./" + name for name in spaced], 3, added,
+                                                 files=spaced, given=TWO)
 
 
 def refused_formulas() -> Iterator[Named]:
@@ -208,7 +233,8 @@ def refused_files() -> Iterator[Named]:
 
 
 def version() -> Iterator[Named]:
-    yield "version", Wanted(["--version"], 2, err=f"lrupd {(ROOT / 'VERSION').read_text().strip()}\n")
+    yield "version", Wanted(["--version"], 2,
+                            err=f"lrupd {(ROOT / 'VERSION').read_text().strip()}\n")
 
 
 USAGE: List[Tuple[str, List[str]]] = [
@@ -234,12 +260,15 @@ def assumptions() -> Iterator[Named]:
         yield assumed("the clause itself assumed", 3, "2 0\n", options)
         yield assumed("nothing assumed", 3, "0\n", options)
         yield assumed("another literal and its complement", 3, "1 -1 0\n", options)
-        wide = {"cube": "".join(f"-{number} " for number in range(1, 65536)) + "0\n", "wide": "p cnf 65535 2\n1 2 0\n-1 2 0\n"}
-        yield f"65,535 assumed literals {options}", Wanted([*options.split(), "--assume", "cube", "wide", ASSUMED[1]], 8,
-                                                           report([ADDED], 8), files=wide)
+        wide = {"cube": "".join(f"-{number} " for number in range(1, 65536)) + "0\n",
+                "wide": "p cnf 65535 2\n1 2 0\n-1 2 0\n"}
+        yield (f"65,535 assumed literals {options}",
+               Wanted([*options.split(), "--assume", "cube", "wide", ASSUMED[1]], 8,
+                      report([ADDED], 8), files=wide))
     yield "assumed", Wanted(["--assume", CUBE, *ASSUMED], 8, example("assumed.out").read_text())
     empty = report([BOTH_ADDED], 0)
-    yield "the empty clause under assumptions", Wanted(["--assume", CUBE, "formula", "two"], 0, empty, files=FILES)
+    yield ("the empty clause under assumptions",
+           Wanted(["--assume", CUBE, "formula", "two"], 0, empty, files=FILES))
     yield "a pipe of assumptions", Wanted(["--assume", "pipe", *ASSUMED], 8, report([ADDED], 8),
                                           pipes={"pipe": [b"-2", 0.1, b" 0\n"]})
 
@@ -262,25 +291,31 @@ def watched() -> Iterator[Named]:
     said = ["0 added, 0 deleted, bad line 1 (spelling)", "0 added, 0 deleted, ended"]
     told = "".join(f"lrupd: stream {number}: {words}\n" for number, words in enumerate(said, 1))
     words = ["--watch", "--serial", "formula", "stream", "/dev/null"]
-    yield "two streams with --serial, watched", Wanted(words, 3, report(said, 3), told, files={"formula": FOUR, "stream": "\n"})
+    yield ("two streams with --serial, watched",
+           Wanted(words, 3, report(said, 3), told, files={"formula": FOUR, "stream": "\n"}))
     for options in WAYS:
-        one = Wanted(["--watch", *options.split(), "formula", "two"], 0, report([BOTH_ADDED], 0), files=FILES)
+        one = Wanted(["--watch", *options.split(), "formula", "two"], 0,
+                     report([BOTH_ADDED], 0), files=FILES)
         yield f"one stream, watched {options}", one._replace(err=f"lrupd: stream 1: {BOTH_ADDED}\n")
-        yield f"a full standard error, watched {options}", one._replace(shell='exec "$@" 2> /dev/full')
+        yield (f"a full standard error, watched {options}",
+               one._replace(shell='exec "$@" 2> /dev/full'))
     yield refused("cannot open stream 2", 5, "--watch", "formula", "one", "absent")
 
 
 def large() -> Iterator[Named]:
     """The marks of 16,000,000 variables, a set of 1,100,000 dropped identities, and a row with room
     for 16,000,000 literals; streams longer than a ring: 200,000 line ends, and 20,000 lines."""
-    yield streams("16,000,000 variables", "", 3, ADDED, "2 16000000 0 1 0\n", formula="p cnf 16000000 1\n16000000 0\n")
+    yield streams("16,000,000 variables", "", 3, ADDED, "2 16000000 0 1 0\n",
+                  formula="p cnf 16000000 1\n16000000 0\n")
     drops = lambda: "".join(f"5 d {identity} 0\n" for identity in range(6, 2200005, 2))
-    yield streams("1,100,000 identities dropped", "--lines 1100000", 3, "0 added, 1100000 deleted, ended", drops,
-                  "0 added, 0 deleted, ended", "")
+    yield streams("1,100,000 identities dropped", "--lines 1100000", 3,
+                  "0 added, 1100000 deleted, ended", drops, "0 added, 0 deleted, ended", "")
     lines = "".join(f"{identity} 2 0 1 2 0\n" for identity in range(5, 20005))
     for options in WAYS:
-        yield streams(f"a room of 16,000,000 literals {options}", f"--room 16000000 {options}", 0, BOTH_ADDED, TWO)
-        yield streams(f"200,000 line ends {options}", options, 3, "0 added, 0 deleted, bad line 1 (spelling)", "\n" * 200000)
+        yield streams(f"a room of 16,000,000 literals {options}", f"--room 16000000 {options}", 0,
+                      BOTH_ADDED, TWO)
+        yield streams(f"200,000 line ends {options}", options, 3,
+                      "0 added, 0 deleted, bad line 1 (spelling)", "\n" * 200000)
         yield streams(f"20,000 lines {options}", options, 3, "20000 added, 0 deleted, ended", lines)
 
 
@@ -288,17 +323,20 @@ def largest() -> Iterator[Named]:
     """Up to 2 GB: a row with room for 110,000,000 literals, and a formula of more than 1 GB, which
     is one long comment before the four clauses."""
     for options in WAYS:
-        yield streams(f"a room of 110,000,000 literals {options}", f"--room 110000000 {options}", 0, BOTH_ADDED, TWO)
+        yield streams(f"a room of 110,000,000 literals {options}", f"--room 110000000 {options}", 0,
+                      BOTH_ADDED, TWO)
     pieces = [b"c ", *[b"x" * 1_000_000] * 1_100, f"\n{FOUR}".encode()]
-    yield "a formula of 1,100,000,000 bytes", Wanted(["pipe", "two"], 0, report([BOTH_ADDED], 0), files=FILES,
-                                                     pipes={"pipe": pieces})
+    yield "a formula of 1,100,000,000 bytes", Wanted(["pipe", "two"], 0, report([BOTH_ADDED], 0),
+                                                     files=FILES, pipes={"pipe": pieces})
 
 
 def little_memory() -> Iterator[Named]:
     """The program runs in a small address space, with stacks of 8 MB."""
     within = 'ulimit -s 8192 && ulimit -v {} && exec "$@"'
-    yield refused("out of memory", 6, "--room", "268000000", "formula", "one", shell=within.format(1000000))
-    yield refused("worker 1 not started", 6, "--lines", "1", "--room", "1", "formula", "one", shell=within.format(9000))
+    yield refused("out of memory", 6, "--room", "268000000", "formula", "one",
+                  shell=within.format(1000000))
+    yield refused("worker 1 not started", 6, "--lines", "1", "--room", "1", "formula", "one",
+                  shell=within.format(9000))
 
 
 def full_outputs() -> Iterator[Named]:
@@ -318,46 +356,56 @@ def full_outputs() -> Iterator[Named]:
 
 def usage(program: str, words: List[str], work: Path) -> None:
     """No report, but help or a usage fault in its own words, whose first line comes once."""
-    out, err, status = answered(program, Wanted(words, 2, files={**FILES, "cube": CUBE.read_text()}), work)
+    out, err, status = answered(program,
+                                Wanted(words, 2, files={**FILES, "cube": CUBE.read_text()}), work)
     want((out, status), ("", 2), "the output and the status")
     lines = err.splitlines()
-    assert lines and lines.count(lines[0]) == 1 and not any(line.startswith("lrupd: ") for line in lines), (
-        f"expected one usage message, but found\n{err}")
+    assert lines and lines.count(lines[0]) == 1 and not any(
+        line.startswith("lrupd: ") for line in lines), (
+            f"expected one usage message, but found\n{err}")
 
 
 def help_text(program: str, work: Path) -> None:
     """Options and sizes, in the words of the manual page, except for line breaks."""
     err = answered(program, Wanted(["--help"], 2), work).err
     shown = re.findall(r"^ {6}--(\w+)(?: <(\w+)>)?\n((?: {10}.*\n)+)", err, re.M)
-    items = re.findall(r"^\.It Fl -(\w+)(?: Ar (\w+))?\n((?:(?!\.It).*\n)*)", interface.part(interface.MANUAL, "options"), re.M)
-    want(*([(name, value.lower(), interface.words_in(text)) for name, value, text in options] for options in (shown, items)),
+    items = re.findall(r"^\.It Fl -(\w+)(?: Ar (\w+))?\n((?:(?!\.It).*\n)*)",
+                       interface.part(interface.MANUAL, "options"), re.M)
+    want(*([(name, value.lower(), interface.words_in(text)) for name, value, text in options]
+           for options in (shown, items)),
          "the options in --help")
-    sizes, words = (" ".join(interface.words_in(text)) for text in (interface.part(interface.MANUAL, "sizes"), err))
+    sizes, words = (" ".join(interface.words_in(text))
+                    for text in (interface.part(interface.MANUAL, "sizes"), err))
     assert sizes in words, f"wanted '{sizes}' in\n{err}"
 
 
 def many_watched(program: str, work: Path) -> None:
     """The end of each of 64 streams has a line, in any order."""
     plain = answered(program, Wanted(["formula", *["one"] * 64], 3, files=FILES), work)
-    out, err, status = answered(program, Wanted(["--watch", "formula", *["one"] * 64], 3, files=FILES), work)
-    told = [line.replace("c ", "lrupd: ", 1) for line in plain.out.splitlines() if line.startswith("c ")]
+    out, err, status = answered(program,
+                                Wanted(["--watch", "formula", *["one"] * 64], 3, files=FILES), work)
+    told = [line.replace("c ", "lrupd: ", 1) for line in plain.out.splitlines()
+            if line.startswith("c ")]
     want((out, sorted(err.splitlines()), status), (plain.out, sorted(told), 3), "the answer")
 
 
 def watched_line_by_line(program: str, words: Words, lines: int, work: Path) -> None:
     """Each line of --watch is one write: a packet socket keeps writes apart."""
-    for name, text in {**FILES, "d/round-1.stream-1": ONE, "d/round-2.stream-1": "6 0 5 3 4 0\n"}.items():
+    for name, text in {**FILES, "d/round-1.stream-1": ONE,
+                       "d/round-2.stream-1": "6 0 5 3 4 0\n"}.items():
         written(text, work, name)
     reader, writer = socket.socketpair(socket.AF_UNIX, socket.SOCK_SEQPACKET)
     with reader, started([program, *words], cwd=work, stdout=subprocess.DEVNULL, stderr=writer):
         writer.close()
         packets = [*iter(lambda: reader.recv(65536), b"")]
-    want((len(packets), [packet for packet in packets if packet.find(b"\n") != len(packet) - 1]), (lines, []), "the writes")
+    want((len(packets), [packet for packet in packets if packet.find(b"\n") != len(packet) - 1]),
+         (lines, []), "the writes")
 
 
 def rows(program: str) -> Iterator[Row]:
-    for table in (examples, one_stream, faults, several_streams, pipes, paths, refused_formulas, refused_files, version,
-                  assumptions, refused_assumptions, watched, large, little_memory, full_outputs):
+    for table in (examples, one_stream, faults, several_streams, pipes, paths, refused_formulas,
+                  refused_files, version, assumptions, refused_assumptions, watched, large,
+                  little_memory, full_outputs):
         for name, wanted in table():
             yield name, answers, program, wanted
     for name, wanted in largest():
@@ -367,7 +415,8 @@ def rows(program: str) -> Iterator[Row]:
     yield "the words of help", help_text, program
     yield "64 streams, watched", many_watched, program
     for words, lines in TOLD:
-        yield f"a write for each line of {' '.join(words)}", watched_line_by_line, program, words, lines
+        yield (f"a write for each line of {' '.join(words)}", watched_line_by_line,
+               program, words, lines)
 
 
 test_row = parametrized(rows(PROGRAM))

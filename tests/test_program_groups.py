@@ -15,10 +15,11 @@ def groups(program: str, work: Path) -> None:
     wanted = example("two-groups.out").read_text()
     *lines, verdict = wanted.splitlines()
     nothing = [f"c stream {number}: 0 added, 0 deleted, ended" for number in range(1, 5)]
-    for streams, report in [(STREAMS[:2] + NONE, lines[:2] + nothing[2:]), (NONE + STREAMS[2:], nothing[:2] + lines[2:]),
-                            (STREAMS, lines)]:
+    for streams, report in [(STREAMS[:2] + NONE, lines[:2] + nothing[2:]),
+                            (NONE + STREAMS[2:], nothing[:2] + lines[2:]), (STREAMS, lines)]:
         found = run([program, "--tries", "1000000", example("two-groups.cnf"), *streams])
-        want(found, Ran("\n".join([*report, verdict, ""]), "", 0), "the answer on " + " ".join(streams))
+        want(found, Ran("\n".join([*report, verdict, ""]), "", 0),
+             "the answer on " + " ".join(streams))
 
 
 test_row = parametrized([("two groups", groups, PROGRAM)])

@@ -6,8 +6,8 @@ from typing import Iterator, List, Tuple
 from harness import PROGRAM, Row, example, needs, parametrized, run, want, written
 from rounds import ONE, TWO, Texts, first_words, round_files
 
-VALGRIND = ["valgrind", "--quiet", "--error-exitcode=99", "--leak-check=full", "--show-leak-kinds=all",
-            "--errors-for-leak-kinds=all"]
+VALGRIND = ["valgrind", "--quiet", "--error-exitcode=99", "--leak-check=full",
+            "--show-leak-kinds=all", "--errors-for-leak-kinds=all"]
 FOUR, FIRST = example("four-clause.cnf"), example("four-clause.lrup")
 SOLVERS = [example(f"bmc-four.{number}") for number in range(1, 5)]
 RUNS: List[Tuple[int, List[object]]] = [
@@ -39,7 +39,8 @@ def gives_back(program: str, status: int, words: List[object], work: Path) -> No
     want(found.status, status, f"{found.out}{found.err}the status")
 
 
-def gives_back_in_rounds(program: str, status: int, options: str, texts: Texts, sizes: str, work: Path) -> None:
+def gives_back_in_rounds(program: str, status: int, options: str, texts: Texts, sizes: str,
+                         work: Path) -> None:
     for name, text in {**round_files(texts), "d/round-2.sizes": sizes}.items():
         written(text, work, name)
     gives_back(program, status, ["--tries", "1000000", *options.split(), *first_words(texts)], work)
@@ -48,7 +49,8 @@ def gives_back_in_rounds(program: str, status: int, options: str, texts: Texts, 
 def rows(program: str) -> Iterator[Row]:
     for options in "", "--serial":
         for number, (status, texts, sizes) in enumerate(ROUNDS, 1):
-            yield f"in rounds, {number} {options}", gives_back_in_rounds, program, status, options, texts, sizes
+            yield (f"in rounds, {number} {options}", gives_back_in_rounds, program, status,
+                   options, texts, sizes)
         for status, words in RUNS:
             words = [*options.split(), *words]
             yield " ".join(map(str, words)), gives_back, program, status, words

@@ -30,15 +30,18 @@ class Late(NamedTuple):
 
 
 LATE = 1.5  # seconds for which a late pipe has no writer, or after which it still was named once
-TEXTS = {"formula": FOUR, "cube": "-2 0\n", "one": "5 2 0 1 2 0\n7 0 5 3 4 0\n", "other": "6 -2 0 3 4 0\n",
-         stream_name(1): "5 2 0 1 2 0\n", "d/round-2.sizes": "1 9 9\n", stream_name(2): "6 0 5 3 4 0\n"}
+TEXTS = {"formula": FOUR, "cube": "-2 0\n", "one": "5 2 0 1 2 0\n7 0 5 3 4 0\n",
+         "other": "6 -2 0 3 4 0\n", stream_name(1): "5 2 0 1 2 0\n", "d/round-2.sizes": "1 9 9\n",
+         stream_name(2): "6 0 5 3 4 0\n"}
 ROUNDS = [stream_name(1), "d/round-2.sizes", stream_name(2)]
 SAID = ["2 added, 0 deleted, ended", "1 added, 0 deleted, ended"]
-ALONE, BOTH, IN_ROUND_2 = (Ran(out, "", 0) for out in (report(SAID[:1], 0), report(SAID, 0), last(2, SAID[1:], 0)))
+ALONE, BOTH, IN_ROUND_2 = (Ran(out, "", 0)
+                           for out in (report(SAID[:1], 0), report(SAID, 0), last(2, SAID[1:], 0)))
 LATE_WRITERS = [
     Late("formula one", ["formula", "one"], ["formula", "one"], ALONE),
     Late("--watch formula one other", ["formula", "one", "other"], [], BOTH),
-    Late("--watch --assume cube formula one other", ["formula", "cube", "one", "other"], ["formula", "cube", "other"], BOTH),
+    Late("--watch --assume cube formula one other", ["formula", "cube", "one", "other"],
+         ["formula", "cube", "other"], BOTH),
     Late("--watch --serial formula one other", ["formula", "one", "other"], ["one", "other"], BOTH),
     Late(f"--watch --rounds d formula {ROUNDS[0]}", ["formula", *ROUNDS], ROUNDS[1:], IN_ROUND_2),
 ]
@@ -70,24 +73,28 @@ def reported_while_open(program: str, work: Path) -> None:
         out, _ = checker.communicate(timeout=LIMIT)
         status = checker.returncode
     ends = BAD + "lrupd: stream 2: 0 added, 0 deleted, ended\n"
-    want(Ran(out, errors.read_text(), status), Ran(re.sub("^lrupd:", "c", ends, flags=re.M) + "s UNKNOWN\n", ends, 3), "the answer")
+    want(Ran(out, errors.read_text(), status),
+         Ran(re.sub("^lrupd:", "c", ends, flags=re.M) + "s UNKNOWN\n", ends, 3), "the answer")
 
 
 def checkpoint_at_the_end(program: str, work: Path) -> None:
-    halves = [written("".join(example(f"bmc-four.{number}").read_text().splitlines(True)[:370]), work, f"half{number}")
-              for number in range(1, 5)]
-    pipes, saved, formula = [work / str(number) for number in range(1, 5)], work / "saved", example("bmc.cnf")
+    halves = [written("".join(example(f"bmc-four.{number}").read_text().splitlines(True)[:370]),
+                      work, f"half{number}") for number in range(1, 5)]
+    pipes, saved, formula = ([work / str(number) for number in range(1, 5)], work / "saved",
+                             example("bmc.cnf"))
     words = [program, "--tries", "1000000", "--checkpoint", saved, formula, *pipes]
     ends = list(map(held, pipes))
     with started(words, stdout=subprocess.PIPE, text=True) as checker:
         for half, end in zip(halves, ends):
             end.write(half.read_bytes())
         until("the checkpoint is created", saved.exists)
-        want((checker.poll(), saved.read_text()), (None, ""), "the status and the checkpoint while the pipes are open")
+        want((checker.poll(), saved.read_text()), (None, ""),
+             "the status and the checkpoint while the pipes are open")
         for end in ends:
             end.close()
         out, _ = checker.communicate(timeout=LIMIT)
-    want((out.count(" 370 added, 0 deleted, ended\n"), checker.returncode), (4, 3), f"{out}the streams that ended, and the status")
+    want((out.count(" 370 added, 0 deleted, ended\n"), checker.returncode), (4, 3),
+         f"{out}the streams that ended, and the status")
     want_checkpoint(saved, printed(variables_of(formula), live(formula, halves)))
 
 
@@ -105,12 +112,14 @@ def late_writers(row: Late, program: str, work: Path) -> None:
         return re.findall("^lrupd: (.*): waits for a writer$", errors.read_text(), re.M)
 
     began = time.monotonic()
-    with open(errors, "wb") as err, started(words, cwd=work, stdout=subprocess.PIPE, stderr=err, text=True) as checker:
+    with open(errors, "wb") as err, started(words, cwd=work, stdout=subprocess.PIPE, stderr=err,
+                                            text=True) as checker:
         for name in row.late:
             if "--watch" in words:
                 named.append(name)
                 until(f"{name} is named on standard error", lambda: found() == named)
-                want(time.monotonic() - began >= 1, True, f"whether {name} had no writer for a second")
+                want(time.monotonic() - began >= 1, True,
+                     f"whether {name} had no writer for a second")
             time.sleep(LATE)
             want(found(), named, "the pipes named before the writer comes")
             began = time.monotonic()

@@ -29,9 +29,11 @@ def renumbered(line: str) -> str:
     """A line of a single stream, as a line of stream 1 of two."""
     words = line.split()
     if words[1] == "d":
-        return " ".join([own(int(words[0])), "d", *(own(int(word)) for word in words[2:-1]), "0"]) + "\n"
+        return " ".join([own(int(words[0])), "d",
+                         *(own(int(word)) for word in words[2:-1]), "0"]) + "\n"
     end = words.index("0") + 1
-    return " ".join([own(int(words[0])), *words[1:end], *(own(int(word)) for word in words[end:-1]), "0"]) + "\n"
+    return " ".join([own(int(words[0])), *words[1:end],
+                     *(own(int(word)) for word in words[end:-1]), "0"]) + "\n"
 
 
 def endless(process: Process, serial: bool) -> Pieces:
@@ -62,7 +64,8 @@ def imports(lines: List[str]) -> Iterator[str]:
     """For each line of the proof an import: of its clause, if that is never deleted, otherwise of
     the formula's first clause."""
     clause = next(line for line in FORMULA.read_text().splitlines() if line[0] not in "cp").split()
-    deleted = {identity for line in lines if line.split()[1] == "d" for identity in line.split()[2:-1]}
+    deleted = {identity for line in lines if line.split()[1] == "d"
+               for identity in line.split()[2:-1]}
     for line in lines:
         words = line.split()
         if words[1] == "d" or words[0] in deleted:
@@ -89,19 +92,24 @@ def neighbours(proof: str) -> Iterator[Neighbour]:
     yield Neighbour("nothing", b"", "0 added, 0 deleted, ended")
     yield Neighbour("endless bytes", endless)
     yield Neighbour("empty lines", b"\n" * (MEGABYTES * size))
-    yield Neighbour("a line that never ends", f"{first} 1 ".encode() + b"1 " * (MEGABYTES * size // 2))
+    yield Neighbour("a line that never ends",
+                    f"{first} 1 ".encode() + b"1 " * (MEGABYTES * size // 2))
     yield Neighbour("random bytes", random.Random(1).getrandbits(8 * size).to_bytes(size, "little"))
     yield Neighbour("the same proof", proof.encode(), "0 added, 0 deleted, bad line 1 (identity)")
-    yield Neighbour("deletions of its clauses", "".join(f"{first} d {identity} 0\n" for identity in derived).encode(),
+    yield Neighbour("deletions of its clauses",
+                    "".join(f"{first} d {identity} 0\n" for identity in derived).encode(),
                     f"0 added, {len(derived)} deleted, ended")
-    yield Neighbour("imports of its clauses", "".join(imports(lines)).encode(), "0 added, 0 deleted, ended", ["--tries", "1000000"])
-    yield Neighbour("hints in a circle", f"{first} 1 0 {first + 2} 0\n{first + 2} 1 0 {first} 0\n".encode())
+    yield Neighbour("imports of its clauses", "".join(imports(lines)).encode(),
+                    "0 added, 0 deleted, ended", ["--tries", "1000000"])
+    yield Neighbour("hints in a circle",
+                    f"{first} 1 0 {first + 2} 0\n{first + 2} 1 0 {first} 0\n".encode())
     yield Neighbour("a hint that never comes", f"{first} 1 0 {never} {derived[-1]} 0\n".encode(),
                     f"0 added, 0 deleted, bad line 1 (missing {never})")
     yield Neighbour("silence", silent, "0 added, 0 deleted, ended")
 
 
-def beside(program: str, way: List[str], neighbour: Neighbour, proof: str, wanted: str, work: Path) -> None:
+def beside(program: str, way: List[str], neighbour: Neighbour, proof: str, wanted: str,
+           work: Path) -> None:
     """The report on the proof, and on its neighbour if that is known."""
     own, other, what = written(proof, work, "proof"), work / "other", neighbour.what
     if isinstance(what, bytes):
@@ -116,7 +124,8 @@ def beside(program: str, way: List[str], neighbour: Neighbour, proof: str, wante
         feeds.join(LIMIT)
     lines = out.splitlines()
     known = neighbour.known or (lines[1].replace("c stream 2: ", "", 1) if len(lines) == 3 else "")
-    want((lines, process.returncode), ([wanted, f"c stream 2: {known}", "s UNSATISFIABLE"], 0), f"{err}the report")
+    want((lines, process.returncode), ([wanted, f"c stream 2: {known}", "s UNSATISFIABLE"], 0),
+         f"{err}the report")
 
 
 def rows(program: str) -> Iterator[Row]:
@@ -127,7 +136,8 @@ def rows(program: str) -> Iterator[Row]:
     wanted = f"c stream 1: {added} added, {deleted} deleted, ended"
     for options in "", "--serial":
         for neighbour in neighbours(proof):
-            yield f"{options or 'threads'}, {neighbour.name}", beside, program, options.split(), neighbour, proof, wanted
+            yield (f"{options or 'threads'}, {neighbour.name}", beside, program, options.split(),
+                   neighbour, proof, wanted)
 
 
 test_row = parametrized(rows(PROGRAM))

@@ -21,8 +21,8 @@ import pytest
 
 from harness import (EXAMPLES, FOUR, PROGRAM, ROOT, RT, TESTS, Row, alone, compiled, parametrized,
                      piped, report, run, waiting, want, written)
-from refused import (ERRORS_OF_READS, FOUR_CLAUSE, SECONDS, SHORT, Answer, Input, InRounds, Machine, complaints,
-                     complaints_in_rounds, is_right, not_started)
+from refused import (ERRORS_OF_READS, FOUR_CLAUSE, SECONDS, SHORT, Answer, Input, InRounds, Machine,
+                     complaints, complaints_in_rounds, is_right, not_started)
 from rounds import ONE, TWO, Proof
 
 
@@ -46,14 +46,17 @@ ERRORS_OF_OPENINGS = ["EACCES", "EMFILE", "ELOOP", "ENOENT"]
 ERRORS_OF_CREATIONS = ["EACCES", "EMFILE", "ENOSPC"]
 ERRORS_OF_FLUSHES = ["EIO", "ENOSPC"]
 MANY = 5_000
-ONE_LINE, MANY_LINES = "a line and an import", f"{MANY} lines and imports"  # equally many allocations: lines take none
+# Equally many allocations: lines take none.
+ONE_LINE, MANY_LINES = "a line and an import", f"{MANY} lines and imports"
 BURDENED = " under assumptions, after a drop"
 FEW_CLAUSES, MANY_CLAUSES = "two clauses", f"{MANY} clauses"
 COUNTED = (ONE_LINE, MANY_LINES, FEW_CLAUSES, MANY_CLAUSES)     # with --serial or burdened, too
-GROWTHS = 100  # how many more allocations the many clauses may take, whose lists double: some thirty
+# How many more allocations the many clauses may take, whose lists double: some thirty.
+GROWTHS = 100
 MOST = 1_000  # the most calls of a kind that are refused; no run makes as many
 HELD = 100  # seconds after which a run that waits for a pipe counts as hanging
-VERY_LATE = 1000  # milliseconds by which threads start late in the program that has to be found wrong
+# Milliseconds by which threads start late in the program that has to be found wrong.
+VERY_LATE = 1000
 
 
 def run_twice(machine: Machine, given: Input, refuse: str) -> Tuple[Answer, bool, float]:
@@ -81,7 +84,8 @@ def sweep(machine: Machine, given: Input, kind: str, how: str) -> Tuple[int, Lis
     if answer != ample or answer.status is None:
         wrong.append(f"{given.name}, nothing refused: {answer}")
     told = complaints_in_rounds if isinstance(given, InRounds) else complaints
-    return number - 1, wrong + [f"{given.name}, {kind} {how}: {complaint}" for complaint in told(kind, how, ample, answers, given)]
+    return number - 1, wrong + [f"{given.name}, {kind} {how}: {complaint}"
+                                for complaint in told(kind, how, ample, answers, given)]
 
 
 def clauses(count: int) -> str:
@@ -108,7 +112,8 @@ ROW_ONE = EXAMPLES / "four-clause.lrup"
 CUBE = EXAMPLES / "assumed.cube"
 ASSUMED = [EXAMPLES / "assumed.cnf", EXAMPLES / "assumed.lrup"]
 # The hints of the first line of bmc.lrup; the import of the first clause of bmc.cnf.
-LINES = [f"{number} 101 -107 -108 -109 0 487 490 0\n1 i 13 -1 5 0\n" for number in range(534, 534 + MANY)]
+LINES = [f"{number} 101 -107 -108 -109 0 487 490 0\n1 i 13 -1 5 0\n"
+         for number in range(534, 534 + MANY)]
 DROP = "534 d 2 0\n"
 AT_ONCE = "0 added, 0 deleted, out of memory at line 1"
 
@@ -126,25 +131,33 @@ def inputs_of_way(serial: List[str], files: Dict[str, Path], folder: Path) -> It
     """With threads, or with --serial."""
     kind = "".join(" " + word for word in serial)
     yield Input("two streams" + kind, [*serial, FOUR_CLAUSE, files["one"], files["other"]], 2)
-    yield Input("a dropped clause" + kind, [*serial, FOUR_CLAUSE, files["dropping"]], 1, dropped(AT_ONCE))
-    yield Input("a dropped clause beside another stream" + kind, [*serial, FOUR_CLAUSE, files["dropping"], files["other"]], 2,
+    yield Input("a dropped clause" + kind, [*serial, FOUR_CLAUSE, files["dropping"]], 1,
+                dropped(AT_ONCE))
+    yield Input("a dropped clause beside another stream" + kind,
+                [*serial, FOUR_CLAUSE, files["dropping"], files["other"]], 2,
                 dropped(AT_ONCE, "1 added, 0 deleted, ended"))
     yield Input("a drop alone" + kind, [*serial, FOUR_CLAUSE, files["drops"]], 1, dropped(AT_ONCE))
     yield Input("a drop after a deletion" + kind, [*serial, FOUR_CLAUSE, files["drops_after"]], 1,
                 dropped("1 added, 1 deleted, out of memory at line 2"))
     yield Input("row 1" + kind, [*serial, FOUR_CLAUSE, ROW_ONE], 1)
-    yield Input("a dropped clause, watched" + kind, [*serial, "--watch", FOUR_CLAUSE, files["dropping"]], 1, dropped(AT_ONCE))
+    yield Input("a dropped clause, watched" + kind,
+                [*serial, "--watch", FOUR_CLAUSE, files["dropping"]], 1, dropped(AT_ONCE))
     # These tries take a third of a second if the other stream fails.
     few = serial or ["--tries", "5000", "--lines", "100", "--room", "100"]
-    yield Input("imports" + kind, [*few, FOUR_CLAUSE, files["importing"], files["other_importing"]], 2)
+    yield Input("imports" + kind,
+                [*few, FOUR_CLAUSE, files["importing"], files["other_importing"]], 2)
     yield Input("assumptions" + kind, [*few, "--assume", CUBE, *ASSUMED], 1)
     yield Input("bad assumptions" + kind, [*few, "--assume", files["bad_cube"], *ASSUMED], 1)
     yield Input("four solvers" + kind,
-                [*(serial or ["--tries", "1000000"]), EXAMPLES / "bmc.cnf", *FOUR_SOLVERS], 4, waits=not serial)
+                [*(serial or ["--tries", "1000000"]), EXAMPLES / "bmc.cnf", *FOUR_SOLVERS], 4,
+                waits=not serial)
     for name, text in ((ONE_LINE, LINES[0]), (MANY_LINES, "".join(LINES))):
-        plain, burdened = written(text, folder, "plain" + name), written(DROP + text, folder, "burdened" + name)
+        plain, burdened = (written(text, folder, "plain" + name),
+                           written(DROP + text, folder, "burdened" + name))
         yield Input(name + kind, [*serial, EXAMPLES / "bmc.cnf", plain], 1)
-        yield Input(name + BURDENED + kind, [*serial, "--assume", CUBE, EXAMPLES / "bmc.cnf", burdened], 1, dropped(AT_ONCE))
+        yield Input(name + BURDENED + kind,
+                    [*serial, "--assume", CUBE, EXAMPLES / "bmc.cnf", burdened], 1,
+                    dropped(AT_ONCE))
     yield Input(FEW_CLAUSES + kind, [*serial, files["few_clauses"], os.devnull], 1)
     yield Input(MANY_CLAUSES + kind, [*serial, files["many_clauses"], os.devnull], 1)
 
@@ -152,23 +165,30 @@ def inputs_of_way(serial: List[str], files: Dict[str, Path], folder: Path) -> It
 def checkpoints(serial: List[str], files: Dict[str, Path], folder: Path) -> Iterator[Input]:
     """Runs that save something, and some that have nothing to save, or nowhere to save it."""
     kind = "".join(" " + word for word in serial)
-    words = [*(serial or ["--tries", "5000", "--lines", "100", "--room", "100"]), "--checkpoint", folder / "saved"]
+    words = [*(serial or ["--tries", "5000", "--lines", "100", "--room", "100"]), "--checkpoint",
+             folder / "saved"]
     one = FOUR.replace("2 4", "2 5") + "2 0\n"
-    yield Input("a checkpoint after a drop" + kind, [*words, FOUR_CLAUSE, files["dropping_last"]], 1,
-                dropped("1 added, 0 deleted, out of memory at line 2", saved=one))
-    yield Input("a checkpoint, watched" + kind, [*words, "--watch", FOUR_CLAUSE, files["first"], os.devnull], 2)
-    yield Input("a checkpoint of many clauses" + kind, [*words, files["many_clauses"], os.devnull], 1)
+    yield Input("a checkpoint after a drop" + kind, [*words, FOUR_CLAUSE, files["dropping_last"]],
+                1, dropped("1 added, 0 deleted, out of memory at line 2", saved=one))
+    yield Input("a checkpoint, watched" + kind,
+                [*words, "--watch", FOUR_CLAUSE, files["first"], os.devnull], 2)
+    yield Input("a checkpoint of many clauses" + kind,
+                [*words, files["many_clauses"], os.devnull], 1)
     yield Input("a checkpoint under assumptions" + kind, [*words, "--assume", CUBE, *ASSUMED], 1)
     yield Input("a checkpoint where the formula is refuted" + kind,
                 [*words, FOUR_CLAUSE, files["importing"], files["other_importing"]], 2)
-    yield Input("a checkpoint and a full device" + kind, [*words, FOUR_CLAUSE, os.devnull], 1, out="/dev/full")
-    yield Input("a checkpoint where a folder is" + kind, [*serial, "--checkpoint", folder, FOUR_CLAUSE, ROW_ONE], 1)
-    yield Input("a checkpoint and a missing stream" + kind, [*words, FOUR_CLAUSE, folder / "missing"], 1)
+    yield Input("a checkpoint and a full device" + kind, [*words, FOUR_CLAUSE, os.devnull], 1,
+                out="/dev/full")
+    yield Input("a checkpoint where a folder is" + kind,
+                [*serial, "--checkpoint", folder, FOUR_CLAUSE, ROW_ONE], 1)
+    yield Input("a checkpoint and a missing stream" + kind,
+                [*words, FOUR_CLAUSE, folder / "missing"], 1)
 
 
 def in_rounds(serial: List[str], folder: Path) -> Iterator[Input]:
     """Three rounds to the empty clause, and three that derive less."""
-    for name, proof, more in ("one", ONE, []), ("two", TWO, []), ("unknown", UNKNOWN, []), ("watched", ONE, ["--watch"]):
+    for name, proof, more in (("one", ONE, []), ("two", TWO, []), ("unknown", UNKNOWN, []),
+                              ("watched", ONE, ["--watch"])):
         whole = " ".join(["three rounds,", name, *serial])
         yield InRounds(whole, [*(serial or ["--tries", "20000"]), *more], proof, folder / whole)
 
@@ -210,11 +230,13 @@ def tests() -> Iterator[Test]:
     memory = ["AllocError", "Memory"]  # the test's own, and the run's
 
     def reported(added: int, ending: str) -> str:
-        return f"Report {{ added: {added}, deleted: 0, empty: false, within: false, ending: {ending} }}"
+        return (f"Report {{ added: {added}, deleted: 0, empty: false, within: false, ending: "
+                f"{ending} }}")
 
     refused, other = reported(0, "Memory(1)"), reported(1, "Ended")
-    runs: List[Tuple[str, int, List[str]]] = [("two_streams", 2, []), ("a_dropped_clause", 1, [f"[{refused}]"]),
-                                              ("a_dropped_clause_beside_another", 2, [f"[{refused}, {other}]"])]
+    runs: List[Tuple[str, int, List[str]]] = [
+        ("two_streams", 2, []), ("a_dropped_clause", 1, [f"[{refused}]"]),
+        ("a_dropped_clause_beside_another", 2, [f"[{refused}, {other}]"])]
     for name, streams, reports in runs:
         starts = [f"Spawn({number})" for number in range(1, streams + 1)]
         yield Test("portfolio", f"memory::{name}_by_threads", memory + starts + reports, streams)
@@ -232,9 +254,10 @@ def tests() -> Iterator[Test]:
     # ends the stream.
     yield Test("stream_check", "memory::a_refused_growth_ends_the_reading", ["AllocError"])
     # The last allocation is the test's own, and comes after a thousand calls of each kind.
-    yield Test("propagate", "the_ninth_allocation_comes_after_all_calls", ["AllocError", "AllocFailed { .. }"],
-               always=True)
-    yield Test("clause_store", "memory::the_last_allocation_comes_after_all_calls", ["AllocError"], always=True)
+    yield Test("propagate", "the_ninth_allocation_comes_after_all_calls",
+               ["AllocError", "AllocFailed { .. }"], always=True)
+    yield Test("clause_store", "memory::the_last_allocation_comes_after_all_calls",
+               ["AllocError"], always=True)
     # A created file is kept or discarded.
     yield Test("command", "refusals::memory_that_runs_out", [], 6, looks=True)
 
@@ -274,11 +297,13 @@ def sweep_test(machine: Machine, test: Test, kind: str) -> Tuple[int, List[str]]
         else:
             right = cause in test.causes or not (cause or test.always)
         if not right or "Spawn" in cause and seconds > SECONDS:
-            wrong.append(f"{test.name}, {kind}:{number}, {seconds:.1f} s: {cause}{machine.threads()}")
+            wrong.append(
+                f"{test.name}, {kind}:{number}, {seconds:.1f} s: {cause}{machine.threads()}")
     if cause:
         wrong.append(f"{test.name}, nothing refused: {cause}")
     if kind == "allocate":
-        wrong += [f"{test.name}, never answered: {never}" for never in test.causes if never not in causes]
+        wrong += [f"{test.name}, never answered: {never}" for never in test.causes
+                  if never not in causes]
     if number - 1 != 2 * test.streams if kind == "thread" else number == 1:
         wrong.append(f"{test.name}, {number - 1} calls refused: {kind}")
     return number - 1, wrong
@@ -307,12 +332,14 @@ def leave(machine: Machine, folder: Path, count: int) -> Tuple[int, List[str]]:
     for pipe in pipes:
         os.write(pipe, line)
     for number in range(1, 2 * count + 1):
-        answer, _, seconds = machine.run([str(FOUR_CLAUSE), *map(str, paths)], f"thread:{number}", limit=HELD)
+        answer, _, seconds = machine.run([str(FOUR_CLAUSE), *map(str, paths)],
+                                         f"thread:{number}", limit=HELD)
         left = [waiting(pipe) for pipe in pipes]
-        right = answer == not_started((number - 1) % count + 1) and machine.has_waited_for(number - 1)
+        right = (answer == not_started((number - 1) % count + 1)
+                 and machine.has_waited_for(number - 1))
         if not right or left != [len(line)] * count:
-            wrong.append(f"{count} pipes that stay open, thread:{number}, {seconds:.1f} s: {answer}; bytes left: {left}"
-                         + machine.threads())
+            wrong.append(f"{count} pipes that stay open, thread:{number}, {seconds:.1f} s: "
+                         f"{answer}; bytes left: {left}" + machine.threads())
             break
     for pipe in pipes:
         os.close(pipe)

@@ -9,8 +9,10 @@ from typing import List
 from harness import ROOT, Row, parametrized, run, want
 
 PAGE = "AUDIT.md"
-COMMENT, TYPE = "-- no assignment satisfies all clauses of the formula\n", "IsUnsatisfiable : Cnf → Type 0\n"
-MEANS = "IsUnsatisfiable formula = (assignment : Assignment) → SatisfiesAll assignment formula → ⊥\n"
+COMMENT, TYPE = ("-- no assignment satisfies all clauses of the formula\n",
+                 "IsUnsatisfiable : Cnf → Type 0\n")
+MEANS = (
+    "IsUnsatisfiable formula = (assignment : Assignment) → SatisfiesAll assignment formula → ⊥\n")
 WHOLE = COMMENT + TYPE + MEANS
 ANOTHER = "-- the negation of a test\nnegation : Bool → Bool\nnegation x = not x\n\n"
 FILE = "](../crates/lrup_model/specs/Entailment.antt)\n\n```agda\n" + WHOLE
@@ -29,28 +31,38 @@ def refused(old: str, new: str, said: List[str], work: Path) -> None:
     want(before.count(old), 1, f"how often {PAGE} has '{old}'")
     page.write_text(before.replace(old, new))
     done = run([sys.executable, work / "gate" / "quotes.py"])
-    want((done.err, done.status), ("", 1 if said else 0), f"standard error and status, with {done.out}")
+    want((done.err, done.status), ("", 1 if said else 0),
+         f"standard error and status, with {done.out}")
     want([text for text in said if text not in done.out], [], f"what isn't said in {done.out}")
     mended = run([sys.executable, work / "gate" / "quotes.py", "--write"])
     is_put_right = not said or "run make quotes" in said
     wanted = (0, True) if is_put_right else (1, False)
-    want((mended.status, page.read_text() == before), wanted, f"what --write leaves, and says: {mended.out}")
+    want((mended.status, page.read_text() == before), wanted,
+         f"what --write leaves, and says: {mended.out}")
 
 
 def rows() -> List[Row]:
-    differs = ["IsUnsatisfiable differs from crates/lrup_model/specs/Entailment.antt", "run make quotes"]
+    differs = ["IsUnsatisfiable differs from crates/lrup_model/specs/Entailment.antt",
+               "run make quotes"]
     return [("as it is", refused, WHOLE, WHOLE, []),
             ("one word changed", refused, MEANS, MEANS.replace("formula → ⊥", "formula"), differs),
             ("a comment changed", refused, COMMENT, COMMENT.replace("all", "some"), differs),
-            ("a definition left out", refused, "\n```agda\n" + WHOLE + "```\n", "", ["IsUnsatisfiable, which no page quotes"]),
-            ("a definition that nothing reaches", refused, WHOLE, ANOTHER + WHOLE, ["no statement reaches negation"]),
-            ("a definition twice", refused, WHOLE, WHOLE + "\n" + WHOLE, ["IsUnsatisfiable is quoted at docs/AUDIT.md"]),
+            ("a definition left out", refused, "\n```agda\n" + WHOLE + "```\n", "",
+             ["IsUnsatisfiable, which no page quotes"]),
+            ("a definition that nothing reaches", refused, WHOLE, ANOTHER + WHOLE,
+             ["no statement reaches negation"]),
+            ("a definition twice", refused, WHOLE, WHOLE + "\n" + WHOLE,
+             ["IsUnsatisfiable is quoted at docs/AUDIT.md"]),
             ("a wrong file", refused, FILE, FILE.replace("Entailment", "Clause"),
-             ["crates/lrup_model/specs/Clause.antt doesn't declare IsUnsatisfiable: crates/lrup_model/specs/Entailment.antt has"]),
-            ("a wrong link", refused, "[`plain_words`](../crates/command_line/", "[`plain_words`](../crates/dimacs/",
+             ["crates/lrup_model/specs/Clause.antt doesn't declare IsUnsatisfiable: "
+              "crates/lrup_model/specs/Entailment.antt has"]),
+            ("a wrong link", refused, "[`plain_words`](../crates/command_line/",
+             "[`plain_words`](../crates/dimacs/",
              ["the link of plain_words leads to ../crates/dimacs/src/laws.rt"]),
-            ("a wrong count", refused, "reaches 31 definitions", "reaches 30 definitions", ["its contracts 'reach 31 definitions'"]),
-            ("a wrong clause", refused, "result ≡ 0 → Name", "result ≡ 3 → Name", ["doesn't have 'result ≡ 3"])]
+            ("a wrong count", refused, "reaches 31 definitions", "reaches 30 definitions",
+             ["its contracts 'reach 31 definitions'"]),
+            ("a wrong clause", refused, "result ≡ 0 → Name", "result ≡ 3 → Name",
+             ["doesn't have 'result ≡ 3"])]
 
 
 test_row = parametrized(rows())

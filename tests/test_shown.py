@@ -63,13 +63,16 @@ def commands_of(page: Path) -> Iterator[Command]:
 
 def pattern(wanted: Sequence[str]) -> str:
     """A regular expression for the expected output."""
-    return "".join(r"(.*\n)*" if line == ".." else (timed(line) if is_timed(line) else re.escape(line)) + "\n" for line in wanted)
+    return "".join(r"(.*\n)*" if line == ".."
+                   else (timed(line) if is_timed(line) else re.escape(line)) + "\n"
+                   for line in wanted)
 
 
 def timed(line: str) -> str:
     """A pattern for the line with any numbers, and with `engine` or `clause` in the singular,
     too."""
-    return re.sub(r"\b(engine|clause)s\b", r"\1s?", re.sub(r"\d(\\?[.,\d])*", r"[\\d.,]+", re.escape(line)))
+    return re.sub(r"\b(engine|clause)s\b", r"\1s?",
+                  re.sub(r"\d(\\?[.,\d])*", r"[\\d.,]+", re.escape(line)))
 
 
 def is_timed(line: str) -> bool:
@@ -94,20 +97,24 @@ def shown(name: str, files: Sequence[str], packages: Sequence[str], work: Path) 
     for title, path in PROGRAMS.items():
         os.symlink(path, work / "bin" / title)
     commands = [command for command in commands_of(ROOT / name) if command.text not in NOT_RUN]
-    script = "exec 2>&1\n" + "".join(f"{command.text}\nprintf '\\n-- %s\\n' {number}\n" for number, command in enumerate(commands))
+    script = "exec 2>&1\n" + "".join(f"{command.text}\nprintf '\\n-- %s\\n' {number}\n"
+                                     for number, command in enumerate(commands))
     surroundings = {**os.environ, "PATH": f"{work / 'bin'}:{os.environ['PATH']}"}
-    done = run(["bash", "-c", script], limit=LIMIT, cwd=work, env=surroundings, stderr=subprocess.STDOUT)
+    done = run(["bash", "-c", script], limit=LIMIT, cwd=work, env=surroundings,
+               stderr=subprocess.STDOUT)
     pieces = re.split(r"\n-- \d+\n", done.out)
     assert len(pieces) == len(commands) + 1, (
         f"{len(pieces) - 1} commands of {len(commands)} ended:\n{done.out[-2000:]}")
     for command, said in zip(commands, pieces):
-        if command.wanted and not re.fullmatch(pattern(command.wanted), said + "\n" * (said != "" and not said.endswith("\n"))):
+        if command.wanted and not re.fullmatch(
+                pattern(command.wanted), said + "\n" * (said != "" and not said.endswith("\n"))):
             wanted = "\n".join(command.wanted)
-            raise AssertionError(f"line {command.line}, $ {command.text}: expected\n{wanted}\nbut found\n{said[:2000]}")
+            raise AssertionError(f"line {command.line}, $ {command.text}: expected\n{wanted}\n"
+                                 f"but found\n{said[:2000]}")
 
 
-PROGRAMS = {"lrupd": Path(PROGRAM), "lrup-solve": SOLVE, "lrup-check": SOLVE.with_name("lrup-check"),
-            "lrup-exact": FILTER, "lrup-trim": TRIM,
+PROGRAMS = {"lrupd": Path(PROGRAM), "lrup-solve": SOLVE,
+            "lrup-check": SOLVE.with_name("lrup-check"), "lrup-exact": FILTER, "lrup-trim": TRIM,
             "lrup-explain": EXPLAIN, "lrup-chain": LRUP_CHAIN}
 
 
@@ -124,7 +131,8 @@ def unknown(text: str, work: Path) -> None:
 # Scripts of examples with wrong input: one line on standard error, and nothing on standard output.
 
 
-def refused(script: str, words: Sequence[str], given: bytes, said: str, status: int, work: Path) -> None:
+def refused(script: str, words: Sequence[str], given: bytes, said: str, status: int,
+            work: Path) -> None:
     done = run([EXAMPLES / script, *words], given, cwd=work)
     want((done.out, done.err, done.status), ("", f"{said}\n", status), f"the message on {words}")
 
@@ -132,43 +140,63 @@ def refused(script: str, words: Sequence[str], given: bytes, said: str, status: 
 def wrong_answers(script: str, words: Sequence[str], what: str) -> Iterator[Row]:
     """The scripts refuse these answers to a satisfiable question; one is too short for its
     formula."""
-    name, cause = Path(script).name, "the answer isn't s SATISFIABLE with an assignment of this formula"
-    for given in (b"s UNSATISFIABLE\n", b"", b"c time is up\ns UNKNOWN\n", b"\0garbage\n\377", b"s SATISFIABLE\nv 1 2 0\n"):
-        yield f"{name}, {given!r}", refused, script, ["--show", *words], given, f"{name}: no {what}: {cause}", 1
+    name, cause = (Path(script).name,
+                   "the answer isn't s SATISFIABLE with an assignment of this formula")
+    for given in (b"s UNSATISFIABLE\n", b"", b"c time is up\ns UNKNOWN\n", b"\0garbage\n\377",
+                  b"s SATISFIABLE\nv 1 2 0\n"):
+        yield (f"{name}, {given!r}", refused, script, ["--show", *words], given,
+               f"{name}: no {what}: {cause}", 1)
 
 
 def scripts() -> Iterator[Row]:
     lemma, plan = "lemma/lemma.py", "planning/plan.py"
-    domain, problem = (str(EXAMPLES / "planning" / name) for name in ("gripper.pddl", "four-balls.pddl"))
+    domain, problem = (str(EXAMPLES / "planning" / name)
+                       for name in ("gripper.pddl", "four-balls.pddl"))
     yield from wrong_answers(lemma, ["8", "a <= b"], "counterexample")
     yield from wrong_answers(plan, [domain, problem, "11"], "plan")
     for words in ([], ["--show"], ["8"], ["0", "a <= b"], ["x", "a <= b"], ["8", "a <= b", "c"]):
-        yield f"lemma.py {words}", refused, lemma, words, b"", "usage: lemma.py [--show] WIDTH LEMMA", 2
+        yield (f"lemma.py {words}", refused, lemma, words, b"",
+               "usage: lemma.py [--show] WIDTH LEMMA", 2)
     for said, cause in (("a <= e", "name 'e' is not defined"),
-                        ("a <= b <= c", "a LEMMA has no 'and', 'or', 'not', '!=', and no chain a < b < c")):
-        yield f"lemma.py {said}", refused, lemma, ["8", said], b"", f"lemma.py: LEMMA or answer can't be read: {cause}", 1
-    for given in (b"s UNKNOWN\nv 1 2 -3 -4 -5 6 -7 0\n", b"s SATISFIABLE\nv 1 -1 2 -2 3 -3 4 -4 5 -5 6 -6 7 -7 0\n"):
+                        ("a <= b <= c",
+                         "a LEMMA has no 'and', 'or', 'not', '!=', and no chain a < b < c")):
+        yield (f"lemma.py {said}", refused, lemma, ["8", said], b"",
+               f"lemma.py: LEMMA or answer can't be read: {cause}", 1)
+    for given in (b"s UNKNOWN\nv 1 2 -3 -4 -5 6 -7 0\n",
+                  b"s SATISFIABLE\nv 1 -1 2 -2 3 -3 4 -4 5 -5 6 -6 7 -7 0\n"):
         yield (f"lemma.py, {given!r}", refused, lemma, ["--show", "1", "a <= b"], given,
-               "lemma.py: no counterexample: the answer isn't s SATISFIABLE with an assignment of this formula", 1)
+               "lemma.py: no counterexample: the answer isn't s SATISFIABLE with an assignment of "
+               "this formula", 1)
     for words in ([], ["--stobj", "f"], ["f"], ["f", "p", "x"]):
-        yield f"acl2.py {words}", refused, "acl2.py", words, b"", "usage: acl2.py [--stobj] FORMULA PROOF", 2
-    for formula, cause in (("none", "[Errno 2] No such file or directory: 'none'"), ("/dev/null", "no header")):
-        yield f"acl2.py {formula}", refused, "acl2.py", [formula, "none"], b"", f"acl2.py: FORMULA or PROOF can't be read: {cause}", 1
+        yield (f"acl2.py {words}", refused, "acl2.py", words, b"",
+               "usage: acl2.py [--stobj] FORMULA PROOF", 2)
+    for formula, cause in (("none", "[Errno 2] No such file or directory: 'none'"),
+                           ("/dev/null", "no header")):
+        yield (f"acl2.py {formula}", refused, "acl2.py", [formula, "none"], b"",
+               f"acl2.py: FORMULA or PROOF can't be read: {cause}", 1)
     for words in ([], ["x.v"]):
-        yield f"miter.sh {words}", refused, "miter/miter.sh", words, b"", "usage: miter.sh FILE.v FORMULA", 2
+        yield (f"miter.sh {words}", refused, "miter/miter.sh", words, b"",
+               "usage: miter.sh FILE.v FORMULA", 2)
     for given in (b"s UNSATISFIABLE\n", b""):
-        yield (f"show.awk, {given!r}", refused, "miter/show.awk", [str(EXAMPLES / "bmc.cnf"), "-"], given,
-               "show.awk: the answer has no assignment", 1)
+        yield (f"show.awk, {given!r}", refused, "miter/show.awk", [str(EXAMPLES / "bmc.cnf"), "-"],
+               given, "show.awk: the answer has no assignment", 1)
     for words in ([], ["3", "3"], ["3", "1", "9"], ["3", "x", "9"]):
-        yield f"waerden.py {words}", refused, "cubes/waerden.py", words, b"", "usage: waerden.py K L N, with 2 or more for K and L", 2
+        yield (f"waerden.py {words}", refused, "cubes/waerden.py", words, b"",
+               "usage: waerden.py K L N, with 2 or more for K and L", 2)
     for words in ([], ["5"], ["x", "formula.cnf"], ["5", "a", "b"]):
-        yield f"split.py {words}", refused, "cubes/split.py", words, b"", "usage: split.py COUNT FORMULA", 2
-    for words in ([], ["--show"], [domain, problem], [domain, problem, "x"], [domain, problem, "-1"], [domain, problem, "1", "2"]):
-        yield f"plan.py {words}", refused, plan, words, b"", "usage: plan.py [--show] DOMAIN PROBLEM STEPS", 2
+        yield (f"split.py {words}", refused, "cubes/split.py", words, b"",
+               "usage: split.py COUNT FORMULA", 2)
+    for words in ([], ["--show"], [domain, problem], [domain, problem, "x"],
+                  [domain, problem, "-1"], [domain, problem, "1", "2"]):
+        yield (f"plan.py {words}", refused, plan, words, b"",
+               "usage: plan.py [--show] DOMAIN PROBLEM STEPS", 2)
     for words, given, cause in (
-            ([domain, "none"], b"", "DOMAIN, PROBLEM or answer can't be read: [Errno 2] No such file or directory: 'none'"),
-            ([domain, "/dev/stdin"], b"(define (problem empty))", "DOMAIN, PROBLEM or answer can't be read: ':init'"),
-            (["/dev/stdin", problem], b"(define (domain d) (:predicates (p ?x - t)))", "/dev/stdin: not a domain in PDDL with only STRIPS"),
+            ([domain, "none"], b"", "DOMAIN, PROBLEM or answer can't be read: [Errno 2] No such "
+                                    "file or directory: 'none'"),
+            ([domain, "/dev/stdin"], b"(define (problem empty))",
+             "DOMAIN, PROBLEM or answer can't be read: ':init'"),
+            (["/dev/stdin", problem], b"(define (domain d) (:predicates (p ?x - t)))",
+             "/dev/stdin: not a domain in PDDL with only STRIPS"),
             ([problem, domain], b"", f"{problem}: not a domain in PDDL with only STRIPS"),
             ([domain, domain], b"", f"{domain}: not a problem in PDDL with only STRIPS"),
             ([domain, "/dev/null"], b"", "/dev/null: not a problem in PDDL with only STRIPS")):
@@ -176,7 +204,8 @@ def scripts() -> Iterator[Row]:
 
 
 def rows() -> List[Row]:
-    return [(name, shown, name, files, packages) for name, files, packages in PAGES] + all_known() + list(scripts())
+    return ([(name, shown, name, files, packages) for name, files, packages in PAGES] + all_known()
+            + list(scripts()))
 
 
 pytestmark = LRUP_SOLVE

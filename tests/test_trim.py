@@ -49,7 +49,8 @@ def core_of(path: Path) -> Tuple[int, List[int], List[Clause]]:
     header, *lines = path.read_text().splitlines()
     numbers = [int(line[len("c id "):]) for line in lines[::2] if line.startswith("c id ")]
     clauses = [[int(word) for word in line.split()] for line in lines[1::2]]
-    want(header.split()[:2] + [int(header.split()[3]), len(clauses)], ["p", "cnf", len(numbers), len(numbers)], "the core's header")
+    want(header.split()[:2] + [int(header.split()[3]), len(clauses)],
+         ["p", "cnf", len(numbers), len(numbers)], "the core's header")
     want({clause.pop() for clause in clauses} | {0}, {0}, "the ends of its clauses")
     return int(header.split()[2]), numbers, clauses
 
@@ -67,13 +68,16 @@ def is_tight(steps: Sequence[Step], clauses: int) -> None:
     for step in steps:
         now = step.identity if step.kind == "a" else now
         deleted.update({hint: now for hint in step.hints if step.kind == "d"})
-    want(deleted, {hint: use for hint, use in last.items() if use != added[-1]}, "after which line a clause is deleted")
+    want(deleted, {hint: use for hint, use in last.items() if use != added[-1]},
+         "after which line a clause is deleted")
 
 
 def over_formula(steps: Sequence[Step], core: List[int], clauses: int) -> List[Step]:
     """The lines over the core, with the formula's identities."""
-    now = lambda identity: core[identity - 1] if identity <= len(core) else identity - len(core) + clauses
-    return [Step(step.kind, now(step.identity), step.literals, list(map(now, step.hints))) for step in steps]
+    now = lambda identity: (core[identity - 1] if identity <= len(core)
+                            else identity - len(core) + clauses)
+    return [Step(step.kind, now(step.identity), step.literals, list(map(now, step.hints)))
+            for step in steps]
 
 
 def verdicts(said: str, work: Path) -> List[Ran]:
@@ -87,7 +91,9 @@ def are_right(formula: Path, said: str, work: Path, status: int = 0) -> None:
     """All three outputs, and the printed lines."""
     clauses = read_formula(formula)
     variables, core, literals = core_of(work / "core")
-    want((literals, variables), ([clauses[k - 1] for k in core], int(formula.read_text().split()[2])), "the core's clauses")
+    want((literals, variables),
+         ([clauses[k - 1] for k in core], int(formula.read_text().split()[2])),
+         "the core's clauses")
     want(core, sorted(set(core)), "their order")
     steps = read_steps(work / "stream")
     is_tight(steps, len(core))
@@ -95,18 +101,23 @@ def are_right(formula: Path, said: str, work: Path, status: int = 0) -> None:
     outside = sorted(set(range(1, len(clauses) + 1)) - set(core))
     first = [Step("d", len(clauses), [], outside)] if outside else []
     want(lrat, first + over_formula(steps, core, len(clauses)), "the lines over the formula")
-    want(lrat_fault(clauses, (work / "lrat").read_text()), "no empty clause" if status == 8 else "", "the LRAT checker's message")
+    want(lrat_fault(clauses, (work / "lrat").read_text()), "no empty clause" if status == 8 else "",
+         "the LRAT checker's message")
     added = sum(step.kind == "a" for step in steps)
-    want(said.startswith(f"c {len(core)} of {len(clauses)} clauses, {added} lines of "), True, f"the summary:\n{said}")
+    want(said.startswith(f"c {len(core)} of {len(clauses)} clauses, {added} lines of "), True,
+         f"the summary:\n{said}")
     for done in verdicts(said, work):
-        want((done.out.splitlines()[-1:], done.err, done.status), ([VERDICTS[status]], "", status), "lrupd's answer")
+        want((done.out.splitlines()[-1:], done.err, done.status), ([VERDICTS[status]], "", status),
+             "lrupd's answer")
 
 
-def trimmed(formula: Path, proof: Sequence[Path], work: Path, assumptions: Optional[Path] = None, rehints: bool = False) -> str:
+def trimmed(formula: Path, proof: Sequence[Path], work: Path, assumptions: Optional[Path] = None,
+            rehints: bool = False) -> str:
     """The printed lines."""
     words = [*(["--assume", assumptions] if assumptions else []), *["--re-hint"] * rehints]
     done = trim([*outputs_of(work), *words, formula, *proof], work)
-    want((done.err, done.status, (work / "lrat.re-hint").exists()), ("", 0, False), "the message, and whether a file is left")
+    want((done.err, done.status, (work / "lrat.re-hint").exists()), ("", 0, False),
+         "the message, and whether a file is left")
     are_right(formula, done.out, work, 8 if assumptions else 0)
     return done.out
 
@@ -115,14 +126,16 @@ def trimmed(formula: Path, proof: Sequence[Path], work: Path, assumptions: Optio
 
 
 def recorded(formula: str, streams: Sequence[str], rounds: int, work: Path) -> None:
-    trimmed(example(formula), proof_in_rounds(example(formula), list(map(example, streams)), rounds, work), work)
+    trimmed(example(formula),
+            proof_in_rounds(example(formula), list(map(example, streams)), rounds, work), work)
 
 
 def proof_in_rounds(formula: Path, streams: List[Path], rounds: int, work: Path) -> List[Path]:
     """The streams, or a folder of that many rounds."""
     if rounds == 0:
         return streams
-    want(run([sys.executable, CHAIN, rounds, formula, work / "rounds", *streams]), Ran("", "", 0), "chain.py's output")
+    want(run([sys.executable, CHAIN, rounds, formula, work / "rounds", *streams]), Ran("", "", 0),
+         "chain.py's output")
     return [work / "rounds"]
 
 
@@ -142,23 +155,27 @@ def selected(path: Path, literal: int) -> None:
 def at_random(seed: int, work: Path) -> None:
     """One to five solvers, in one run or in one to seven rounds."""
     numbers = random.Random(f"{seed} trim")
-    options = ["--seed", seed, "--share", numbers.choice((0, 2, 4, 100)), *["--imports"] * (seed % 2)]
+    options = ["--seed", seed, "--share", numbers.choice((0, 2, 4, 100)),
+               *["--imports"] * (seed % 2)]
     formula, streams = refuted(numbers, 1 + seed % 5, options, work)
     literal = int(formula.read_text().split()[2]) + 1 if numbers.randrange(8) == 0 else 0
     for path in [formula, *streams] if literal else []:
         selected(path, literal)
     proof = proof_in_rounds(formula, streams, seed % 8, work)
-    trimmed(formula, proof, work, written(f"-{literal} 0\n", work, "cube") if literal else None, numbers.randrange(4) == 0)
+    trimmed(formula, proof, work, written(f"-{literal} 0\n", work, "cube") if literal else None,
+            numbers.randrange(4) == 0)
 
 
 def longer_than_a_row(output: str, formula: str, work: Path) -> None:
     """The printed line for such an output, checked with small rows of the filter."""
     trimmed(example("bmc.cnf"), [example("bmc.lrup")], work)
     os.symlink(example("bmc.cnf"), work / "bmc.cnf")
-    told = f'"$1" --rounds live --memory 48K {formula} {output} | {{ read ready && "$2" --rounds live {formula} live/round-1.stream-1; }}'
+    told = (f'"$1" --rounds live --memory 48K {formula} {output} | {{ read ready && "$2" --rounds '
+            f'live {formula} live/round-1.stream-1; }}')
     done = run(["sh", "-c", told, "sh", FILTER, PROGRAM], cwd=work)
     found = re.fullmatch(r"c round (\d+)\n.*\ns UNSATISFIABLE\n", done.out)
-    want((found is not None and int(found[1]) > 5, done.err, done.status), (True, "", 0), f"lrupd's answer, {done.out}")
+    want((found is not None and int(found[1]) > 5, done.err, done.status), (True, "", 0),
+         f"lrupd's answer, {done.out}")
 
 
 def two_halves(count: int, rounds: int, work: Path) -> None:
@@ -167,8 +184,10 @@ def two_halves(count: int, rounds: int, work: Path) -> None:
     pigeons = written(run([sys.executable, GENERATOR, "pigeons", "5"]).out, work, "pigeons")
     first, numbers = read_formula(pigeons), random.Random(count)
     below = max(abs(literal) for clause in first for literal in clause)
-    second = [[literal + below if literal > 0 else literal - below for literal in clause] for clause in random_clauses(numbers, 40, 120)]
-    want(solved(written(dimacs(below + 40, second), work), 1, [], work), None, "the streams of the second half")
+    second = [[literal + below if literal > 0 else literal - below for literal in clause]
+              for clause in random_clauses(numbers, 40, 120)]
+    want(solved(written(dimacs(below + 40, second), work), 1, [], work), None,
+         "the streams of the second half")
     clauses = first + second
     numbers.shuffle(clauses)
     formula = written(dimacs(below + 40, clauses), work)
@@ -180,7 +199,8 @@ def two_halves(count: int, rounds: int, work: Path) -> None:
 
 def of_a_group(work: Path) -> None:
     """Two streams of four, which cite only each other."""
-    streams = [example("two-groups.1"), example("two-groups.2"), Path("/dev/null"), Path("/dev/null")]
+    streams = [example("two-groups.1"), example("two-groups.2"), Path("/dev/null"),
+               Path("/dev/null")]
     trimmed(example("two-groups.cnf"), streams, work)
 
 
@@ -189,7 +209,8 @@ def whole_pages(work: Path) -> None:
     lines = "5 2 0 1 2 0\n6 0 5 3 4 0\n"
     for pages in (1, 2, 16):
         rest = pages * mmap.PAGESIZE - len(lines)
-        stream = written("10 d 0\n" * (rest % 6) + "1 d 0\n" * (rest // 6 - rest % 6) + lines, work, "a stream")
+        stream = written("10 d 0\n" * (rest % 6) + "1 d 0\n" * (rest // 6 - rest % 6) + lines,
+                         work, "a stream")
         want(stream.stat().st_size % mmap.PAGESIZE, 0, "the bytes behind the last page")
         trimmed(written(FOUR, work), [stream], work)
         for name in OUTPUTS:
@@ -218,7 +239,8 @@ SORTED = "5 -1 2 0 2 0\n5 d 2 0\n6 2 0 1 5 0\n6 d 1 5 0\n7 0 6 3 4 0\n"
 OF_THREE = BEGINS + "6 -1 0 5 4 0\n6 d 4 0\n7 0 5 6 3 0\n"
 
 
-def few(streams: Sequence[str], core: str, stream: str, lrat: str, formula: str, work: Path) -> None:
+def few(streams: Sequence[str], core: str, stream: str, lrat: str, formula: str,
+        work: Path) -> None:
     proof = [written(text, work, f"f{number}") for number, text in enumerate(streams, 1)]
     trimmed(written(formula, work), proof, work)
     want([(work / name).read_text() for name in OUTPUTS], [core, stream, lrat], "the outputs")
@@ -234,12 +256,14 @@ def few_in_rounds(proof: Proof, stream: str, work: Path) -> None:
 def fewer_streams(work: Path) -> None:
     """In round 2, by its sizes; a file of another stream is ignored, and so is one after the empty
     clause."""
-    files = {"round-1.stream-1": "5 2 0 1 2 0\n5 d 1 0\n", "round-1.stream-2": "6 d 4 1 0\n", "round-2.sizes": "1 9 9\n",
-             "round-2.stream-1": "5 1 0 4 2 0\n6 0 5 4 3 0\n", "round-2.stream-2": "x", "round-3.stream-1": "x"}
+    files = {"round-1.stream-1": "5 2 0 1 2 0\n5 d 1 0\n", "round-1.stream-2": "6 d 4 1 0\n",
+             "round-2.sizes": "1 9 9\n", "round-2.stream-1": "5 1 0 4 2 0\n6 0 5 4 3 0\n",
+             "round-2.stream-2": "x", "round-3.stream-1": "x"}
     for name, text in files.items():
         written(text, work, f"d/{name}")
     formula = written(FOUR, work)
-    done = run([PROGRAM, "--rounds", "d", formula, "d/round-1.stream-1", "d/round-1.stream-2"], cwd=work)
+    done = run(
+        [PROGRAM, "--rounds", "d", formula, "d/round-1.stream-1", "d/round-1.stream-2"], cwd=work)
     want((done.err, done.status), ("", 0), "lrupd's answer on the record")
     trimmed(formula, [work / "d"], work)
     want((work / "stream").read_text(), OF_FEWER, "the stream")
@@ -253,16 +277,20 @@ def assuming(work: Path) -> None:
 
 
 FIVE = "p cnf 3 5\n1 2 0\n-1 2 0\n3 1 0\n1 -2 0\n-1 -2 0\n"
-FEW = [("four clauses", ["5 2 0 1 2 0\n6 0 5 3 4 0\n"], CORE, BEGINS + "6 0 5 3 4 0\n", BEGINS + "6 0 5 3 4 0\n", FOUR),
-       ("a clause more, lines more, gaps", ["7 2 0 1 2 0\n9 3 1 0 3 0\n11 1 3 0 3 0\n20 0 7 4 5 0\n"],
-        "p cnf 3 4\nc id 1\n1 2 0\nc id 2\n-1 2 0\nc id 4\n1 -2 0\nc id 5\n-1 -2 0\n", BEGINS + "6 0 5 3 4 0\n",
-        "5 d 3 0\n6 2 0 1 2 0\n6 d 1 2 0\n7 0 6 4 5 0\n", FIVE),
-       ("streams that wait for each other", ["8 0 7 9 3 0\n", "7 i 2 0\n9 -1 0 7 4 0\n", "7 2 0 1 2 0\n"], CORE, OF_THREE, OF_THREE, FOUR),
-       ("literals in another order, and twice", ["5 2 -1 2 -1 0 2 0\n6 2 2 0 1 5 0\n7 0 6 3 4 0\n"], CORE, SORTED, SORTED, FOUR),
-       ("an empty clause in the formula", ["3 0 2 0\n"], "p cnf 1 1\nc id 2\n0\n", "2 0 1 0\n", "2 d 1 0\n3 0 2 0\n",
-        "p cnf 1 2\n1 0\n0\n"),
-       ("an empty clause alone", ["2 0 1 0\n"], "p cnf 0 1\nc id 1\n0\n", "2 0 1 0\n", "2 0 1 0\n",
-        "p cnf 0 1\n0\n")]
+FEW = [
+    ("four clauses", ["5 2 0 1 2 0\n6 0 5 3 4 0\n"], CORE, BEGINS + "6 0 5 3 4 0\n",
+     BEGINS + "6 0 5 3 4 0\n", FOUR),
+    ("a clause more, lines more, gaps", ["7 2 0 1 2 0\n9 3 1 0 3 0\n11 1 3 0 3 0\n20 0 7 4 5 0\n"],
+     "p cnf 3 4\nc id 1\n1 2 0\nc id 2\n-1 2 0\nc id 4\n1 -2 0\nc id 5\n-1 -2 0\n",
+     BEGINS + "6 0 5 3 4 0\n", "5 d 3 0\n6 2 0 1 2 0\n6 d 1 2 0\n7 0 6 4 5 0\n", FIVE),
+    ("streams that wait for each other",
+     ["8 0 7 9 3 0\n", "7 i 2 0\n9 -1 0 7 4 0\n", "7 2 0 1 2 0\n"], CORE, OF_THREE, OF_THREE, FOUR),
+    ("literals in another order, and twice", ["5 2 -1 2 -1 0 2 0\n6 2 2 0 1 5 0\n7 0 6 3 4 0\n"],
+     CORE, SORTED, SORTED, FOUR),
+    ("an empty clause in the formula", ["3 0 2 0\n"], "p cnf 1 1\nc id 2\n0\n", "2 0 1 0\n",
+     "2 d 1 0\n3 0 2 0\n", "p cnf 1 2\n1 0\n0\n"),
+    ("an empty clause alone", ["2 0 1 0\n"], "p cnf 0 1\nc id 1\n0\n", "2 0 1 0\n", "2 0 1 0\n",
+     "p cnf 0 1\n0\n")]
 
 
 # Wrong streams.
@@ -275,28 +303,36 @@ class Garbled(NamedTuple):
 
 
 BASES = [("four-clause.cnf", ["four-clause.lrup"], 0), ("pigeonhole.cnf", ["pigeonhole.lrup"], 0),
-         ("pigeonhole.cnf", ["pigeonhole-two.1", "pigeonhole-two.2"], 0), ("four-clause.cnf", ["four-clause.lrup"], 2),
-         ("pigeonhole.cnf", ["pigeonhole-two.1", "pigeonhole-two.2"], 3), ("pigeonhole.cnf", ["pigeonhole.lrup"], 4),
+         ("pigeonhole.cnf", ["pigeonhole-two.1", "pigeonhole-two.2"], 0),
+         ("four-clause.cnf", ["four-clause.lrup"], 2),
+         ("pigeonhole.cnf", ["pigeonhole-two.1", "pigeonhole-two.2"], 3),
+         ("pigeonhole.cnf", ["pigeonhole.lrup"], 4),
          ("two-groups.cnf", [f"two-groups.{number}" for number in range(1, 5)], 2)]
 
 
 def base(number: int, work: Path) -> Garbled:
     name, streams, rounds = BASES[number % len(BASES)]
     found, = proof_in_rounds(example(name), list(map(example, streams)), max(rounds, 1), work)
-    files = {path.name: path.read_text() for path in sorted(found.iterdir()) if rounds or "stream" in path.name}
+    files = {path.name: path.read_text() for path in sorted(found.iterdir()) if rounds
+             or "stream" in path.name}
     for path in found.iterdir():
         path.unlink()
     return Garbled(example(name), files)
 
 
-FAULTY_LINE = (r"spelling|too long|truncated|rat hint|identity|an identity above that of the last addition|missing \d+|"
+FAULTY_LINE = (r"spelling|too long|truncated|rat hint|identity|"
+               r"an identity above that of the last addition|missing \d+|"
                r"a cycle of lines that cite each other: \d+")
-FAULT = (rf"lrup-trim: (\S+, line \d+: ({FAULTY_LINE})|no line derives the empty clause|the run ends in round \d+, at that line|"
-         r"needed line \d+: (no conflict by unit propagation: .*|a variable that the formula doesn't have)|"
-         r"\S+: not STREAMS LINES ROOM|\S+: compressed: unpack it with \w+|\S+: No such file or directory)")
+FAULT = (rf"lrup-trim: (\S+, line \d+: ({FAULTY_LINE})|no line derives the empty clause|"
+         r"the run ends in round \d+, at that line|"
+         r"needed line \d+: (no conflict by unit propagation: .*|"
+         r"a variable that the formula doesn't have)|"
+         r"\S+: not STREAMS LINES ROOM|\S+: compressed: unpack it with \w+|"
+         r"\S+: No such file or directory)")
 
 
-def garbled_trim(found: Garbled, formula: Path, rehints: bool, work: Path) -> Optional[Tuple[bool, List[Ran]]]:
+def garbled_trim(found: Garbled, formula: Path, rehints: bool,
+                 work: Path) -> Optional[Tuple[bool, List[Ran]]]:
     """The LRAT checker's verdict, and lrupd's on both outputs; None if nothing is written, with a
     message."""
     for name, text in found.files.items():
@@ -311,7 +347,8 @@ def garbled_trim(found: Garbled, formula: Path, rehints: bool, work: Path) -> Op
         want((done.out, left, done.err != ""), ("", [], True), "the files left")
         return None
     want((done.status, left), (0, OUTPUTS), f"the status, and what is written, of\n{done.err}")
-    return lrat_fault(read_formula(formula), (work / "lrat").read_text()) == "", verdicts(done.out, work)
+    return (lrat_fault(read_formula(formula), (work / "lrat").read_text()) == "",
+            verdicts(done.out, work))
 
 
 def garbled(number: int, work: Path) -> None:
@@ -323,7 +360,8 @@ def garbled(number: int, work: Path) -> None:
             found.files[name] = garbled_text(found.files[name], numbers)
     answers = garbled_trim(found, found.formula, number % 4 == 0, work)
     if answers:
-        want([done.status for done in answers[1]], [0, 0] if answers[0] else [3, 3], "lrupd's statuses")
+        want([done.status for done in answers[1]], [0, 0] if answers[0] else [3, 3],
+             "lrupd's statuses")
 
 
 def no_hints(work: Path) -> None:
@@ -353,39 +391,49 @@ def satisfiable(number: int, work: Path) -> None:
     if rehints or not is_garbled:
         want(answers is None, rehints, "whether nothing is written")
     if answers:
-        want((answers[0], [done.status for done in answers[1]]), (False, [3, 3]), "the answers on a satisfiable formula")
+        want((answers[0], [done.status for done in answers[1]]), (False, [3, 3]),
+             "the answers on a satisfiable formula")
 
 
 def fault(streams: Sequence[str], said: Sequence[str], work: Path) -> None:
     """Without these lines nothing refutes the four clauses."""
     for number, text in enumerate(streams, 1):
         written(text, work, f"f{number}")
-    done = trim([*outputs_of(work), written(FOUR, work), *(f"f{number}" for number in range(1, len(streams) + 1))], work)
+    done = trim([*outputs_of(work), written(FOUR, work),
+                 *(f"f{number}" for number in range(1, len(streams) + 1))], work)
     last = "no line derives the empty clause"
-    want(done, Ran("", "".join(f"lrup-trim: {line}\n" for line in [*said, last]), 1), "the messages")
+    want(done, Ran("", "".join(f"lrup-trim: {line}\n" for line in [*said, last]), 1),
+         "the messages")
     want([name for name in OUTPUTS if (work / name).exists()], [], "the outputs")
 
 
 FIRST = "5 2 0 1 2 0\n"
-FAULTS = [("spelling", [FIRST + "6  0 5 3 4 0\n"], ["f1, line 2: spelling"]), ("an empty line", ["\n"], ["f1, line 1: spelling"]),
-          ("a word", ["c a comment\n"], ["f1, line 1: spelling"]), ("DRAT", ["2 0\n0\n"], ["f1, line 1: spelling"]),
+FAULTS = [("spelling", [FIRST + "6  0 5 3 4 0\n"], ["f1, line 2: spelling"]),
+          ("an empty line", ["\n"], ["f1, line 1: spelling"]),
+          ("a word", ["c a comment\n"], ["f1, line 1: spelling"]),
+          ("DRAT", ["2 0\n0\n"], ["f1, line 1: spelling"]),
           ("no end", [FIRST + "6 0 5 3 4 0"], ["f1, line 2: truncated"]), ("no line", [""], []),
           ("CR LF", [FIRST.replace("\n", "\r\n")], ["f1, line 1: spelling"]),
           ("behind 0", [FIRST + "6 0 5 3 4 0 7\n"], ["f1, line 2: spelling"]),
-          ("three ends", ["5 2 0 1 0 2 0\n"], ["f1, line 1: spelling"]), ("a RAT step", ["5 2 0 1 -2 3 0\n"], ["f1, line 1: rat hint"]),
+          ("three ends", ["5 2 0 1 0 2 0\n"], ["f1, line 1: spelling"]),
+          ("a RAT step", ["5 2 0 1 -2 3 0\n"], ["f1, line 1: rat hint"]),
           ("identity of the formula", ["4 2 0 1 2 0\n"], ["f1, line 1: identity"]),
-          ("not above the one before", ["6 2 0 1 2 0\n5 0 6 3 4 0\n"], ["f1, line 1: an identity above that of the last addition"]),
+          ("not above the one before", ["6 2 0 1 2 0\n5 0 6 3 4 0\n"],
+           ["f1, line 1: an identity above that of the last addition"]),
           ("twice", [FIRST + "5 1 0 5 3 0\n"], ["f1, line 2: identity"]),
           ("beyond all identities", [f"{5 + (1 << 28)} 2 0 1 2 0\n"], ["f1, line 1: identity"]),
           ("another stream's", ["6 2 0 1 2 0\n", ""], ["f1, line 1: identity"]),
-          ("missing", [FIRST + "6 0 5 3 7 0\n"], ["f1, line 2: missing 7"]), ("itself", ["5 2 0 1 5 0\n"], ["f1, line 1: missing 5"]),
+          ("missing", [FIRST + "6 0 5 3 7 0\n"], ["f1, line 2: missing 7"]),
+          ("itself", ["5 2 0 1 5 0\n"], ["f1, line 1: missing 5"]),
           ("in a gap", [FIRST + "7 1 0 5 3 0\n8 0 6 7 4 0\n"], ["f1, line 3: missing 6"]),
           ("of a stream that ends", ["5 0 6 3 4 0\n", ""], ["f1, line 1: missing 6"]),
-          ("of a stream with a fault", ["5 0 6 3 4 0\n", "6 x 0\n"], ["f2, line 1: spelling", "f1, line 1: missing 6"]),
+          ("of a stream with a fault", ["5 0 6 3 4 0\n", "6 x 0\n"],
+           ["f2, line 1: spelling", "f1, line 1: missing 6"]),
           ("a circle", ["5 2 0 6 2 0\n", "6 1 0 5 3 0\n"],
            ["f2, line 1: a cycle of lines that cite each other: 5", "f1, line 1: missing 6"]),
           ("too many hints", ["5 0 " + "1 " * 65537 + "0\n"], ["f1, line 1: too long"]),
-          ("bytes", ["\0\0\0\0"], ["f1, line 1: truncated"]), ("a deletion without an end", ["4 d 1\n"], ["f1, line 1: spelling"]),
+          ("bytes", ["\0\0\0\0"], ["f1, line 1: truncated"]),
+          ("a deletion without an end", ["4 d 1\n"], ["f1, line 1: spelling"]),
           ("an import without an end", ["4 i 1\n"], ["f1, line 1: spelling"])]
 
 
@@ -402,15 +450,20 @@ def bad_round(files: Dict[str, str], said: str, work: Path) -> None:
     for name, text in files.items():
         written(text, work, f"d/{name}")
     done = trim([written(FOUR, work), "d"], work)
-    want((done.out, done.err.splitlines()[-1:], done.status), ("", [f"lrup-trim: {said}"], 1), "the messages")
+    want((done.out, done.err.splitlines()[-1:], done.status), ("", [f"lrup-trim: {said}"], 1),
+         "the messages")
 
 
 ROUND = {"round-1.stream-1": FIRST, "round-2.stream-1": "6 0 5 3 4 0\n"}
 BAD_ROUNDS = [("no round", {"other": ""}, "d/round-1.stream-1: No such file or directory"),
-              ("a fault", {**ROUND, "round-1.stream-1": FIRST + "x\n"}, "the run ends in round 1, at that line"),
-              ("no stream 2", {**ROUND, "round-2.sizes": "2 1 1\n"}, "d/round-2.stream-2: No such file or directory")]
-BAD_ROUNDS += [(f"sizes '{text[:9]}'", {**ROUND, "round-2.sizes": text}, "d/round-2.sizes: not STREAMS LINES ROOM")
-               for text in ("", "1 2", "1 2\n", "1 2 3 4\n", "0 2 3\n", "65 2 3\n", "x 2 3\n", "1 2 3\n\n", "-1 2 3\n", "1  2 3\n")]
+              ("a fault", {**ROUND, "round-1.stream-1": FIRST + "x\n"},
+               "the run ends in round 1, at that line"),
+              ("no stream 2", {**ROUND, "round-2.sizes": "2 1 1\n"},
+               "d/round-2.stream-2: No such file or directory")]
+BAD_ROUNDS += [(f"sizes '{text[:9]}'", {**ROUND, "round-2.sizes": text},
+                "d/round-2.sizes: not STREAMS LINES ROOM")
+               for text in ("", "1 2", "1 2\n", "1 2 3 4\n", "0 2 3\n", "65 2 3\n", "x 2 3\n",
+                            "1 2 3\n\n", "-1 2 3\n", "1  2 3\n")]
 
 
 def digests(work: Path) -> None:
@@ -421,13 +474,16 @@ def digests(work: Path) -> None:
     for length in (9, 100000):
         formula = written("c" + "x" * (length - 2) + "\n" + FOUR, work)
         digest = hashlib.sha256(formula.read_bytes()).hexdigest()
-        for kept, said in ((digest, ""), ("\\" + digest, ""), (digest[:-1] + f"{15 - int(digest[-1], 16):x}", CHANGED), ("", CHANGED)):
+        for kept, said in ((digest, ""), ("\\" + digest, ""),
+                           (digest[:-1] + f"{15 - int(digest[-1], 16):x}", CHANGED), ("", CHANGED)):
             written(f"{kept}  {formula}\n", work, "d/formula.sha256")
             done = trim([formula, "d"], work)
-            want((done.err, done.status), (said.format(formula), 1 if said else 0), f"the message on {kept}, with {length} bytes")
+            want((done.err, done.status), (said.format(formula), 1 if said else 0),
+                 f"the message on {kept}, with {length} bytes")
 
 
-CHANGED = "lrup-trim: {} isn't the formula of d, or was changed since: its digest isn't that of d/formula.sha256\n"
+CHANGED = ("lrup-trim: {} isn't the formula of d, or was changed since: its digest isn't that of "
+           "d/formula.sha256\n")
 
 
 # Files and the command line.
@@ -436,30 +492,42 @@ CHANGED = "lrup-trim: {} isn't the formula of d, or was changed since: its diges
 def refuses(words: str, status: int, said: str, work: Path) -> None:
     """In a folder with a formula f, a stream s, a pipe p, a folder d without rounds, files there
     and r.re-hint, and a compressed file z."""
-    files = {"f": FOUR.encode(), "s": FIRST.encode(), "there": b"mine", "r.re-hint": b"", "z": COMPRESSED["zcat"]}
+    files = {"f": FOUR.encode(), "s": FIRST.encode(), "there": b"mine", "r.re-hint": b"",
+             "z": COMPRESSED["zcat"]}
     for name, text in files.items():
         written(text, work, name)
     piped(work / "p")
     (work / "d").mkdir()
     done = trim(words.split(), work)
-    want((done.out, done.err.splitlines()[-1:], done.status), ("", [f"lrup-trim: {said}"], status), "the messages")
-    want((sorted(os.listdir(work)), (work / "there").read_text()), (sorted([*files, "d", "p"]), "mine"), "the files")
+    want((done.out, done.err.splitlines()[-1:], done.status), ("", [f"lrup-trim: {said}"], status),
+         "the messages")
+    want((sorted(os.listdir(work)), (work / "there").read_text()),
+         (sorted([*files, "d", "p"]), "mine"), "the files")
 
 
-REFUSED = [("", 2, "error: no FORMULA"), ("f", 2, "error: no DIR or STREAM"), ("--cores x f s", 2, "error: no such option: --cores"),
-           ("--core", 2, "error: no value after --core"), ("--stream x f s", 2, "error: --stream without --core"),
-           ("--core x --core y f s", 2, "error: given twice: --core"), ("f" + " s" * 65, 2, "error: more than 64 streams, from s"),
+REFUSED = [("", 2, "error: no FORMULA"), ("f", 2, "error: no DIR or STREAM"),
+           ("--cores x f s", 2, "error: no such option: --cores"),
+           ("--core", 2, "error: no value after --core"),
+           ("--stream x f s", 2, "error: --stream without --core"),
+           ("--core x --core y f s", 2, "error: given twice: --core"),
+           ("f" + " s" * 65, 2, "error: more than 64 streams, from s"),
            ("-x f s", 2, "error: no such option: -x"),
-           ("--core there f s", 1, "there: exists, not overwritten"), ("--lrat f f s", 1, "f: exists, not overwritten"),
+           ("--core there f s", 1, "there: exists, not overwritten"),
+           ("--lrat f f s", 1, "f: exists, not overwritten"),
            ("--core x --stream=s f s", 1, "s: exists, not overwritten"),
-           ("f d s", 1, "d: a folder has to be the only input"), ("f d", 1, "d/round-1.stream-1: No such file or directory"),
+           ("f d s", 1, "d: a folder has to be the only input"),
+           ("f d", 1, "d/round-1.stream-1: No such file or directory"),
            ("f p", 1, "p: not a regular file, but it is read more than once"),
            ("p s", 1, "p: not a regular file, but it is read more than once"),
-           ("f none", 1, "none: No such file or directory"), ("none s", 1, "none: No such file or directory"),
-           ("f z", 1, "z: compressed: unpack it with zcat"), ("z s", 1, "z: compressed: unpack it with zcat"), ("f s", 1, "no line derives the empty clause"),
+           ("f none", 1, "none: No such file or directory"),
+           ("none s", 1, "none: No such file or directory"),
+           ("f z", 1, "z: compressed: unpack it with zcat"),
+           ("z s", 1, "z: compressed: unpack it with zcat"),
+           ("f s", 1, "no line derives the empty clause"),
            ("s s", 1, "s, line 1: no header 'p cnf VARIABLES CLAUSES': not DIMACS CNF"),
            ("--assume none f s", 1, "none: No such file or directory"),
-           ("--assume there f s", 1, "there: not a line of literals of FORMULA's variables and 0, with single spaces"),
+           ("--assume there f s", 1,
+            "there: not a line of literals of FORMULA's variables and 0, with single spaces"),
            ("--lrat d/none/x f s", 1, "no line derives the empty clause"),
            ("--re-hint f s", 2, "error: --re-hint without --core or --lrat"),
            ("--re-hint=1 f s", 2, "error: no such option: --re-hint=1"),
@@ -483,16 +551,19 @@ def while_rewritten(seed: int, work: Path) -> None:
 def no_place(work: Path) -> None:
     """A missing folder, and one name for two outputs: what was made before is removed."""
     for name, cause in (("none/x", "No such file or directory"), ("core", "File exists")):
-        done = trim(["--core", "core", "--stream", "stream", "--lrat", name, example("four-clause.cnf"), example("four-clause.lrup")], work)
+        done = trim(["--core", "core", "--stream", "stream", "--lrat", name,
+                     example("four-clause.cnf"), example("four-clause.lrup")], work)
         name = "core" if name == "core" else name
-        want((done.out, done.err, done.status, os.listdir(work)), ("", f"lrup-trim: {name}: {cause}\n", 1, []), name)
+        want((done.out, done.err, done.status, os.listdir(work)),
+             ("", f"lrup-trim: {name}: {cause}\n", 1, []), name)
 
 
 def full(limit: int, options: Sequence[object], work: Path) -> None:
     """A limit on the size of files: no part of one is left."""
     words = [*outputs_of(work), *options, example("bmc.cnf"), example("bmc.lrup")]
     done = trim(words, work, preexec_fn=lambda: within(limit))
-    found = re.fullmatch(r"lrup-trim: \S+/(core|stream|lrat)(\.re-hint)?: File too large\n", done.err)
+    found = re.fullmatch(
+        r"lrup-trim: \S+/(core|stream|lrat)(\.re-hint)?: File too large\n", done.err)
     want((done.out, found is not None, done.status, os.listdir(work)), ("", True, 1, []), done.err)
 
 
@@ -507,7 +578,8 @@ def help_of(work: Path) -> None:
 # Records of lrup-solve.
 
 
-def of_lrup_solve(words: Sequence[str], tested: Dict[str, object], generated: str, assumed: bool, work: Path) -> None:
+def of_lrup_solve(words: Sequence[str], tested: Dict[str, object], generated: str, assumed: bool,
+                  work: Path) -> None:
     """A record that lrup-solve --proofs keeps, in one round or in several."""
     built("solve", for_tests=True)
     text = run([sys.executable, GENERATOR, *generated.split()]).out
@@ -526,8 +598,10 @@ def of_lrup_solve(words: Sequence[str], tested: Dict[str, object], generated: st
 
 
 SMALL = {"SAME_WORDS": 1, "SLICE": 40, "FIRST_WORDS": 20000}
-RECORDS = [("one engine", ["-j", "1"], {}, "random 150 1", False), ("two engines", ["-j", "2"], {}, "random 170 4", False),
-           ("one engine in rounds", ["-j", "1"], SMALL, "pigeons 7", False), ("three in rounds", ["-j", "3"], SMALL, "random 180 3", False),
+RECORDS = [("one engine", ["-j", "1"], {}, "random 150 1", False),
+           ("two engines", ["-j", "2"], {}, "random 170 4", False),
+           ("one engine in rounds", ["-j", "1"], SMALL, "pigeons 7", False),
+           ("three in rounds", ["-j", "3"], SMALL, "random 180 3", False),
            ("two in rounds, assuming", ["-j", "2"], SMALL, "random 170 4", True)]
 
 
@@ -536,24 +610,32 @@ def rows_of_records() -> List[Row]:
 
 
 def rows(count: int) -> List[Row]:
-    four, two = [f"bmc-four.{number}" for number in range(1, 5)], ["pigeonhole-two.1", "pigeonhole-two.2"]
+    four, two = ([f"bmc-four.{number}" for number in range(1, 5)],
+                 ["pigeonhole-two.1", "pigeonhole-two.2"])
     found: List[Row] = []
     for formula, streams in (("bmc.cnf", ["bmc.lrup"]), ("bmc.cnf", four), ("pigeonhole.cnf", two)):
-        found += [(f"{streams[0]} in {count} rounds", recorded, formula, streams, count) for count in (0, 1, 2, 9)]
+        found += [(f"{streams[0]} in {count} rounds", recorded, formula, streams, count)
+                  for count in (0, 1, 2, 9)]
     found += [(f"few lines: {name}", few, *rest) for name, *rest in FEW]
-    found += [("three rounds", few_in_rounds, ONE, OF_ONE), ("three rounds of two", few_in_rounds, TWO, OF_TWO),
-              ("fewer streams", fewer_streams), ("assumptions", assuming), ("other hints", other_hints), ("a group", of_a_group),
+    found += [("three rounds", few_in_rounds, ONE, OF_ONE),
+              ("three rounds of two", few_in_rounds, TWO, OF_TWO), ("fewer streams", fewer_streams),
+              ("assumptions", assuming), ("other hints", other_hints), ("a group", of_a_group),
               ("pages", whole_pages), ("no hints", no_hints)]
-    found += [(f"two halves, {count} solvers, {rounds} rounds", two_halves, count, rounds) for count, rounds in ((1, 0), (3, 0), (2, 4))]
-    found += [(f"{output} in rows", longer_than_a_row, output, name) for output, name in (("stream", "core"), ("lrat", "bmc.cnf"))]
+    found += [(f"two halves, {count} solvers, {rounds} rounds", two_halves, count, rounds)
+              for count, rounds in ((1, 0), (3, 0), (2, 4))]
+    found += [(f"{output} in rows", longer_than_a_row, output, name)
+              for output, name in (("stream", "core"), ("lrat", "bmc.cnf"))]
     found += [(f"fault: {name}", fault, streams, said) for name, streams, said in FAULTS]
-    found += [("beside a fault", other_stream_faulty), ("no place", no_place), ("a file that is cut", cut)]
+    found += [("beside a fault", other_stream_faulty), ("no place", no_place),
+              ("a file that is cut", cut)]
     found += [("help", help_of), ("digests", digests)]
     found += [(f"rewritten {seed}", while_rewritten, seed) for seed in range(4)]
     found += [(f"bad rounds: {name}", bad_round, files, said) for name, files, said in BAD_ROUNDS]
-    found += [(f"lrup-trim {words}", refuses, words, status, said) for words, status, said in REFUSED]
+    found += [(f"lrup-trim {words}", refuses, words, status, said)
+              for words, status, said in REFUSED]
     for limit in (0, 20000, 200000):
-        found += [(f"files of {limit} bytes {options}", full, limit, options) for options in ([], ["--re-hint"])]
+        found += [(f"files of {limit} bytes {options}", full, limit, options)
+                  for options in ([], ["--re-hint"])]
     found += [*rows_of_records(), *((f"random {seed}", at_random, seed) for seed in range(count))]
     found += [(f"satisfiable {number}", satisfiable, number) for number in range(count // 3)]
     return [*found, *((f"garbled {number}", garbled, number) for number in range(count))]

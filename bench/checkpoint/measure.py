@@ -53,7 +53,8 @@ def write_formula(path, clauses, literals):
 
 def best(program, formula, out):
     """For each way of saving the best pass, in milliseconds."""
-    lines = subprocess.run([program, formula, out], check=True, capture_output=True, text=True).stdout.splitlines()
+    lines = subprocess.run([program, formula, out], check=True, capture_output=True,
+                           text=True).stdout.splitlines()
     found = {}
     for way, saved, nanoseconds, _ in map(str.split, lines):
         if saved != "true":
@@ -63,7 +64,8 @@ def best(program, formula, out):
 
 
 def main():
-    parser = argparse.ArgumentParser(description=__doc__, formatter_class=argparse.RawDescriptionHelpFormatter)
+    parser = argparse.ArgumentParser(description=__doc__,
+                                     formatter_class=argparse.RawDescriptionHelpFormatter)
     parser.add_argument("--rounds", type=int, default=5)
     parser.add_argument("--clauses", type=int, default=1_000_000)
     parser.add_argument("--literals", type=int, default=20)
@@ -73,14 +75,20 @@ def main():
         ours, theirs = build(arguments.programs or work)
         formula = os.path.join(work, "formula.cnf")
         write_formula(formula, arguments.clauses, arguments.literals)
-        print(f"{'best pass, ms':14} {'plain map':>10} {'store':>8} {'C':>8} {'fprintf':>8} {'store to C':>11}")
-        for name, files in (("/dev/null", ["/dev/null"] * 2), ("a file", [os.path.join(work, x) for x in ("a", "b")])):
-            rounds = [best(ours, formula, files[0]) | best(theirs, formula, files[1]) for _ in range(arguments.rounds)]
-            if name == "a file" and not (filecmp.cmp(formula, files[0], False) and filecmp.cmp(formula, files[1], False)):
+        print(f"{'best pass, ms':14} {'plain map':>10} {'store':>8} {'C':>8} {'fprintf':>8} "
+              f"{'store to C':>11}")
+        for name, files in (("/dev/null", ["/dev/null"] * 2),
+                            ("a file", [os.path.join(work, x) for x in ("a", "b")])):
+            rounds = [best(ours, formula, files[0]) | best(theirs, formula, files[1])
+                      for _ in range(arguments.rounds)]
+            if name == "a file" and not (filecmp.cmp(formula, files[0], False)
+                                         and filecmp.cmp(formula, files[1], False)):
                 raise SystemExit("the files differ")
             figures = {way: statistics.median(found[way] for found in rounds) for way in rounds[0]}
-            plain, store, hand, library = (figures[way] for way in ("plain", "store", "hand", "fprintf"))
-            print(f"{name:14} {plain:10.0f} {store:8.0f} {hand:8.0f} {library:8.0f} {store / hand:11.2f}", flush=True)
+            plain, store, hand, library = (figures[way]
+                                           for way in ("plain", "store", "hand", "fprintf"))
+            print(f"{name:14} {plain:10.0f} {store:8.0f} {hand:8.0f} {library:8.0f} "
+                  f"{store / hand:11.2f}", flush=True)
         print("load average", *(f"{load:.1f}" for load in os.getloadavg()))
 
 

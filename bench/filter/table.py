@@ -23,7 +23,8 @@ from measure import run
 
 ROOT = os.path.join(HERE, "..", "..")
 GENERATOR = os.path.join(ROOT, "examples", "solver", "generate.py")
-FORMULAS = [("random 200 2", "random 3-SAT, 200 variables"), ("random 200 3", "random 3-SAT, another"),
+FORMULAS = [("random 200 2", "random 3-SAT, 200 variables"),
+            ("random 200 3", "random 3-SAT, another"),
             ("pigeons 8", "pigeonholes, 8"), ("bmc.cnf", "the bounded model check")]
 REFUTED = 20 << 8       # a solver's status, as wait returns it
 
@@ -104,8 +105,11 @@ def main():
         work = given.work or temporary
         os.makedirs(work, exist_ok=True)
         check = os.path.join(HERE, "..", "program", "check.c")
-        subprocess.run(compiler + ["-std=c11", "-O2", "-pthread", "-o", os.path.join(work, "check"), check], check=True)
-        print("| Formula | Lines | `check.c`, s | Exact hints | Shuffled | As many more | CaDiCaL, s | DRAT text | Binary DRAT |")
+        subprocess.run(
+            compiler + ["-std=c11", "-O2", "-pthread", "-o", os.path.join(work, "check"), check],
+            check=True)
+        print("| Formula | Lines | `check.c`, s | Exact hints | Shuffled | As many more | CaDiCaL, "
+              "s | DRAT text | Binary DRAT |")
         print("|---|---|---|---|---|---|---|---|---|", flush=True)
         for words, title in FORMULAS:
             commands, lines = commands_of(given, words, work)
@@ -113,9 +117,12 @@ def main():
             for _ in range(given.rounds):
                 for name, command in commands.items():
                     least[name] = min(least[name], wanted(*command)[0])
-            to_check = " | ".join(f"{least[name] / least['check']:.2f}" for name in ("exact", "shuffled", "more"))
-            to_solver = " | ".join(f"{least[name] / least['solver']:.2f}" for name in ("text", "binary"))
-            print(f"| {title} | {lines:,} | {least['check']:.3f} | {to_check} | {least['solver']:.3f} | {to_solver} |", flush=True)
+            to_check = " | ".join(f"{least[name] / least['check']:.2f}"
+                                  for name in ("exact", "shuffled", "more"))
+            to_solver = " | ".join(f"{least[name] / least['solver']:.2f}"
+                                   for name in ("text", "binary"))
+            print(f"| {title} | {lines:,} | {least['check']:.3f} | {to_check} | "
+                  f"{least['solver']:.3f} | {to_solver} |", flush=True)
 
 
 main()

@@ -31,12 +31,13 @@ import acl2
 from measure import run
 
 KINDS = (acl2.INCREMENTAL, acl2.STOBJ)
-FORMULAS = ("pigeons 8", "random 200 8", "commute 6", "squares 7", "pipeline 4 8", "gripper 6 10", "factor 268435399", "random 250 8",
-            "divide 12", "commute 7", "pigeons 9", "sort 6 4")
+FORMULAS = ("pigeons 8", "random 200 8", "commute 6", "squares 7", "pipeline 4 8", "gripper 6 10",
+            "factor 268435399", "random 250 8", "divide 12", "commute 7", "pigeons 9", "sort 6 4")
 FAULTY = 50
 SHORTEST = 0.05     # seconds
 # ACL2's incremental checker skips a literal after a line end or a tab.
-SATISFIABLE = {"a clause over two lines": "p cnf 2 2\n1\n2 0\n-1 0\n", "a tab in a clause": "p cnf 2 2\n1\t2 0\n-1 0\n"}
+SATISFIABLE = {"a clause over two lines": "p cnf 2 2\n1\n2 0\n-1 0\n",
+               "a tab in a clause": "p cnf 2 2\n1\t2 0\n-1 0\n"}
 ITS_PROOF = "3 0 1 2 0\n"
 
 
@@ -64,9 +65,12 @@ def solved(given, words, work):
     name = os.path.join(work, words.replace(" ", "-"))
     formula, kept = name + ".cnf", name + ".kept"
     with open(formula, "w") as out:
-        subprocess.run([sys.executable, os.path.join(HERE, "..", "solve", "formulas.py"), *words.split()], stdout=out, check=True)
+        subprocess.run([sys.executable, os.path.join(HERE, "..", "solve", "formulas.py"),
+                        *words.split()],
+                       stdout=out, check=True)
     if not os.path.exists(os.path.join(kept, "command")):
-        said = output_of([given.solve, "--lrupd", given.program, "-q", "-j", "2", "--proofs", kept, formula])
+        said = output_of([given.solve, "--lrupd", given.program, "-q", "-j", "2", "--proofs",
+                          kept, formula])
         if said != "s UNSATISFIABLE\n":
             sys.exit(f"lrup-solve on {words}: {said}")
     return formula, name + ".lrat", trimmed(given, formula, [kept], name + ".lrat")
@@ -103,15 +107,18 @@ def time_formula(given, words, work):
     c = [os.path.join(work, "check"), *lrupd[1:3], formula, proof]
     least = dict.fromkeys(("lrupd", "--serial", "check.c", *KINDS), float("inf"))
     for _ in range(given.rounds):
-        for name, command in (("lrupd", lrupd), ("--serial", [lrupd[0], "--serial", *lrupd[1:]]), ("check.c", c)):
+        for name, command in (("lrupd", lrupd), ("--serial", [lrupd[0], "--serial", *lrupd[1:]]),
+                              ("check.c", c)):
             least[name] = min(least[name], user_time(command)[0])
         for kind in KINDS:
             least[kind] = min(least[kind], verified_time(kind, *own[kind]))
     with open(proof, "rb") as lines:
         steps = sum(1 for _ in lines)
-    ratios = [ratio(least["lrupd"], least["check.c"]), *(ratio(least[kind], least["lrupd"]) for kind in KINDS)]
-    print(f"| {words} | {steps:,} | {os.path.getsize(proof) / 1e6:.1f} | " + " | ".join(f"{seconds:.2f}" for seconds in least.values()) +
-          " | " + " | ".join(ratios) + " |", flush=True)
+    ratios = [ratio(least["lrupd"], least["check.c"]),
+              *(ratio(least[kind], least["lrupd"]) for kind in KINDS)]
+    print(f"| {words} | {steps:,} | {os.path.getsize(proof) / 1e6:.1f} | "
+          + " | ".join(f"{seconds:.2f}" for seconds in least.values()) + " | "
+          + " | ".join(ratios) + " |", flush=True)
 
 
 # Faulty proofs.
@@ -127,7 +134,8 @@ class Line:
         self.identity, self.literals, self.hints = words[0], words[1:end], words[end + 1:-1]
 
     def __str__(self):
-        return self.text if self.is_deletion else " ".join([self.identity, *self.literals, "0", *self.hints, "0"])
+        return (self.text if self.is_deletion
+                else " ".join([self.identity, *self.literals, "0", *self.hints, "0"]))
 
 
 def place(numbers, items):
@@ -145,21 +153,27 @@ def negated(word):
 # Each changes a line with literals and at least two hints, not the last line.
 FAULTS = {
     "a hint left out": lambda line, numbers: line.hints.pop(place(numbers, line.hints)),
-    "two hints in another order": lambda line, numbers: line.hints.insert(place(numbers, line.hints[1:]), line.hints.pop()),
-    "another clause as hint": lambda line, numbers: line.hints.__setitem__(place(numbers, line.hints), other_clause(numbers, line)),
-    "a hint after the conflict": lambda line, numbers: line.hints.append(other_clause(numbers, line)),
+    "two hints in another order": lambda line, numbers: line.hints.insert(
+        place(numbers, line.hints[1:]), line.hints.pop()),
+    "another clause as hint": lambda line, numbers: line.hints.__setitem__(
+        place(numbers, line.hints), other_clause(numbers, line)),
+    "a hint after the conflict": lambda line, numbers: line.hints.append(
+        other_clause(numbers, line)),
     "a negative hint": lambda line, numbers: line.hints.append(negated(line.hints.pop())),
     "a literal left out": lambda line, numbers: line.literals.pop(place(numbers, line.literals)),
     "a literal negated": lambda line, numbers: line.literals.append(negated(line.literals.pop())),
     "a literal twice": lambda line, numbers: line.literals.append(numbers.choice(line.literals)),
-    "an id that was used": lambda line, numbers: setattr(line, "identity", other_clause(numbers, line)),
+    "an id that was used": lambda line, numbers: setattr(line, "identity",
+                                                         other_clause(numbers, line)),
 }
 # Each changes the list at a line's place.
 LIST_FAULTS = {
     "a line left out": lambda lines, at, numbers: lines.pop(at),
     "a line twice": lambda lines, at, numbers: lines.insert(at, lines[at]),
-    "a deletion too early": lambda lines, at, numbers: lines.insert(at, Line(f"{int(lines[at].identity) - 1} d {lines[at].hints[0]} 0")),
-    "a deletion twice": lambda lines, at, numbers: lines.insert(at, next(line for line in lines[at:] if line.is_deletion)),
+    "a deletion too early": lambda lines, at, numbers: lines.insert(
+        at, Line(f"{int(lines[at].identity) - 1} d {lines[at].hints[0]} 0")),
+    "a deletion twice": lambda lines, at, numbers: lines.insert(
+        at, next(line for line in lines[at:] if line.is_deletion)),
     "the end cut off": lambda lines, at, numbers: lines.__delitem__(slice(at, None)),
 }
 DOUBLED = "a literal twice"
@@ -167,7 +181,8 @@ DOUBLED = "a literal twice"
 
 def faulty_proof(text, kind, numbers):
     lines = list(map(Line, text.splitlines()))
-    at = numbers.choice([k for k, line in enumerate(lines[:-1]) if line.literals and len(line.hints) > 1 and not line.is_deletion])
+    at = numbers.choice([k for k, line in enumerate(lines[:-1])
+                         if line.literals and len(line.hints) > 1 and not line.is_deletion])
     if kind in FAULTS:
         FAULTS[kind](lines[at], numbers)
     else:
@@ -177,7 +192,8 @@ def faulty_proof(text, kind, numbers):
 
 def verdicts(lrupd, formula, proofs, work):
     """For each proof whether lrupd and the two others accept it."""
-    ended = [subprocess.run([*lrupd[:-2], formula, proof], stdout=subprocess.PIPE, stderr=subprocess.PIPE) for proof in proofs]
+    ended = [subprocess.run([*lrupd[:-2], formula, proof], stdout=subprocess.PIPE,
+                            stderr=subprocess.PIPE) for proof in proofs]
     found = [[done.returncode == 0 for done in ended]]
     for kind in KINDS:
         own = []
@@ -192,7 +208,8 @@ def verdicts(lrupd, formula, proofs, work):
 def judge_faulty(given, work):
     """Uses the recorded streams of four solvers, so that each run has the same proofs."""
     formula, proof = os.path.join(EXAMPLES, "bmc.cnf"), os.path.join(work, "bmc.lrat")
-    lrupd = trimmed(given, formula, [os.path.join(EXAMPLES, f"bmc-four.{number}") for number in range(1, 5)], proof)
+    lrupd = trimmed(given, formula,
+                    [os.path.join(EXAMPLES, f"bmc-four.{number}") for number in range(1, 5)], proof)
     lrupd[1:5] = []     # the default sizes, with room for one more line
     with open(proof) as file:
         text = file.read()
@@ -203,12 +220,15 @@ def judge_faulty(given, work):
             file.write(faulty_proof(text, kinds[number % len(kinds)], random.Random(number)))
     for number, accepted in enumerate(verdicts(lrupd, formula, proofs, work)):
         found[kinds[number % len(kinds)]].append(accepted)
-    print("\n| One fault | Proofs | `lrupd` accepts | incremental | stobj-based |\n|---|---|---|---|---|")
+    print("\n| One fault | Proofs | `lrupd` accepts | incremental | stobj-based |\n"
+          "|---|---|---|---|---|")
     for kind, judged in found.items():
-        print(f"| {kind} | {len(judged)} | " + " | ".join(str(sum(column)) for column in zip(*judged)) + " |")
+        print(f"| {kind} | {len(judged)} | "
+              + " | ".join(str(sum(column)) for column in zip(*judged)) + " |")
     same = sum(len(set(one)) == 1 for judged in found.values() for one in judged)
     print(f"\n{same} of {FAULTY} times all three say the same.", flush=True)
-    wrong = [kind for kind, judged in found.items() if kind != DOUBLED and (True, False, False) in judged]
+    wrong = [kind for kind, judged in found.items()
+             if kind != DOUBLED and (True, False, False) in judged]
     if wrong:
         sys.exit(f"lrupd accepts what both others refuse: {', '.join(wrong)}")
 
@@ -218,16 +238,21 @@ def judge_faulty(given, work):
 
 def judge_satisfiable(given, work):
     """ACL2's checkers get the formula's bytes as they are, since this tests the parsers."""
-    print("\n| A satisfiable formula, with | `lrupd` | incremental | stobj-based |\n|---|---|---|---|")
+    print("\n| A satisfiable formula, with | `lrupd` | incremental | stobj-based |\n"
+          "|---|---|---|---|")
     for name, text in SATISFIABLE.items():
         for path, content in (("satisfiable", text), ("its-proof", ITS_PROOF)):
             with open(os.path.join(work, path), "w") as file:
                 file.write(content)
         formula, proof = os.path.join(work, "satisfiable"), file.name
-        is_accepted = subprocess.run([given.program, formula, proof], stdout=subprocess.DEVNULL).returncode == 0
-        steps = (acl2.converted(kind, formula, proof, os.path.join(work, kind))[1] for kind in KINDS)
-        own = (acl2.judged(kind, [(formula, path)])[0].is_verified for kind, path in zip(KINDS, steps))
-        print(f"| {name} | " + " | ".join("accepts" if one else "refuses" for one in (is_accepted, *own)) + " |", flush=True)
+        is_accepted = subprocess.run([given.program, formula, proof],
+                                     stdout=subprocess.DEVNULL).returncode == 0
+        steps = (acl2.converted(kind, formula, proof, os.path.join(work, kind))[1]
+                 for kind in KINDS)
+        own = (acl2.judged(kind, [(formula, path)])[0].is_verified
+               for kind, path in zip(KINDS, steps))
+        print(f"| {name} | " + " | ".join("accepts" if one else "refuses"
+                                          for one in (is_accepted, *own)) + " |", flush=True)
         if is_accepted:
             sys.exit("lrupd accepts a satisfiable formula")
 
@@ -245,11 +270,14 @@ def main():
         work = os.path.abspath(given.work or temporary)
         for kind in KINDS:
             os.makedirs(os.path.join(work, kind), exist_ok=True)
-        check, compiler = os.path.join(HERE, "..", "program", "check.c"), os.environ.get("CC", "cc").split()
-        subprocess.run([*compiler, "-std=c11", "-O2", "-pthread", "-o", os.path.join(work, "check"), check], check=True)
+        check, compiler = (os.path.join(HERE, "..", "program", "check.c"),
+                           os.environ.get("CC", "cc").split())
+        subprocess.run([*compiler, "-std=c11", "-O2", "-pthread", "-o", os.path.join(work, "check"),
+                        check], check=True)
         if given.rounds > 0:
-            print("| Formula | Steps | MB | `lrupd`, s | `--serial` | `check.c` | incremental | stobj-based | `lrupd` to C | "
-                  "incremental to `lrupd` | stobj-based |\n" + "|---" * 11 + "|", flush=True)
+            print("| Formula | Steps | MB | `lrupd`, s | `--serial` | `check.c` | incremental | "
+                  "stobj-based | `lrupd` to C | incremental to `lrupd` | stobj-based |\n"
+                  + "|---" * 11 + "|", flush=True)
         for words in FORMULAS if given.rounds > 0 else ():
             time_formula(given, words, work)
         judge_faulty(given, work)

@@ -114,17 +114,20 @@ def main():
     threading.excepthook = lambda _: None
     print(f"load {os.getloadavg()[0]:.1f}", flush=True)
     with tempfile.TemporaryDirectory() as folder:
-        print(f"64 silent pipes: {silent(folder):.2f} s of processor time in {SECONDS} s", flush=True)
+        print(
+            f"64 silent pipes: {silent(folder):.2f} s of processor time in {SECONDS} s", flush=True)
         for behind in [0, 300_000]:
             taken = behind_a_hint(folder, behind)
-            print(f"a hint that never comes, {behind:,} bytes after it: {taken:.2f} s in {SECONDS} s", flush=True)
+            print(
+                f"a hint that never comes, {behind:,} bytes after it: {taken:.2f} s in {SECONDS} s",
+                flush=True)
         late = [after_silence(folder) for _ in range(30)]
         print(f"from a line after 0.2 s of silence to the report: {spread(late)}", flush=True)
         for rate in [1_000, 10_000]:
             runs = [trickling(folder, rate) for _ in range(5)]
             line = statistics.median(taken for _, taken in runs)
-            print(f"{rate:,} lines a second: {line:.1f} us a line; from the last line to the report: "
-                  f"{spread([late for late, _ in runs])}", flush=True)
+            print(f"{rate:,} lines a second: {line:.1f} us a line; from the last line to the "
+                  f"report: {spread([late for late, _ in runs])}", flush=True)
     print(f"load {os.getloadavg()[0]:.1f}")
 
 

@@ -41,7 +41,8 @@ def main():
             results.append(run(command))
     if len({result[3] for results in found for result in results}) > 1:
         sys.exit("the outputs differ")
-    medians = [[statistics.median(column) for column in list(zip(*results))[:3]] for results in found]
+    medians = [[statistics.median(column) for column in list(zip(*results))[:3]]
+               for results in found]
     for name, one, other in zip(("wall", "processor", "memory"), *medians):
         print(f"{name:10} {one:10.3f} {other:10.3f}   ratio {one / other:.2f}")
 

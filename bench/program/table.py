@@ -89,8 +89,11 @@ def main():
         os.makedirs(work, exist_ok=True)
         check = os.path.join(work, "check")
         compiler = os.environ.get("CC", "cc").split()
-        subprocess.run(compiler + ["-std=c11", "-O2", "-pthread", "-o", check, os.path.join(HERE, "check.c")], check=True)
-        print("| Streams | MB | `--serial` | Threads, wall time | Threads, processor time | Seconds, ours with threads |")
+        subprocess.run(
+            compiler + ["-std=c11", "-O2", "-pthread", "-o", check, os.path.join(HERE, "check.c")],
+            check=True)
+        print("| Streams | MB | `--serial` | Threads, wall time | Threads, processor time | "
+              "Seconds, ours with threads |")
         print("|---|---|---|---|---|---|", flush=True)
         for words, count, name in SETS:
             formula, streams = make(work, os.path.abspath(given.solver), words, count)
@@ -100,11 +103,14 @@ def main():
             one = "-"
             # The solvers ran at the same time, so with --serial a cited clause may come too late.
             if run(program + ["--serial"] + files)[3][0].count(b", ended\n") == count:
-                ours, theirs = compare(program + ["--serial"] + files, checker + files, given.rounds)
+                ours, theirs = compare(program + ["--serial"] + files,
+                                       checker + files, given.rounds)
                 one = f"{ours[0] / theirs[0]:.2f}"
-            ours, theirs = compare(program + ["--tries", "1000000"] + files, checker + ["--threads"] + files, given.rounds)
+            ours, theirs = compare(program + ["--tries", "1000000"] + files,
+                                   checker + ["--threads"] + files, given.rounds)
             megabytes = sum(map(os.path.getsize, streams)) / 1e6
-            print(f"| {name} | {megabytes:.0f} | {one} | {ours[0] / theirs[0]:.2f} | {ours[1] / theirs[1]:.2f} | {ours[0]:.2f} |", flush=True)
+            print(f"| {name} | {megabytes:.0f} | {one} | {ours[0] / theirs[0]:.2f} | "
+                  f"{ours[1] / theirs[1]:.2f} | {ours[0]:.2f} |", flush=True)
 
 
 main()

@@ -18,9 +18,9 @@ import time
 sys.path.insert(0, os.path.dirname(os.path.dirname(os.path.abspath(__file__))))
 from building import build_proved
 
-CRATES = {"lrup_model": "", "lrup_text": "lrup_model itoa memchr thiserror", "propagate": "lrup_model",
-          "stream_check": "lrup_text propagate lrup_model", "idwords": "lrup_model atomic_table",
-          "clause_store": "idwords lrup_model",
+CRATES = {"lrup_model": "", "lrup_text": "lrup_model itoa memchr thiserror",
+          "propagate": "lrup_model", "stream_check": "lrup_text propagate lrup_model",
+          "idwords": "lrup_model atomic_table", "clause_store": "idwords lrup_model",
           "stream_threads": "clause_store stream_check lrup_text lrup_model rtrb crossbeam_utils"}
 
 
@@ -28,7 +28,8 @@ def build(folder):
     program = os.path.join(folder, "ring_bench")
     if not os.path.exists(program):
         with tempfile.TemporaryDirectory() as work:
-            shutil.copy(build_proved(work, "ring", "ring_bench", CRATES, "stream_threads lrup_text rtrb"), program)
+            shutil.copy(build_proved(work, "ring", "ring_bench", CRATES,
+                                     "stream_threads lrup_text rtrb"), program)
     return program
 
 
@@ -50,7 +51,8 @@ def median(program, rounds, *words):
 
 
 def main():
-    parser = argparse.ArgumentParser(description=__doc__, formatter_class=argparse.RawDescriptionHelpFormatter)
+    parser = argparse.ArgumentParser(description=__doc__,
+                                     formatter_class=argparse.RawDescriptionHelpFormatter)
     parser.add_argument("--rounds", type=int, default=5)
     parser.add_argument("--programs", metavar="FOLDER")
     arguments = parser.parse_args()
@@ -60,14 +62,16 @@ def main():
         for size, count in ((65_536, 30_000), (4_096, 200_000), (64, 2_000_000)):
             wall, busy = median(program, arguments.rounds, count, size, 0)
             nanos = 1e9 / (count * size)
-            print(f"{f'reads of {size:,} bytes':36} {wall * nanos:9.2f} {busy * nanos:10.2f}", flush=True)
+            print(f"{f'reads of {size:,} bytes':36} {wall * nanos:9.2f} {busy * nanos:10.2f}",
+                  flush=True)
         print(f"{'slow streams':36} {'elapsed':>9} {'processor':>10}")
         wall, busy = median(program, 1, 1, 20, 20_000_000)
         print(f"{'silent for 20 s, ms':36} {wall * 1e3:9.0f} {busy * 1e3:10.2f}", flush=True)
         for rate in (1_000, 10_000):
             lines = 5 * rate
             wall, busy = median(program, arguments.rounds, lines, 20, 1_000_000 // rate)
-            print(f"{f'a line each {1_000_000 // rate} us, us a line':36} {wall * 1e6 / lines:9.1f} {busy * 1e6 / lines:10.1f}", flush=True)
+            print(f"{f'a line each {1_000_000 // rate} us, us a line':36} "
+                  f"{wall * 1e6 / lines:9.1f} {busy * 1e6 / lines:10.1f}", flush=True)
         print("load average", *(f"{load:.1f}" for load in os.getloadavg()))
 
 

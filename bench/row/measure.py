@@ -20,7 +20,8 @@ import tempfile
 sys.path.insert(0, os.path.dirname(os.path.dirname(os.path.abspath(__file__))))
 from building import build_c, build_proved
 
-CRATES = {"lrup_model": "", "idwords": "lrup_model atomic_table", "clause_store": "idwords lrup_model"}
+CRATES = {"lrup_model": "", "idwords": "lrup_model atomic_table",
+          "clause_store": "idwords lrup_model"}
 
 # Three empty clauses, and four streams: 4 + 4 * (lines + room) is 2^27 words.
 LINES, ROOM, LOOKS = 6_710_886, 26_843_545, 262_144
@@ -39,7 +40,8 @@ def build(folder):
     programs = [os.path.join(folder, name) for name in ("row", "row_in_c")]
     if not all(map(os.path.exists, programs)):
         with tempfile.TemporaryDirectory() as work:
-            shutil.copy(build_proved(work, "row", "row", CRATES, "clause_store idwords lrup_model"), programs[0])
+            shutil.copy(build_proved(work, "row", "row", CRATES, "clause_store idwords lrup_model"),
+                        programs[0])
             shutil.copy(build_c(work, "row", "row"), programs[1])
     return programs
 
@@ -72,24 +74,29 @@ def measure_parts(ours, theirs, rounds):
         if len({str(them[-1][1]) for them in runs.values()}) > 1:
             raise SystemExit("the programs found different things")
     figures = {who: medians(them) for who, them in runs.items()}
-    print(f"{'best pass, ms':16} {'the row':>9} {'a desk':>9} {'C':>9} {'row to C':>10} {'desk to C':>10}")
+    print(f"{'best pass, ms':16} {'the row':>9} {'a desk':>9} {'C':>9} {'row to C':>10} "
+          f"{'desk to C':>10}")
     for name in figures["C"]:
         row, desk, c = (figures[who][name] for who in ("the row", "a desk", "C"))
-        print(f"{name:16} {row:9.1f} {desk:9.1f} {c:9.1f} {row / c:10.2f} {desk / c:10.2f}", flush=True)
+        print(f"{name:16} {row:9.1f} {desk:9.1f} {c:9.1f} {row / c:10.2f} {desk / c:10.2f}",
+              flush=True)
 
 
 def measure_opening(ours, theirs, rounds):
     print(f"{'opening':28} {'row, s':>8} {'C, s':>8} {'peak, MiB':>10} {'C, MiB':>8}")
     for name, row in ROWS.items():
-        pairs = [(opened := run(ours, "open", *row), run(theirs, "open", opened[1][-1][1])) for _ in range(rounds)]
+        pairs = [(opened := run(ours, "open", *row), run(theirs, "open", opened[1][-1][1]))
+                 for _ in range(rounds)]
         mine, other = (list(side) for side in zip(*pairs))
         seconds = [medians(side)["open"] / 1e3 for side in (mine, other)]
         peaks = [statistics.median(peak for _, _, peak in side) for side in (mine, other)]
-        print(f"{name:28} {seconds[0]:8.2f} {seconds[1]:8.2f} {peaks[0]:10.0f} {peaks[1]:8.0f}", flush=True)
+        print(f"{name:28} {seconds[0]:8.2f} {seconds[1]:8.2f} {peaks[0]:10.0f} {peaks[1]:8.0f}",
+              flush=True)
 
 
 def main():
-    parser = argparse.ArgumentParser(description=__doc__, formatter_class=argparse.RawDescriptionHelpFormatter)
+    parser = argparse.ArgumentParser(description=__doc__,
+                                     formatter_class=argparse.RawDescriptionHelpFormatter)
     parser.add_argument("--rounds", type=int, default=7)
     parser.add_argument("--programs", metavar="FOLDER")
     arguments = parser.parse_args()

@@ -8,7 +8,8 @@ LEFT, WIDTH, GAP, TOP, ROW = 235, 205, 30, 62, 17
 
 class Row(NamedTuple):
     title: str
-    ratios: List[Dict[int, float]]      # for each panel, by number of engines; empty for a family's heading
+    # For each panel, by number of engines; empty for a family's heading.
+    ratios: List[Dict[int, float]]
 
 
 class Panel:
@@ -24,12 +25,15 @@ class Panel:
         return self.left + WIDTH * (math.log2(ratio) - self.low) / (self.high - self.low)
 
     def frame(self, bottom: int) -> List[str]:
-        lines = [f'<text x="{self.left + WIDTH / 2}" y="{TOP - 22}" text-anchor="middle">{self.title}</text>']
+        lines = [f'<text x="{self.left + WIDTH / 2}" y="{TOP - 22}" '
+                 f'text-anchor="middle">{self.title}</text>']
         for power in range(self.low, self.high + 1):
             x, colour = self.at(2 ** power), "#d00000" if power == 0 else "#ddd"
             label = str(2 ** power) if power >= 0 else f"1/{2 ** -power}"
-            lines += [f'<line x1="{x:.1f}" y1="{TOP - 4}" x2="{x:.1f}" y2="{bottom}" stroke="{colour}"/>',
-                      f'<text x="{x:.1f}" y="{TOP - 8}" text-anchor="middle" font-size="10">{label}</text>']
+            lines += [
+                f'<line x1="{x:.1f}" y1="{TOP - 4}" x2="{x:.1f}" y2="{bottom}" stroke="{colour}"/>',
+                f'<text x="{x:.1f}" y="{TOP - 8}" text-anchor="middle" '
+                f'font-size="10">{label}</text>']
         return lines
 
     def dots(self, row: Row, y: int) -> List[str]:
@@ -47,23 +51,27 @@ def legend(engines: List[int], note: str) -> List[str]:
     lines = []
     for place, (colour, count) in enumerate(zip(COLOURS, engines)):
         x = LEFT + 100 * place
-        lines += [f'<circle cx="{x}" cy="14" r="4" fill="{colour}"/>', f'<text x="{x + 9}" y="18">{count} engine{"s" * (count > 1)}</text>']
+        lines += [f'<circle cx="{x}" cy="14" r="4" fill="{colour}"/>',
+                  f'<text x="{x + 9}" y="18">{count} engine{"s" * (count > 1)}</text>']
     return [*lines, f'<text x="{LEFT + 100 * len(engines)}" y="18" font-size="11">{note}</text>']
 
 
 def chart(rows: List[Row], titles: List[str], engines: List[int], note: str) -> str:
     bottom = TOP + ROW * len(rows)
     panels = [Panel(place, title, rows) for place, title in enumerate(titles)]
-    lines = [f'<svg xmlns="http://www.w3.org/2000/svg" width="{panels[-1].left + WIDTH + 16}" height="{bottom + 26}" '
-             'font-family="sans-serif" font-size="12">', '<rect width="100%" height="100%" fill="white"/>', *legend(engines, note)]
+    lines = [f'<svg xmlns="http://www.w3.org/2000/svg" width="{panels[-1].left + WIDTH + 16}" '
+             f'height="{bottom + 26}" font-family="sans-serif" font-size="12">',
+             '<rect width="100%" height="100%" fill="white"/>', *legend(engines, note)]
     for panel in panels:
         lines += panel.frame(bottom)
     for place, row in enumerate(rows):
         y = TOP + ROW * place + ROW // 2
         end, weight = (LEFT - 12, "normal") if row.ratios else (10, "bold")
         anchor = "end" if row.ratios else "start"
-        lines.append(f'<text x="{end}" y="{y + 4}" text-anchor="{anchor}" font-weight="{weight}">{row.title}</text>')
+        lines.append(f'<text x="{end}" y="{y + 4}" text-anchor="{anchor}" '
+                     f'font-weight="{weight}">{row.title}</text>')
         if row.ratios:
             lines += [dot for panel in panels for dot in panel.dots(row, y)]
-    lines.append(f'<text x="{LEFT}" y="{bottom + 18}" font-size="11" fill="#d00000">1: CaDiCaL alone, without a proof</text>')
+    lines.append(f'<text x="{LEFT}" y="{bottom + 18}" font-size="11" fill="#d00000">1: CaDiCaL '
+                 'alone, without a proof</text>')
     return "\n".join([*lines, "</svg>", ""])

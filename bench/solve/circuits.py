@@ -1,4 +1,5 @@
-"""Circuits, as clauses. Each function but `factor` makes two equal ones, and asks for a difference."""
+"""Circuits, as clauses. Each function but `factor` makes two equal ones, and asks for
+a difference."""
 
 
 class Circuit:
@@ -40,7 +41,8 @@ class Circuit:
 
     def choose(self, condition, then, other):
         """The first word if the condition is true, otherwise the second."""
-        return [self.either(self.both(condition, a), self.both(-condition, b)) for a, b in zip(then, other)]
+        return [self.either(self.both(condition, a), self.both(-condition, b))
+                for a, b in zip(then, other)]
 
     def sum(self, one, other, carry):
         """The sum, of as many bits, and the carry."""
@@ -108,7 +110,8 @@ def sort(count, bits):
 
     def exchange(words, place):
         swaps = circuit.less(words[place + 1], words[place])
-        low, high = circuit.choose(swaps, words[place + 1], words[place]), circuit.choose(swaps, words[place], words[place + 1])
+        low, high = (circuit.choose(swaps, words[place + 1], words[place]),
+                     circuit.choose(swaps, words[place], words[place + 1]))
         words[place:place + 2] = [low, high]
 
     bubbles, oddly = list(numbers), list(numbers)
@@ -127,17 +130,21 @@ def pipeline(steps, bits, registers=4):
     writes it two steps later."""
     circuit = Circuit()
     start = [circuit.word(bits) for _ in range(registers)]
-    code = [(circuit.fresh(), circuit.word(2), circuit.word(2), circuit.word(2)) for _ in range(steps)]
+    code = [(circuit.fresh(), circuit.word(2), circuit.word(2), circuit.word(2))
+            for _ in range(steps)]
 
     def read(words, register):
-        low = circuit.choose(register[0], words[1], words[0]), circuit.choose(register[0], words[3], words[2])
+        low = (circuit.choose(register[0], words[1], words[0]),
+               circuit.choose(register[0], words[3], words[2]))
         return circuit.choose(register[1], low[1], low[0])
 
     def write(words, register, value):
-        return [circuit.choose(circuit.equal(register, circuit.number(place, 2)), value, word) for place, word in enumerate(words)]
+        return [circuit.choose(circuit.equal(register, circuit.number(place, 2)), value, word)
+                for place, word in enumerate(words)]
 
     def compute(adds, one, other):
-        return circuit.choose(adds, circuit.sum(one, other, -circuit.true)[0], [circuit.differ(a, b) for a, b in zip(one, other)])
+        return circuit.choose(adds, circuit.sum(one, other, -circuit.true)[0],
+                              [circuit.differ(a, b) for a, b in zip(one, other)])
 
     words = start
     for adds, target, one, other in code:
@@ -177,7 +184,8 @@ def distribute(bits):
     circuit = Circuit()
     factor, one, other = (circuit.word(bits) for _ in range(3))
     together = circuit.product(circuit.sum(one, other, -circuit.true)[0], factor, bits)
-    apart = circuit.sum(circuit.product(one, factor, bits), circuit.product(other, factor, bits), -circuit.true)[0]
+    apart = circuit.sum(circuit.product(one, factor, bits), circuit.product(other, factor, bits),
+                        -circuit.true)[0]
     circuit.assert_differ(together, apart)
     return circuit.variables, circuit.clauses
 
@@ -186,7 +194,8 @@ def squares(bits):
     circuit = Circuit()
     one, other = circuit.word(bits), circuit.word(bits)
     total, difference = circuit.sum(one, other, -circuit.true)[0], circuit.difference(one, other)[0]
-    of_squares = circuit.difference(circuit.product(one, one, bits), circuit.product(other, other, bits))[0]
+    of_squares = circuit.difference(circuit.product(one, one, bits),
+                                    circuit.product(other, other, bits))[0]
     circuit.assert_differ(circuit.product(total, difference, bits), of_squares)
     return circuit.variables, circuit.clauses
 
@@ -200,6 +209,7 @@ def count(bits):
     parts = [[bit, *none[1:]] for bit in word]
     while len(parts) > 1:
         pairs = zip(parts[::2], parts[1::2])
-        parts = [circuit.sum(one, other, -circuit.true)[0] for one, other in pairs] + parts[len(parts) // 2 * 2:]
+        parts = ([circuit.sum(one, other, -circuit.true)[0] for one, other in pairs]
+                 + parts[len(parts) // 2 * 2:])
     circuit.assert_differ(total, parts[0])
     return circuit.variables, circuit.clauses

@@ -27,8 +27,10 @@ module register(input clk, output reg [31:0] state, output wrong);
 endmodule
 """
 # The formulas that table.py times.
-FORMULAS = ["units 60000", "units 60000 reversed", "failed 70000", "corridor 300 250", "lfsr 32 20000 reversed", "simulation 400"]
-SCRIPT = "read_verilog {folder}/register.v; prep -top register; sat -timeout 1 -seq {steps} -set-at {steps} wrong 1 -dump_cnf {folder}/cnf"
+FORMULAS = ["units 60000", "units 60000 reversed", "failed 70000", "corridor 300 250",
+            "lfsr 32 20000 reversed", "simulation 400"]
+SCRIPT = ("read_verilog {folder}/register.v; prep -top register; sat -timeout 1 -seq {steps} "
+          "-set-at {steps} wrong 1 -dump_cnf {folder}/cnf")
 
 
 def units(variables):
@@ -62,7 +64,8 @@ def corridor(cells, horizon):
     clauses = [(at(0, 0),), *((-at(cell, 0),) for cell in range(1, cells + 1))]
     for time in range(horizon):
         for cell in range(cells + 1):
-            reasons = [at(cell, time)] + [right(cell - 1, time)] * (cell > 0) + [left(cell + 1, time)] * (cell < cells)
+            reasons = ([at(cell, time)] + [right(cell - 1, time)] * (cell > 0)
+                       + [left(cell + 1, time)] * (cell < cells))
             clauses.append((-at(cell, time + 1), *reasons))
             for step, target in ((right(cell, time), cell + 1), (left(cell, time), cell - 1)):
                 clauses.append((-step, at(cell, time)))
@@ -74,12 +77,14 @@ def corridor(cells, horizon):
 def lfsr(bits, steps):
     """Each step shifts the state, and adds the exclusive or of its first and its last bit."""
     state, value = list(range(1, bits + 1)), [1] + [0] * (bits - 1)
-    variables, clauses = bits, [(variable if bit else -variable,) for variable, bit in zip(state, value)]
+    variables, clauses = bits, [(variable if bit else -variable,)
+                                for variable, bit in zip(state, value)]
     for _ in range(steps):
         variables += 1
         one, other = state[0], state[-1]
         clauses += [(-variable_sign * variables, one * one_sign, other * other_sign)
-                    for variable_sign, one_sign, other_sign in ((1, 1, 1), (1, -1, -1), (-1, 1, -1), (-1, -1, 1))]
+                    for variable_sign, one_sign, other_sign in ((1, 1, 1), (1, -1, -1),
+                                                                (-1, 1, -1), (-1, -1, 1))]
         state, value = [*state[1:], variables], [*value[1:], value[0] ^ value[-1]]
     clauses.append(tuple(-variable if bit else variable for variable, bit in zip(state, value)))
     return variables, clauses
@@ -90,7 +95,8 @@ def simulation(steps):
     with tempfile.TemporaryDirectory() as name:
         folder = Path(name)
         (folder / "register.v").write_text(VERILOG)
-        subprocess.run(["yosys", "-q", "-p", SCRIPT.format(folder=folder, steps=steps)], check=True, stdout=subprocess.DEVNULL)
+        subprocess.run(["yosys", "-q", "-p", SCRIPT.format(folder=folder, steps=steps)], check=True,
+                       stdout=subprocess.DEVNULL)
         return (folder / "cnf").read_text()
 
 
@@ -100,7 +106,8 @@ KINDS = {"units": (units, 1), "failed": (failed, 1), "corridor": (corridor, 2), 
 def dimacs(kind, *numbers, backwards=False):
     """The formula's text."""
     variables, clauses = KINDS[kind][0](*numbers)
-    lines = [" ".join(map(str, clause)) + " 0" for clause in (reversed(clauses) if backwards else clauses)]
+    lines = [" ".join(map(str, clause)) + " 0"
+             for clause in (reversed(clauses) if backwards else clauses)]
     return "\n".join([f"p cnf {variables} {len(lines)}", *lines, ""])
 
 

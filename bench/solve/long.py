@@ -15,8 +15,10 @@ import time
 from pathlib import Path
 from typing import Dict, List, NamedTuple, Tuple
 
-ROUND = re.compile(r"^c round (\d+): ([\d,]+) clauses .* in a row of ([\d,]+) words; ([\d,]+) carried over; a pause of ([\d.]+) s", re.M)
-COLOURS = {"engine 1": "#1f5a8a", "engine 2": "#4f94c4", "filter 1": "#a35a00", "filter 2": "#d99b3d", "lrupd": "#3a7d44"}
+ROUND = re.compile(r"^c round (\d+): ([\d,]+) clauses .* in a row of ([\d,]+) words; ([\d,]+) "
+                   r"carried over; a pause of ([\d.]+) s", re.M)
+COLOURS = {"engine 1": "#1f5a8a", "engine 2": "#4f94c4", "filter 1": "#a35a00",
+           "filter 2": "#d99b3d", "lrupd": "#3a7d44"}
 WIDTH, HEIGHT, LEFT = 640, 180, 60
 
 
@@ -33,7 +35,8 @@ Samples = Dict[str, List[Tuple[float, float]]]      # by the process's name: sec
 
 def rounds_of(text: str) -> List[Round]:
     found = [[word.replace(",", "") for word in match.groups()] for match in ROUND.finditer(text)]
-    return [Round(int(number), int(clauses), int(words), int(carried), float(pause)) for number, clauses, words, carried, pause in found]
+    return [Round(int(number), int(clauses), int(words), int(carried), float(pause))
+            for number, clauses, words, carried, pause in found]
 
 
 def children_of(pid: str) -> List[str]:
@@ -45,8 +48,10 @@ def children_of(pid: str) -> List[str]:
 def look(pid: int, began: float, samples: Samples) -> None:
     try:
         for child in [str(pid), *children_of(str(pid))]:
-            facts = dict(re.findall(r"^(\w+):\s+(.*)$", Path(f"/proc/{child}/status").read_text(), re.M))
-            samples.setdefault(facts["Name"], []).append((time.monotonic() - began, int(facts["RssAnon"].split()[0]) / 1000))
+            facts = dict(re.findall(r"^(\w+):\s+(.*)$",
+                                    Path(f"/proc/{child}/status").read_text(), re.M))
+            samples.setdefault(facts["Name"], []).append((time.monotonic() - began,
+                                                          int(facts["RssAnon"].split()[0]) / 1000))
     except (OSError, KeyError):
         pass        # it has ended
 
@@ -54,7 +59,8 @@ def look(pid: int, began: float, samples: Samples) -> None:
 def axes(top: int, title: str, most: float, unit: str) -> List[str]:
     return [f'<text x="{LEFT}" y="{top - 8}" font-size="12">{title}</text>',
             f'<path d="M{LEFT} {top}V{top + HEIGHT}H{LEFT + WIDTH}" fill="none" stroke="#888"/>',
-            f'<text x="{LEFT - 6}" y="{top + 10}" text-anchor="end" font-size="10">{most:,.0f}{unit}</text>',
+            f'<text x="{LEFT - 6}" y="{top + 10}" text-anchor="end" '
+            f'font-size="10">{most:,.0f}{unit}</text>',
             f'<text x="{LEFT - 6}" y="{top + HEIGHT}" text-anchor="end" font-size="10">0</text>']
 
 
@@ -64,27 +70,33 @@ def chart(rounds: List[Round], samples: Samples) -> str:
     lines = axes(30, "clauses carried over, by round", most, "")
     for k, one in enumerate(rounds):
         height = HEIGHT * one.carried / most
-        lines.append(f'<rect x="{LEFT + k * step + 1:.1f}" y="{30 + HEIGHT - height:.1f}" width="{step - 2:.1f}" height="{height:.1f}" '
-                     f'fill="#1f5a8a"/>')
+        lines.append(f'<rect x="{LEFT + k * step + 1:.1f}" y="{30 + HEIGHT - height:.1f}" '
+                     f'width="{step - 2:.1f}" height="{height:.1f}" fill="#1f5a8a"/>')
     top, last = 60 + HEIGHT, max(at for points in samples.values() for at, _ in points)
     size = max(much for name in COLOURS for _, much in samples.get(name, [(0, 0)]))
     lines += axes(top, f"memory of each process, over {last / 60:.0f} minutes", size, " MB")
     for k, (name, colour) in enumerate(COLOURS.items()):
-        points = " ".join(f"{LEFT + WIDTH * at / last:.1f},{top + HEIGHT - HEIGHT * much / size:.1f}" for at, much in samples.get(name, []))
+        points = " ".join(
+            f"{LEFT + WIDTH * at / last:.1f},{top + HEIGHT - HEIGHT * much / size:.1f}"
+            for at, much in samples.get(name, []))
         lines += [f'<polyline points="{points}" fill="none" stroke="{colour}"/>',
-                  f'<text x="{LEFT + 120 * k}" y="{top + HEIGHT + 18}" font-size="11" fill="{colour}">{name}</text>']
-    head = f'<svg xmlns="http://www.w3.org/2000/svg" width="{LEFT + WIDTH + 20}" height="{top + HEIGHT + 30}" font-family="sans-serif">'
+                  f'<text x="{LEFT + 120 * k}" y="{top + HEIGHT + 18}" font-size="11" '
+                  f'fill="{colour}">{name}</text>']
+    head = (f'<svg xmlns="http://www.w3.org/2000/svg" width="{LEFT + WIDTH + 20}" '
+            f'height="{top + HEIGHT + 30}" font-family="sans-serif">')
     return "\n".join([head, *lines, "</svg>", ""])
 
 
 def main() -> None:
-    arguments = argparse.ArgumentParser(description=__doc__, formatter_class=argparse.RawDescriptionHelpFormatter)
+    arguments = argparse.ArgumentParser(description=__doc__,
+                                        formatter_class=argparse.RawDescriptionHelpFormatter)
     for name, usual in (("--time", "1200"), ("--memory", "64M"), ("--engines", "2"), ("--svg", "")):
         arguments.add_argument(name, default=usual)
     for name in ("solve", "lrupd", "formula"):
         arguments.add_argument(name)
     given = arguments.parse_args()
-    words = [given.solve, "--lrupd", given.lrupd, "-v", "-j", given.engines, "--memory", given.memory, "--time", given.time, given.formula]
+    words = [given.solve, "--lrupd", given.lrupd, "-v", "-j", given.engines, "--memory",
+             given.memory, "--time", given.time, given.formula]
     run = subprocess.Popen(words, stdout=subprocess.PIPE, text=True)
     samples: Samples = {}
     said: List[str] = []
@@ -97,8 +109,8 @@ def main() -> None:
         reading.join(5)
     status, rounds = run.wait(), rounds_of("".join(said))
     for one in rounds:
-        print(f"round {one.number}: row {one.words:,} words, {one.clauses:,} clauses, {one.carried:,} carried over, "
-              f"pause {one.pause:.2f} s")
+        print(f"round {one.number}: row {one.words:,} words, {one.clauses:,} clauses, "
+              f"{one.carried:,} carried over, pause {one.pause:.2f} s")
     for letter in "cs":
         print([line for line in said if line.startswith(letter)][-1], end="")
     for name, points in samples.items():

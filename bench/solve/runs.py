@@ -81,7 +81,8 @@ def numbers(pattern: str, text: str) -> List[float]:
 def parts_of(said: str) -> Dict[str, float]:
     """The shares of processor time that `lrup-solve -v` prints."""
     pairs = re.findall(r"^c engine \d+: ([\d.]+) s, its filter ([\d.]+) s", said, re.M)
-    engines, filters, lrupd = numbers(r"s of processor time: engines ([\d.]+), filters ([\d.]+), lrupd ([\d.]+)", said)
+    engines, filters, lrupd = numbers(
+        r"s of processor time: engines ([\d.]+), filters ([\d.]+), lrupd ([\d.]+)", said)
     verdict, = numbers(r"the verdict came ([\d.]+) s after", said)
     most = max(engines, 0.01)       # the least time that is printed
     path = max(float(part) for pair in pairs for part in pair)
@@ -94,7 +95,9 @@ class Bench:
     def __init__(self, solve: str, lrupd: str, limit: int, results: str) -> None:
         self.solve, self.lrupd, self.limit, self.path = solve, lrupd, limit, results
         self.results: List[Result] = []
-        digest = hashlib.sha256(b"".join(Path(program).read_bytes() for program in (shutil.which("cadical") or "cadical", solve, lrupd)))
+        digest = hashlib.sha256(
+            b"".join(Path(program).read_bytes()
+                     for program in (shutil.which("cadical") or "cadical", solve, lrupd)))
         self.programs = {"programs": digest.hexdigest()[:16]}
         if results and os.path.exists(results):
             self.read()
@@ -118,26 +121,31 @@ class Bench:
                 out.write(json.dumps(line) + "\n")
 
     def of(self, formula: Formula, engines: int, most_others: float) -> List[Result]:
-        return [one for one in self.results if (one.words, one.engines) == (formula.words, engines) and one.others <= most_others]
+        return [one for one in self.results if (one.words, one.engines) == (formula.words, engines)
+                and one.others <= most_others]
 
     def command(self, path: str, engines: int) -> List[str]:
         if engines == ALONE:
             return ["cadical", "-q", "-n", "-t", str(self.limit), path]
-        return [self.solve, "--lrupd", self.lrupd, "-v", "-j", str(engines), "--time", str(self.limit), path]
+        return [self.solve, "--lrupd", self.lrupd, "-v", "-j", str(engines), "--time",
+                str(self.limit), path]
 
     def measure(self, formula: Formula, path: str, engines: int) -> Result:
         began, busy, own = time.monotonic(), busy_seconds(), own_seconds()
         status, said = run(self.command(path, engines))
         clock, processor = time.monotonic() - began, own_seconds() - own
-        others = max(0.0, (busy_seconds() - busy - processor) / max(clock, MOMENT))      # both are in hundredths of a second
+        # Both are in hundredths of a second.
+        others = max(0.0, (busy_seconds() - busy - processor) / max(clock, MOMENT))
         parts = {"path": processor, "filters": 0.0, "lrupd": 0.0, "verdict": 0.0}
         if engines != ALONE and status == UNSATISFIABLE:
             parts = parts_of(said)
         if status != UNSATISFIABLE:
-            print(f"{formula.words}, {engines} engines: status {status}\n{said[-2000:]}", file=sys.stderr)
+            print(f"{formula.words}, {engines} engines: status {status}\n{said[-2000:]}",
+                  file=sys.stderr)
         result = Result(formula.words, engines, status, others, clock, processor, **parts)
         self.results.append(result)
-        self.write({name: round(value, 4) if isinstance(value, float) else value for name, value in result._asdict().items()})
+        self.write({name: round(value, 4) if isinstance(value, float) else value
+                    for name, value in result._asdict().items()})
         return result
 
 

@@ -42,16 +42,19 @@ CORES = os.cpu_count() or 1
 EASY = "easy"
 TIMES, SECONDS = 3, 0.2     # the limit for easy formulas: CaDiCaL's time, times TIMES, plus SECONDS
 MEASURES = {"By the clock": "clock", "Longest part": "path", "All": "processor"}
-SHARES = {"Verdict after, s": "verdict", "`lrupd` by engines": "lrupd", "Filters by engines": "filters"}
+SHARES = {"Verdict after, s": "verdict", "`lrupd` by engines": "lrupd",
+          "Filters by engines": "filters"}
 Medians = Dict[int, Optional[Result]]
 Cells = List[Optional[float]]
 
 
 def arguments() -> argparse.Namespace:
-    parser = argparse.ArgumentParser(description=__doc__, formatter_class=argparse.RawDescriptionHelpFormatter)
+    parser = argparse.ArgumentParser(description=__doc__,
+                                     formatter_class=argparse.RawDescriptionHelpFormatter)
     for name, usual in (("--rounds", 3), ("--limit", 600), ("--others", math.inf)):
         parser.add_argument(name, type=type(usual), default=usual)
-    for name, usual in (("--results", ""), ("--formulas", ""), ("--engines", "1,2,4"), ("--svg", ""), ("--work", "")):
+    for name, usual in (("--results", ""), ("--formulas", ""), ("--engines", "1,2,4"),
+                        ("--svg", ""), ("--work", "")):
         parser.add_argument(name, default=usual)
     parser.add_argument("--easy", action="store_true")
     parser.add_argument("solve")
@@ -67,9 +70,11 @@ def chosen(given: argparse.Namespace) -> List[Formula]:
         import easy
         every = [Formula(words, words, EASY) for words in easy.FORMULAS]
     else:
-        every = [Formula(words, title, family) for family, its in formulas.FAMILIES.items() for words, title in its]
+        every = [Formula(words, title, family) for family, its in formulas.FAMILIES.items()
+                 for words, title in its]
     wanted = set(given.formulas)
-    found = [one for one in every if not wanted or wanted & {one.family, one.words, one.words.split()[0]}]
+    found = [one for one in every if not wanted
+             or wanted & {one.family, one.words, one.words.split()[0]}]
     return found or sys.exit(f"no formula is called {' or '.join(given.formulas)}")
 
 
@@ -79,7 +84,8 @@ def make(formula: Formula, folder: str) -> str:
     path = os.path.join(folder, formula.words.replace(" ", "-") + ".cnf")
     script = "easy.py" if formula.family == EASY else "formulas.py"
     with open(path, "w") as out:
-        made = subprocess.run([sys.executable, os.path.join(HERE, script), *formula.words.split()], stdout=out)
+        made = subprocess.run(
+            [sys.executable, os.path.join(HERE, script), *formula.words.split()], stdout=out)
     return path if made.returncode == 0 else ""
 
 
@@ -97,26 +103,33 @@ def wait_for_quiet(most: float) -> float:
 def measure(given: argparse.Namespace, bench: Bench, every: List[Formula], folder: str) -> None:
     for turn in range(1, given.rounds + 1):
         for formula in every:
-            missing = [engines for engines in [ALONE, *given.engines] if len(bench.of(formula, engines, given.others)) < turn]
+            missing = [engines for engines in [ALONE, *given.engines]
+                       if len(bench.of(formula, engines, given.others)) < turn]
             if not missing:
                 continue
             path = make(formula, folder)
             if not path:
                 print(f"{formula.words} can't be made, and is left out", file=sys.stderr)
                 continue
-            print(f"round {turn}, {formula.words}: other work has {wait_for_quiet(given.others):.1f} of {CORES} cores", file=sys.stderr)
+            print(f"round {turn}, {formula.words}: other work has "
+                  f"{wait_for_quiet(given.others):.1f} of {CORES} cores",
+                  file=sys.stderr)
             for engines in missing:
                 result = bench.measure(formula, path, engines)
-                print(f"    {engines or 'CaDiCaL alone'}: {result.clock:.2f} s by the clock, {result.processor:.2f} of processor time; "
-                      f"other work had {result.others:.1f} cores", file=sys.stderr)
+                print(f"    {engines or 'CaDiCaL alone'}: {result.clock:.2f} s by the clock, "
+                      f"{result.processor:.2f} of processor time; other work had "
+                      f"{result.others:.1f} cores",
+                      file=sys.stderr)
 
 
 def median(results: List[Result]) -> Optional[Result]:
     """The medians of the runs; none if there is no run, or one found no answer."""
     if not results or any(result.status != UNSATISFIABLE for result in results):
         return None
-    middle = {name: statistics.median(getattr(result, name) for result in results) for name in Result._fields[2:]}
-    return Result(results[0].words, results[0].engines, **{**middle, "others": max(result.others for result in results)})
+    middle = {name: statistics.median(getattr(result, name) for result in results)
+              for name in Result._fields[2:]}
+    return Result(results[0].words, results[0].engines,
+                  **{**middle, "others": max(result.others for result in results)})
 
 
 def shown(value: Optional[float], digits: int = 2) -> str:
@@ -138,7 +151,8 @@ def counted(engines: int) -> str:
 
 def ratio(medians: Medians, engines: int, name: str) -> Optional[float]:
     alone, its = medians[ALONE], medians[engines]
-    return max(getattr(its, name), 0.01) / max(getattr(alone, name), 0.01) if alone and its else None
+    return (max(getattr(its, name), 0.01) / max(getattr(alone, name), 0.01)
+            if alone and its else None)
 
 
 def mean(medians: List[Medians], engines: int, name: str) -> Optional[float]:
@@ -158,14 +172,18 @@ def most_others(medians: Medians) -> Optional[float]:
 
 def times(engines: List[int], every: List[Formula], medians: List[Medians]) -> None:
     columns = [(count, title) for count in engines for title in MEASURES]
-    titles = [f"{counted(count)}: {title.lower()}" if title == "By the clock" else title for count, title in columns]
-    head("Formula", "CaDiCaL alone: by the clock, s", "Processor time, s", *titles, "Other work, cores")
+    titles = [f"{counted(count)}: {title.lower()}" if title == "By the clock" else title
+              for count, title in columns]
+    head("Formula", "CaDiCaL alone: by the clock, s", "Processor time, s", *titles,
+         "Other work, cores")
     rows = [[ratio(its, count, MEASURES[title]) for count, title in columns] for its in medians]
     for formula, its, cells in zip(every, medians, rows):
         alone = its[ALONE]
         seconds = [alone.clock, alone.processor] if alone else [None, None]
-        line(f"{formula.family}: {formula.title}", *(shown(value, 1) for value in seconds), *map(shown, cells), shown(most_others(its), 1))
-    line("**geometric mean**", "", "", *(shown(mean(medians, count, MEASURES[title])) for count, title in columns), "")
+        line(f"{formula.family}: {formula.title}", *(shown(value, 1) for value in seconds),
+             *map(shown, cells), shown(most_others(its), 1))
+    line("**geometric mean**", "", "",
+         *(shown(mean(medians, count, MEASURES[title])) for count, title in columns), "")
     line("**worst**", "", "", *over_all(rows, max), "")
 
 
@@ -177,7 +195,8 @@ def shares(engines: List[int], every: List[Formula], medians: List[Medians]) -> 
     for formula, its in zip(every, medians):
         ends = [(its[count], name) for name in SHARES.values() for count in engines]
         rows.append([getattr(one, name) if one else None for one, name in ends])
-        line(f"{formula.family}: {formula.title}", *together(list(map(shown, rows[-1])), len(engines)))
+        line(f"{formula.family}: {formula.title}",
+             *together(list(map(shown, rows[-1])), len(engines)))
     line("**median**", *together(over_all(rows, statistics.median), len(engines)))
     line("**most**", *together(over_all(rows, max), len(engines)))
 
@@ -188,37 +207,49 @@ def together(cells: List[str], count: int) -> List[str]:
 
 
 def cheap(alone: Optional[Result], its: Optional[Result]) -> bool:
-    return alone is not None and its is not None and its.processor <= TIMES * alone.processor + SECONDS
+    return (alone is not None and its is not None
+            and its.processor <= TIMES * alone.processor + SECONDS)
 
 
 def easy_times(engines: List[int], every: List[Formula], medians: List[Medians]) -> None:
     """Prints seconds, since ratios mean little below a tenth of one."""
-    head("Formula", "CaDiCaL alone: processor time, s", *(f"{counted(count)}: all processes, s" for count in engines),
+    head("Formula", "CaDiCaL alone: processor time, s",
+         *(f"{counted(count)}: all processes, s" for count in engines),
          *(f"{counted(count)}: by the clock, s" for count in engines), "Other work, cores")
     for formula, its in zip(every, medians):
         alone, ends = its[ALONE], [its[count] for count in engines]
-        cells = [getattr(one, name) if one else None for name in ("processor", "clock") for one in ends]
-        line(formula.title, shown(alone.processor if alone else None), *map(shown, cells), shown(most_others(its), 1))
+        cells = [getattr(one, name) if one else None for name in ("processor", "clock")
+                 for one in ends]
+        line(formula.title, shown(alone.processor if alone else None), *map(shown, cells),
+             shown(most_others(its), 1))
     for count in engines:
         good = [cheap(its[ALONE], its[count]) for its in medians if its[ALONE]]
-        print(f"\n{counted(count)}: {sum(good)} of {len(good)} take at most {TIMES} times CaDiCaL's processor time and {SECONDS} s.")
+        print(f"\n{counted(count)}: {sum(good)} of {len(good)} take at most {TIMES} times "
+              f"CaDiCaL's processor time and {SECONDS} s.")
 
 
-def note(given: argparse.Namespace, bench: Bench, every: List[Formula], medians: List[Medians]) -> str:
+def note(given: argparse.Namespace, bench: Bench, every: List[Formula],
+         medians: List[Medians]) -> str:
     """Describes the runs of which the table shows medians."""
-    counts = [len(bench.of(formula, engines, given.others)) for formula in every for engines in (ALONE, *given.engines)]
-    runs = f"{max(counts)} runs" if min(counts) == max(counts) else f"{min(counts)} to {max(counts)} runs"
+    counts = [len(bench.of(formula, engines, given.others)) for formula in every
+              for engines in (ALONE, *given.engines)]
+    runs = (f"{max(counts)} runs" if min(counts) == max(counts)
+            else f"{min(counts)} to {max(counts)} runs")
     others = max(most_others(its) or 0 for its in medians)
-    return f"{'one run' if max(counts) == 1 else 'medians of ' + runs}, on {CORES} cores, of which other work had at most {others:.1f}"
+    return (f"{'one run' if max(counts) == 1 else 'medians of ' + runs}, on {CORES} cores, of "
+            f"which other work had at most {others:.1f}")
 
 
-def panels_of(engines: List[int], of: Callable[[int, str], Optional[float]]) -> List[Dict[int, float]]:
+def panels_of(engines: List[int],
+              of: Callable[[int, str], Optional[float]]) -> List[Dict[int, float]]:
     """For each measure a dot for each number of engines that has a value."""
     panels = [{count: of(count, name) for count in engines} for name in MEASURES.values()]
-    return [{count: value for count, value in panel.items() if value is not None} for panel in panels]
+    return [{count: value for count, value in panel.items() if value is not None}
+            for panel in panels]
 
 
-def draw(path: str, engines: List[int], every: List[Formula], medians: List[Medians], said: str) -> None:
+def draw(path: str, engines: List[int], every: List[Formula], medians: List[Medians],
+         said: str) -> None:
     rows: List[chart.Row] = []
     family = ""
     for formula, its in zip(every, medians):
@@ -226,7 +257,8 @@ def draw(path: str, engines: List[int], every: List[Formula], medians: List[Medi
             family = formula.family
             rows.append(chart.Row(family, []))
         rows.append(chart.Row(formula.title, panels_of(engines, partial(ratio, its))))
-    rows += [chart.Row("all", []), chart.Row("geometric mean", panels_of(engines, partial(mean, medians)))]
+    rows += [chart.Row("all", []),
+             chart.Row("geometric mean", panels_of(engines, partial(mean, medians)))]
     titles = ["by the clock", "processor time: longest part", "processor time: all"]
     with open(path, "w") as out:
         out.write(chart.chart(rows, titles, engines, said))
@@ -241,7 +273,8 @@ def main() -> None:
         folder = given.work or temporary
         os.makedirs(folder, exist_ok=True)
         measure(given, bench, every, folder)
-    medians = [{engines: median(bench.of(formula, engines, given.others)) for engines in (ALONE, *given.engines)} for formula in every]
+    medians = [{engines: median(bench.of(formula, engines, given.others))
+                for engines in (ALONE, *given.engines)} for formula in every]
     said = note(given, bench, every, medians)
     if given.easy:
         easy_times(given.engines, every, medians)

@@ -5,7 +5,7 @@
 
 There are at least COUNT cubes, unless the formula has too few variables. Cubes that unit
 propagation refutes are left out, since any solver refutes them so. Look-ahead splitters such as
-march_cu make better cubes, in the same form. """
+march_cu make better cubes, in the same form."""
 import sys
 from collections import Counter
 from typing import Dict, List, Optional, Set
@@ -66,7 +66,8 @@ def split(formula: Formula, count: int) -> List[List[int]]:
         variable = next((one for one in order if one not in true and -one not in true), None)
         if variable is None:
             return [cube, *cubes]
-        cubes += [longer for longer in ([*cube, variable], [*cube, -variable]) if formula.propagated(longer) is not None]
+        cubes += [longer for longer in ([*cube, variable], [*cube, -variable])
+                  if formula.propagated(longer) is not None]
     return cubes
 
 

@@ -5,7 +5,7 @@ the first, or L of the second?
     waerden.py K L N
 
 Variable k is true if the number k has the first colour. W(4, 6) is 73: `waerden.py 4 6 73` writes
-an unsatisfiable formula; with 72 it is satisfiable. """
+an unsatisfiable formula; with 72 it is satisfiable."""
 import sys
 from typing import List
 

@@ -5,12 +5,13 @@
 
 The formula's clauses come first, sorted and without tautologies. Then each step is a chain: the
 clauses of its hints are resolved, from the conflict back to the first hint. The resulting clause
-may be shorter than the step's; later chains use it as it is. """
+may be shorter than the step's; later chains use it as it is."""
 import sys
 from typing import Dict, Iterator, List, Set, Tuple
 
 Clause = Set[int]
-Chain = List[Tuple[int, int]]       # a clause's id, and the variable on which it is resolved, none for the first
+# A clause's id, and the variable on which it is resolved, none for the first.
+Chain = List[Tuple[int, int]]
 
 
 def coded(value: int) -> bytes:
@@ -37,10 +38,12 @@ def clauses_of(path: str) -> Iterator[Clause]:
 def root(clause: Clause) -> bytes:
     """The first literal, then the distances to the next ones."""
     literals = sorted(2 * (abs(literal) - 1) + (literal < 0) for literal in clause)
-    return coded(2 * literals[0]) + b"".join(coded(one - before) for before, one in zip(literals, literals[1:])) + b"\0"
+    return coded(2 * literals[0]) + b"".join(coded(one - before)
+                                             for before, one in zip(literals, literals[1:])) + b"\0"
 
 
-def resolved(clauses: Dict[int, Clause], literals: List[int], hints: List[int]) -> Tuple[Clause, Chain]:
+def resolved(clauses: Dict[int, Clause], literals: List[int],
+             hints: List[int]) -> Tuple[Clause, Chain]:
     false, units = set(literals), []
     for hint in hints:
         left = [literal for literal in clauses[hint] if literal not in false]
@@ -74,14 +77,16 @@ def main() -> None:
                     clauses.pop(int(word), None)
                 continue
             identity, end = int(words[0]), words.index("0", 1)
-            clauses[identity], chain = resolved(clauses, list(map(int, words[1:end])), list(map(int, words[end + 1:-1])))
+            clauses[identity], chain = resolved(clauses, list(map(int, words[1:end])),
+                                                list(map(int, words[end + 1:-1])))
             first = count - place[chain[0][0]]
             place[identity] = count
             if len(chain) == 1:
                 place[identity] = place[chain[0][0]]
                 continue
             out.write(coded(2 * first + 1))
-            out.write(b"".join(coded(variable) + coded(count - place[hint]) for hint, variable in chain[1:]) + b"\0")
+            out.write(b"".join(coded(variable) + coded(count - place[hint])
+                               for hint, variable in chain[1:]) + b"\0")
             count += 1
 
 

@@ -2,7 +2,7 @@
 """Asks, as DIMACS CNF, whether a lemma on bit vectors has a counterexample.
 
     lemma.py WIDTH LEMMA > lemma.cnf
-    lemma.py --show WIDTH LEMMA < answer        prints the counterexample in the lines `v` of an answer
+    lemma.py --show WIDTH LEMMA < answer    prints the counterexample in an answer's lines `v`
 
 LEMMA is a Python expression over the unsigned numbers a, b, c, d of WIDTH bits and constants: + - &
 | ^ ~, << and >> by a constant, and == < <=. Sums and differences wrap. `when(P, Q)` is 'if P then
@@ -20,7 +20,8 @@ def gate(truth, inputs):
     truth table."""
     output = next(fresh)
     for values in itertools.product((0, 1), repeat=len(inputs)):
-        clauses.append([-x if value else x for x, value in zip(inputs, values)] + [output if truth(*values) else -output])
+        clauses.append([-x if value else x for x, value in zip(inputs, values)]
+                       + [output if truth(*values) else -output])
     return output
 
 
@@ -38,7 +39,8 @@ class Vector:
         self.bits = bits        # lowest first; a truth value is one bit
 
     def of(self, other):
-        return other.bits if isinstance(other, Vector) else [TRUE if other >> k & 1 else -TRUE for k in range(len(self.bits))]
+        return (other.bits if isinstance(other, Vector)
+                else [TRUE if other >> k & 1 else -TRUE for k in range(len(self.bits))])
 
     def each(self, other, truth):
         return Vector([gate(truth, [x, y]) for x, y in zip(self.bits, self.of(other), strict=True)])
@@ -51,24 +53,36 @@ class Vector:
     def __sub__(self, other): return Vector(total(self.bits, [-x for x in self.of(other)], TRUE)[0])
     def __lshift__(self, count): return Vector(([-TRUE] * count + self.bits)[:len(self.bits)])
     def __rshift__(self, count): return Vector((self.bits + [-TRUE] * count)[count:])
-    def __le__(self, other): return Vector([total(self.of(other), [-x for x in self.bits], TRUE)[1]])     # no borrow
-    def __lt__(self, other): return Vector([-total(self.bits, [-x for x in self.of(other)], TRUE)[1]])
     def __eq__(self, other): return (self <= other) & ~(self < other)
-    def __bool__(self): raise TypeError("a LEMMA has no 'and', 'or', 'not', '!=', and no chain a < b < c")
+
+    def __le__(self, other):
+        return Vector([total(self.of(other), [-x for x in self.bits], TRUE)[1]])    # no borrow
+
+    def __lt__(self, other):
+        return Vector([-total(self.bits, [-x for x in self.of(other)], TRUE)[1]])
+
+    def __bool__(self):
+        raise TypeError("a LEMMA has no 'and', 'or', 'not', '!=', and no chain a < b < c")
 
 
 def main(shows, width, lemma):
     names = {name: Vector([next(fresh) for _ in range(width)]) for name in "abcd"}
-    [holds] = eval(lemma, {"both": Vector.__and__, "when": lambda one, other: ~one | other, **names}).bits
+    [holds] = eval(lemma,
+                   {"both": Vector.__and__, "when": lambda one, other: ~one | other, **names}).bits
     clauses.append([-holds])
     if shows:
         lines = open(0, errors="replace").read().splitlines()
-        said = set({abs(x): x for line in lines if line.startswith("v ") for x in map(int, line[2:].split())}.values())
+        said = set({abs(x): x for line in lines if line.startswith("v ")
+                    for x in map(int, line[2:].split())}.values())
         if "s SATISFIABLE" not in lines or any(said.isdisjoint(clause) for clause in clauses):
-            sys.exit("lemma.py: no counterexample: the answer isn't s SATISFIABLE with an assignment of this formula")
-        found = {name: sum((x in said) << k for k, x in enumerate(vector.bits)) for name, vector in names.items()}
-        return print(*(f"{name} = {found[name]}" for name in found if re.search(rf"\b{name}\b", lemma)))
-    print(f"p cnf {next(fresh) - 1} {len(clauses)}", *(" ".join(map(str, clause)) + " 0" for clause in clauses), sep="\n")
+            sys.exit("lemma.py: no counterexample: the answer isn't s SATISFIABLE with an "
+                     "assignment of this formula")
+        found = {name: sum((x in said) << k for k, x in enumerate(vector.bits))
+                 for name, vector in names.items()}
+        return print(*(f"{name} = {found[name]}" for name in found
+                       if re.search(rf"\b{name}\b", lemma)))
+    print(f"p cnf {next(fresh) - 1} {len(clauses)}",
+          *(" ".join(map(str, clause)) + " 0" for clause in clauses), sep="\n")
 
 
 shows = sys.argv[1:2] == ["--show"]

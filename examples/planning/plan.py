@@ -19,7 +19,8 @@ def read(path, kind):
     text = re.sub(r";.*", "", open(path, errors="replace").read().lower())
     if not re.match(rf"\s*\(\s*define\s*\(\s*{kind}\s", text) or re.search(r"\s-\s|\(\s*=\s", text):
         sys.exit(f"plan.py: {path}: not a {kind} in PDDL with only STRIPS")
-    lists = re.sub(r"[^\s()]+", lambda word: f"{word[0]!r},", text).replace("(", "[").replace(")", "],")
+    lists = re.sub(r"[^\s()]+", lambda word: f"{word[0]!r},",
+                   text).replace("(", "[").replace(")", "],")
     return ast.literal_eval(f"[{lists}]")[0]
 
 
@@ -31,29 +32,36 @@ def ground(domain, problem):
     """The initial facts, the goal's, and for each action its name, and the facts that it needs,
     adds and deletes. Facts that no action changes have to hold initially, and are dropped."""
     sections = {entry[0]: entry[1:] for entry in problem[2:]}
-    schemas = [dict(zip(entry[2::2], entry[3::2]), name=entry[1]) for entry in domain[2:] if entry[0] == ":action"]
-    changing = {fact[1][0] if fact[0] == "not" else fact[0] for schema in schemas for fact in parts(schema[":effect"])}
+    schemas = [dict(zip(entry[2::2], entry[3::2]), name=entry[1]) for entry in domain[2:]
+               if entry[0] == ":action"]
+    changing = {fact[1][0] if fact[0] == "not" else fact[0] for schema in schemas
+                for fact in parts(schema[":effect"])}
     facts = {tuple(fact) for fact in sections[":init"]}
     actions = []
     for schema in schemas:
         for values in itertools.product(sections[":objects"], repeat=len(schema[":parameters"])):
             bound = dict(zip(schema[":parameters"], values))
             effect = parts(schema[":effect"])
-            wants, adds, deletes = ([tuple(bound.get(word, word) for word in fact) for fact in found] for found in (
-                parts(schema[":precondition"]), [fact for fact in effect if fact[0] != "not"],
-                [fact[1] for fact in effect if fact[0] == "not"]))
+            found = (parts(schema[":precondition"]), [fact for fact in effect if fact[0] != "not"],
+                     [fact[1] for fact in effect if fact[0] == "not"])
+            wants, adds, deletes = ([tuple(bound.get(word, word) for word in fact)
+                                     for fact in facts_of] for facts_of in found)
             if all(fact in facts for fact in wants if fact[0] not in changing):
                 wants = [fact for fact in wants if fact[0] in changing]
-                actions.append((" ".join([schema["name"], *values]), wants, adds, [fact for fact in deletes if fact not in adds]))
+                actions.append((" ".join([schema["name"], *values]), wants, adds,
+                                [fact for fact in deletes if fact not in adds]))
     return facts, {tuple(fact) for fact in parts(sections[":goal"][0])}, actions
 
 
 def main(shows, domain, problem, steps):
     facts, goal, actions = ground(read(domain, "domain"), read(problem, "problem"))
     fluents = sorted(goal.union(*(wants + adds + deletes for _, wants, adds, deletes in actions)))
-    fresh = itertools.count(1)      # for each step a variable for each fact, and for each action's number
-    at = [{what: next(fresh) for what in [*fluents, *range(len(actions))]} for _ in range(steps + 1)]
-    clauses = [[at[0][fact] if fact in facts else -at[0][fact]] for fact in fluents] + [[at[steps][fact]] for fact in sorted(goal)]
+    # For each step a variable for each fact, and for each action's number.
+    fresh = itertools.count(1)
+    at = [{what: next(fresh) for what in [*fluents, *range(len(actions))]}
+          for _ in range(steps + 1)]
+    clauses = ([[at[0][fact] if fact in facts else -at[0][fact]] for fact in fluents]
+               + [[at[steps][fact]] for fact in sorted(goal)])
     for now, later in zip(at, at[1:]):
         for a, (_, wants, adds, deletes) in enumerate(actions):
             clauses += [[-now[a], now[fact]] for fact in wants]
@@ -61,15 +69,22 @@ def main(shows, domain, problem, steps):
             clauses += [[-now[a], -later[fact]] for fact in deletes]
             clauses += [[-now[a], -now[other]] for other in range(a)]
         for fact in fluents:        # only actions change facts
-            clauses.append([now[fact], -later[fact]] + [now[a] for a, x in enumerate(actions) if fact in x[2]])
-            clauses.append([-now[fact], later[fact]] + [now[a] for a, x in enumerate(actions) if fact in x[3]])
+            clauses.append([now[fact], -later[fact]]
+                           + [now[a] for a, x in enumerate(actions) if fact in x[2]])
+            clauses.append([-now[fact], later[fact]]
+                           + [now[a] for a, x in enumerate(actions) if fact in x[3]])
     if shows:
         lines = open(0, errors="replace").read().splitlines()
-        said = set({abs(x): x for line in lines if line.startswith("v ") for x in map(int, line[2:].split())}.values())
+        said = set({abs(x): x for line in lines if line.startswith("v ")
+                    for x in map(int, line[2:].split())}.values())
         if "s SATISFIABLE" not in lines or any(said.isdisjoint(clause) for clause in clauses):
-            sys.exit("plan.py: no plan: the answer isn't s SATISFIABLE with an assignment of this formula")
-        return print(*(f"{actions[a][0]}\n" for now in at[:-1] for a in range(len(actions)) if now[a] in said), sep="", end="")
-    print(f"p cnf {next(fresh) - 1} {len(clauses)}", *(" ".join(map(str, clause)) + " 0" for clause in clauses), sep="\n")
+            sys.exit("plan.py: no plan: the answer isn't s SATISFIABLE with an assignment of "
+                     "this formula")
+        return print(*(f"{actions[a][0]}\n" for now in at[:-1]
+                       for a in range(len(actions)) if now[a] in said),
+                     sep="", end="")
+    print(f"p cnf {next(fresh) - 1} {len(clauses)}",
+          *(" ".join(map(str, clause)) + " 0" for clause in clauses), sep="\n")
 
 
 shows = sys.argv[1:2] == ["--show"]

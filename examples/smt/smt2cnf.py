@@ -4,7 +4,7 @@
     smt2cnf.py PROBLEM.smt2 > FORMULA.cnf
 
 The formula is satisfiable exactly if the problem is, if Z3 is right. It needs Debian's package
-python3-z3. """
+python3-z3."""
 import sys
 
 try:

@@ -5,7 +5,7 @@
 
 Shows once a second how many lines each stream has, and lrupd's messages; then the solvers' output,
 the report, and how long after the solvers' last byte it came. Without FORMULA it is a random 3-SAT
-formula that takes some ten seconds. The status is lrupd's. """
+formula that takes some ten seconds. The status is lrupd's."""
 import os
 import subprocess
 import sys
@@ -35,7 +35,8 @@ def main():
         else:
             generator = os.path.join(os.path.dirname(os.path.abspath(__file__)), "generate.py")
             with open(formula, "w") as out:
-                subprocess.run([sys.executable, generator, "random", "270", "5"], stdout=out, check=True)
+                subprocess.run([sys.executable, generator, "random", "270", "5"],
+                               stdout=out, check=True)
         pipes = [os.path.join(work, f"proof{number}") for number in range(1, STREAMS + 1)]
         for pipe in pipes:
             os.mkfifo(pipe)
@@ -43,9 +44,11 @@ def main():
         print("lrupd", *OPTIONS, "formula.cnf proof1 proof2 proof3 proof4", flush=True)
         times = []
         begin = time.monotonic()
-        with subprocess.Popen([solver, "--progress", formula] + pipes, stdout=subprocess.PIPE, text=True) as solvers, \
-                subprocess.Popen([program] + OPTIONS + [formula] + pipes,
-                                 stdout=subprocess.PIPE, stderr=subprocess.PIPE, text=True) as checker:
+        solving = [solver, "--progress", formula] + pipes
+        checking = [program] + OPTIONS + [formula] + pipes
+        with subprocess.Popen(solving, stdout=subprocess.PIPE, text=True) as solvers, \
+                subprocess.Popen(checking, stdout=subprocess.PIPE, stderr=subprocess.PIPE,
+                                 text=True) as checker:
             shows = threading.Thread(target=show, args=(checker.stderr, begin, times))
             shows.start()
             said = solvers.stdout.readline()    # comes when all streams are closed
@@ -54,7 +57,8 @@ def main():
             report = checker.stdout.read()
             waited = time.monotonic() - last_byte
             shows.join()
-        print("\nThe solvers:", "".join(line for line in said.splitlines(True) if line[0] != "v"), sep="\n")
+        print("\nThe solvers:",
+              "".join(line for line in said.splitlines(True) if line[0] != "v"), sep="\n")
         early = sum(moment < last_byte for moment in times)
         print("Of %d messages of lrupd, %d came before the last byte." % (len(times), early))
         print("The report, %.3f s after the last byte:" % waited, report, sep="\n")

@@ -2,8 +2,8 @@
 """Writes a formula in DIMACS CNF on standard output.
 
     generate.py random VARIABLES SEED [RATIO]    3-SAT with 4.26 clauses for each variable, or RATIO
-    generate.py pigeons HOLES                    one pigeon too many: unsatisfiable
-    generate.py order ELEMENTS                   a strict order without a least element: unsatisfiable
+    generate.py pigeons HOLES        one pigeon too many: unsatisfiable
+    generate.py order ELEMENTS       a strict order without a least element: unsatisfiable
 """
 import random
 import sys
