@@ -1,5 +1,5 @@
-"""The reader of sources: what a file of definitions, lemmas and proofs (.antt) declares, what the names in it and in contracts
-(.rt) mean, and which definitions a text reaches."""
+"""The reader of sources: what a file of definitions, lemmas and proofs (.antt) declares, what the
+names in it and in contracts (.rt) mean, and which definitions a text reaches."""
 from __future__ import annotations
 
 import functools
@@ -9,9 +9,11 @@ from pathlib import Path
 from typing import Dict, Iterable, Iterator, List, NamedTuple, Sequence, Set, Tuple
 
 ROOT = Path(__file__).resolve().parent.parent
-HEAD = re.compile(r"(?P<marks>(?:(?:abbrev|unfoldable|pub|record|data) )*)(?P<name>[^\s:({]+)(?P<rest>[\s:({].*)?$")
+HEAD = re.compile(r"(?P<marks>(?:(?:abbrev|unfoldable|pub|record|data) )*)"
+                  r"(?P<name>[^\s:({]+)(?P<rest>[\s:({].*)?$")
 TYPES = {"record", "data"}
-WORD = re.compile(r"(?<![\w.'-])([^\s(){}⟦⟧\[\];,.:λ→×⊎≡≢¬↔↦≤<>+*/%^∷&|=]+)(?:\.([A-Za-z_][\w'-]*))?")
+WORD = re.compile(
+    r"(?<![\w.'-])([^\s(){}⟦⟧\[\];,.:λ→×⊎≡≢¬↔↦≤<>+*/%^∷&|=]+)(?:\.([A-Za-z_][\w'-]*))?")
 
 
 def shown(path: Path) -> str:
@@ -21,7 +23,7 @@ def shown(path: Path) -> str:
 @functools.lru_cache(maxsize=None)
 def crates() -> Dict[str, List[str]]:
     """The crates of crates.txt, each with what it uses; that may be a library of the toolchain."""
-    lines = [line.split(":") for line in (ROOT / "crates.txt").read_text().splitlines() if ":" in line]
+    lines = re.findall(r"^(\w+):(.*)", (ROOT / "crates.txt").read_text(), re.M)
     return {crate: uses.split() for crate, uses in lines}
 
 
@@ -62,7 +64,8 @@ class Declaration(NamedTuple):
     def shown(self) -> List[str]:
         """The text as pages quote it: with its comment, without the prover's marks."""
         marks = r"^( *)(?:(?:abbrev|unfoldable|pub) )+"
-        return [line.rstrip() for line in self.comment] + [re.sub(marks, r"\1", line).rstrip() for line in self.lines]
+        lines = [*self.comment, *(re.sub(marks, r"\1", line) for line in self.lines)]
+        return [line.rstrip() for line in lines]
 
     def members(self) -> Iterator[str]:
         """The fields of a record, and the constructors of a `data`."""
@@ -72,7 +75,7 @@ class Declaration(NamedTuple):
 
 
 class Source:
-    """Lines of a file: its first comment, the lines by which it brings names in, and what it declares."""
+    """Lines of a file: its first comment, the names that it brings in, and what it declares."""
 
     def __init__(self, lines: Iterable[str], path: Path) -> None:
         self.path = path
@@ -80,12 +83,13 @@ class Source:
         self.uses: List[str] = []
         self.declarations: List[Declaration] = []
         self.read(lines)
-        self.owners = {name: declared for declared in self.declarations if "data" in declared.marks for name in declared.members()}
+        types = [declared for declared in self.declarations if "data" in declared.marks]
+        self.owners = {name: declared for declared in types for name in declared.members()}
         self.owners.update((declared.name, declared) for declared in self.declarations)
 
     def read(self, lines: Iterable[str]) -> None:
         comment: List[str] = []
-        at_title, indent, opens = True, 0, False  # the indent of what stands in a block; whether one's first line goes on
+        at_title, indent, opens = True, 0, False    # `opens`: a block's first line goes on
         for place, line in enumerate(lines):
             if line.strip():
                 indent = min(indent, len(line) - len(line.lstrip()))
@@ -109,7 +113,8 @@ class Source:
                 self.uses[-1] += line.strip()
             elif self.begins(inner):
                 head = HEAD.match(inner)
-                self.declarations.append(Declaration(head["name"], head["marks"].split(), comment, place, [line], indent))
+                item = head["name"], head["marks"].split(), comment, place, [line], indent
+                self.declarations.append(Declaration(*item))
                 comment = []
             elif self.declarations:
                 self.declarations[-1].lines.append(line)
@@ -120,7 +125,7 @@ class Source:
     def begins(line: str) -> bool:
         """Whether a declaration begins in this line; a clause has neither a mark nor a type."""
         head = HEAD.match(line)
-        return head is not None and (head["marks"] != "" or re.match(r" :(?: |$)", head["rest"] or "") is not None)
+        return head is not None and bool(head["marks"] or re.match(" :( |$)", head["rest"] or ""))
 
 
 @functools.lru_cache(maxsize=None)
@@ -133,8 +138,8 @@ def read(path: Path) -> Source:
 
 
 class Thing(NamedTuple):
-    """A definition in a file; a type or a trait of the code below a crate's `src`; or, with the name of a module as its place, what a
-    library has."""
+    """A definition in a file; a type or a trait of the code below a crate's `src`; or, with the
+    name of a module as its place, what a library has."""
 
     place: str
     name: str
@@ -153,10 +158,12 @@ Scope = Dict[str, Tuple[str, str]]
 
 
 def scope_of(uses: Iterable[str]) -> Scope:
-    """The words that lines `use` bring in, each with its module and its name there; a module itself has no such name."""
+    """The words that lines `use` bring in, each with its module and its name there; a module itself
+    has no such name."""
     scope: Scope = {}
     for line in uses:
-        match = re.match(r"use (?:Rattle\.)?([\w.]+?)(?:\.\{ ?(.*?),? ?\})?(?: as ([\w-]+))?;?$", line)
+        use = r"use (?:Rattle\.)?([\w.]+?)(?:\.\{ ?(.*?),? ?\})?(?: as ([\w-]+))?;?$"
+        match = re.match(use, line)
         if not match:
             sys.exit(f"a line that isn't read: {line}")
         for item in match[2].split(",") if match[2] else []:
@@ -172,7 +179,8 @@ def scope_at(path: Path) -> Scope:
     """The scope of a file of definitions, or of the contracts of a file of code."""
     if path.suffix == ".antt":
         return scope_of(read(path).uses)
-    return scope_of(" ".join(line.split()) for line in re.findall(r"^ *ghost (use [^;]*;)", path.read_text(), re.M))
+    lines = re.findall(r"^ *ghost (use [^;]*;)", path.read_text(), re.M)
+    return scope_of(" ".join(line.split()) for line in lines)
 
 
 def meaning(word: str, member: str, path: Path) -> Set[Thing]:
@@ -188,16 +196,18 @@ def meaning(word: str, member: str, path: Path) -> Set[Thing]:
     if crate not in crates() or rest.startswith("contracts."):
         return {Thing(module, name or member)}
     if rest.startswith("declared."):
-        return {Thing(f"crates/{crate}/src", [part for part in rest.split(".") if part != "TheVariants"][-1])}
-    return meaning(name or member, "", ROOT / "crates" / crate / "specs" / (rest.replace(".", "/") + ".antt"))
+        return {Thing(f"crates/{crate}/src", rest.removesuffix(".TheVariants").split(".")[-1])}
+    file = ROOT / "crates" / crate / "specs" / (rest.replace(".", "/") + ".antt")
+    return meaning(name or member, "", file)
 
 
 def things_in(text: str, path: Path) -> Set[Thing]:
     """What the names in a text of a file mean; fields that get a value don't count as names, and
     only libraries have operators."""
     text = re.sub(r'--.*|//.*|"(?:[^"\\]|\\.)*"', "", text)
-    operators = {word for word in scope_at(path) if "◌" in word and all(part in text for part in word.split("◌"))}
-    words = {*WORD.findall(re.sub(r"([{;]\s*)\w+ =", r"\1", text)), *((word, "") for word in operators)}
+    words = set(WORD.findall(re.sub(r"([{;]\s*)\w+ =", r"\1", text)))
+    words |= {(word, "") for word in scope_at(path)
+              if "◌" in word and all(part in text for part in word.split("◌"))}
     return {thing for word, member in words for thing in meaning(word, member, path)}
 
 

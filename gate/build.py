@@ -32,13 +32,13 @@ CORES = len(os.sched_getaffinity(0))
 JOBS = min(4, CORES)
 GB_EACH = 3.5  # with four jobs; at most 3.3 was seen
 
-
-LINES = {line.split(":")[0]: line for line in (ROOT / "crates.txt").read_text().splitlines() if ":" in line}
-USES = {name: [word for word in line.split() if word in LINES] for name, line in LINES.items()}  # of the repository
+TEXT = (ROOT / "crates.txt").read_text()
+LINES = {name: line for line, name in re.findall(r"^((\w+):.*)", TEXT, re.M)}
+# What each uses of the repository.
+USES = {name: [word for word in line.split() if word in LINES] for name, line in LINES.items()}
 # Processor seconds of a crate's proofs from nothing, as `make building` measured them.
-SECONDS = {
-    name: int(seconds)
-    for name, seconds in re.findall(r"^\| `(\w+)` \| [\d:]+ \| (\d+) \|$", (ROOT / "bench/building.md").read_text(), re.M)}
+SECONDS = dict(re.findall(r"^\| `(\w+)` \| [\d:]+ \| (\d+) \|$",
+                          (ROOT / "bench/building.md").read_text(), re.M))
 
 
 def below(name):
@@ -49,7 +49,7 @@ ALL = {PROGRAM, *below(PROGRAM)}
 
 
 def seconds(*names):
-    return sum(SECONDS.get(name, 60) for name in names)
+    return sum(int(SECONDS.get(name, 60)) for name in names)
 
 
 def way(name):
@@ -102,17 +102,20 @@ class Lane:
 
     def start(self, *words):
         self.go_home()  # from a build that was killed
-        for crate in {self.name, *below(self.name)}:
+        names = {self.name, *below(self.name)}
+        for crate in names:
+            to = self.top / "crates" / crate
             for part in PARTS:
                 if (CRATES / crate / part).is_dir():
-                    shutil.copytree(CRATES / crate / part, self.top / "crates" / crate / part)
+                    shutil.copytree(CRATES / crate / part, to / part)
             if crate != self.name and (CRATES / crate / "out/rlib").is_dir():
-                shutil.copytree(CRATES / crate / "out/rlib", self.top / "crates" / crate / "out/rlib", copy_function=link)
-        (self.top / "crates.txt").write_text("".join(LINES[crate] + "\n" for crate in {self.name, *below(self.name)}))
+                shutil.copytree(CRATES / crate / "out/rlib", to / "out/rlib", copy_function=link)
+        (self.top / "crates.txt").write_text("".join(LINES[crate] + "\n" for crate in names))
         shutil.copy(ROOT / "HANDLES", self.top)
         if (self.home / "out").is_dir():
             os.rename(self.home / "out", self.here / "out")
-        self.run = subprocess.Popen(words, cwd=self.here, stdin=subprocess.DEVNULL, stdout=self.said, stderr=subprocess.STDOUT)
+        self.run = subprocess.Popen(words, cwd=self.here, stdin=subprocess.DEVNULL,
+                                    stdout=self.said, stderr=subprocess.STDOUT)
 
     def go_home(self):
         if self.here.is_dir():
@@ -123,7 +126,7 @@ class Lane:
         shutil.rmtree(self.top, ignore_errors=True)
 
     def has_ended(self):
-        """Whether the run has ended. Then `used` has the processor seconds that it and its children took."""
+        """Whether the run has ended. Then `used` has its processor seconds."""
         if self.run.returncode is None:
             pid, status, usage = os.wait4(self.run.pid, os.WNOHANG)
             if pid:
@@ -155,7 +158,8 @@ def print_proved(done, name, began, used):
     """Prints the line of a proved crate: its time by the clock, and its processor seconds."""
     took = int(time.monotonic() - began)
     rest = f"; {left(done)} % left" * bool(left(done))
-    print(f"{len(done)} of {len(ALL)}: {name}, {took // 60}:{took % 60:02}, processor {used} s{rest}", flush=True)
+    clock = f"{took // 60}:{took % 60:02}"
+    print(f"{len(done)} of {len(ALL)}: {name}, {clock}, processor {used} s{rest}", flush=True)
 
 
 def prove_libraries(rt, done):
@@ -172,7 +176,8 @@ def prove_libraries(rt, done):
                 todo.remove(name)
                 is_first = all(way(name) > way(lane.name) for lane in running)
                 running.append(Lane(name))
-                running[-1].start(*[] if is_first else ["nice"], rt, "lib", "--jobs", str(JOBS if is_first else min(2, JOBS)))
+                jobs = str(JOBS if is_first else min(2, JOBS))
+                running[-1].start(*[] if is_first else ["nice"], rt, "lib", "--jobs", jobs)
             time.sleep(0.1)
             for lane in [lane for lane in running if lane.has_ended()]:
                 running.remove(lane)
@@ -198,8 +203,10 @@ def prove_program(rt, were_libraries):
     began, before = time.monotonic(), processor_seconds()
     files = [ROOT / "examples" / f"four-clause.{end}" for end in ("cnf", "lrup")]
     words = [rt, "run", "--jobs", str(JOBS), "--", *files]
-    ran = subprocess.run(words, cwd=CRATES / PROGRAM, stdout=subprocess.PIPE, stderr=subprocess.STDOUT, errors="replace")
-    if not ran.returncode and (were_libraries or re.search(rf"^crate {PROGRAM}:", ran.stdout, re.M)):
+    ran = subprocess.run(words, cwd=CRATES / PROGRAM, stdout=subprocess.PIPE,
+                         stderr=subprocess.STDOUT, errors="replace")
+    is_new = were_libraries or re.search(rf"^crate {PROGRAM}:", ran.stdout, re.M)
+    if is_new and not ran.returncode:
         print_proved(ALL, PROGRAM, began, processor_seconds() - before)
     return ran.returncode, ran.stdout
 

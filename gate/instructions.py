@@ -46,20 +46,21 @@ class Counter:
         tool = ["valgrind", "--tool=callgrind", f"--callgrind-out-file={os.devnull}"]
         words = ["--serial", *map(str, words)]
         try:
-            done = subprocess.run([*tool, self.program, *words], stdin=subprocess.DEVNULL, capture_output=True, text=True,
-                                  timeout=LIMIT)
+            done = subprocess.run([*tool, self.program, *words], stdin=subprocess.DEVNULL,
+                                  capture_output=True, text=True, timeout=LIMIT)
         except subprocess.TimeoutExpired:
             sys.exit(f"{words}: no end in {LIMIT} seconds")
         found = re.search(r"^==\d+== Collected : (\d+)$", done.stderr, re.M)
         if not found:
             sys.exit(f"{words}: valgrind counted nothing, status {done.returncode}\n{done.stderr}")
         if done.stdout != wanted:
-            sys.exit(f"{words}: status {done.returncode}, the report: wanted\n{wanted}and not\n{done.stdout}")
+            sys.exit(f"{words}: status {done.returncode}; wanted\n{wanted}and not\n{done.stdout}")
         return int(found[1])
 
     def lines(self, words, streams, wanted):
         """How many more than over empty streams."""
-        nothing = "".join(f"c stream {number}: 0 added, 0 deleted, ended\n" for number in range(1, len(streams) + 1))
+        numbers = range(1, len(streams) + 1)
+        nothing = "".join(f"c stream {number}: 0 added, 0 deleted, ended\n" for number in numbers)
         empty = self.count([*words, *[os.devnull] * len(streams)], nothing + "s UNKNOWN\n")
         return self.count([*words, *streams], wanted) - empty
 
@@ -80,7 +81,8 @@ class Counter:
         formula = self.file(f"p cnf {LITERALS} 2\n1 2 0\n-1 2 0\n")
         cube = self.file("".join(f"{literal} " for literal in range(1, literals + 1)) + "0\n")
         stream = self.file("".join(f"{number} 2 0 1 2 0\n" for number in range(3, 3 + lines)))
-        return self.count(["--assume", cube, formula, stream], f"c stream 1: {lines} added, 0 deleted, ended\ns UNKNOWN\n")
+        wanted = f"c stream 1: {lines} added, 0 deleted, ended\ns UNKNOWN\n"
+        return self.count(["--assume", cube, formula, stream], wanted)
 
 
 def main():
@@ -88,16 +90,15 @@ def main():
         sys.exit(__doc__)
     if not shutil.which("valgrind"):
         missing = "failed" if os.environ.get("CI") else "skipped"
-        print(f"{missing}: the instructions are not counted, since no command 'valgrind' is on the PATH")
+        print(f"{missing}: instructions are not counted, since no 'valgrind' is on the PATH")
         sys.exit(missing == "failed")
     began, wrong = time.monotonic(), 0
     with tempfile.TemporaryDirectory() as name:
         counter = Counter(os.path.abspath(sys.argv[1]), Path(name))
         counts = {"four solvers": counter.four_solvers(), "long lines": counter.long_lines()}
         none = counter.assumed(0, 0)
-        # A cube is searched by halves: lines under a large one take little more than under one
-        # literal.
-        few, many = [counter.assumed(size, LINES) - counter.assumed(size, 0) for size in [1, ASSUMED]]
+        # A cube is searched by halves: lines under a large one take little more than under a small.
+        few, many = [counter.assumed(of, LINES) - counter.assumed(of, 0) for of in [1, ASSUMED]]
         # It is sorted once: twice as many literals take little more than twice as long.
         small, large = [counter.assumed(size, 0) - none for size in [4_000, 8_000]]
     for name, count in counts.items():
@@ -105,7 +106,7 @@ def main():
         if abs(count - figure) > MARGIN * figure:
             wrong += 1
             print(f"{name}: {count} instructions, and not {figure}, or 5 % more or less")
-    for name, ratio, most in [(f"lines under {ASSUMED:,} assumed literals, and under one", many / few, 2),
+    for name, ratio, most in [(f"lines under {ASSUMED:,} literals, and under one", many / few, 2),
                               ("8,000 assumed literals, and 4,000", large / small, 3)]:
         if ratio > most:
             wrong += 1

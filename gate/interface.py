@@ -1,14 +1,15 @@
 #!/usr/bin/env python3
-"""Checks what pages say of the program's options, faults, causes, limits and defaults: it has to be what code and definitions have.
+"""Checks what pages say of the program's options, faults, causes, limits and defaults: it has to be
+what code and definitions have.
 
     python3 gate/interface.py
 
-A part of USING and of the manual page lrupd.1 that is compared as a whole begins and ends with a comment that has its name. Each page that
-FIGURES names for a figure has to have it.
+A part of USING and of the manual page lrupd.1 that is compared as a whole begins and ends with a
+comment that has its name. Each page that FIGURES names for a figure has to have it.
 """
 import re
 import sys
-from typing import Iterator, List, Set
+from typing import Dict, Iterator, List, Set
 
 sys.dont_write_bytecode = True
 import antt
@@ -16,43 +17,52 @@ from antt import ROOT
 
 FAULTS = "crates/stream_check/specs/Faults.antt"
 CAUSES = ["crates/run_files/specs/Faults.antt", "crates/lrup_model/specs/Layout.antt"]
-HELP, WORDS, ARGUMENTS = (f"crates/command_line/src/{name}.rt" for name in ("help", "words", "arguments"))
-USING, EMITTING, FORMAT, MANUAL = "docs/USING.md", "docs/EMITTING.md", "docs/FORMAT.md", "docs/lrupd.1"
+COMMAND, MODEL, LINE = "crates/command_line/src", "crates/lrup_model/src", "crates/lrup_text/src"
+HELP, MANUAL = f"{COMMAND}/help.rt", "docs/lrupd.1"
+USING, EMITTING, FORMAT = "docs/USING.md", "docs/EMITTING.md", "docs/FORMAT.md"
 SOLVE, EXACT, EXPLAIN = "docs/lrup-solve.1", "docs/lrup-exact.1", "docs/lrup-explain.1"
+READER, EXPLAINER, FRONT = "tools/exact", "tools/explain/main.c", "tools/solve/front/front.c"
 # The manual pages of tools, and the sources that read their options.
-READERS = {SOLVE: ["tools/solve/options.cpp", "tools/solve/front/front.c"],
-           EXACT: ["tools/exact/main.c"], EXPLAIN: ["tools/explain/main.c"],
-           "docs/lrup-trim.1": ["tools/trim/main.c"]}
+READERS = {SOLVE: ["tools/solve/options.cpp", FRONT], EXACT: [f"{READER}/main.c"],
+           EXPLAIN: [EXPLAINER], "docs/lrup-trim.1": ["tools/trim/main.c"]}
 NUMBER = r"(UINT64_C\(1\) << \d+|[\d_]+)"
 # What the figure is, as the table of limits calls it; the files that have it in the place of the
 # question mark; and the pages that give it.
 FIGURES = [
-    ("Variables of the formula", ["crates/lrup_model/src/lit.rt MAX_VARIABLE: u32 = ?"], f"README.md {USING}"),
-    ("Clauses of the formula", ["crates/lrup_model/src/formula.rt MAX_CLAUSES: u32 = ?"], f"README.md {USING}"),
-    ("Literals written in one clause of the formula", ["crates/lrup_model/src/formula.rt MAX_CLAUSE_LITERALS: u32 = ?",
-                                             "tools/exact/formula.c MOST_LITERALS = ?"], USING),
-    ("Streams", ["crates/lrup_model/src/layout.rt MAX_STREAMS: u64 = ?", "crates/command_line/src/sizes.rt MAX_STREAMS: u64 = ?",
-                 "tools/solve/shared.h MOST_ENGINES = ?", "tools/solve/front/front.c MOST_STREAMS = ?"],
-     f"README.md {USING} {FORMAT} {MANUAL} {HELP} {SOLVE} {EXPLAIN} docs/lrup-trim.1"),
-    ("Literals written in one line", ["crates/lrup_text/src/partial_line.rt MAX_LITERALS: usize = ?",
-                                      "tools/exact/stream.h LITERALS_OF_A_LINE = ?"], f"{USING} {FORMAT} {EXACT}"),
-    ("Hints, or deleted ids, in one line", ["crates/lrup_text/src/partial_line.rt MAX_IDENTITIES: usize = ?",
-                                            "tools/exact/stream.h IDENTITIES_OF_A_LINE ?"], f"{USING} {FORMAT} {EMITTING} {EXACT}"),
-    ("Digits of a number in a stream", ["crates/lrup_text/src/partial_line.rt MAX_DIGITS: usize = ?", "tools/exact/stream.h DIGITS = ?"],
+    ("Variables of the formula", [f"{MODEL}/lit.rt MAX_VARIABLE: u32 = ?"], f"README.md {USING}"),
+    ("Clauses of the formula", [f"{MODEL}/formula.rt MAX_CLAUSES: u32 = ?"], f"README.md {USING}"),
+    ("Literals written in one clause of the formula",
+     [f"{MODEL}/formula.rt MAX_CLAUSE_LITERALS: u32 = ?", f"{READER}/formula.c MOST_LITERALS = ?"],
      USING),
-    ("Words of 8 bytes in a row", ["crates/lrup_model/src/layout.rt MAX_ROW_WORDS: u64 = ?", f"{ARGUMENTS} MAX_LINES: u64 = ?",
-                                   f"{ARGUMENTS} MAX_ROOM: u64 = ?", "tools/exact/row.h MOST_WORDS (?)"], f"{USING} {MANUAL} {HELP}"),
-    ("--lines", [f'{WORDS} "lines", ?)', "tools/explain/main.c USUAL_LINES = ?", "tools/exact/chain.c USUAL_LINES = ?"],
+    ("Streams", [f"{MODEL}/layout.rt MAX_STREAMS: u64 = ?",
+                 f"{COMMAND}/sizes.rt MAX_STREAMS: u64 = ?",
+                 "tools/solve/shared.h MOST_ENGINES = ?", f"{FRONT} MOST_STREAMS = ?"],
+     f"README.md {USING} {FORMAT} {MANUAL} {HELP} {SOLVE} {EXPLAIN} docs/lrup-trim.1"),
+    ("Literals written in one line", [f"{LINE}/partial_line.rt MAX_LITERALS: usize = ?",
+                                      f"{READER}/stream.h LITERALS_OF_A_LINE = ?"],
+     f"{USING} {FORMAT} {EXACT}"),
+    ("Hints, or deleted ids, in one line", [f"{LINE}/partial_line.rt MAX_IDENTITIES: usize = ?",
+                                            f"{READER}/stream.h IDENTITIES_OF_A_LINE ?"],
+     f"{USING} {FORMAT} {EMITTING} {EXACT}"),
+    ("Digits of a number in a stream", [f"{LINE}/partial_line.rt MAX_DIGITS: usize = ?",
+                                        f"{READER}/stream.h DIGITS = ?"], USING),
+    ("Words of 8 bytes in a row", [f"{MODEL}/layout.rt MAX_ROW_WORDS: u64 = ?",
+                                   f"{COMMAND}/arguments.rt MAX_LINES: u64 = ?",
+                                   f"{COMMAND}/arguments.rt MAX_ROOM: u64 = ?",
+                                   f"{READER}/row.h MOST_WORDS (?)"], f"{USING} {MANUAL} {HELP}"),
+    ("--lines", [f'{COMMAND}/words.rt "lines", ?)', f"{EXPLAINER} USUAL_LINES = ?",
+                 f"{READER}/chain.c USUAL_LINES = ?"],
      f"{USING} {EMITTING} {MANUAL} {EXPLAIN} {HELP}"),
-    ("--room", [f'{WORDS} "room", ?)', "tools/explain/main.c USUAL_ROOM = ?"],
+    ("--room", [f'{COMMAND}/words.rt "room", ?)', f"{EXPLAINER} USUAL_ROOM = ?"],
      f"{USING} {EMITTING} {MANUAL} {EXPLAIN} {HELP}"),
-    ("--tries", [f'{WORDS} "tries", ?)'], f"{USING} {MANUAL} {HELP}"),
-    ("the most --tries", [f"{ARGUMENTS} MAX_TRIES: u64 = ?", "tools/solve/front/front.c MOST_TRIES = ?",
-                          "tools/explain/main.c MOST_TRIES = ?"], f"{USING} {EMITTING} {MANUAL} {HELP}"),
-    ("the least --memory", ["tools/exact/row.c LEAST_MEMORY (?)"], f"{USING} {SOLVE} {EXACT}"),
-    ("the usual --memory", ["tools/exact/row.c USUAL_MEMORY (?)"], f"{USING} {SOLVE} {EXACT}"),
-    ("the most --memory", ["tools/exact/main.c more than ? bytes:"], f"{SOLVE} {EXACT} tools/solve/options.cpp"),
-    ("bytes of a formula from a pipe", ["tools/solve/front/front.c more than ? bytes, which"], SOLVE),
+    ("--tries", [f'{COMMAND}/words.rt "tries", ?)'], f"{USING} {MANUAL} {HELP}"),
+    ("the most --tries", [f"{COMMAND}/arguments.rt MAX_TRIES: u64 = ?", f"{FRONT} MOST_TRIES = ?",
+                          f"{EXPLAINER} MOST_TRIES = ?"], f"{USING} {EMITTING} {MANUAL} {HELP}"),
+    ("the least --memory", [f"{READER}/row.c LEAST_MEMORY (?)"], f"{USING} {SOLVE} {EXACT}"),
+    ("the usual --memory", [f"{READER}/row.c USUAL_MEMORY (?)"], f"{USING} {SOLVE} {EXACT}"),
+    ("the most --memory", [f"{READER}/main.c more than ? bytes:"],
+     f"{SOLVE} {EXACT} tools/solve/options.cpp"),
+    ("bytes of a formula from a pipe", [f"{FRONT} more than ? bytes, which"], SOLVE),
 ]
 
 
@@ -62,15 +72,23 @@ def text_of(name: str) -> str:
 
 def part(name: str, what: str) -> str:
     """The text between the two comments of a part."""
-    found = re.findall(rf"^.*\b{what}: gate/interface.py.*\n([\s\S]*?)^.*\bend of {what}\b", text_of(name), re.M)
-    return found[0] if len(found) == 1 else sys.exit(f"{name}: no comments '{what}: gate/interface.py compares' and 'end of {what}'")
+    ends = rf"^.*\b{what}: gate/interface.py.*\n([\s\S]*?)^.*\bend of {what}\b"
+    found = re.findall(ends, text_of(name), re.M)
+    return found[0] if len(found) == 1 else sys.exit(
+        f"{name}: no comments '{what}: gate/interface.py compares' and 'end of {what}'")
+
+
+def items_in(what: str, head: str) -> Dict[str, str]:
+    """The items of such a list in a part of the manual page."""
+    return dict(re.findall(rf"^\.It {head}.*\n((?:(?!\.It).*\n)*)", part(MANUAL, what), re.M))
 
 
 def texts_of(name: str, identity: str) -> Set[str]:
     """The texts in a file's definitions `.._text`, with this letter for a number in decimal."""
-    lines = "\n".join(line for declared in antt.read(ROOT / name).declarations for line in declared.lines)
-    found = re.findall(r'^\w+_text .* =\s+(codes "[^"]*"(?: \+\+ (?:codes "[^"]*"|decimal \w+))*)$', lines, re.M)
-    return {re.sub(r'codes "([^"]*)"', r"\1", re.sub(r"decimal \w+", identity, text).replace(" ++ ", "")) for text in found}
+    row = r'^\w+_text .* =\s+(codes "[^"]*"(?: \+\+ (?:codes "[^"]*"|decimal \w+))*)$'
+    lines = [line for declared in antt.read(ROOT / name).declarations for line in declared.lines]
+    found = re.sub(r"decimal \w+", identity, "\n".join(re.findall(row, "\n".join(lines), re.M)))
+    return set(re.sub(r'codes "([^"]*)"', r"\1", found).replace(" ++ ", "").splitlines())
 
 
 def words_in(text: str) -> List[str]:
@@ -81,21 +99,23 @@ def words_in(text: str) -> List[str]:
 def wrong_faults() -> Iterator[str]:
     section = text_of(FORMAT).partition("## Faults\n")[2].partition("\n## ")[0]
     rows = dict(re.findall(r"^\| `([^`]+)` \| ([^|]*) \|", part(USING, "faults"), re.M))
-    items = {head.replace(" Ar ", " "): text for head, text in re.findall(r"^\.It (.*)\n((?:(?!\.It).*\n)*)", part(MANUAL, "faults"), re.M)}
+    items = {head.replace(" Ar ", " "): text for head, text in items_in("faults", "(.*)").items()}
     for fault in sorted(rows.keys() & items.keys()):
         if words_in(rows[fault]) != words_in(items[fault]):
             yield f"{MANUAL}: {USING} has other words for the fault `{fault}`: use the same in both"
-    named = {USING: rows.keys(), MANUAL: items.keys(),
-             FORMAT: {span for span in re.findall("`([^`]+)`", section) if not re.fullmatch(r"H|--\w+|lrup[\w-]+", span)}}
-    for page, faults in named.items():
+    in_format = {span for span in re.findall("`([^`]+)`", section)
+                 if not re.fullmatch(r"H|--\w+|lrup[\w-]+", span)}
+    for page, faults in (USING, rows.keys()), (MANUAL, items.keys()), (FORMAT, in_format):
         for fault in sorted(faults ^ texts_of(FAULTS, "H")):
-            yield f"{page}: the fault `{fault}` is " + (f"not in {FAULTS}: remove it" if fault in faults else "missing: add it")
+            what = f"not in {FAULTS}: remove it" if fault in faults else "missing: add it"
+            yield f"{page}: the fault `{fault}` is {what}"
 
 
 def is_cause(span: str, text: str) -> bool:
     """Whether the part in backticks is the text, its end after a colon, or, with two dots, its
     beginning."""
-    return text == span or text.endswith(f": {span}") or span.endswith(" ..") and text.startswith(span[:-2])
+    is_start = span.endswith(" ..") and text.startswith(span[:-2])
+    return is_start or f": {text}".endswith(f": {span}")
 
 
 def wrong_causes() -> Iterator[str]:
@@ -108,14 +128,18 @@ def wrong_causes() -> Iterator[str]:
 
 
 def wrong_options() -> Iterator[str]:
-    texts = dict(re.findall(r'^pub const (\w+): &str = "\\?\n?((?:[^"\\]|\\.)*)";$', text_of(HELP), re.M))
+    constant = r'^pub const (\w+): &str = "\\?\n?((?:[^"\\]|\\.)*)";$'
+    texts = dict(re.findall(constant, text_of(HELP), re.M))
     texts["EXAMPLE"] = texts["EXAMPLE"].partition("\n\n")[0]
-    items = {name.upper(): text for name, text in re.findall(r"^\.It Fl -(\w+).*\n((?:(?!\.It).*\n)*)", part(MANUAL, "options"), re.M)}
+    items = {name.upper(): text for name, text in items_in("options", r"Fl -(\w+)").items()}
     items["EXAMPLE"] = part(MANUAL, "sizes")
-    synopsis = {name.upper() for name in re.findall(r"^\.Op Fl -(\w+)", part(MANUAL, "synopsis"), re.M)}
-    for name in sorted((texts.keys() | items.keys() | synopsis) - {"VERSION", "PROGRAM", "FORMULA", "STREAM"}):
-        if words_in(texts.get(name, "")) != words_in(items.get(name, "")) or name != "EXAMPLE" and name not in synopsis:
-            yield f"{MANUAL}: {HELP} has other words for {name}: use the same in both, and name the option in the synopsis"
+    synopsis = {"EXAMPLE", *re.findall(r"^\.OP FL -(\w+)", part(MANUAL, "synopsis").upper(), re.M)}
+    names = texts.keys() | items.keys() | synopsis
+    for name in sorted(names - {"VERSION", "PROGRAM", "FORMULA", "STREAM"}):
+        same = words_in(texts.get(name, "")) == words_in(items.get(name, ""))
+        if not same or name not in synopsis:
+            yield (f"{MANUAL}: {HELP} has other words for {name}: use the same in both, and name "
+                   "the option in the synopsis")
 
 
 def wrong_rows() -> Iterator[str]:
@@ -142,16 +166,18 @@ def number_at(place: str) -> int:
 
 def wrong_figures() -> Iterator[str]:
     rows = dict(re.findall(r"^\| ([^|]+) \| ([\d,]+) \|", part(USING, "limits"), re.M))
-    yield from (f"{USING}: FIGURES of gate/interface.py lacks '{row}': add it" for row in rows.keys() - {what for what, _, _ in FIGURES})
+    yield from (f"{USING}: FIGURES of gate/interface.py lacks '{row}': add it"
+                for row in rows.keys() - {what for what, _, _ in FIGURES})
     for what, places, pages in FIGURES:
-        numbers = sorted({number_at(place) for place in places})
-        if len(numbers) > 1:
-            yield f"{places[0].split()[0]}: not one number of '{what}': {numbers}"
-        if what in rows and rows[what] != f"{numbers[0]:,}":
-            yield f"{USING}: the limit '{what}' is {numbers[0]:,}"
-        units = [f"{numbers[0] >> power} {unit}" for power, unit in ((20, "MiB"), (30, "GiB")) if numbers[0] % (1 << power) == 0]
-        spelt = "|".join(rf"(?<![\d,.]){spelling}(?!,?\d)" for spelling in [f"{numbers[0]:,}", str(numbers[0]), *units])
-        yield from (f"{page}: it lacks the figure of '{what}', {numbers[0]:,}" for page in pages.split()
+        number, *others = sorted({number_at(place) for place in places})
+        if others:
+            yield f"{places[0].split()[0]}: not one number of '{what}': {[number, *others]}"
+        if rows.get(what, f"{number:,}") != f"{number:,}":
+            yield f"{USING}: the limit '{what}' is {number:,}"
+        units = [f"{number >> power} {unit}" for power, unit in ((20, "MiB"), (30, "GiB"))
+                 if number % (1 << power) == 0]
+        spelt = rf"(?<![\d,.])({number:,}|{'|'.join([str(number), *units])})(?!,?\d)"
+        yield from (f"{page}: it lacks the figure of '{what}', {number:,}" for page in pages.split()
                     if not re.search(spelt, " ".join(text_of(page).split())))
 
 

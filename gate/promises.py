@@ -1,14 +1,16 @@
 #!/usr/bin/env python3
 """Lists what the functions of crates promise, and the edits that make them wrong.
 
-    python3 gate/promises.py [CRATE..]
-    python3 gate/promises.py --check     fails if docs/PROMISES.md gives a name that no contract has
+    promises.py [CRATE..]
+    promises.py --check     fails if docs/PROMISES.md gives a name that no contract has
 
-For each crate it prints the functions that have clauses, with the clauses' names, and how many have no name; the edits of the gate that
-change the function; and those of gate/edits, in brackets. 'no edit' is at a public function that none changes, except at laws, which have
-no body. An edit belongs to the function around its first old text.
+For each crate it prints the functions that have clauses, with the clauses' names, and how many have
+no name; the edits of the gate that change the function; and those of gate/edits, in brackets. 'no
+edit' is at a public function that none changes, except at laws, which have no body. An edit belongs
+to the function around its first old text.
 
-On docs/PROMISES.md each name in backticks under a crate has to be a function of the crate, a clause or a law. A lemma is none of these.
+On docs/PROMISES.md each name in backticks under a crate has to be a function of the crate, a clause
+or a law. A lemma is none of these.
 """
 import re
 import sys
@@ -38,31 +40,35 @@ def sources(crate: str) -> List[Path]:
 def functions(path: Path) -> Iterator[Function]:
     lines, holder = path.read_text().splitlines(), ""
     for at, line in enumerate(lines):
-        block = re.match(r"(?:pub(?:\(\w+\))? )?(?:impl(?:<.*?>)? (?:[^{]* for )?|trait )(\w+)", line)
+        block = re.match(r"(?:pub.*? )?(?:impl(?:<.*?>)? (?:[^{]* for )?|trait )(\w+)", line)
         holder = f"{block[1]}::" if block else "" if line.startswith("}") else holder
         found = re.match(r"( *)(pub )?(?:pub\(\w+\) )?(?:const )?fn (\w+)", line)
         if found:
-            ends = (found[1] + "}", found[1] + "{}")
-            last = next((k for k in range(at, len(lines)) if lines[k] in ends or lines[k].endswith("};")), at)
-            clauses = re.findall(r"^ +ensures\*?(?: (\w+))? \{", "\n".join(lines[at:last + 1]), re.M)
-            yield Function(holder + found[3], found[2] is not None and lines[last] != "{}", at, last, clauses)
+            ends = re.compile(rf"{found[1]}\{{?\}}|.*\}};")
+            last = next((k for k in range(at, len(lines)) if ends.fullmatch(lines[k])), at)
+            is_public = found[2] is not None and lines[last] != "{}"
+            text = "\n".join(lines[at:last + 1])
+            clauses = re.findall(r"^ +ensures\*?(?: (\w+))? \{", text, re.M)
+            yield Function(holder + found[3], is_public, at, last, clauses)
 
 
 def list_promises(crate: str) -> None:
     print(crate)
-    edits = []
-    for folder, form in (ROOT / "crates" / crate / "must-fail", "{}"), (ROOT / "gate" / "edits" / crate, "[{}]"):
+    edits, home = [], ROOT / "crates" / crate
+    for folder, form in (home / "must-fail", "{}"), (ROOT / "gate" / "edits" / crate, "[{}]"):
         for path in sorted(folder.glob("*.edit")):
-            file, old = (re.search(rf"^{word}: (.*)$", path.read_text(), re.M)[1] for word in ("file", "old"))
-            before = (ROOT / "crates" / crate / file).read_text().partition(old)[0]
-            edits.append((form.format(path.stem), ROOT / "crates" / crate / file, before.count("\n")))
+            file = re.search(r"^file: (.*)$", path.read_text(), re.M)[1]
+            old = re.search(r"^old: (.*)$", path.read_text(), re.M)[1]
+            before = (home / file).read_text().partition(old)[0]
+            edits.append((form.format(path.stem), home / file, before.count("\n")))
     for path in sources(crate):
         for function in functions(path):
-            mine = [edit for edit in edits if edit[1] == path and function.first <= edit[2] <= function.last]
+            lines = range(function.first, function.last + 1)
+            mine = [edit for edit in edits if edit[1] == path and edit[2] in lines]
             edits = [edit for edit in edits if edit not in mine]
             if function.clauses or mine:
-                nameless = [f"{function.clauses.count('')} without a name"] * ("" in function.clauses)
-                clauses = ", ".join([*filter(None, function.clauses), *nameless])
+                named, count = [*filter(None, function.clauses)], function.clauses.count("")
+                clauses = ", ".join([*named, *[f"{count} without a name"] * bool(count)])
                 print(f"  {function.name} ({antt.shown(path)}:{function.first + 1}): {clauses}")
             if mine or function.clauses and function.is_public:
                 print("      " + (", ".join(edit[0] for edit in mine) or "no edit"))
@@ -70,14 +76,17 @@ def list_promises(crate: str) -> None:
 
 
 def names_of(crate: str) -> Set[str]:
-    """Its modules, functions and clauses; functions also with their type, trait or module in front."""
-    found = [(path.stem, function) for path in sources(crate) for function in functions(path)]
-    return {name for module, function in found for name in
-            (module, function.name, function.name.split("::")[-1], f"{module}::{function.name}", *function.clauses)}
+    """Its modules, functions and clauses; functions also with their type, trait or module."""
+    found: Set[str] = set()
+    for path in sources(crate):
+        for name, *_, clauses in functions(path):
+            found |= {path.stem, name, name.split("::")[-1], f"{path.stem}::{name}", *clauses}
+    return found
 
 
 def unknown_names() -> Iterator[str]:
-    """What the page gives as proved, and no contract has. Words with a capital are types, and those with a hyphen options."""
+    """What the page gives as proved, and no contract has. Words with a capital are types, and those
+    with a hyphen options."""
     uses = antt.crates()
     libraries = {*uses, *(name for names in uses.values() for name in names)}
     known: Set[str] = set()
@@ -86,11 +95,14 @@ def unknown_names() -> Iterator[str]:
         heading = re.match(r"\*\*(`.*?`)\*\*", line)
         if heading:
             crates = re.findall(r"`(\w+)`", heading[1])
-            calls = {name for crate in crates for below in uses[crate] if below in uses for name in names_of(below)}
-            known = libraries.union({name for name in calls if "::" in name and name[0].isupper()}, *map(names_of, crates))
+            below = {crate for user in crates for crate in uses[user] if crate in uses}
+            calls = set().union(*map(names_of, below))
+            known = libraries.union({name for name in calls if re.match("[A-Z].*::", name)},
+                                    *map(names_of, crates))
         for name in re.findall(r"`((?:\w+::)?[a-z]\w*)`", line if crates and not heading else ""):
             if name not in known:
-                yield f"{PAGE.relative_to(ROOT)}:{number}: '{name}' is no function, clause or law of {' or '.join(crates)}"
+                yield (f"{PAGE.relative_to(ROOT)}:{number}: '{name}' is no function, clause or law "
+                       f"of {' or '.join(crates)}")
 
 
 def main(words: List[str]) -> None:
@@ -98,8 +110,12 @@ def main(words: List[str]) -> None:
         found = list(unknown_names())
         print("\n".join([*found, f"promises: {len(found)} names that no contract has"]))
         sys.exit(bool(found))
-    for crate in words or [name for name in antt.crates() if not name.endswith(("_tests", "_support"))]:
-        list_promises(crate if crate in antt.crates() else sys.exit(f"promises: crates.txt has no '{crate}'"))
+    for name in words:
+        if name not in antt.crates():
+            sys.exit(f"promises: crates.txt has no '{name}'")
+    for name in words or antt.crates():
+        if words or not name.endswith(("_tests", "_support")):
+            list_promises(name)
 
 
 if __name__ == "__main__":

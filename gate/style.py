@@ -1,12 +1,13 @@
 #!/usr/bin/env python3
 """Checks what neither the prover nor the compiler checks.
 
-    python3 gate/style.py lists what is wrong, and counts it; the status is 1 if anything is python3
-    gate/style.py --words shows how many words each page has
+    style.py            lists what is wrong, and counts it; the status is 1 if anything is
+    style.py --words    shows how many words each page has
 
-In the pages: names in backticks that are nowhere, links that lead nowhere, quotations that TRUST and README don't have, pages that
-are too long, and misspelt words. In the sources: lines that are too wide, lemmas that are stated twice, names with two meanings,
-definitions in the wrong folder, and edits that don't fit. Besides, the picture of the crates, and the numbers of versions.
+In the pages: names in backticks that are nowhere, links that lead nowhere, quotations that TRUST
+and README don't have, pages that are too long, and misspelt words. In the sources: lines that are
+too wide, lemmas that are stated twice, names with two meanings, definitions in the wrong folder,
+and edits that don't fit. Besides, the picture of the crates, and the numbers of versions.
 """
 from __future__ import annotations
 
@@ -25,30 +26,33 @@ import antt
 from antt import ROOT, shown
 
 # The most words of each page; code and links' targets don't count, nor parts that gate/interface.py
-# compares.
-MOST_WORDS: Dict[str, int] = {
-    "README.md": 700, "CONTRIBUTING.md": 520, "CHANGELOG.md": 1370, "bench/RESULTS.md": 900, "bench/solve/README.md": 210,
-    **{f"bench/{name}/README.md": 140 for name in ("checkpoint", "filter", "peers", "program", "readers", "ring", "row")},
-    **{f"docs/{name}": most for name, most in (
-        ("USING.md", 2250), ("FORMAT.md", 600), ("EMITTING.md", 1250), ("TRUST.md", 1200), ("SECURITY.md", 520), ("DECISIONS.md", 3410),
-        ("RELATED.md", 930), ("ARCHITECTURE.md", 2970), ("PROVING.md", 1710), ("PROMISES.md", 2080), ("AUDIT.md", 1600),
-        ("THEOREMS.md", 2190), ("STORE_CALLS.md", 390), ("PROOFS_AND_ROUNDS.md", 2000), ("lrupd.1", 590), ("lrup-chain.1", 295),
-        ("lrup-check.1", 210), ("lrup-exact.1", 965), ("lrup-explain.1", 515), ("lrup-solve.1", 1720), ("lrup-trim.1", 550))},
-    **{f"examples/{name}README.md": most for name, most in (
-        ("", 500), ("solver/", 180), ("planning/", 230), ("lemma/", 200), ("smt/", 110), ("hol/", 100), ("cubes/", 170),
-        ("resume/", 260), ("fifo/", 190))},
-    **{shown(path): 670 for path in sorted(ROOT.glob("crates/*/specs/*.md"))},
-    **{f"crates/{name}/specs/README.md": most for name, most in (
-        ("checkpoint", 330), ("clause_store", 250), ("command", 370), ("command_line", 170), ("dimacs", 370), ("lrup_text", 500),
-        ("outcome_laws", 480), ("propagate", 190), ("run_files", 290), ("run_laws", 610), ("run_outcome", 210), ("stream_threads", 370),
-        ("stream_turns", 130))},
-    "crates/stream_check/specs/RUNS.md": 490,
-}
+# compares. `crates/NAME/` is the page of that crate's specs.
+MOST_WORDS = {shown(path): 670 for path in sorted(ROOT.glob("crates/*/specs/*.md"))}
+MOST_WORDS.update((re.sub("/$", "/specs/README.md", name), int(most)) for name, most in (
+    word.split("=") for word in """
+    README.md=700 CONTRIBUTING.md=520 CHANGELOG.md=1370 bench/RESULTS.md=900
+    bench/solve/README.md=210 bench/checkpoint/README.md=140 bench/filter/README.md=140
+    bench/peers/README.md=140 bench/program/README.md=140 bench/readers/README.md=140
+    bench/ring/README.md=140 bench/row/README.md=140 docs/USING.md=2250 docs/FORMAT.md=600
+    docs/EMITTING.md=1250 docs/TRUST.md=1200 docs/SECURITY.md=520 docs/DECISIONS.md=3410
+    docs/RELATED.md=930 docs/ARCHITECTURE.md=2970 docs/PROVING.md=1710 docs/PROMISES.md=2080
+    docs/AUDIT.md=1600 docs/THEOREMS.md=2190 docs/STORE_CALLS.md=390
+    docs/PROOFS_AND_ROUNDS.md=2000 docs/lrupd.1=590 docs/lrup-chain.1=295 docs/lrup-check.1=210
+    docs/lrup-exact.1=965 docs/lrup-explain.1=515 docs/lrup-solve.1=1720 docs/lrup-trim.1=550
+    examples/README.md=500 examples/solver/README.md=180 examples/planning/README.md=230
+    examples/lemma/README.md=200 examples/smt/README.md=110 examples/hol/README.md=100
+    examples/cubes/README.md=170 examples/resume/README.md=260 examples/fifo/README.md=190
+    crates/checkpoint/=330 crates/clause_store/=250 crates/command/=370 crates/command_line/=170
+    crates/dimacs/=370 crates/lrup_text/=500 crates/outcome_laws/=480 crates/propagate/=190
+    crates/run_files/=290 crates/run_laws/=610 crates/run_outcome/=210
+    crates/stream_check/specs/RUNS.md=490 crates/stream_threads/=370 crates/stream_turns/=130""".split()))
 # Names in backticks from the toolchain, the system or other programs, or made up by a page.
-FOREIGN = set("""ANTT.md CONTRACTS.md SHORTER_PROOFS.md BUILD.bazel start_lib start_io --only -j -v -q --plain --no-binary --host
-    plm_rsh_agent libcadical-dev %formula %proof :init :goal formula.cnf ten.cnf proof.lrat core.cnf kept/command group1 group2 my_lemma XValue
+FOREIGN = set("""ANTT.md CONTRACTS.md SHORTER_PROOFS.md BUILD.bazel start_lib start_io --only -j -v
+    -q --plain --no-binary --host plm_rsh_agent libcadical-dev %formula %proof :init :goal
+    formula.cnf ten.cnf proof.lrat core.cnf kept/command group1 group2 my_lemma XValue
     GLIBC_TUNABLES=glibc.malloc.hugetlb=1 sha256sum socat veth""".split())
-SPELLINGS = ("anothers", "bu", "crate", "grat", "lits", "nd", "somes")      # words that codespell doesn't know
+# Words that codespell doesn't know.
+SPELLINGS = ("anothers", "bu", "crate", "grat", "lits", "nd", "somes")
 
 
 @functools.lru_cache(maxsize=None)
@@ -75,14 +79,17 @@ def prose(path: Path) -> str:
 
 
 def words_of(name: str) -> int:
-    """How many words a page has: code in backticks is one, and so is a macro's argument; titles don't count."""
+    """Code in backticks is one word, and so is a macro's argument; titles don't count."""
     if name.endswith(".1"):
-        text = without(r"^\.Bd[\s\S]*?^\.Ed$", without(r'^\.\\" (\w+): gate/[\s\S]*?^\.\\" end of \1$', (ROOT / name).read_text()))
-        text = re.sub(r"^\.(?:Ar|Cm|Dv|Ev|Fl|Nm|Pa|Pq|Ql|Sx|Sy|Xr)(?: .*?)?((?: [.,:;?!)])*)$", r"`", text, flags=re.M)
+        text = without(r'^\.\\" (\w+): gate/[\s\S]*?^\.\\" end of \1$', (ROOT / name).read_text())
+        text = without(r"^\.Bd[\s\S]*?^\.Ed$", text)
+        text = re.sub(r"^\.(?:Ar|Cm|Dv|Ev|Fl|Nm|Pa|Pq|Ql|Sx|Sy|Xr)(?: .*?)?((?: [.,:;?!)])*)$",
+                      r"`", text, flags=re.M)
         text = re.sub(r"^\..*$", "", text, flags=re.M)
     else:
         text = without(r"^<!-- (\w+): gate/[\s\S]*?^<!-- end of \1 -->$", prose(ROOT / name))
-        text = re.sub(r"^(#|<!--|!\[|\|[|-]+$" + (r"|\|" if name == "bench/RESULTS.md" else "") + ").*", "", text, flags=re.M)
+        tables = r"\|" if name == "bench/RESULTS.md" else r"\|[|-]+$"
+        text = re.sub(rf"^(#|<!--|!\[|{tables}).*", "", text, flags=re.M)
         text = re.sub(r"\]\([^)]*\)|[*\[\]]", "", re.sub(r"`[^`]*`", "`", text))
     return len(re.findall(r"[\w`][\w'`,.-]*", re.sub(r"^ *(- |\d+\. )", "", text, flags=re.M)))
 
@@ -117,10 +124,12 @@ def dead_links() -> Iterator[str]:
 
 def false_quotations() -> Iterator[str]:
     """Sentences that these pages quote, but TRUST and README don't have."""
-    sources = " ".join(" ".join((ROOT / name).read_text().split()) for name in ("README.md", "docs/TRUST.md")).lower()
+    pages = (ROOT / "README.md").read_text(), (ROOT / "docs/TRUST.md").read_text()
+    sources = " ".join(" ".join(pages).lower().split())
     for path in files(r"docs/(AUDIT|THEOREMS|PROOFS_AND_ROUNDS)\.md"):
         for quotation in re.findall(r"^> [\s\S]*?(?=\n\n)", path.read_text(), re.M):
-            for sentence in re.split(r"(?<=\.) ", " ".join(quotation.replace("\n>", " ")[2:].split())):
+            text = " ".join(quotation.replace("\n>", " ")[2:].split())
+            for sentence in re.split(r"(?<=\.) ", text):
                 if sentence.removeprefix("This holds unless ").strip(".").lower() not in sources:
                     yield f"{shown(path)}: neither TRUST nor README has '{sentence}'"
 
@@ -128,9 +137,12 @@ def false_quotations() -> Iterator[str]:
 @functools.lru_cache(maxsize=None)
 def known_names() -> Set[str]:
     """The words of code, definitions and scripts, and of names of files."""
-    names = {word for path in files() for word in re.findall(r"[^\W\d][\w-]*|[^\W\d]\w*", shown(path))}
-    for path in files(r"(?!HANDLES).*(\.(rt|antt|c|cpp|h|py|sh|awk|in|toml|txt|v|1)|/[^.]*|Makefile)"):
-        code = re.sub(r"(?<!:)//.*", "", path.read_text()) if path.suffix == ".rt" else path.read_text()
+    names = set(re.findall(r"[^\W\d][\w-]*", "\n".join(map(shown, files()))))
+    endings = r"(?!HANDLES).*(\.(rt|antt|c|cpp|h|py|sh|awk|in|toml|txt|v|1)|/[^.]*|Makefile)"
+    for path in files(endings):
+        code = path.read_text()
+        if path.suffix == ".rt":
+            code = re.sub(r"(?<!:)//.*", "", code)
         names.update(re.findall(r"[^\W\d][\w'-]*", code), re.findall(r"[^\W\d]\w*", code))
     return names
 
@@ -142,17 +154,22 @@ def unknown_names() -> Iterator[str]:
     for path in files(r".*\.md"):
         text = prose(path)
         for match in re.finditer(r"`([^`]+)`", text):
-            place, words = f"{shown(path)}:{text.count(chr(10), 0, match.start()) + 1}", match[1].split()
+            place = f"{shown(path)}:{text.count(chr(10), 0, match.start()) + 1}"
+            words = match[1].split()
             if re.fullmatch(r"make [a-z-]+", match[1]) and words[1] not in targets:
                 yield f"{place}: the Makefile has no target of `{match[1]}`"
             if len(words) > 1:
-                words = [word for word in words if re.search(r"[^\W\d]_|[a-z][A-Z]|::|[a-z]/|^--[a-z]", word)]
-            for word in words if not FOREIGN.intersection([*words, match[1]]) and not match[1].startswith("rt ") else []:
-                parts = re.findall(r"[^\W\d][\w'-]*", re.sub(r"/(dev|sys|proc)/.*|\d+[A-Za-z]+|.*out/.*", "", word))
-                unknown = [part for part in parts if not re.fullmatch(r"[A-Z_]+(_tests)?|[a-z]|\w+_", part)
-                           and not known_names() & {part, part.strip("-'"), re.sub(r"\d+$", "", part)}]
-                if unknown:
-                    yield f"{place}: nothing is called `{unknown[0]}`, of `{match[1]}`"
+                special = r"[^\W\d]_|[a-z][A-Z]|::|[a-z]/|^--[a-z]"
+                words = [word for word in words if re.search(special, word)]
+            if FOREIGN.intersection([*words, match[1]]) or match[1].startswith("rt "):
+                continue
+            for word in words:
+                word = re.sub(r"/(dev|sys|proc)/.*|\d+[A-Za-z]+|.*out/.*", "", word)
+                for part in re.findall(r"[^\W\d][\w'-]*", word):
+                    names = {part, part.strip("-'"), re.sub(r"\d+$", "", part)} & known_names()
+                    if not names and not re.fullmatch(r"[A-Z_]+(_tests)?|[a-z]|\w+_", part):
+                        yield f"{place}: nothing is called `{part}`, of `{match[1]}`"
+                        break
 
 
 def misspelt() -> Iterator[str]:
@@ -170,6 +187,10 @@ def misspelt() -> Iterator[str]:
 # Sources.
 
 
+def crate_of(path: Path) -> str:
+    return path.relative_to(ROOT).parts[1]
+
+
 def wide_lines() -> Iterator[str]:
     """Lines of clauses, definitions and statements of lemmas beyond 100 columns, and lines of
     proofs beyond 140."""
@@ -178,8 +199,10 @@ def wide_lines() -> Iterator[str]:
         if "/proofs/" in shown(path):
             limited = range(len(lines))
         elif path.suffix == ".antt":
-            limited = [declared.place + at for declared in antt.read(path).declarations
-                       for at in range(len(declared.head() if declared.is_lemma() else declared.lines))]
+            limited = []
+            for declared in antt.read(path).declarations:
+                parts = declared.head() if declared.is_lemma() else declared.lines
+                limited += range(declared.place, declared.place + len(parts))
         else:
             limited, depth = [], 0
             for at, line in enumerate(lines):
@@ -187,20 +210,22 @@ def wide_lines() -> Iterator[str]:
                     limited.append(at)
                     depth += line.count("{") - line.count("}")
         most = 140 if "/proofs/" in shown(path) else 100
-        yield from (f"{shown(path)}:{at + 1}: it has {len(lines[at])} columns, and may have {most}"
-                    for at in limited if len(lines[at]) > most)
+        for at in limited:
+            if len(lines[at]) > most:
+                yield f"{shown(path)}:{at + 1}: {len(lines[at])} columns, of at most {most}"
 
 
 @functools.lru_cache(maxsize=None)
 def all_below(crate: str) -> Set[str]:
     """The crate, and those of the repository that it uses, directly or by others."""
-    return {crate}.union(*(all_below(name) for name in antt.crates()[crate] if name in antt.crates()))
+    return {crate}.union(*map(all_below, antt.crates().keys() & antt.crates()[crate]))
 
 
 def normal(statement: str) -> Optional[str]:
     """A lemma's statement with numbers for the names that it binds; None for a function, whose type
     says nothing about its arguments."""
-    bound = [name for names in re.findall(r"[({]([^(){}:]+) :|λ ([^\s.]+)\.", statement) for name in "".join(names).split()]
+    found = re.findall(r"[({]([^(){}:]+) :|λ ([^\s.]+)\.", statement)
+    bound = " ".join(names + single for names, single in found).split()
     words = r"[^\s(){}\[\],;.]+"
     if not set(bound) & set(re.findall(words, statement.split(" → ")[-1])):
         return None
@@ -213,45 +238,53 @@ def repeated() -> Iterator[str]:
     names with two meanings."""
     lemmas, meanings = defaultdict(list), defaultdict(dict)
     for path in files(r"crates/\w+/(specs|proofs)/.*\.antt"):
-        for declared in (declared for declared in antt.read(path).declarations if not declared.indent):
+        for declared in antt.read(path).declarations:
             place = f"{shown(path)}:{declared.place + 1} {declared.name}"
+            if declared.indent:
+                continue
             if declared.is_lemma() and normal(declared.statement()):
-                lemmas[normal(declared.statement())].append((path.relative_to(ROOT).parts[1], place))
+                lemmas[normal(declared.statement())].append((all_below(crate_of(path)), place))
             if "/specs/" in shown(path):
                 meanings[declared.name][declared.text()] = place
     for found in lemmas.values():
-        same = [place for at, (crate, place) in enumerate(found)
-                if any(all_below(crate) & all_below(other) for by, (other, _) in enumerate(found) if by != at)]
+        same = [place for below, place in found
+                if any(below & others for others, other in found if other != place)]
         if same:
             yield f"{same[0]}: stated also at {', '.join(same[1:])}: keep it in the lowest crate"
-    yield from (f"{' and '.join(places.values())}: one name, two meanings" for places in meanings.values() if len(places) > 1)
+    for places in meanings.values():
+        if len(places) > 1:
+            yield f"{' and '.join(places.values())}: one name, two meanings"
 
 
 def misplaced() -> Iterator[str]:
     """specs/ itself has definitions for contracts of public functions, internal/ those for private
     ones, and lemmas/ has lemmas."""
     for path in files(r"crates/\w+/(specs|src)/.*\.(antt|rt)"):
-        crate, folder = shown(path).split("/")[1].removesuffix("_tests"), shown(path).split("/")[3]
+        page, folder = shown(path), path.relative_to(ROOT).parts[3]
+        own = "." if folder.endswith(".antt") else crate_of(path).removesuffix("_tests") + "."
         for module, name in antt.scope_at(path).values():
-            if ".specs.internal" in module and (folder.endswith(".antt") or not module.startswith(f"{crate}.")):
-                yield f"{shown(path)}: it brings in {name or module} of {module}: move that out of internal/"
-        if path.suffix == ".antt" and folder != "lemmas":
-            yield from (f"{shown(path)}:{declared.place + 1}: {declared.name} is a lemma: move it to specs/lemmas/"
-                        for declared in antt.read(path).declarations if declared.is_lemma())
+            if ".specs.internal" in module and not module.startswith(own):
+                yield f"{page}: it uses {name or module} of {module}: move that out of internal/"
+        for lemma in antt.read(path).declarations if page.endswith(".antt") else []:
+            if lemma.is_lemma() and folder != "lemmas":
+                yield f"{page}:{lemma.place + 1}: {lemma.name} is a lemma: move it to specs/lemmas/"
 
 
 def misfits() -> Iterator[str]:
     """Edits that can't be applied: rt tries those of the gate, but only after the proofs."""
     for edit in files(r"gate/edits/.*|crates/\w+/must-fail/.*"):
-        crate = edit.parent.parent if edit.parent.name == "must-fail" else ROOT / "crates" / edit.parent.name
+        is_gates = edit.parent.name == "must-fail"
+        crate = edit.parent.parent if is_gates else ROOT / "crates" / edit.parent.name
         texts: Dict[str, str] = {}
-        for file, block in re.findall(r"^file: (.*)\n((?:(?:old|new):.*\n?|\n)*)", edit.read_text(), re.M):
+        block = r"^file: (.*)\n((?:(?:old|new):.*\n?|\n)*)"
+        for file, changes in re.findall(block, edit.read_text(), re.M):
             texts.setdefault(file, (crate / file).read_text() if (crate / file).is_file() else "")
-            for old, new in re.findall(r"^old: (.*)\nnew: ?(.*)", block, re.M):
-                if texts[file].count(old) != 1:
-                    yield f"{shown(edit)}: {file} has '{old.strip()}' {texts[file].count(old)} times"
+            for old, new in re.findall(r"^old: (.*)\nnew: ?(.*)", changes, re.M):
+                count = texts[file].count(old)
+                if count != 1:
+                    yield f"{shown(edit)}: {file} has '{old.strip()}' {count} times"
                 texts[file] = texts[file].replace(old, new)
-        if not texts or crate.joinpath("must-fail", edit.name).exists() and crate != edit.parent.parent:
+        if not texts or not is_gates and (crate / "must-fail" / edit.name).exists():
             yield f"{shown(edit)}: it changes nothing, or the gate has it, too"
 
 
@@ -261,33 +294,37 @@ def misfits() -> Iterator[str]:
 def wrong_arrows() -> Iterator[str]:
     """The picture in ARCHITECTURE has an arrow from each crate, except those for tests, to each
     crate that it uses directly and through no other."""
-    below = {crate: all_below(crate) - {crate} for crate in antt.crates() if not crate.endswith(("_tests", "_support"))}
+    below = {crate: all_below(crate) - {crate} for crate in antt.crates()
+             if not crate.endswith(("_tests", "_support"))}
     wanted = {(crate, name) for crate, names in below.items() for name in names
               if not any(name in all_below(other) for other in names - {name})}
-    drawn = set(re.findall(r"^ *(\w+) --> (\w+)$", (ROOT / "docs/ARCHITECTURE.md").read_text(), re.M))
-    yield from (f"docs/ARCHITECTURE.md: the picture lacks {crate} --> {name}" for crate, name in sorted(wanted - drawn))
-    yield from (f"docs/ARCHITECTURE.md: crates.txt has no {crate} --> {name}" for crate, name in sorted(drawn - wanted))
+    page = ROOT / "docs/ARCHITECTURE.md"
+    drawn = set(re.findall(r"^ *(\w+) --> (\w+)$", page.read_text(), re.M))
+    for crate, name in sorted(wanted ^ drawn):
+        where = "crates.txt has no" if (crate, name) in drawn else "the picture lacks"
+        yield f"{shown(page)}: {where} {crate} --> {name}"
 
 
 def wrong_versions() -> Iterator[str]:
     """README names the logic of the rt on the PATH, and the program has the version in the file
     VERSION."""
     if shutil.which("rt"):
-        says = subprocess.run(["rt", "version"], capture_output=True, text=True, check=True).stdout.strip()
+        says = subprocess.check_output(["rt", "version"], text=True).strip()
         logic = re.search(r"`rattle-kit-\w+ (logic \w+)`", (ROOT / "README.md").read_text())
         if not logic or not says.endswith(logic[1]):
             yield f"README.md: rt version says '{says}'"
-    version = (ROOT / "VERSION").read_text().strip()
-    if f'const VERSION: &str = "{version}";' not in (ROOT / "crates/command_line/src/help.rt").read_text():
-        yield f"crates/command_line/src/help.rt: the file VERSION has {version}"
+    version, code = (ROOT / "VERSION").read_text().strip(), ROOT / "crates/command_line/src/help.rt"
+    if f'const VERSION: &str = "{version}";' not in code.read_text():
+        yield f"{shown(code)}: the file VERSION has {version}"
 
 
 def main(words: List[str]) -> None:
     if words == ["--words"]:
-        print("\n".join(f"{name}: {words_of(name)} of {most} words" for name, most in MOST_WORDS.items()))
+        for name, most in MOST_WORDS.items():
+            print(f"{name}: {words_of(name)} of {most} words")
         return
-    checks = (unknown_names, dead_links, false_quotations, long_pages, misspelt, wide_lines, repeated, misplaced, misfits,
-              wrong_arrows, wrong_versions)
+    checks = (unknown_names, dead_links, false_quotations, long_pages, misspelt, wide_lines,
+              repeated, misplaced, misfits, wrong_arrows, wrong_versions)
     found = {check.__name__.replace("_", " "): list(check()) for check in checks}
     counts = ", ".join(f"{len(lines)} {name}" for name, lines in found.items())
     print("\n".join([*(line for lines in found.values() for line in lines), f"style: {counts}"]))
