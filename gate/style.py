@@ -192,11 +192,11 @@ def crate_of(path: Path) -> str:
 
 
 def wide_lines() -> Iterator[str]:
-    """Lines of clauses, definitions and statements of lemmas beyond 100 columns, and lines of
-    proofs beyond 140."""
-    for path in files(r"crates/\w+/(src/.*\.rt|(specs|proofs)/.*\.antt)"):
+    """Lines of Python, clauses, definitions and statements of lemmas beyond 100 columns, and lines
+    of proofs beyond 140."""
+    for path in files(r".*\.py|crates/\w+/(src/.*\.rt|(specs|proofs)/.*\.antt)"):
         lines = path.read_text().splitlines()
-        if "/proofs/" in shown(path):
+        if path.suffix == ".py" or "/proofs/" in shown(path):
             limited = range(len(lines))
         elif path.suffix == ".antt":
             limited = []
