@@ -45,7 +45,8 @@ MOST_WORDS.update((re.sub("/$", "/specs/README.md", name), int(most)) for name, 
     crates/checkpoint/=330 crates/clause_store/=250 crates/command/=370 crates/command_line/=170
     crates/dimacs/=370 crates/lrup_text/=500 crates/outcome_laws/=480 crates/propagate/=190
     crates/run_files/=290 crates/run_laws/=610 crates/run_outcome/=210
-    crates/stream_check/specs/RUNS.md=490 crates/stream_threads/=370 crates/stream_turns/=130""".split()))
+    crates/stream_check/specs/RUNS.md=490 crates/stream_threads/=370
+    crates/stream_turns/=130""".split()))
 # Names in backticks from the toolchain, the system or other programs, or made up by a page.
 FOREIGN = set("""ANTT.md CONTRACTS.md SHORTER_PROOFS.md BUILD.bazel start_lib start_io --only -j -v
     -q --plain --no-binary --host plm_rsh_agent libcadical-dev %formula %proof :init :goal

@@ -39,7 +39,9 @@ def by_pipe(work: Path) -> None:
     """The program can't write to the sealed copy of a formula from a pipe, to make it
     unsatisfiable."""
     body = """files = f"/proc/{front}/fd/"
-for path in [formula, *(files + name for name in os.listdir(files) if "memfd:lrup-solve" in os.readlink(files + name))]:
+copies = [files + name for name in os.listdir(files)
+          if "memfd:lrup-solve" in os.readlink(files + name)]
+for path in [formula, *copies]:
     try:
         file = os.open(path, os.O_RDWR)
         os.pwrite(file, b"p cnf 1 2\\n1 0\\n-1 0\\n", 0)

@@ -147,7 +147,10 @@ def with_another(tools: Dict[str, str], said: str, work: Path) -> None:
     want([(work / name).exists() for name in ("core", "lrat")], [False, False], "the outputs")
 
 
-WRONG_TRIM = r"""while [ "$1" != -- ]; do case $1 in --core) core=$2;; --stream) stream=$2;; --lrat) lrat=$2;; esac; shift; done
+WRONG_TRIM = r"""while [ "$1" != -- ]; do
+    case $1 in --core) core=$2;; --stream) stream=$2;; --lrat) lrat=$2;; esac
+    shift
+done
 printf 'p cnf 2 1\n1 2 0\n' > "$core"; printf '2 0 1 0\n' > "$stream"; printf '5 0 1 0\n' > "$lrat"
 echo "c 1 of 4 clauses, 1 lines of 2"
 echo "c $stream: 1 bytes of 1: lrupd --lines 1 --room 0 $core $stream"

@@ -16,7 +16,8 @@ from solving import FLAGS, LRUP_SOLVE, PROGRAM, Answer, in_place_of_lrupd
 FOLDER = ROOT / "tools" / "solve" / "front"
 MARK = re.compile(r"// trusted \(([^)]*)\)")
 LINES = (FOLDER / "front.c").read_text().splitlines(keepends=True)
-MARKED = [number for number, line in enumerate(LINES) if MARK.search(line)]
+# The words of each mark, by its line's number from 0 on.
+MARKS = {number: found[1] for number, line in enumerate(LINES) for found in MARK.finditer(line)}
 UNSATISFIABLE, UNDER = "s UNSATISFIABLE", "s UNSATISFIABLE UNDER ASSUMPTIONS"
 # While the front is stopped, lrupd ends, and a line is added after its last one.
 FORGES = """os.kill(int(front), signal.SIGSTOP)
@@ -180,14 +181,12 @@ def left_out(number: int, name: str, work: Path) -> None:
 
 def named(work: Path) -> None:
     """Each mark has an attack, and each attack a line."""
-    marks = [MARK.search(LINES[number]).group(1) for number in MARKED]  # type: ignore[union-attr]
-    want(sorted(marks), sorted(ATTACKS), "the words of the marks")
+    want(sorted(MARKS.values()), sorted(ATTACKS), "the words of the marks")
 
 
 def rows() -> List[Row]:
-    names = {number: MARK.search(LINES[number]).group(1) for number in MARKED}      # type: ignore[union-attr]
     return [("marks", named)] + [(f"without: {name}", left_out, number, name)
-                                 for number, name in names.items() if name in ATTACKS]
+                                 for number, name in MARKS.items() if name in ATTACKS]
 
 
 pytestmark = LRUP_SOLVE
