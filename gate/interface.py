@@ -22,6 +22,7 @@ HELP, MANUAL = f"{COMMAND}/help.rt", "docs/lrupd.1"
 USING, EMITTING, FORMAT = "docs/USING.md", "docs/EMITTING.md", "docs/FORMAT.md"
 SOLVE, EXACT, EXPLAIN = "docs/lrup-solve.1", "docs/lrup-exact.1", "docs/lrup-explain.1"
 READER, EXPLAINER, FRONT = "tools/exact", "tools/explain/main.c", "tools/solve/front/front.c"
+TELLER = "tools/explain/tell.c"     # the tool's words for faults
 # The manual pages of tools, and the sources that read their options.
 READERS = {SOLVE: ["tools/solve/options.cpp", FRONT], EXACT: [f"{READER}/main.c"],
            EXPLAIN: [EXPLAINER], "docs/lrup-trim.1": ["tools/trim/main.c"]}
@@ -105,8 +106,16 @@ def wrong_faults() -> Iterator[str]:
             yield f"{MANUAL}: {USING} has other words for the fault `{fault}`: use the same in both"
     in_format = {span for span in re.findall("`([^`]+)`", section)
                  if not re.fullmatch(r"H|--\w+|lrup[\w-]+", span)}
-    for page, faults in (USING, rows.keys()), (MANUAL, items.keys()), (FORMAT, in_format):
-        for fault in sorted(faults ^ texts_of(FAULTS, "H")):
+    explained = text_of(EXPLAIN).partition("comes, for each fault:\n")[2].partition(".El\n")[0]
+    table = text_of(TELLER).partition("words[] = {")[2].partition("};")[0]
+    named = {USING: rows.keys(), MANUAL: items.keys(), FORMAT: in_format,
+             EXPLAIN: set(" , ".join(re.findall(r"^\.It Sy (.*)", explained, re.M)).split(" , ")),
+             TELLER: set(re.findall('"([^"]+)"', table))}
+    for page, faults in named.items():
+        defined = texts_of(FAULTS, "H")
+        if page in (EXPLAIN, TELLER):
+            defined = {text.removesuffix(" H") for text in defined}
+        for fault in sorted(faults ^ defined):
             what = f"not in {FAULTS}: remove it" if fault in faults else "missing: add it"
             yield f"{page}: the fault `{fault}` is {what}"
 
