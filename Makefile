@@ -119,7 +119,7 @@ checkpoints: $(BUILT) solver pytest ## check: what --checkpoint saves, lrup-chai
 	$(call rows_of,program_checkpoints lrup_chain example_chain)
 
 rounds: $(BUILT) pytest ## check: runs in rounds: each end and fault, sizes, pipes, and what is saved
-	$(call rows_of,program_rounds program_rounds_alone)
+	$(call rows_of,program_rounds program_rounds_faults program_rounds_alone)
 
 demo: build solver ## try: four solvers that share clauses, checked while they run
 	@python3 examples/solver/demo.py $(PROGRAM) $(SOLVER)
@@ -236,7 +236,8 @@ shown: $(BUILT) solver exact trim explain pytest ## check: run the commands that
 solver-test: $(BUILT) solver pytest ## check: streams of one to eight example solvers, and of some that are killed
 	$(call rows_of,example_solver)
 
-FILTER_TESTS := filter_rounds filter_mutants filter_chains filter_streams filter_solvers
+FILTER_TESTS := filter_rounds filter_mutants filter_chains filter_streams filter_lines \
+	filter_solvers
 .PHONY: $(FILTER_TESTS)
 filter-test: $(BUILT) exact pytest ## check: the filter, also in rounds, with solvers on the PATH, and on 10,000 mutated proofs
 	$(call rows_of,$(FILTER_TESTS))
@@ -339,9 +340,9 @@ ROWS := lrup_solve_mpi lrup_solve_rounds program_refusals filter_mutants lrup_so
 	lrup_solve_solvers lrup_solve_cubes filter_rounds lrup_solve_resume explain trim \
 	lrup_solve_front lrup_solve_days lrup_solve_hostile lrup_solve_inputs lrup_solve_kept \
 	lrup_solve_kills lrup_solve_trusted lrup_check builds program_leaks filter_chains \
-	filter_streams filter_solvers program_checkpoints lrup_chain example_chain program_rounds \
-	program_rounds_alone program_answers program_groups example_solver program_neighbours \
-	program_live shown quotes
+	filter_streams filter_lines filter_solvers program_checkpoints lrup_chain example_chain \
+	program_rounds program_rounds_faults program_rounds_alone program_answers program_groups \
+	example_solver program_neighbours program_live shown quotes
 test: SHELL := /bin/bash
 test: toolchain pytest pages solver exact trim explain ## check: the gate, 25 to 100 minutes: every proof, edit and test; has to pass before a push
 	@rm -f $(dir $(SOLVE))lrupd; set -o pipefail; log=$$(mktemp); trap 'rm -f "$$log"' EXIT; SECONDS=0; \

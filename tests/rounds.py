@@ -1,10 +1,11 @@
 """Two proofs in three rounds over the four clauses, by one stream and by two, with lrupd's report
-and checkpoints: by hand."""
-from typing import Dict, List, NamedTuple, Sequence
+and checkpoints: by hand. And rows of runs with --rounds."""
+from typing import Dict, Iterator, List, Mapping, NamedTuple, Optional, Sequence, Tuple
 
-from harness import FOUR, report
+from harness import FOUR, Pieces, Wanted, report
 
 Texts = Sequence[Sequence[str]]  # for each round those of its streams
+Named = Tuple[str, Wanted]
 
 
 class Proof(NamedTuple):
@@ -58,3 +59,48 @@ def fault(number: int, cause: str) -> str:
 def last(number: int, said: Sequence[str], status: int) -> str:
     """The report, if this is the last round."""
     return f"c round {number}\n" * (number > 1) + report(said, status)
+
+
+# Rows.
+
+WAYS = ["", "--serial"]
+TRIES = "--tries 1000000"
+ADDED, NOTHING = "1 added, 0 deleted, ended", "0 added, 0 deleted, ended"
+DERIVING, REFUTING = "5 2 0 1 2 0\n", "5 2 0 1 2 0\n6 0 5 3 4 0\n"     # of the four clauses
+BAD, BAD_SAID = "5 1 0 0\n", "0 added, 0 deleted, bad line 1 (no conflict)"
+SAVED_ONE = FOUR.replace("2 4", "2 5") + "2 0\n"
+OTHER = "p cnf 2 2\n2 0\n-2 0\n"    # another formula
+LEFT = range(2, 7)  # rounds whose formulas are looked for at the end
+
+
+def rounds(name: str, status: int, texts: Texts, out: str = "", err: str = "",
+           saved: Sequence[str] = (), options: str = "", others: Mapping[str, str] = {},
+           gone: Sequence[str] = (), do: str = "", how: str = "",
+           pipes: Mapping[str, Pieces] = {}) -> Iterator[Named]:
+    """Streams of these texts, and what was saved after each round; no other formula of a round is
+    there, and no file has changed.
+
+    The shell first executes `do`; streams that are gone, or that are pipes, are no files in the
+    end."""
+    given = {name: text for name, text in {**round_files(texts), **others}.items()
+             if name not in pipes}
+    formulas: Dict[str, Optional[str]] = {saved_name(number): None for number in LEFT}
+    left = {**formulas, **given,
+            **{saved_name(number): text for number, text in enumerate(saved, 2)},
+            **dict.fromkeys(gone)}
+    for way in WAYS:
+        words = [*options.split(), *way.split(), *first_words(texts)]
+        yield f"{name} {way}", Wanted(words, status, out, err, given, pipes,
+                                      shell=f'{do}exec "$@" {how}', left=left)
+
+
+def plain(text: str) -> str:
+    """The checkpoint of a saved formula if nothing is derived or dropped."""
+    return "".join(line for line in text.splitlines(True) if not line.startswith("c"))
+
+
+def dropped_first(text: str) -> str:
+    """The checkpoint of a formula of four clauses after a line that drops the first one."""
+    clauses = plain(text).splitlines(True)[2:]
+    return "p cnf 2 3\n" + "".join(f"c id {identity}\n{clause}"
+                                   for identity, clause in enumerate(clauses, 2))

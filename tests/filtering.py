@@ -1,0 +1,53 @@
+"""Runs of the filter, and of the program on what comes out."""
+import re
+from pathlib import Path
+from typing import List, Sequence, Tuple, Union
+
+from harness import FILTER, Ran, report, run, want, written
+
+Text = Union[str, bytes]
+FIRST = "5 2 0 1 2 0\n"      # the first line of the four clauses' proof
+ONE_OF_TWO = ["--stream", "1", "--streams", "2"]
+
+
+def exact(words: Sequence[object], given: Text = b"") -> Ran:
+    """The filter's standard output, standard error and status."""
+    return run([FILTER, *words], given)
+
+
+def is_refuting(path: object) -> bool:
+    """Whether the stream's last line is the empty clause, which comes as soon as unit propagation
+    finds it."""
+    lines = Path(str(path)).read_text().splitlines()
+    return bool(lines) and lines[-1].split()[1] == "0"
+
+
+def check(program: str, formula: Path, streams: Sequence[Tuple[object, int]]) -> None:
+    """Each stream ends with the expected additions, or fewer if it ends with the empty clause; the
+    formula is refuted."""
+    done = run([program, "--tries", "1000000", formula, *(path for path, _ in streams)])
+    *lines, verdict = done.out.splitlines() or [""]
+    want((len(lines), verdict, done.status), (len(streams), "s UNSATISFIABLE", 0),
+         f"{done.err}the verdict")
+    for number, (line, (path, wanted)) in enumerate(zip(lines, streams), 1):
+        found = re.fullmatch(rf"c stream {number}: (\d+) added, \d+ deleted, ended", line)
+        count = int(found[1]) if found else -1
+        assert count == wanted or 0 <= count < wanted and is_refuting(path), (
+            f"expected {wanted} additions, but found\n{line}")
+
+
+def at_place(stream: Tuple[object, int], place: int, count: int) -> List[Tuple[object, int]]:
+    """The stream in its place among empty ones."""
+    return [stream if number == place else ("/dev/null", 0) for number in range(1, count + 1)]
+
+
+def sorted_hints(text: str) -> List[Tuple[List[str], List[str]]]:
+    """Each line, with its hints sorted."""
+    lines = [line.split() for line in text.splitlines()]
+    heads = [words.index("0", 1) for words in lines]
+    return [(words[:end], sorted(words[end:])) for words, end in zip(lines, heads)]
+
+
+def check_report(program: str, formula: Path, text: str, said: str, work: Path) -> None:
+    found = run([program, formula, written(text, work, "exact")]).out
+    want(found.splitlines()[:1], report([said], 3).splitlines()[:1], "the report")
