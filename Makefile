@@ -252,9 +252,10 @@ explain-test: $(BUILT) solver explain pytest ## check: lrup-explain against lrup
 	$(call rows_of,explain)
 
 # Skipped without CaDiCaL's library, and those of --mpi without MPI.
-SOLVE_TESTS := lrup_solve_rounds lrup_solve lrup_solve_inputs lrup_solve_solvers lrup_check \
-	lrup_solve_kept lrup_solve_front lrup_solve_trusted lrup_solve_hostile lrup_solve_kills \
-	lrup_solve_cubes lrup_solve_resume lrup_solve_days lrup_solve_mpi
+SOLVE_TESTS := lrup_solve_rounds lrup_solve lrup_solve_inputs lrup_solve_folders \
+	lrup_solve_solvers lrup_check lrup_solve_kept lrup_solve_front lrup_solve_trusted \
+	lrup_solve_hostile lrup_solve_kills lrup_solve_cubes lrup_solve_resume lrup_solve_days \
+	lrup_solve_mpi
 .PHONY: $(SOLVE_TESTS)
 solve-test: $(BUILT) exact pytest ## check: lrup-solve, on 300 random formulas, and with everything that may fail
 	$(call rows_of,$(SOLVE_TESTS))
@@ -339,10 +340,10 @@ packages: ## check: install, as root, the Debian packages that tests need
 ROWS := lrup_solve_mpi lrup_solve_rounds program_refusals filter_mutants lrup_solve \
 	lrup_solve_solvers lrup_solve_cubes filter_rounds lrup_solve_resume explain trim \
 	lrup_solve_front lrup_solve_days lrup_solve_hostile lrup_solve_inputs lrup_solve_kept \
-	lrup_solve_kills lrup_solve_trusted lrup_check builds program_leaks filter_chains \
-	filter_streams filter_lines filter_solvers program_checkpoints lrup_chain example_chain \
-	program_rounds program_rounds_faults program_rounds_alone program_answers program_groups \
-	example_solver program_neighbours program_live shown quotes
+	lrup_solve_folders lrup_solve_kills lrup_solve_trusted lrup_check builds program_leaks \
+	filter_chains filter_streams filter_lines filter_solvers program_checkpoints lrup_chain \
+	example_chain program_rounds program_rounds_faults program_rounds_alone program_answers \
+	program_groups example_solver program_neighbours program_live shown quotes
 test: SHELL := /bin/bash
 test: toolchain pytest pages solver exact trim explain ## check: the gate, 25 to 100 minutes: every proof, edit and test; has to pass before a push
 	@rm -f $(dir $(SOLVE))lrupd; set -o pipefail; log=$$(mktemp); trap 'rm -f "$$log"' EXIT; SECONDS=0; \
