@@ -280,8 +280,8 @@ sweep: $(BUILT) pytest ## check: runs with each allocation, read, write and thre
 leaks: $(BUILT) pytest ## measure: memory leaks, by valgrind
 	$(call rows_of,program_leaks)
 
-instructions: $(BUILT) c-and-python ## measure: how many instructions lines take, by valgrind, against the recorded figures
-	@python3 gate/instructions.py $(PROGRAM)
+instructions: $(BUILT) pytest ## measure: how many instructions lines take, by valgrind, against the recorded figures
+	$(call rows_of,program_instructions) -rP
 
 building: toolchain ## measure: the first build, crate by crate, in a clone of HEAD; on a quiet machine without kept proofs
 	@python3 bench/first_build.py $(RT)
@@ -341,14 +341,15 @@ ROWS := lrup_solve_mpi lrup_solve_rounds program_refusals filter_mutants lrup_so
 	lrup_solve_solvers lrup_solve_cubes filter_rounds lrup_solve_resume explain trim \
 	lrup_solve_front lrup_solve_days lrup_solve_hostile lrup_solve_inputs lrup_solve_kept \
 	lrup_solve_folders lrup_solve_kills lrup_solve_trusted lrup_check builds program_leaks \
-	filter_chains filter_streams filter_lines filter_solvers program_checkpoints lrup_chain \
-	example_chain program_rounds program_rounds_faults program_rounds_alone program_answers \
-	program_groups example_solver program_neighbours program_live shown quotes
+	program_instructions filter_chains filter_streams filter_lines filter_solvers \
+	program_checkpoints lrup_chain example_chain program_rounds program_rounds_faults \
+	program_rounds_alone program_answers program_groups example_solver program_neighbours \
+	program_live shown quotes
 test: SHELL := /bin/bash
 test: toolchain pytest pages solver exact trim explain ## check: the gate, 25 to 100 minutes: every proof, edit and test; has to pass before a push
 	@rm -f $(dir $(SOLVE))lrupd; set -o pipefail; log=$$(mktemp); trap 'rm -f "$$log"' EXIT; SECONDS=0; \
 	$(RT) ci | tee "$$log" && proved=$$SECONDS && \
-	$(MAKE) --no-print-directory BUILT= rows instructions warnings && \
+	$(MAKE) --no-print-directory BUILT= rows warnings && \
 	echo "rt ci took $$proved seconds, and the tests of programs $$((SECONDS - proved))" && \
 	tail -n 1 "$$log"
 

@@ -1,0 +1,88 @@
+"""Counts the program's instructions by valgrind, and compares them with the recorded figures.
+
+PROGRAM is built by LLVM. With --serial, runs over the same files take the same number of
+instructions. The count is for the lines, so a run over empty streams is subtracted. Each has to be
+within 5 % of its figure: the toolchain is fixed, and the margin is for other C libraries and
+processors. If a change is meant to move a count, replace its figure by the printed one. How the
+work grows with an assumed cube is compared by ratios, which need no figure."""
+import os
+import re
+from pathlib import Path
+from typing import List, Sequence
+
+from harness import PROGRAM, Row, example, needs, parametrized, report, run, want, written
+
+FOUR_SOLVERS, LONG_LINES = 6_259_316, 9_082_910
+MARGIN = 0.05
+LITERALS, HINTS = 65_535, 65_536    # the most of one line
+ASSUMED, LINES = 20_000, 400
+
+
+def counted(program: str, words: Sequence[object], wanted: str) -> int:
+    """The number of instructions of a run, which has to end with this report."""
+    needs("valgrind")
+    done = run(["valgrind", "--tool=callgrind", f"--callgrind-out-file={os.devnull}", program,
+                "--serial", *words])
+    want(done.out, wanted, f"{done.err}the report")
+    found = re.search(r"^==\d+== Collected : (\d+)$", done.err, re.M)
+    assert found, f"valgrind counted nothing\n{done.err}"
+    return int(found[1])
+
+
+def want_count(program: str, formula: Path, streams: Sequence[Path], wanted: str,
+               figure: int) -> None:
+    nothing = report(["0 added, 0 deleted, ended"] * len(streams), 3)
+    empty = counted(program, [formula, *[os.devnull] * len(streams)], nothing)
+    count = counted(program, [formula, *streams], wanted) - empty
+    print(f"{count} instructions, of {figure}, or 5 % more or less")
+    assert abs(count - figure) <= MARGIN * figure, "another count than the recorded figure"
+
+
+def four_solvers(program: str, work: Path) -> None:
+    """3,000 lines of some 70 bytes, each whole within one read."""
+    streams = [example(f"bmc-four.{number}") for number in range(1, 5)]
+    want_count(program, example("bmc.cnf"), streams, example("bmc-four.out").read_text(),
+               FOUR_SOLVERS)
+
+
+def long_lines(program: str, work: Path) -> None:
+    """A line with the most literals, and one with the most hints, neither whole within a read. The
+    third hint is one too many."""
+    stream = written(f"5 {'2 ' * LITERALS}0 1 2 0\n6 2 0 1 2 {'100001 ' * (HINTS - 2)}0\n", work)
+    want_count(program, example("four-clause.cnf"), [stream],
+               report(["1 added, 0 deleted, bad line 2 (excess 100001)"], 3), LONG_LINES)
+
+
+def assumed(program: str, literals: int, lines: int, work: Path) -> int:
+    """Some additions under that many assumed literals, none of which contradicts them."""
+    formula = written(f"p cnf {LITERALS} 2\n1 2 0\n-1 2 0\n", work)
+    cube = written("".join(f"{literal} " for literal in range(1, literals + 1)) + "0\n", work,
+                   "cube")
+    stream = written("".join(f"{number} 2 0 1 2 0\n" for number in range(3, 3 + lines)), work,
+                     "stream")
+    return counted(program, ["--assume", cube, formula, stream],
+                   report([f"{lines} added, 0 deleted, ended"], 3))
+
+
+def lines_under_a_cube(program: str, work: Path) -> None:
+    """A cube is searched by halves: lines under a large one take little more than under a small."""
+    few, many = [assumed(program, count, LINES, work) - assumed(program, count, 0, work)
+                 for count in (1, ASSUMED)]
+    print(f"{many} instructions under {ASSUMED:,} literals, {few} under one")
+    assert many <= 2 * few, "more than twice as many"
+
+
+def large_cube(program: str, work: Path) -> None:
+    """It is sorted once: twice as many literals take little more than twice as long."""
+    none, small, large = [assumed(program, count, 0, work) for count in (0, 4_000, 8_000)]
+    print(f"{large - none} instructions for 8,000 literals, {small - none} for 4,000")
+    assert large - none <= 3 * (small - none), "more than three times as many"
+
+
+def rows(program: str) -> List[Row]:
+    return [("four solvers", four_solvers, program), ("long lines", long_lines, program),
+            ("lines under a cube", lines_under_a_cube, program),
+            ("a large cube", large_cube, program)]
+
+
+test_row = parametrized(rows(PROGRAM))
