@@ -1,7 +1,5 @@
 """The reader of sources: what a file of definitions, lemmas and proofs (.antt) declares, what the
 names in it and in contracts (.rt) mean, and which definitions a text reaches."""
-from __future__ import annotations
-
 import functools
 import re
 import sys

@@ -9,8 +9,6 @@ A definition is quoted once, whole and with its comment. In code `..` is what is
 says that the contracts which it quotes 'reach N definitions', and a page that it 'quotes N
 definitions'. A page, or one before it in PAGES, explains in a list the names that libraries have.
 """
-from __future__ import annotations
-
 import re
 import sys
 from itertools import takewhile, zip_longest

@@ -1,16 +1,11 @@
 #!/usr/bin/env python3
-"""Checks what neither the prover nor the compiler checks.
-
-    style.py            lists what is wrong, and counts it; the status is 1 if anything is
-    style.py --words    shows how many words each page has
+"""Checks what neither the prover nor the compiler checks. The status is 1 if anything is wrong.
 
 In the pages: names in backticks that are nowhere, links that lead nowhere, quotations that TRUST
 and README don't have, pages that are too long, and misspelt words. In the sources: lines that are
 too wide, lemmas that are stated twice, names with two meanings, definitions in the wrong folder,
 and edits that don't fit. Besides, the picture of the crates, and the numbers of versions.
 """
-from __future__ import annotations
-
 import functools
 import os
 import re
@@ -28,12 +23,11 @@ from antt import ROOT, shown
 # The most words of each page; code and links' targets don't count, nor parts that gate/interface.py
 # compares. `crates/NAME/` is the page of that crate's specs.
 MOST_WORDS = {shown(path): 670 for path in sorted(ROOT.glob("crates/*/specs/*.md"))}
+MOST_WORDS.update({shown(path): 140 for path in sorted(ROOT.glob("bench/*/README.md"))})
 MOST_WORDS.update((re.sub("/$", "/specs/README.md", name), int(most)) for name, most in (
     word.split("=") for word in """
     README.md=700 CONTRIBUTING.md=520 CHANGELOG.md=1370 bench/RESULTS.md=900
-    bench/solve/README.md=210 bench/checkpoint/README.md=140 bench/filter/README.md=140
-    bench/peers/README.md=140 bench/program/README.md=140 bench/readers/README.md=140
-    bench/ring/README.md=140 bench/row/README.md=140 docs/USING.md=2250 docs/FORMAT.md=600
+    bench/solve/README.md=210 docs/USING.md=2250 docs/FORMAT.md=600
     docs/EMITTING.md=1250 docs/TRUST.md=1200 docs/SECURITY.md=520 docs/DECISIONS.md=3410
     docs/RELATED.md=930 docs/ARCHITECTURE.md=2970 docs/PROVING.md=1710 docs/PROMISES.md=2080
     docs/AUDIT.md=1600 docs/THEOREMS.md=2190 docs/STORE_CALLS.md=390
@@ -47,11 +41,8 @@ MOST_WORDS.update((re.sub("/$", "/specs/README.md", name), int(most)) for name, 
     crates/run_files/=290 crates/run_laws/=610 crates/run_outcome/=210
     crates/stream_check/specs/RUNS.md=490 crates/stream_threads/=370
     crates/stream_turns/=130""".split()))
-# Names in backticks from the toolchain, the system or other programs, or made up by a page.
-FOREIGN = set("""ANTT.md CONTRACTS.md SHORTER_PROOFS.md BUILD.bazel start_lib start_io --only -j -v
-    -q --plain --no-binary --host plm_rsh_agent libcadical-dev %formula %proof :init :goal
-    formula.cnf ten.cnf proof.lrat core.cnf kept/command group1 group2 my_lemma XValue
-    GLIBC_TUNABLES=glibc.malloc.hugetlb=1 sha256sum socat veth""".split())
+# Names from the toolchain, the system or other programs, or made up by a page.
+FOREIGN = set("bazel glibc hugetlb my_lemma plm_rsh_agent sha socat veth".split())
 # Words that codespell doesn't know.
 SPELLINGS = ("anothers", "bu", "crate", "grat", "lits", "nd", "somes")
 
@@ -101,15 +92,11 @@ def long_pages() -> Iterator[str]:
             yield f"{name}: it has {words_of(name)} words, and may have {most}: shorten it"
 
 
-def slug_of(title: str) -> str:
-    """The anchor that GitHub gives a heading."""
-    return re.sub(r"[^\w\- ]", "", title.lower()).replace(" ", "-")
-
-
 @functools.lru_cache(maxsize=None)
 def anchors(path: Path) -> Set[str]:
-    """The anchors of the headings; if several are the same, the later ones get a number."""
-    slugs = [slug_of(title) for title in re.findall(r"^#+ (.*)$", prose(path), re.M)]
+    """Those that GitHub gives the headings; if some are the same, the later ones get a number."""
+    titles = re.findall(r"^#+ (.*)$", prose(path).lower(), re.M)
+    slugs = [re.sub(r"[^\w\- ]", "", title).replace(" ", "-") for title in titles]
     counts = [slugs[:at].count(slug) for at, slug in enumerate(slugs)]
     return {f"{slug}-{count}" if count else slug for slug, count in zip(slugs, counts)}
 
@@ -138,9 +125,9 @@ def false_quotations() -> Iterator[str]:
 @functools.lru_cache(maxsize=None)
 def known_names() -> Set[str]:
     """The words of code, definitions and scripts, and of names of files."""
-    names = set(re.findall(r"[^\W\d][\w-]*", "\n".join(map(shown, files()))))
-    endings = r"(?!HANDLES).*(\.(rt|antt|c|cpp|h|py|sh|awk|in|toml|txt|v|1)|/[^.]*|Makefile)"
-    for path in files(endings):
+    names = FOREIGN.union(re.findall(r"[^\W\d][\w-]*", "\n".join(map(shown, files()))))
+    endings = r".*(\.(rt|antt|c|cpp|h|py|sh|awk|in|toml|txt|v|1)|/[^.]*|Makefile)"
+    for path in files(rf"(?!gate/style){endings}"):
         code = path.read_text()
         if path.suffix == ".rt":
             code = re.sub(r"(?<!:)//.*", "", code)
@@ -162,9 +149,7 @@ def unknown_names() -> Iterator[str]:
             if len(words) > 1:
                 special = r"[^\W\d]_|[a-z][A-Z]|::|[a-z]/|^--[a-z]"
                 words = [word for word in words if re.search(special, word)]
-            if FOREIGN.intersection([*words, match[1]]) or match[1].startswith("rt "):
-                continue
-            for word in words:
+            for word in words if not match[1].startswith("rt ") else []:
                 word = re.sub(r"/(dev|sys|proc)/.*|\d+[A-Za-z]+|.*out/.*", "", word)
                 for part in re.findall(r"[^\W\d][\w'-]*", word):
                     names = {part, part.strip("-'"), re.sub(r"\d+$", "", part)} & known_names()
@@ -319,11 +304,7 @@ def wrong_versions() -> Iterator[str]:
         yield f"{shown(code)}: the file VERSION has {version}"
 
 
-def main(words: List[str]) -> None:
-    if words == ["--words"]:
-        for name, most in MOST_WORDS.items():
-            print(f"{name}: {words_of(name)} of {most} words")
-        return
+def main() -> None:
     checks = (unknown_names, dead_links, false_quotations, long_pages, misspelt, wide_lines,
               repeated, misplaced, misfits, wrong_arrows, wrong_versions)
     found = {check.__name__.replace("_", " "): list(check()) for check in checks}
@@ -333,4 +314,4 @@ def main(words: List[str]) -> None:
 
 
 if __name__ == "__main__":
-    main(sys.argv[1:])
+    main()
