@@ -11,8 +11,9 @@ import time
 from pathlib import Path
 from typing import Dict, List, Optional, Sequence, Tuple, Union
 
-from harness import (COMPRESSED, FILTER, FOUR, LIMIT, ROOT, Ran, Row, by_another, dimacs, example,
-                     generated, in_shell, parametrized, piped, run, started, until, want, written)
+from harness import (COMPRESSED, FILTER, FOUR, LIMIT, ROOT, Ran, Row, by_another, compiled, dimacs,
+                     example, generated, in_shell, parametrized, piped, run, started, until, want,
+                     written)
 from lrat import lrat_fault
 from proof_forms import read_formula
 from solving import (FOR_TESTS, OUT, PROGRAM, SOLVE, Answer, before_lrupd, check_again, children_of,
@@ -597,6 +598,33 @@ def refused_late(text: str, work: Path) -> None:
          "the end by a signal")
 
 
+LATE_THREAD = """#define _GNU_SOURCE
+#include <dlfcn.h>
+#include <pthread.h>
+#include <unistd.h>
+
+typedef int Create(pthread_t *, const pthread_attr_t *, void *(*)(void *), void *);
+
+int pthread_create(pthread_t *thread, const pthread_attr_t *how, void *(*work)(void *), void *to) {
+    Create *create = (Create *)dlsym(RTLD_NEXT, "pthread_create");
+    int status = create(thread, how, work, to);
+    usleep(500000);
+    return status;
+}
+"""
+
+
+def refused_early(work: Path) -> None:
+    """The thread that reads the formula has refused it before the first one knows the thread."""
+    source = written(LATE_THREAD, work, "late.c")
+    late = compiled(work / "late.so", [source], "-shared", "-fPIC", "-ldl")
+    formula = written("p cnf 2 1\n1000000000000000000 2 0\n", work)
+    answer = solve(["-q", formula], env_more={"LD_PRELOAD": str(late)})
+    said = (f"lrupd: formula refused: variable out of range in line 2 ({formula}, line 2: variable "
+            "1000000000000000000, above the header's 2)\n")
+    want((answer.out, answer.said, answer.status), ("", said, 1), "the messages")
+
+
 def reading_killed(text: str, work: Path) -> None:
     """lrupd is killed while it reads the formula, which counts like any killed lrupd."""
     path = in_place_of_lrupd(
@@ -801,6 +829,7 @@ def refusals() -> List[Row]:
                    ("read late", read_late, dimacs(1, [[1]]), ""),
                    ("read late, what engines refuse", read_late, "p cnf 1 1\n2 0\n",
                     "line 2: variable 2, above the header's 1: the header should be 'p cnf 2 1'")]
+                   ("refused before its thread is known", refused_early),
 
 
 def rows() -> List[Row]:

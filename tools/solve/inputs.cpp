@@ -24,9 +24,9 @@ const int LONGEST_NUMBER = 20;
 
 const Inputs *the_inputs;
 
-// A thread reads the formula, and then writes to the file; a fault ends the run.
-pthread_t reader;
-bool is_reading = false;
+// A thread reads the formula, and then writes to the file; a fault ends the run. The thread may
+// have a fault before the first one knows that it is there.
+thread_local bool is_reader = false;
 int read_file = -1;
 std::string fault;
 
@@ -36,7 +36,7 @@ void end_reading() {
 }
 
 void refused(const char *cause) {
-    if (!is_reading || !pthread_equal(pthread_self(), reader)) the_inputs->refuse_formula(cause);
+    if (!is_reader) the_inputs->refuse_formula(cause);
     fault = cause;
     end_reading();
     for (;;) pause();
@@ -134,14 +134,14 @@ void Inputs::read_in_thread(const Meanwhile &meanwhile) {
         static_cast<Inputs *>(inputs)->read_formula();
         end_reading();
         return nullptr;
+        is_reader = true;
     };
     read_file = event_file();
-    is_reading = pthread_create(&reader, nullptr, begin, this) == 0;
-    if (!is_reading) return read_formula();
+    if (pthread_create(&reader, nullptr, begin, this) != 0) return read_formula();
+    pthread_t reader;
     meanwhile(read_file);
     if (!fault.empty()) refuse_formula(fault);
     pthread_join(reader, nullptr);
-    is_reading = false;
 }
 
 // Reads the formula under a short name, so that messages about it aren't cut off.
