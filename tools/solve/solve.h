@@ -34,7 +34,7 @@ struct Options {
     std::string words;          // the command line, quoted for a shell
     const char *core = nullptr, *lrat = nullptr;     // files to write
     bool rehint = false;        // for both
-    bool replace = false;       // even a record with a proof
+    bool replace = false;       // even a record with a proof, or with rounds of an unfinished run
     bool verbose = false, quiet = false;
 
     bool may_be_resumed() const { return record && !check; }
