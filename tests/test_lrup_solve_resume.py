@@ -28,6 +28,8 @@ from solving import (ANSWERS, EARLY, PROGRAM, SOLVE, Answer, before_lrupd, check
 SMALL = {"SAME_WORDS": 1, "SLICE": 20, "FIRST_WORDS": 4000}
 PROVED = "s UNSATISFIABLE"
 SCRIPT = ROOT / "examples" / "resume" / "slurm.sh"
+NOT_RESUMED = (": the run can't be resumed: restore the file, or begin again with --proofs and "
+               "--replace")
 SOON = 20       # seconds, after which a run should have ended
 
 
@@ -313,7 +315,7 @@ def cut_short(number: int, work: Path) -> None:
     before = {name: (kept / name).read_bytes() for name in names}
     answer = solve(["-j", "2", "--resume", kept, formula], tested=SMALL)
     want_answer(answer, 0)
-    end = ": the run can't be resumed" if number == 1 else ""
+    end = NOT_RESUMED if number == 1 else ""
     said = f"{path} was changed since it was saved{end}"
     want(said in answer.comments, True, f"whether it is said in\n{answer.out}")
     if number == 1:
@@ -424,15 +426,13 @@ def of_another(work: Path) -> None:
     refused([*under, formula], f"{formula} isn't the formula of d, or was changed since", work)
     (work / "d" / "formula.sha256").unlink()
     refused([*under, formula],
-            "d/formula.sha256 doesn't have the SHA-256 of the formula: the run can't be resumed",
-            work)
+            f"d/formula.sha256 doesn't have the SHA-256 of the formula{NOT_RESUMED}", work)
     (work / "d" / "formula.sha256").write_text(digest)
     want_answer(solve([*under, formula], tested=SMALL, cwd=work), 20,
                 verdict="s UNSATISFIABLE UNDER ASSUMPTIONS")
     refused([*under, formula], "d has its proof: sh d/command checks it", work)
 
 
-def of_two(work: Path) -> None:
 def kept_by_others(work: Path) -> None:
     """Saved rounds of an unfinished run stay, also from lrup-check, unless --replace is given."""
     marked(work)
@@ -471,6 +471,7 @@ def unnamed(work: Path) -> None:
     want_answer(solve(["--resume", "d"], tested=SMALL, cwd=work, given=formula.read_text()), 20)
 
 
+def of_two(work: Path) -> None:
     """Another run holds the record; a run that has just been killed ends first."""
     marked(work)
     formula, kept = generated("pigeons 11", work), work / "d"
@@ -525,8 +526,8 @@ def rows(count: int) -> List[Row]:
     found += [(f"forged, {change.__name__}, {ANSWERS[status]}", forged, status, change)
               for change in FORGED for status in (10, 20)]
     return found + [("another formula", of_another), ("of two runs", of_two),
-                    ("can't be saved", unsaved)]
                     ("saved rounds stay", kept_by_others), ("no formula named", unnamed),
+                    ("can't be saved", unsaved)]
 
 
 pytestmark = pytest.mark.usefixtures("solve_for_tests")     # none is tried again

@@ -100,8 +100,11 @@ void Inputs::check_digests() {
         std::string digest = digest_of(file, name[k]);
         close(file);
         if (!std::getline(lines, line))
-            refuse(path + " doesn't have the SHA-256 of the " + name[k] + ": the run can't be resumed");
-        if (line.compare(line[0] == '\\', DIGEST_DIGITS + 2, digest + "  ") != 0)
+            refuse(path + " doesn't have the SHA-256 of the " + name[k] + NOT_RESUMED);
+        bool is_its = line.compare(line[0] == '\\', DIGEST_DIGITS + 2, digest + "  ") == 0;
+        if (!is_its && k == 0 && !options.names_formula)
+            refuse("name the formula: lrup-solve --resume " + quoted(options.resumed) + " FORMULA");
+        if (!is_its)
             refuse(title(k == 0 ? options.formula : options.assume) + " isn't the " + name[k] +
                    " of " + options.resumed + ", or was changed since");
     }
@@ -164,7 +167,7 @@ void Inputs::read_first_formula(const std::string &path) {
     first_formula = Formula();
     formula_read(&first_formula, path.c_str());
     if (first_formula.variables != formula.variables || first_formula.clauses < formula.clauses)
-        refuse(path + " isn't of this formula: the run can't be resumed");
+        refuse(path + " isn't of this formula" + NOT_RESUMED);
 }
 
 // Whether the literals are separated correctly is for lrupd to judge.

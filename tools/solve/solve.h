@@ -28,6 +28,7 @@ struct Options {
     int seed = 0;
     const char *proofs = nullptr, *assume = nullptr, *cubes = nullptr, *mpi = nullptr,
                *formula = nullptr;
+    bool names_formula = false;         // else it is standard input
     const char *record = nullptr;       // the user's folder of --proofs
     const char *resumed = nullptr;      // the folder of --resume
     double save_every = 0;              // seconds after which a round ends
