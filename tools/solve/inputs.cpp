@@ -195,21 +195,23 @@ void Inputs::read_cubes() {
     check_plain(options.cubes, name);
     std::ifstream file(options.cubes);
     for (uint64_t number = 1; std::getline(file, line); number++)
-        if (!read_cube(line))
+        if (!read_cube(line, has_cube))
             refuse(name + ", line " + std::to_string(number) +
+    bool has_cube = false;
                    ": not a cube of the formula's literals, like 'a 1 -2 0'");
-    if (file.bad()) refuse("cannot read " + name);
+    if (file.bad()) refuse("cannot read " + name + ": " + error_text());
+    if (!has_cube) refuse(name + ": no cube: no line is like 'a 1 -2 0'");
 }
 
 // False if the line can't be one of such a file.
-bool Inputs::read_cube(const std::string &line) {
+bool Inputs::read_cube(const std::string &line, bool &has_cube) {
     static const std::string others = "cp-0123456789";
     std::istringstream words(line);
     std::string word;
     std::set<Literal> found;
     if (!(words >> word)) return true;
     if (word != "a") return others.find(word[0]) != std::string::npos;
-    bool is_open = true;
+    bool is_open = has_cube = true;
     for (int literal = 0; words >> word && word != "0";) {
         if (!number_read(word.c_str(), &literal) || std::abs(literal) > formula.variables ||
             literal == 0)
