@@ -748,6 +748,10 @@ def refused_texts() -> List[Tuple[Text, str, int, str]]:
              "variable 3, above the header's 2"),
             ("p cnf 2 1\n1 99999999999999999999 0\n", "variable out of range in line 2", 2,
              "variable 99999999999999999999, above the header's 2"),
+            ("p cnf 2 1\n-18446744073709551617 2 0\n", "variable out of range in line 2", 2,
+             "variable 18446744073709551617, above the header's 2"),
+            ("p cnf 2 1\n-" + "1" * 30 + " 2 0\n", "variable out of range in line 2", 2,
+             "variable " + "1" * 20 + ".., above the header's 2"),
             ("p cnf 2 1\n1 2", "open clause", 2, "the last clause doesn't end with 0"),
             ("p cnf 99999999 1\n1 0\n", "limit", 1,
              "99999999 variables, above lrupd's limit of 16777215"),
@@ -818,18 +822,18 @@ def refusals() -> List[Row]:
                         ("blank", SPACED), ("tab", SPACED),
                         ("open", ": no line of literals that ends with 0"),
                         ("least", ": " + beyond.format(-(1 << 63))),
-                        ("less", ": " + beyond.format(str(-(1 << 64) - 1)[:20])),
-                        ("long", ": " + beyond.format("1" * 20)),
+                        ("less", ": " + beyond.format(-(1 << 64) - 1)),
+                        ("long", ": " + beyond.format("1" * 21 + "..")),
                         ("", ": no line of literals that ends with 0")):
         runs.append((f"refused --assume {name}", refused_by_lrupd, FOUR,
                      ["--assume", "{work}/" + name], "{work}/" + name + known))
     return runs + [("refused, a folder", refused_folder), ("refused late", refused_late, FOUR),
                    ("refused late, satisfiable", refused_late, "p cnf 1 0\n"),
+                   ("refused before its thread is known", refused_early),
                    ("its reading killed", reading_killed, "p cnf 1 0\n"),
                    ("read late", read_late, dimacs(1, [[1]]), ""),
                    ("read late, what engines refuse", read_late, "p cnf 1 1\n2 0\n",
                     "line 2: variable 2, above the header's 1: the header should be 'p cnf 2 1'")]
-                   ("refused before its thread is known", refused_early),
 
 
 def rows() -> List[Row]:

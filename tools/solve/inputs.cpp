@@ -20,7 +20,7 @@
 
 namespace {
 
-const int LONGEST_NUMBER = 20;
+const int LONGEST_NUMBER = 21;
 
 const Inputs *the_inputs;
 
@@ -134,14 +134,14 @@ void Inputs::read(const Meanwhile &meanwhile) {
 // been started by then.
 void Inputs::read_in_thread(const Meanwhile &meanwhile) {
     auto begin = [](void *inputs) -> void * {
+        is_reader = true;
         static_cast<Inputs *>(inputs)->read_formula();
         end_reading();
         return nullptr;
-        is_reader = true;
     };
+    pthread_t reader;
     read_file = event_file();
     if (pthread_create(&reader, nullptr, begin, this) != 0) return read_formula();
-    pthread_t reader;
     meanwhile(read_file);
     if (!fault.empty()) refuse_formula(fault);
     pthread_join(reader, nullptr);
@@ -176,9 +176,12 @@ void Inputs::read_assumptions() {
     std::string word, name = title(options.assume);
     int literal = 0;
     while (file >> std::setw(LONGEST_NUMBER) >> word && word != "0") {
-        if (!number_read(word.c_str(), &literal)) refuse_formula(name + ": not a number: " + word);
+        const int next = file.peek();
+        const std::string shown = word + (next == EOF || isspace(next) ? "" : "..");
+        if (!number_read(word.c_str(), &literal))
+            refuse_formula(name + ": not a number: " + shown);
         if (std::abs(literal) > formula.variables)
-            refuse_formula(name + ": the literal " + word +
+            refuse_formula(name + ": the literal " + shown +
                            ", and the formula has the variables 1 to " +
                            std::to_string(formula.variables));
         assumed.push_back(literal > 0 ? 2 * (literal - 1) : 2 * (-literal - 1) + 1);
@@ -194,10 +197,10 @@ void Inputs::read_cubes() {
     std::string name = title(options.cubes), line;
     check_plain(options.cubes, name);
     std::ifstream file(options.cubes);
+    bool has_cube = false;
     for (uint64_t number = 1; std::getline(file, line); number++)
         if (!read_cube(line, has_cube))
             refuse(name + ", line " + std::to_string(number) +
-    bool has_cube = false;
                    ": not a cube of the formula's literals, like 'a 1 -2 0'");
     if (file.bad()) refuse("cannot read " + name + ": " + error_text());
     if (!has_cube) refuse(name + ": no cube: no line is like 'a 1 -2 0'");
