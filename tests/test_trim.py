@@ -326,7 +326,7 @@ FAULTY_LINE = (r"spelling|too long|truncated|rat hint|identity|"
 FAULT = (rf"lrup-trim: (\S+, line \d+: ({FAULTY_LINE})|no line derives the empty clause|"
          r"the run ends in round \d+, at that line|"
          r"needed line \d+: (no conflict by unit propagation: .*|"
-         r"a variable that the formula doesn't have)|"
+         r"a variable that the formula doesn't have: \d+, above the header's \d+)|"
          r"\S+: not STREAMS LINES ROOM|\S+: compressed: unpack it with \w+|"
          r"\S+: No such file or directory)")
 
