@@ -749,7 +749,7 @@ REFUSED = [
     ("--room 268435457 f s", 2, "error: too large: 268435457"),
     ("f" + " s" * 65, 2, "error: more than 64 streams, from s"),
     ("f d s", 1, "d: a folder has to be the only input"),
-    ("f d", 1, "d/round-1.stream-1: No such file or directory"),
+    ("f d", 1, "d has no record: lrup-solve --proofs makes one"),
     ("f p", 1, "p: not a regular file, but it is read more than once"),
     ("f none", 1, "none: No such file or directory"),
     ("none s", 1, "none: No such file or directory"),
