@@ -608,18 +608,20 @@ typedef int Create(pthread_t *, const pthread_attr_t *, void *(*)(void *), void 
 int pthread_create(pthread_t *thread, const pthread_attr_t *how, void *(*work)(void *), void *to) {
     Create *create = (Create *)dlsym(RTLD_NEXT, "pthread_create");
     int status = create(thread, how, work, to);
-    usleep(500000);
+    usleep(200000);
     return status;
 }
 """
 
 
 def refused_early(work: Path) -> None:
-    """The thread that reads the formula has refused it before the first one knows the thread."""
+    """The thread that reads the formula has refused it before the first one knows the thread, and
+    lrupd refuses it later: one thread waits for that, since what the front says is read once."""
     source = written(LATE_THREAD, work, "late.c")
     late = compiled(work / "late.so", [source], "-shared", "-fPIC", "-ldl")
     formula = written("p cnf 2 1\n1000000000000000000 2 0\n", work)
-    answer = solve(["-q", formula], env_more={"LD_PRELOAD": str(late)})
+    lrupd = in_place_of_lrupd(f"sleep 1\nexec {shlex.quote(PROGRAM)} \"$@\"", work)
+    answer = solve(["-q", "--lrupd", lrupd, formula], env_more={"LD_PRELOAD": str(late)})
     said = (f"lrupd: formula refused: variable out of range in line 2 ({formula}, line 2: variable "
             "1000000000000000000, above the header's 2)\n")
     want((answer.out, answer.said, answer.status), ("", said, 1), "the messages")
