@@ -459,6 +459,16 @@ FAULTS = [
      "stream 1 (f1), line 2: identity\n  derives  2\n"
      "  why: 8 belongs to stream 2: 2 streams take turns above 4\n"
      "       right here: 7, or after a gap 9, 11 and so on\n"),
+    ("swapped streams", ["6 2 0 1 2 0\n8 1 0 1 3 0\n", FIRST], "",
+     "stream 1 (f1), line 1: identity\n  derives  2\n"
+     "  why: 6 belongs to stream 2: 2 streams take turns above 4\n"
+     "       all its identities belong to stream 2: are the streams in the solvers' order?\n"
+     "       right here: 5, or after a gap 7, 9 and so on\n"
+     "stream 2 (f2), line 1: identity, by itself: --all says why\n"),
+    ("swapped, but not all", ["6 2 0 1 2 0\n7 1 0 1 3 0\n", ""], "",
+     "stream 1 (f1), line 1: identity\n  derives  2\n"
+     "  why: 6 belongs to stream 2: 2 streams take turns above 4\n"
+     "       right here: 5, or after a gap 7, 9 and so on\n"),
     ("identity below the last", ["9 2 0 1 2 0\n7 2 0 1 2 0\n", ""], "",
      "stream 1 (f1), line 2: identity\n  derives  2\n"
      "  why: 7 isn't above 9, the identity of line 1\n"
@@ -739,7 +749,7 @@ REFUSED = [
     ("--room 268435457 f s", 2, "error: too large: 268435457"),
     ("f" + " s" * 65, 2, "error: more than 64 streams, from s"),
     ("f d s", 1, "d: a folder has to be the only input"),
-    ("f d", 1, "d/round-1.stream-1: No such file or directory"),
+    ("f d", 1, "d has no record: lrup-solve --proofs makes one"),
     ("f p", 1, "p: not a regular file, but it is read more than once"),
     ("f none", 1, "none: No such file or directory"),
     ("none s", 1, "none: No such file or directory"),

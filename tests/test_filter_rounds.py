@@ -208,7 +208,8 @@ def behind(work: Path) -> None:
     (work / "d" / "round-2.cnf").unlink()
     checked = check(formula, proof + "3 0\n", ["--memory", "1K"], work)
     want((checked.status, checked.filter_status, checked.filter_said),
-         (0, 1, "lrup-exact: line 1003: a variable that the formula doesn't have\n"),
+         (0, 1, "lrup-exact: line 1003: a variable that the formula doesn't have: 3, above the "
+          "header's 2\n"),
          "the end of one with a wrong line there")
 
 

@@ -473,8 +473,8 @@ def miter(name: str, change: Optional[Tuple[str, str]], status: int, work: Path)
     if change:
         want(text.count(change[0]), 1, f"places of {change[0]}")
         text = text.replace(*change)
-    formula = work / "formula.cnf"
-    made = run(["sh", MITERS / "miter.sh", written(text, work, "circuits.v"), formula])
+    formula = work / "a formula.cnf"
+    made = run(["sh", MITERS / "miter.sh", written(text, work, "the circuits.v"), formula])
     want(made.status, 0, f"{made.out}{made.err}the status of miter.sh")
     answer = solve([formula])
     want_answer(answer, status, formula)
@@ -482,6 +482,34 @@ def miter(name: str, change: Optional[Tuple[str, str]], status: int, work: Path)
         said = run([MITERS / "show.awk", formula, "-"], answer.out).out
         one, other = (line.split(" = ")[1] for line in said.splitlines() if "." in line)
         want(one == other, False, f"whether the outputs are the same, which are\n{said}")
+
+
+def undefined(one: str, other: str, status: int, work: Path) -> None:
+    """A bit that is x, or has no driver, differs from any other."""
+    needs("yosys")
+    ports = "(input a, output [1:0] z); wire w; assign z ="
+    text = f"module one{ports} {one}; endmodule\nmodule other{ports} {other}; endmodule\n"
+    formula = work / "formula.cnf"
+    made = run(["sh", MITERS / "miter.sh", written(text, work, "circuits.v"), formula])
+    want(made.status, 0, f"{made.out}{made.err}the status of miter.sh")
+    answer = solve([formula])
+    want_answer(answer, status, formula)
+    if status == 10:
+        said = run([MITERS / "show.awk", formula, "-"], answer.out).out
+        names = sorted(line.split(" = ")[0] for line in said.splitlines())
+        want(names, ["a", "one.z", "other.z"], f"the names in\n{said}")
+
+
+def by_model_checking(work: Path) -> None:
+    """Names with spaces; the queue's seventh step is bad if it is never full."""
+    needs("yosys")
+    fifo = (EXAMPLES / "fifo" / "fifo.v").read_text()
+    file = written(fifo.replace("push && !full", "push"), work, "a fifo.v")
+    for depth, status in (("6", 20), ("7", 10)):
+        formula = work / f"depth {depth}.cnf"
+        made = run(["sh", EXAMPLES / "fifo" / "bmc.sh", file, depth, formula])
+        want(made.status, 0, f"{made.out}{made.err}the status of bmc.sh")
+        want_answer(solve([formula]), status, formula)
 
 
 # The documents.
@@ -627,7 +655,11 @@ def others_formulas() -> List[Row]:
             ("of multipliers, one wrong", miter, "multipliers", (" + row5", ""), 10),
             ("of sorters, one wrong", miter, "sorters",
              ("exchange second(b,", "exchange second(a,"), 10),
-            ("options listed", options_listed)]
+            *((f"undefined, {one} and {other}", undefined, one, other, status)
+              for one, other, status in (("2'bxx", "{2{a}}", 10), ("{2{a}}", "2'bxx", 10),
+                                         ("{a, w}", "{a, a}", 10), ("2'b1x", "{2{a}}", 10),
+                                         ("{a, a & 1'bx & 1'b0}", "{a, 1'b0}", 20))),
+            ("bounded model checking", by_model_checking), ("options listed", options_listed)]
 
 
 def searches() -> List[Row]:

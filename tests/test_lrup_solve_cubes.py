@@ -145,6 +145,12 @@ def refused(text: Optional[str], options: List[str], said: str, work: Path) -> N
          ("", f"lrup-solve: {said.format(path=path)}\n", 1), "the messages")
 
 
+def of_a_folder(work: Path) -> None:
+    answer = solve(["--cubes", work, example("bmc.cnf")])
+    want((answer.out, answer.said, answer.status),
+         ("", f"lrup-solve: cannot read {work}: Is a directory\n", 1), "the messages")
+
+
 def of_a_record(work: Path) -> None:
     """The file isn't overwritten."""
     kept = work / "kept"
@@ -176,7 +182,7 @@ def known() -> List[Row]:
     rows: List[Row] = []
     all_of_six, some = covering([1, 9, 17, 25, 33, 41]), covering([1, 8, 15])[:5]
     kinds = [("covering", cube_lines(all_of_six), 64), ("not covering", cube_lines(some), 5),
-             ("none", "", 0), ("the whole", "a 0\n", 1),
+             ("the whole", "a 0\n", 1),
              ("overlapping", cube_lines([*some, *all_of_six, *some]), 74),
              ("contradicting each other", "a 1 0\na -1 0\na 1 2 0\na -1 -2 0\n", 4)]
     for name, cubes, count in kinds:
@@ -202,14 +208,19 @@ def files() -> List[Row]:
                        for text, line in (("a 1 2\n", 1), ("a 1 0\na 117 0\n", 2), ("a x 0\n", 1),
                                           ("b 1 0\n", 1), ("a 1 0 2\n", 1),
                                           ("a 1 0\n\na 1.5 0\n", 3))]
-    rows += [("no file", refused, None, [], "{path}: No such file or directory"),
+    rows += [(f"no cube in {text!r}", refused, text, [],
+              "{path}: no cube: no line is like 'a 1 -2 0'")
+             for text in ("", "\n", "1 2 0\n", "p cnf 2 1\nc a 1 0\n")]
+    rows += [("a folder", of_a_folder),
+             ("no file", refused, None, [], "{path}: No such file or directory"),
              ("nothing shared", refused, "a 1 0\n", ["--no-share", "-j", "2"],
               "--cubes and --no-share: refuted cubes are shared"),
              ("no engine", refused, "a 1 0\n", ["--solver", "x %formula %proof"],
               "--cubes without engines: -j sets how many")]
     rows += [(f"accepted {text!r}", accepted, text, count)
              for text, count in (("p inccnf\nc a\n1 -2 0\na 1 0\n\na -1 0\n", 2),
-                                 ("a 1 -1 0\na 1 1 2 0", 1), ("", 0), ("  a 3 -4 0\r\n", 1))]
+                                 ("a 1 -1 0\na 1 1 2 0", 1), ("a 1 -1 0\n", 0),
+                                 ("  a 3 -4 0\r\n", 1))]
     return [*rows, ("in the record", of_a_record), ("the example", shown_example)]
 
 

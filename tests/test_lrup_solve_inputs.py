@@ -10,8 +10,8 @@ import time
 from pathlib import Path
 from typing import Dict, List, Optional, Sequence, Tuple, Union
 
-from harness import (COMPRESSED, FILTER, FOUR, LIMIT, ROOT, Ran, Row, dimacs, example, generated,
-                     in_shell, parametrized, piped, run, started, until, want, written)
+from harness import (COMPRESSED, FILTER, FOUR, LIMIT, ROOT, Ran, Row, compiled, dimacs, example,
+                     generated, in_shell, parametrized, piped, run, started, until, want, written)
 from lrat import lrat_fault
 from proof_forms import read_formula
 from solving import (FOR_TESTS, OUT, PROGRAM, SOLVE, Answer, before_lrupd, check_again, children_of,
@@ -488,6 +488,35 @@ def refused_late(text: str, work: Path) -> None:
          "the end by a signal")
 
 
+LATE_THREAD = """#define _GNU_SOURCE
+#include <dlfcn.h>
+#include <pthread.h>
+#include <unistd.h>
+
+typedef int Create(pthread_t *, const pthread_attr_t *, void *(*)(void *), void *);
+
+int pthread_create(pthread_t *thread, const pthread_attr_t *how, void *(*work)(void *), void *to) {
+    Create *create = (Create *)dlsym(RTLD_NEXT, "pthread_create");
+    int status = create(thread, how, work, to);
+    usleep(200000);
+    return status;
+}
+"""
+
+
+def refused_early(work: Path) -> None:
+    """The thread that reads the formula has refused it before the first one knows the thread, and
+    lrupd refuses it later: one thread waits for that, since what the front says is read once."""
+    source = written(LATE_THREAD, work, "late.c")
+    late = compiled(work / "late.so", [source], "-shared", "-fPIC", "-ldl")
+    formula = written("p cnf 2 1\n1000000000000000000 2 0\n", work)
+    lrupd = in_place_of_lrupd(f"sleep 1\nexec {shlex.quote(PROGRAM)} \"$@\"", work)
+    answer = solve(["-q", "--lrupd", lrupd, formula], env_more={"LD_PRELOAD": str(late)})
+    said = (f"lrupd: formula refused: variable out of range in line 2 ({formula}, line 2: variable "
+            "1000000000000000000, above the header's 2)\n")
+    want((answer.out, answer.said, answer.status), ("", said, 1), "the messages")
+
+
 def reading_killed(text: str, work: Path) -> None:
     """lrupd is killed while it reads the formula, which counts like any killed lrupd."""
     path = in_place_of_lrupd(
@@ -604,6 +633,10 @@ def refused_texts() -> List[Tuple[Text, str, int, str]]:
              "variable 3, above the header's 2"),
             ("p cnf 2 1\n1 99999999999999999999 0\n", "variable out of range in line 2", 2,
              "variable 99999999999999999999, above the header's 2"),
+            ("p cnf 2 1\n-18446744073709551617 2 0\n", "variable out of range in line 2", 2,
+             "variable 18446744073709551617, above the header's 2"),
+            ("p cnf 2 1\n-" + "1" * 30 + " 2 0\n", "variable out of range in line 2", 2,
+             "variable " + "1" * 20 + ".., above the header's 2"),
             ("p cnf 2 1\n1 2", "open clause", 2, "the last clause doesn't end with 0"),
             ("p cnf 99999999 1\n1 0\n", "limit", 1,
              "99999999 variables, above lrupd's limit of 16777215"),
@@ -674,13 +707,14 @@ def refusals() -> List[Row]:
                         ("blank", SPACED), ("tab", SPACED),
                         ("open", ": no line of literals that ends with 0"),
                         ("least", ": " + beyond.format(-(1 << 63))),
-                        ("less", ": " + beyond.format(str(-(1 << 64) - 1)[:20])),
-                        ("long", ": " + beyond.format("1" * 20)),
+                        ("less", ": " + beyond.format(-(1 << 64) - 1)),
+                        ("long", ": " + beyond.format("1" * 21 + "..")),
                         ("", ": no line of literals that ends with 0")):
         runs.append((f"refused --assume {name}", refused_by_lrupd, FOUR,
                      ["--assume", "{work}/" + name], "{work}/" + name + known))
     return runs + [("refused, a folder", refused_folder), ("refused late", refused_late, FOUR),
                    ("refused late, satisfiable", refused_late, "p cnf 1 0\n"),
+                   ("refused before its thread is known", refused_early),
                    ("its reading killed", reading_killed, "p cnf 1 0\n"),
                    ("read late", read_late, dimacs(1, [[1]]), ""),
                    ("read late, what engines refuse", read_late, "p cnf 1 1\n2 0\n",

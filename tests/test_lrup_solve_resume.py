@@ -17,17 +17,19 @@ from typing import Callable, List, Mapping, Optional, Sequence, Tuple
 
 import pytest
 
-from harness import (COUNT, LIMIT, ROOT, Ran, Row, dimacs, generated, needs, parametrized,
+from harness import (COUNT, FOUR, LIMIT, ROOT, Ran, Row, dimacs, generated, needs, parametrized,
                      random_clauses, run, started, until, want, written)
 from records import (CHANGES, UNKNOWN, checkpoints, recorded, saved_rounds, want_no_other,
                      whole, with_digests)
 from solving import (ANSWERS, EARLY, PROGRAM, SOLVE, Answer, before_lrupd, check_again, children_of,
-                     command, end_all, end_group, in_environment, marked, none_left, solve,
+                     command, end_all, end_group, in_environment, listed, marked, none_left, solve,
                      want_answer)
 
 SMALL = {"SAME_WORDS": 1, "SLICE": 20, "FIRST_WORDS": 4000}
 PROVED = "s UNSATISFIABLE"
 SCRIPT = ROOT / "examples" / "resume" / "slurm.sh"
+NOT_RESUMED = (": the run can't be resumed: restore the file, or begin again with --proofs and "
+               "--replace")
 SOON = 20       # seconds, after which a run should have ended
 
 
@@ -313,7 +315,7 @@ def cut_short(number: int, work: Path) -> None:
     before = {name: (kept / name).read_bytes() for name in names}
     answer = solve(["-j", "2", "--resume", kept, formula], tested=SMALL)
     want_answer(answer, 0)
-    end = ": the run can't be resumed" if number == 1 else ""
+    end = NOT_RESUMED if number == 1 else ""
     said = f"{path} was changed since it was saved{end}"
     want(said in answer.comments, True, f"whether it is said in\n{answer.out}")
     if number == 1:
@@ -424,12 +426,49 @@ def of_another(work: Path) -> None:
     refused([*under, formula], f"{formula} isn't the formula of d, or was changed since", work)
     (work / "d" / "formula.sha256").unlink()
     refused([*under, formula],
-            "d/formula.sha256 doesn't have the SHA-256 of the formula: the run can't be resumed",
-            work)
+            f"d/formula.sha256 doesn't have the SHA-256 of the formula{NOT_RESUMED}", work)
     (work / "d" / "formula.sha256").write_text(digest)
     want_answer(solve([*under, formula], tested=SMALL, cwd=work), 20,
                 verdict="s UNSATISFIABLE UNDER ASSUMPTIONS")
     refused([*under, formula], "d has its proof: sh d/command checks it", work)
+
+
+def kept_by_others(work: Path) -> None:
+    """Saved rounds of an unfinished run stay, also from lrup-check, unless --replace is given."""
+    marked(work)
+    formula, kept = generated("pigeons 8", work), work / "d;"
+    proof = written("", work, "proof")
+    recorded(["-j", "2", formula], kept, 2, SMALL)
+    rounds = saved_rounds(kept) - 1
+    said = (f"d; has {rounds} rounds of an earlier run: lrup-solve --resume 'd;' continues it, "
+            "--replace removes it")
+    refused(["--proofs", "d;", formula], said, work)
+    refused(["--proofs", "d;", written(FOUR, work)], said, work)
+    done = run([SOLVE.parent / "lrup-check", "--lrupd", PROGRAM, "--proofs", "d;", formula, proof],
+               cwd=work)
+    want(done, Ran("", f"lrup-check: {said}\n", 1), "what lrup-check says")
+    path = kept / "rounds.sha256"
+    lines = path.read_text().splitlines(True)
+    path.write_text("".join(line for line in lines if re.search(r"round-1\.|checkpoint", line)))
+    refused(["--proofs", "d;", formula], said.replace(f"{rounds} rounds", "1 round"), work)
+    path.write_text("".join(lines))
+    want_answer(solve(["--proofs", "d;", "--replace", written(FOUR, work)], cwd=work), 20)
+    want(sorted(os.listdir(kept)), listed(kept), "the new record's files")
+
+
+def unnamed(work: Path) -> None:
+    """Without the formula's name, standard input has to have it."""
+    marked(work)
+    formula, kept = generated("pigeons 7", work), work / "d"
+    recorded(["-j", "2", formula], kept, 1, SMALL)
+    name = "lrup-solve: name the formula: lrup-solve --resume d FORMULA\n"
+    for given in ("", FOUR):
+        answer = solve(["--resume", "d"], tested=SMALL, cwd=work, given=given)
+        want((answer.out, answer.said, answer.status), ("", name, 1), "what is said")
+        answer = solve(["--resume", "d", "-"], tested=SMALL, cwd=work, given=given)
+        said = "lrup-solve: standard input isn't the formula of d, or was changed since\n"
+        want((answer.out, answer.said, answer.status), ("", said, 1), "what is said of -")
+    want_answer(solve(["--resume", "d"], tested=SMALL, cwd=work, given=formula.read_text()), 20)
 
 
 def of_two(work: Path) -> None:
@@ -487,6 +526,7 @@ def rows(count: int) -> List[Row]:
     found += [(f"forged, {change.__name__}, {ANSWERS[status]}", forged, status, change)
               for change in FORGED for status in (10, 20)]
     return found + [("another formula", of_another), ("of two runs", of_two),
+                    ("saved rounds stay", kept_by_others), ("no formula named", unnamed),
                     ("can't be saved", unsaved)]
 
 

@@ -177,6 +177,10 @@ def scripts() -> Iterator[Row]:
     for words in ([], ["x.v"]):
         yield (f"miter.sh {words}", refused, "miter/miter.sh", words, b"",
                "usage: miter.sh FILE.v FORMULA", 2)
+    for words in ([], ["x.v", "5"], ["x.v", "x", "f"], ["x.v", "", "f"], ["x.v", "0", "f"],
+                  ["x.v", "5", "f", "g"], ["x.v", "-5", "f"]):
+        yield (f"bmc.sh {words}", refused, "fifo/bmc.sh", words, b"",
+               "usage: bmc.sh FILE.v DEPTH FORMULA, with a number of steps for DEPTH", 2)
     for given in (b"s UNSATISFIABLE\n", b""):
         yield (f"show.awk, {given!r}", refused, "miter/show.awk", [str(EXAMPLES / "bmc.cnf"), "-"],
                given, "show.awk: the answer has no assignment", 1)

@@ -326,7 +326,7 @@ FAULTY_LINE = (r"spelling|too long|truncated|rat hint|identity|"
 FAULT = (rf"lrup-trim: (\S+, line \d+: ({FAULTY_LINE})|no line derives the empty clause|"
          r"the run ends in round \d+, at that line|"
          r"needed line \d+: (no conflict by unit propagation: .*|"
-         r"a variable that the formula doesn't have)|"
+         r"a variable that the formula doesn't have: \d+, above the header's \d+)|"
          r"\S+: not STREAMS LINES ROOM|\S+: compressed: unpack it with \w+|"
          r"\S+: No such file or directory)")
 
@@ -455,7 +455,8 @@ def bad_round(files: Dict[str, str], said: str, work: Path) -> None:
 
 
 ROUND = {"round-1.stream-1": FIRST, "round-2.stream-1": "6 0 5 3 4 0\n"}
-BAD_ROUNDS = [("no round", {"other": ""}, "d/round-1.stream-1: No such file or directory"),
+BAD_ROUNDS = [("no round", {"other": ""}, "d has no record: lrup-solve --proofs makes one"),
+              ("no stream", {"files": ""}, "d/round-1.stream-1: No such file or directory"),
               ("a fault", {**ROUND, "round-1.stream-1": FIRST + "x\n"},
                "the run ends in round 1, at that line"),
               ("no stream 2", {**ROUND, "round-2.sizes": "2 1 1\n"},
@@ -516,7 +517,7 @@ REFUSED = [("", 2, "error: no FORMULA"), ("f", 2, "error: no DIR or STREAM"),
            ("--lrat f f s", 1, "f: exists, not overwritten"),
            ("--core x --stream=s f s", 1, "s: exists, not overwritten"),
            ("f d s", 1, "d: a folder has to be the only input"),
-           ("f d", 1, "d/round-1.stream-1: No such file or directory"),
+           ("f d", 1, "d has no record: lrup-solve --proofs makes one"),
            ("f p", 1, "p: not a regular file, but it is read more than once"),
            ("p s", 1, "p: not a regular file, but it is read more than once"),
            ("f none", 1, "none: No such file or directory"),

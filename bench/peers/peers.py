@@ -69,8 +69,8 @@ def solved(given, words, work):
                         *words.split()],
                        stdout=out, check=True)
     if not os.path.exists(os.path.join(kept, "command")):
-        said = output_of([given.solve, "--lrupd", given.program, "-q", "-j", "2", "--proofs",
-                          kept, formula])
+        said = output_of([given.solve, "--lrupd", given.program, "-q", "-j", "2", "--replace",
+                          "--proofs", kept, formula])
         if said != "s UNSATISFIABLE\n":
             sys.exit(f"lrup-solve on {words}: {said}")
     return formula, name + ".lrat", trimmed(given, formula, [kept], name + ".lrat")

@@ -1,6 +1,6 @@
 # awk -v output=NAME -f aiger2cnf.awk CIRCUIT: asks, as DIMACS CNF, whether this output of a circuit
 # can be 1. The circuit is in ASCII AIGER, without latches. Each gate becomes three clauses. A
-# comment `c NAME LITERAL` names each input and each other output.
+# comment `c NAME LITERAL` names each other output, and each input that has a name.
 function literal(code) { return (code % 2 ? "-" : "") (code < 2 ? constant : int(code / 2)) }
 function complement(code) { return literal(code % 2 ? code - 1 : code + 1) }
 NR == 1 {
@@ -26,5 +26,5 @@ NR <= 1 + gates {
 END {
     for (k = 0; k < named; k++)
         if (names[k] == output) print literal(codes[k]), 0
-        else print "c", names[k], literal(codes[k])
+        else if (names[k] != "") print "c", names[k], literal(codes[k])
 }

@@ -83,9 +83,11 @@ static void unmark_literals(Filter *filter) {
 
 static bool mark_or_stop(Filter *filter, const int64_t *numbers, size_t length) {
     bool tautology;
-    if (!mark_literals(filter, numbers, length, &tautology))
-        stop("a variable that the formula doesn't have");
-    return tautology;
+    if (mark_literals(filter, numbers, length, &tautology)) return tautology;
+    int64_t variables = filter->formula.variables;
+    while (*numbers <= variables && *numbers >= -variables) numbers++;
+    stop("a variable that the formula doesn't have: %lld, above the header's %lld",
+         *numbers < 0 ? -(long long)*numbers : (long long)*numbers, (long long)variables);
 }
 
 // The clause of this name if another stream derived it, or 0.

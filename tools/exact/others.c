@@ -24,9 +24,10 @@ static void keep(Other *other, const Words *words) {
     Literals *literals = &other->literals;
     literals->length = 0;
     for (size_t k = 1; k < words->first_zero; k++) {
+        if (numbers[k] < LEAST_NUMBER) stop("%s: not a number", other->input.path);
         if (numbers[k] > other->variables || numbers[k] < -other->variables)
-            stop("%s: a variable that the formula doesn't have, or not a number",
-                 other->input.path);
+            stop("%s: a variable that the formula doesn't have: %lld, above the header's %d",
+                 other->input.path, llabs(numbers[k]), other->variables);
         PUSH(literals,
              (Literal)(numbers[k] > 0 ? 2 * (numbers[k] - 1) : 2 * (-numbers[k] - 1) + 1));
     }

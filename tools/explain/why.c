@@ -135,13 +135,30 @@ static uint64_t step_of(const Stream *stream) {
 }
 
 // How identities are numbered depends on the number of streams.
-static void tell_left_out(const Replay *replay, const Stream *stream) {
+static bool tell_left_out(const Replay *replay, const Stream *stream) {
     uint64_t step = step_of(stream);
-    if (step > replay->count && step <= STREAMS)
-        printf("       the identities of stream %u go up by %llu, as with %llu streams, but "
+    if (step <= replay->count || step > STREAMS) return false;
+    printf("       the identities of stream %u go up by %llu, as with %llu streams, but "
                "%u %s given: was one left out?\n",
                stream->number, (Printed)step, (Printed)step, replay->count,
                replay->count == 1 ? "is" : "are");
+    return true;
+}
+
+// All identities of the stream, if there are several, belong to one other stream.
+static void tell_order(const Replay *replay, const Stream *stream) {
+    uint64_t count = 0;
+    uint32_t owner = 0;
+    Reading reading;
+    for (unsigned char *at = stream->start; next_addition(stream, &at, &reading); count++) {
+        if (reading.identity <= replay->clauses) return;
+        if (count == 0) owner = number_of_owner(replay, reading.identity);
+        if (number_of_owner(replay, reading.identity) != owner) return;
+    }
+    if (count > 1 && owner != stream->number)
+        printf("       all its identities belong to stream %u: are the streams in the solvers' "
+               "order?\n",
+               owner);
 }
 
 static void tell_right_identity(const Replay *replay, const Stream *stream) {
@@ -189,7 +206,7 @@ static void why_identity(const Replay *replay, const Stream *stream) {
         printf("  why: %llu belongs to stream %u: %u streams take turns above %llu\n",
                (Printed)identity, number_of_owner(replay, identity), replay->count,
                (Printed)replay->clauses);
-        tell_left_out(replay, stream);
+        if (!tell_left_out(replay, stream)) tell_order(replay, stream);
     } else if (identity > replay->last) {
         printf("  why: %llu is above %llu, the last identity with --lines %llu\n",
                (Printed)identity, (Printed)replay->last, (Printed)replay->row.lines);

@@ -20,13 +20,13 @@
 
 namespace {
 
-const int LONGEST_NUMBER = 20;
+const int LONGEST_NUMBER = 21;
 
 const Inputs *the_inputs;
 
-// A thread reads the formula, and then writes to the file; a fault ends the run.
-pthread_t reader;
-bool is_reading = false;
+// A thread reads the formula, and then writes to the file; a fault ends the run. The thread may
+// have a fault before the first one knows that it is there.
+thread_local bool is_reader = false;
 int read_file = -1;
 std::string fault;
 
@@ -36,7 +36,7 @@ void end_reading() {
 }
 
 void refused(const char *cause) {
-    if (!is_reading || !pthread_equal(pthread_self(), reader)) the_inputs->refuse_formula(cause);
+    if (!is_reader) the_inputs->refuse_formula(cause);
     fault = cause;
     end_reading();
     for (;;) pause();
@@ -100,8 +100,11 @@ void Inputs::check_digests() {
         std::string digest = digest_of(file, name[k]);
         close(file);
         if (!std::getline(lines, line))
-            refuse(path + " doesn't have the SHA-256 of the " + name[k] + ": the run can't be resumed");
-        if (line.compare(line[0] == '\\', DIGEST_DIGITS + 2, digest + "  ") != 0)
+            refuse(path + " doesn't have the SHA-256 of the " + name[k] + NOT_RESUMED);
+        bool is_its = line.compare(line[0] == '\\', DIGEST_DIGITS + 2, digest + "  ") == 0;
+        if (!is_its && k == 0 && !options.names_formula)
+            refuse("name the formula: lrup-solve --resume " + quoted(options.resumed) + " FORMULA");
+        if (!is_its)
             refuse(title(k == 0 ? options.formula : options.assume) + " isn't the " + name[k] +
                    " of " + options.resumed + ", or was changed since");
     }
@@ -131,17 +134,17 @@ void Inputs::read(const Meanwhile &meanwhile) {
 // been started by then.
 void Inputs::read_in_thread(const Meanwhile &meanwhile) {
     auto begin = [](void *inputs) -> void * {
+        is_reader = true;
         static_cast<Inputs *>(inputs)->read_formula();
         end_reading();
         return nullptr;
     };
+    pthread_t reader;
     read_file = event_file();
-    is_reading = pthread_create(&reader, nullptr, begin, this) == 0;
-    if (!is_reading) return read_formula();
+    if (pthread_create(&reader, nullptr, begin, this) != 0) return read_formula();
     meanwhile(read_file);
     if (!fault.empty()) refuse_formula(fault);
     pthread_join(reader, nullptr);
-    is_reading = false;
 }
 
 // Reads the formula under a short name, so that messages about it aren't cut off.
@@ -164,7 +167,7 @@ void Inputs::read_first_formula(const std::string &path) {
     first_formula = Formula();
     formula_read(&first_formula, path.c_str());
     if (first_formula.variables != formula.variables || first_formula.clauses < formula.clauses)
-        refuse(path + " isn't of this formula: the run can't be resumed");
+        refuse(path + " isn't of this formula" + NOT_RESUMED);
 }
 
 // Whether the literals are separated correctly is for lrupd to judge.
@@ -173,9 +176,12 @@ void Inputs::read_assumptions() {
     std::string word, name = title(options.assume);
     int literal = 0;
     while (file >> std::setw(LONGEST_NUMBER) >> word && word != "0") {
-        if (!number_read(word.c_str(), &literal)) refuse_formula(name + ": not a number: " + word);
+        const int next = file.peek();
+        const std::string shown = word + (next == EOF || isspace(next) ? "" : "..");
+        if (!number_read(word.c_str(), &literal))
+            refuse_formula(name + ": not a number: " + shown);
         if (std::abs(literal) > formula.variables)
-            refuse_formula(name + ": the literal " + word +
+            refuse_formula(name + ": the literal " + shown +
                            ", and the formula has the variables 1 to " +
                            std::to_string(formula.variables));
         assumed.push_back(literal > 0 ? 2 * (literal - 1) : 2 * (-literal - 1) + 1);
@@ -191,22 +197,24 @@ void Inputs::read_cubes() {
     std::string name = title(options.cubes), line;
     check_plain(options.cubes, name);
     std::ifstream file(options.cubes);
+    bool has_cube = false;
     for (uint64_t number = 1; std::getline(file, line); number++)
-        if (!read_cube(line))
+        if (!read_cube(line, has_cube))
             refuse(name + ", line " + std::to_string(number) +
                    ": not a cube of the formula's literals, like 'a 1 -2 0'");
-    if (file.bad()) refuse("cannot read " + name);
+    if (file.bad()) refuse("cannot read " + name + ": " + error_text());
+    if (!has_cube) refuse(name + ": no cube: no line is like 'a 1 -2 0'");
 }
 
 // False if the line can't be one of such a file.
-bool Inputs::read_cube(const std::string &line) {
+bool Inputs::read_cube(const std::string &line, bool &has_cube) {
     static const std::string others = "cp-0123456789";
     std::istringstream words(line);
     std::string word;
     std::set<Literal> found;
     if (!(words >> word)) return true;
     if (word != "a") return others.find(word[0]) != std::string::npos;
-    bool is_open = true;
+    bool is_open = has_cube = true;
     for (int literal = 0; words >> word && word != "0";) {
         if (!number_read(word.c_str(), &literal) || std::abs(literal) > formula.variables ||
             literal == 0)

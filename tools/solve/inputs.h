@@ -43,7 +43,7 @@ private:
                       const char *kept_as) const;
     void read_assumptions();
     void read_cubes();
-    bool read_cube(const std::string &line);
+    bool read_cube(const std::string &line, bool &has_cube);
     std::string named(const std::string &cause) const;
 };
 

@@ -160,7 +160,8 @@ void read_values(Options &options) {
 // The first file is the formula; others are proofs.
 void take_files(Options &options) {
     const Texts &files = given.files;
-    options.formula = files.length > 0 ? files.items[0] : "-";
+    options.names_formula = files.length > 0;
+    options.formula = options.names_formula ? files.items[0] : "-";
     if (files.length > 1 && !options.check)
         refuse("unexpected argument: " + quoted(files.items[1]));
     for (size_t k = 1; k < files.length; k++) options.solvers.push_back(files.items[k]);

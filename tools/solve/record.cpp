@@ -17,6 +17,7 @@
 #include "../exact/folder.h"
 #include "../exact/packed.h"
 #include "digest.h"
+#include "display.h"
 #include "solve.h"
 
 namespace {
@@ -133,6 +134,16 @@ bool has_proof() {
     std::string report = "\n" + (file < 0 ? "" : text_of(file));
     if (file >= 0) close(file);
     return report.find("\ns UNSATISFIABLE") != std::string::npos;
+}
+
+// The rounds that an unfinished run has saved, each with its sizes in their list.
+size_t rounds_to_resume() {
+    int file = listed.count(LIST_OF_ROUNDS) == 0 ? -1 : open_in_record(LIST_OF_ROUNDS);
+    const std::string list = file < 0 ? "" : text_of(file), ending = ".sizes\n";
+    size_t count = 0, at = 0;
+    if (file >= 0) close(file);
+    for (; (at = list.find(ending, at)) != std::string::npos; at += ending.size()) count++;
+    return count;
 }
 
 // Writes a new list, which replaces the old one once it is complete.
@@ -315,6 +326,9 @@ void open_record(const std::string &folder, const std::vector<std::string> &inpu
     if (!replaces && has_proof())
         refuse(folder + " has the proof of an earlier run: add --replace, or choose another --proofs");
     check_own(folder, paths);
+    if (size_t rounds = replaces ? 0 : rounds_to_resume())
+        refuse(folder + " has " + counted(rounds, "round") + " of an earlier run: lrup-solve --resume " +
+               quoted(folder) + " continues it, --replace removes it");
     if (list_file < 0 && !list_anew({})) refuse_unlisted(folder);
 }
 

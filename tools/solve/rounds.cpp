@@ -373,7 +373,7 @@ std::string Rounds::end_record(const std::string &path) {
     } while (saver.is_busy());
     if (saver.saved == checked) return cause;
     saver.saved = 0;
-    return cause + ": the run can't be resumed";
+    return cause + NOT_RESUMED;
 }
 
 // lrupd has saved the round's clauses, as it did for the earlier run.

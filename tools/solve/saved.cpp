@@ -28,7 +28,7 @@ std::string stream_name(uint64_t round, size_t number) {
     return name_of_round(round) + ".stream-" + std::to_string(number);
 }
 
-[[noreturn]] void refuse_file(const std::string &why) { refuse(why + ": the run can't be resumed"); }
+[[noreturn]] void refuse_file(const std::string &why) { refuse(why + NOT_RESUMED); }
 
 [[noreturn]] void refuse_changed(const std::string &path) {
     refuse_file(path + " was changed since it was saved");
@@ -51,6 +51,9 @@ std::string read_text(const std::string &path) {
 }
 
 }
+
+const char NOT_RESUMED[] =
+    ": the run can't be resumed: restore the file, or begin again with --proofs and --replace";
 
 // Reading.
 

@@ -28,13 +28,14 @@ struct Options {
     int seed = 0;
     const char *proofs = nullptr, *assume = nullptr, *cubes = nullptr, *mpi = nullptr,
                *formula = nullptr;
+    bool names_formula = false;         // else it is standard input
     const char *record = nullptr;       // the user's folder of --proofs
     const char *resumed = nullptr;      // the folder of --resume
     double save_every = 0;              // seconds after which a round ends
     std::string words;          // the command line, quoted for a shell
     const char *core = nullptr, *lrat = nullptr;     // files to write
     bool rehint = false;        // for both
-    bool replace = false;       // even a record with a proof
+    bool replace = false;       // even a record with a proof, or with rounds of an unfinished run
     bool verbose = false, quiet = false;
 
     bool may_be_resumed() const { return record && !check; }

@@ -204,6 +204,16 @@ static bool is_folder(const char *path) {
     return stat(path, &found) == 0 && S_ISDIR(found.st_mode);
 }
 
+static bool is_there(const char *path) { return access(path, F_OK) == 0; }
+
+// A record of lrup-exact has no list of files.
+static void check_record(const char *folder) {
+    char list[LONGEST_PATH];
+    bool is_short = snprintf(list, sizeof list, "%s/files", folder) < LONGEST_PATH;
+    if (is_short && !is_there(record_file(folder, 1, "stream-", 1)) && !is_there(list))
+        stop("%s has no record: lrup-solve --proofs makes one", folder);
+}
+
 const char *folder_of(const Texts *files) {
     if (files->length < 1) refuse("no", "FORMULA");
     if (files->length < 2) refuse("no", "DIR or STREAM");
@@ -212,10 +222,10 @@ const char *folder_of(const Texts *files) {
     for (size_t k = 1; k < files->length && files->length > 2; k++)
         if (is_folder(files->items[k]))
             stop("%s: a folder has to be the only input", files->items[k]);
-    return is_folder(files->items[1]) ? files->items[1] : NULL;
+    if (!is_folder(files->items[1])) return NULL;
+    check_record(files->items[1]);
+    return files->items[1];
 }
-
-static bool is_there(const char *path) { return access(path, F_OK) == 0; }
 
 // Streams have a number, and may be compressed.
 const char *record_file(const char *folder, size_t round, const char *kind, uint32_t number) {
