@@ -1,5 +1,6 @@
 #!/usr/bin/env python3
 """Checks what neither the prover nor the compiler checks. The status is 1 if anything is wrong.
+With --words it shows how many words each page has.
 
 In the pages: names in backticks that are nowhere, links that lead nowhere, quotations that TRUST
 and README don't have, pages that are too long, and misspelt words. In the sources: lines that are
@@ -305,6 +306,9 @@ def wrong_versions() -> Iterator[str]:
 
 
 def main() -> None:
+    if sys.argv[1:] == ["--words"]:
+        print("\n".join(f"{name}: {words_of(name)} of {most}" for name, most in MOST_WORDS.items()))
+        return
     checks = (unknown_names, dead_links, false_quotations, long_pages, misspelt, wide_lines,
               repeated, misplaced, misfits, wrong_arrows, wrong_versions)
     found = {check.__name__.replace("_", " "): list(check()) for check in checks}
