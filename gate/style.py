@@ -27,7 +27,7 @@ MOST_WORDS = {shown(path): 670 for path in sorted(ROOT.glob("crates/*/specs/*.md
 MOST_WORDS.update({shown(path): 140 for path in sorted(ROOT.glob("bench/*/README.md"))})
 MOST_WORDS.update((re.sub("/$", "/specs/README.md", name), int(most)) for name, most in (
     word.split("=") for word in """
-    README.md=700 CONTRIBUTING.md=520 CHANGELOG.md=1370 bench/RESULTS.md=900
+    README.md=700 CONTRIBUTING.md=520 CHANGELOG.md=1310 bench/RESULTS.md=900
     bench/solve/README.md=210 docs/USING.md=2250 docs/FORMAT.md=600
     docs/EMITTING.md=1250 docs/TRUST.md=1200 docs/SECURITY.md=520 docs/DECISIONS.md=3410
     docs/RELATED.md=930 docs/ARCHITECTURE.md=2970 docs/PROVING.md=1710 docs/PROMISES.md=2080
