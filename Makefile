@@ -31,7 +31,7 @@ BUILT ?= build
 # since most of them wait now and then.
 PYTEST ?= pytest-3
 AT_ONCE := $(shell expr $$(nproc) + 2)
-rows_of = @$(PYTEST) -n $(AT_ONCE) --dist loadgroup --program $(PROGRAM) \
+rows_of = $(PYTEST) -n $(AT_ONCE) --dist loadgroup --program $(PROGRAM) \
 	$(addsuffix .py,$(addprefix tests/test_,$(1)))
 FORMULA ?= examples/bmc.cnf
 STREAMS ?= $(addprefix examples/bmc-four.,1 2 3 4)
@@ -110,16 +110,16 @@ uninstall: ## use: remove what make install installs below PREFIX
 # Compares standard output, standard error and the status; also checks two groups of streams
 # separately.
 examples: $(BUILT) pytest ## check: compare what the program answers on the examples, and on some hundred small runs
-	$(call rows_of,program_answers program_groups)
+	@$(call rows_of,program_answers program_groups)
 
 live: $(BUILT) pytest ## check: four recorded solvers, line by line through pipes, checked while they run
-	$(call rows_of,program_live)
+	@$(call rows_of,program_live)
 
 checkpoints: $(BUILT) solver pytest ## check: what --checkpoint saves, lrup-chain, and streams that are cut into rounds
-	$(call rows_of,program_checkpoints lrup_chain example_chain)
+	@$(call rows_of,program_checkpoints lrup_chain example_chain)
 
 rounds: $(BUILT) pytest ## check: runs in rounds: each end and fault, sizes, pipes, and what is saved
-	$(call rows_of,program_rounds program_rounds_faults program_rounds_alone)
+	@$(call rows_of,program_rounds program_rounds_faults program_rounds_alone)
 
 demo: build solver ## try: four solvers that share clauses, checked while they run
 	@python3 examples/solver/demo.py $(PROGRAM) $(SOLVER)
@@ -225,31 +225,31 @@ warnings: c-and-python libmd $(HELPS) ## check: C compiles without a warning, an
 	$$compiler $(STRICT) -D_POSIX_C_SOURCE=200809L -include $$file /dev/null || exit 1; done; done
 
 quotes-test: pytest ## check: that wrong quotes on the pages are refused
-	$(call rows_of,quotes)
+	@$(call rows_of,quotes)
 
 builds: pytest ## check: C and C++ are compiled with the given flags, and again after a change
-	$(call rows_of,builds)
+	@$(call rows_of,builds)
 
 shown: $(BUILT) solver exact trim explain pytest ## check: run the commands that the pages show, and compare their output
-	$(call rows_of,shown)
+	@$(call rows_of,shown)
 
 solver-test: $(BUILT) solver pytest ## check: streams of one to eight example solvers, and of some that are killed
-	$(call rows_of,example_solver)
+	@$(call rows_of,example_solver)
 
 FILTER_TESTS := filter_rounds filter_mutants filter_chains filter_streams filter_lines \
 	filter_solvers
 .PHONY: $(FILTER_TESTS)
 filter-test: $(BUILT) exact pytest ## check: the filter, also in rounds, with solvers on the PATH, and on 10,000 mutated proofs
-	$(call rows_of,$(FILTER_TESTS))
+	@$(call rows_of,$(FILTER_TESTS))
 
 $(FILTER_TESTS): $(BUILT) exact pytest
-	$(call rows_of,$@)
+	@$(call rows_of,$@)
 
 trim-test: $(BUILT) solver exact trim pytest ## check: lrup-trim, on 300 random runs in rounds, and on garbled streams
-	$(call rows_of,trim)
+	@$(call rows_of,trim)
 
 explain-test: $(BUILT) solver explain pytest ## check: lrup-explain against lrupd, on 2,000 faulty streams and 1,000 mutated proofs
-	$(call rows_of,explain)
+	@$(call rows_of,explain)
 
 # Skipped without CaDiCaL's library, and those of --mpi without MPI.
 SOLVE_TESTS := lrup_solve_rounds lrup_solve lrup_solve_inputs lrup_solve_folders \
@@ -258,10 +258,10 @@ SOLVE_TESTS := lrup_solve_rounds lrup_solve lrup_solve_inputs lrup_solve_folders
 	lrup_solve_mpi
 .PHONY: $(SOLVE_TESTS)
 solve-test: $(BUILT) exact pytest ## check: lrup-solve, on 300 random formulas, and with everything that may fail
-	$(call rows_of,$(SOLVE_TESTS))
+	@$(call rows_of,$(SOLVE_TESTS))
 
 $(SOLVE_TESTS): $(BUILT) exact pytest
-	$(call rows_of,$@)
+	@$(call rows_of,$@)
 
 # On larger formulas than the gate's. SEED chooses them, and is printed.
 MINUTES ?= 60
@@ -271,17 +271,17 @@ days: $(BUILT) exact pytest ## check: kill processes of lrup-solve for MINUTES=6
 	tests/test_lrup_solve_days.py
 
 neighbours: $(BUILT) pytest ## check: hostile streams never change the report on a good proof
-	$(call rows_of,program_neighbours)
+	@$(call rows_of,program_neighbours)
 
 sweep: $(BUILT) pytest ## check: runs with each allocation, read, write and thread refused in turn
-	$(call rows_of,program_refusals) --rt $(RT)
+	@$(call rows_of,program_refusals) --rt $(RT)
 
 # Skipped without valgrind, like make instructions.
 leaks: $(BUILT) pytest ## measure: memory leaks, by valgrind
-	$(call rows_of,program_leaks)
+	@$(call rows_of,program_leaks)
 
 instructions: $(BUILT) pytest ## measure: how many instructions lines take, by valgrind, against the recorded figures
-	$(call rows_of,program_instructions) -rP
+	@$(call rows_of,program_instructions) -rP
 
 building: toolchain ## measure: the first build, crate by crate, in a clone of HEAD; on a quiet machine without kept proofs
 	@python3 bench/first_build.py $(RT)
@@ -346,15 +346,15 @@ ROWS := lrup_solve_mpi lrup_solve_rounds program_refusals filter_mutants lrup_so
 	program_rounds_alone program_answers program_groups example_solver program_neighbours \
 	program_live shown quotes
 test: SHELL := /bin/bash
-test: toolchain pytest pages solver exact trim explain ## check: the gate, 25 to 100 minutes: every proof, edit and test; has to pass before a push
+test: toolchain pytest pages warnings solver exact trim explain ## check: the gate, 25 to 100 minutes: every proof, edit and test; has to pass before a push
 	@rm -f $(dir $(SOLVE))lrupd; set -o pipefail; log=$$(mktemp); trap 'rm -f "$$log"' EXIT; SECONDS=0; \
-	$(RT) ci | tee "$$log" && proved=$$SECONDS && \
-	$(MAKE) --no-print-directory BUILT= rows warnings && \
+	$(RT) ci | tee "$$log" && proved=$$SECONDS && $(test_rows) && \
 	echo "rt ci took $$proved seconds, and the tests of programs $$((SECONDS - proved))" && \
 	tail -n 1 "$$log"
 
+test_rows = $(call rows_of,$(ROWS)) --rt $(RT) -m "not long"
 rows: $(BUILT) solver exact trim explain pytest
-	$(call rows_of,$(ROWS)) --rt $(RT) -m "not long"
+	@$(test_rows)
 
 toolchain:
 	@command -v $(RT) > /dev/null || \

@@ -86,7 +86,7 @@ def randomly(seed: int, work: Path) -> None:
         cubes.append([one * numbers.choice((-1, 1))
                       for one in numbers.choices(range(1, size + 1), k=numbers.randrange(9))])
     numbers.shuffle(cubes)
-    file, kept = written(cube_lines(cubes), work, "cubes"), work / "kept"
+    file, kept = written(cube_lines(cubes or [[]]), work, "cubes"), work / "kept"
     tested = {"SET": EARLY, "SLICE": numbers.choice((5, 10, 30)),
               "FIRST_WORDS": numbers.choice((1000, 1 << 20)), "SAME_WORDS": 1}
     answer = solve(["-v", "--seed", seed, "-j", numbers.randint(1, 4), "--proofs", kept, "--cubes",
