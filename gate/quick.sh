@@ -78,7 +78,10 @@ tests() {
     all=$(grep -rh '^ *#\[test\]' "crates/${crate}_tests/src" | wc -l)
     printf '%s: ' "${crate}_tests"
     [ "$all" -gt 0 ] || { echo "has only proofs, and nothing to run"; return; }
-    (cd "crates/${crate}_tests" && timeout "$seconds" "$rt" try --test) > "$log" 2>&1
+    # timeout has a group of its own, which Ctrl-C doesn't reach.
+    (cd "crates/${crate}_tests" && exec timeout "$seconds" "$rt" try --test) > "$log" 2>&1 &
+    trap 'kill $!; exit 130' INT TERM
+    wait $!
     status=$?
     read -r passed open wrong << COUNTS
 $(awk '/^test .* \.\.\. ok$/ { passed++ }
