@@ -240,7 +240,7 @@ def tests() -> Iterator[Test]:
     for name, streams, reports in runs:
         starts = [f"Spawn({number})" for number in range(1, streams + 1)]
         yield Test("portfolio", f"memory::{name}_by_threads", memory + starts + reports, streams)
-        yield Test("portfolio", f"memory::{name}_by_turns", memory + reports)
+        yield Test("portfolio", f"memory::{name}_on_one_thread", memory + reports)
     # Calls that can be repeated after a refusal.
     yield Test("lrup_model", "a_refused_push_changes_nothing", [])
     yield Test("lrup_model", "a_refused_open_can_be_made_again", [])
