@@ -27,12 +27,12 @@ SHARED_WITH_SOLVER := $(addprefix tools/exact/,errors.c formula.c lists.c litera
 ALONE := $(filter-out $(wildcard tools/solve/mpi*.cpp),$(wildcard tools/solve/*.cpp))
 # Tests of programs build this first; 'make examples BUILT= PROGRAM=path' tests another program.
 BUILT ?= build
-# Debian's pytest, with which the tests of programs run: two rows more at once than there are cores,
-# since most of them wait now and then.
+# Debian's pytest, with which the tests of programs run. Files run at once, two more than there are
+# cores, since most rows wait now and then. With xdist's -n, runs of many files didn't end.
 PYTEST ?= pytest-3
 AT_ONCE := $(shell expr $$(nproc) + 2)
-rows_of = $(PYTEST) -n $(AT_ONCE) --dist loadgroup --program $(PROGRAM) \
-	$(addsuffix .py,$(addprefix tests/test_,$(1)))
+rows_of = printf '%s\n' $(1) | xargs -P $(AT_ONCE) -I NAME $(PYTEST) --program $(PROGRAM) \
+	tests/test_NAME.py
 FORMULA ?= examples/bmc.cnf
 STREAMS ?= $(addprefix examples/bmc-four.,1 2 3 4)
 OPTIONS ?= --tries 1000000
@@ -334,8 +334,8 @@ packages: ## check: install, as root, the Debian packages that tests need
 	@sh gate/packages.sh
 
 # The whole gate: the pages; then rt ci, which proves everything from nothing, tries the edits, runs
-# the crates' tests, and builds the program with two compilers; then the tests of programs, those of
-# pytest in one run, the longest first, without the rows of --mpi that wait for long. The last line
+# the crates' tests, and builds the program with two compilers; then the tests of programs,
+# the longest files first, without the rows of --mpi that wait for long. The last line
 # is rt's own, 'N passed, M failed'.
 ROWS := lrup_solve_mpi lrup_solve_rounds program_refusals filter_mutants lrup_solve \
 	lrup_solve_solvers lrup_solve_cubes filter_rounds lrup_solve_resume explain trim \
