@@ -88,7 +88,7 @@ def model(signs):
 def stream(number, text):
     open(folder + f"/round-1.stream-{{number}}", "w").write(text)
 
-def told(name):
+def hears(name):
     text = ""
     while True:
         more = os.read(FRONT, 1 << 16).decode()

@@ -15,19 +15,19 @@ LINE, PROOF, libc = 's UNSATISFIABLE', {PROOF!r}, ctypes.CDLL(None)
 def proves(proof=PROOF):
     stream(1, proof)
     check()
-    told('lrupd')
+    hears('lrupd')
 
 def waits():        # lrupd, for its stream
     global pid, feeding
     os.mkfifo(folder + '/round-1.stream-1')
-    told('probe')
+    hears('probe')
     check()
     feeding = open(folder + '/round-1.stream-1', 'w')
     pid = lrupd_of(front, '--rounds')
 
 def ends(line=LINE):
     feeding.close()
-    told('lrupd')
+    hears('lrupd')
     forge(line)
     time.sleep(0.2)
 
@@ -88,7 +88,7 @@ for name in os.listdir(f'/proc/{front}/fd'):
     file = f'/proc/{front}/fd/{name}'
     if name not in '12':
         tries(lambda: os.write(os.open(file, os.O_WRONLY | os.O_NONBLOCK), 2 * LINE.encode()))
-told('lrupd')
+hears('lrupd')
 # another formula has the name
 named(here + '/formula.cnf', 'p cnf 1 2\\n1 0\\n-1 0\\n'); proves('3 0 1 2 0\\n')
 # the formula is gone
@@ -99,7 +99,7 @@ def others():
     os.mkdir(folder + '/other')
     open(folder + '/other/round-1.stream-1', 'w').write(PROOF)
     os.write(end, f"{os.getpid()} {os.open(folder + '/other', os.O_PATH)}".encode())
-children(1, others); say('check 1 10 10 0 ' + os.read(here, 100).decode()); told('lrupd')
+children(1, others); say('check 1 10 10 0 ' + os.read(here, 100).decode()); hears('lrupd')
 # streams are the front's files
 for k, name in enumerate((HEARD, TOLD, of_lrupd, formula.split('/')[-1]), 1):
     os.symlink(f'/proc/{front}/fd/{name}', folder + f'/round-1.stream-{k}')
@@ -144,9 +144,9 @@ os.kill(int(front), 9); time.sleep(1000)
 # For one that has none, and PROOF is its proof.
 PROVING = """
 # lrupd stops and goes on
-waits(); children(1, turns, pid); feeding.write(PROOF); feeding.close(); told('lrupd')
+waits(); children(1, turns, pid); feeding.write(PROOF); feeding.close(); hears('lrupd')
 # its output is cut
-stream(1, PROOF); check(); children(1, always, os.truncate, OUTPUT, 0); told('lrupd')
+stream(1, PROOF); check(); children(1, always, os.truncate, OUTPUT, 0); hears('lrupd')
 # its output grows
 os.truncate(OUTPUT, 1 << 40); proves()
 """

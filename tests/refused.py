@@ -78,8 +78,9 @@ class InRounds(Input):
         self.reports.append(last(self.count, proof.said[-1], self.status))
         self.reached = self.count + (self.status == 3)  # the last round with a file that is opened
         self.singles = work / "saved"
-        # Lines of --watch.
-        self.told = 0 if "--watch" not in options else sum(map(len, proof.texts)) + self.count - 1
+        self.watch_lines = 0
+        if "--watch" in options:
+            self.watch_lines = sum(map(len, proof.texts)) + self.count - 1
 
     def before(self, number: int, *more: str) -> Saved:
         """What was saved before a round, and the file that it created itself."""
@@ -216,8 +217,8 @@ def without_watched_ends(answer: Answer, refuse: str, mixes: bool) -> Answer:
 
 def without_lines(answer: Answer) -> Answer:
     """Without the lines of --watch on streams and rounds, each of them whole."""
-    told = r"^lrupd: (stream \d+: .*|round \d+: \d+ clauses, \d+ literals, paused for \d+ ms)\n"
-    return answer._replace(err=re.sub(told, "", answer.err, flags=re.M))
+    lines = r"^lrupd: (stream \d+: .*|round \d+: \d+ clauses, \d+ literals, paused for \d+ ms)\n"
+    return answer._replace(err=re.sub(lines, "", answer.err, flags=re.M))
 
 
 def is_cut(answer: Answer, ample: Answer) -> bool:
@@ -452,7 +453,7 @@ def is_right_in_rounds(kind: str, how: str, number: int, answer: Answer, ample: 
         return (answer in [NO_FORMULA._replace(saved=given.before(1)), *unread]
                 or is_failed_stream(answer, "read failed", given, machine))
     return (is_cut(answer, ample) or answer in parts(given, "checkpoint not written")
-            or given.told > 0 and answer == ample)
+            or given.watch_lines > 0 and answer == ample)
 
 
 def due_in_rounds(kind: str, how: str, given: InRounds) -> Set[str]:
@@ -480,8 +481,9 @@ def complaints_in_rounds(kind: str, how: str, ample: Answer, answers: List[Answe
         yield f"{len(answers)} calls refused, not {len(in_turn(kind, how, given))}"
     for said in due_in_rounds(kind, how, given) - {answer.err for answer in answers}:
         yield f"never said: {said!r}"
-    if kind == "write" and how not in SHORT and answers.count(ample) != given.told:
-        yield f"{answers.count(ample)} writes refused that change nothing, and not {given.told}"
+    if kind == "write" and how not in SHORT and answers.count(ample) != given.watch_lines:
+        changeless = answers.count(ample)
+        yield f"{changeless} writes refused that change nothing, and not {given.watch_lines}"
 
 
 # The calls of a run.

@@ -54,7 +54,7 @@ for path in [formula, *copies]:
 open("%s", "a").write(open(formula).read())
 stream(1, "3 0 1 2 0\\n")
 check()
-told("lrupd")""" % (work / "seen")
+hears("lrupd")""" % (work / "seen")
     answer = run_with(body, [], SATISFIABLE, work, given=SATISFIABLE)
     want((answer.answers, answer.status), (["s UNKNOWN"], 0),
          f"the answer of\n{answer.out}{answer.said}")
@@ -71,8 +71,8 @@ def assuming(literals: str, body: str, wanted: str, status: int, work: Path) -> 
 def dies_at_each_moment(number: int, work: Path) -> None:
     """The program dies after each of its steps towards a verdict, by a signal, with a status, or
     while others hold its files open."""
-    steps = ["told('probe')", "stream(1, %r)" % PROOF[:14], "stream(2, '')",
-             "check('2 10 10 1000000')", "stream(1, %r)" % PROOF, "told('lrupd')"]
+    steps = ["hears('probe')", "stream(1, %r)" % PROOF[:14], "stream(2, '')",
+             "check('2 10 10 1000000')", "stream(1, %r)" % PROOF, "hears('lrupd')"]
     for end in ("os.kill(os.getpid(), 9)", "os.kill(os.getpid(), 11)", "os._exit(0)", "os._exit(1)",
                 "os._exit(20)", "os.fork() or time.sleep(1000)"):
         folder = work / re.sub(r"\W", "", end)
@@ -146,7 +146,7 @@ def impostor(status: int, words: List[str], wanted: str, work: Path) -> None:
     path = before_lrupd(
         f"echo s UNSATISFIABLE{' UNDER ASSUMPTIONS' * (status == 8)}; exit {status}", work)
     cube = written("2 0\n", work, "cube")
-    body = "stream(1, '')\ncheck('1 1 1 0')\ntold('lrupd')"
+    body = "stream(1, '')\ncheck('1 1 1 0')\nhears('lrupd')"
     answer = run_with(body, [word.format(cube=cube) for word in words], SATISFIABLE, work, path)
     want(answer.answers, [wanted], f"the answer of\n{answer.out}{answer.said}")
 
@@ -182,7 +182,7 @@ def signalled(number: int, body: str, whole_group: bool, work: Path) -> None:
 
 def refused_proof(work: Path) -> None:
     """lrupd's words are printed even if the report can't be kept."""
-    answer = run_with(f"stream(1, {PROOF!r})\ncheck()\ntold('lrupd')\nsay('refused')",
+    answer = run_with(f"stream(1, {PROOF!r})\ncheck()\nhears('lrupd')\nsay('refused')",
                       [], FOUR, work)
     want((answer.answers, answer.status), (["s UNSATISFIABLE"], 1), "the answer")
 
@@ -204,12 +204,12 @@ def came_again(work: Path) -> None:
 def checkers_id_again(work: Path) -> None:
     """After lrupd has ended with status 3, an orphan with its process id ends with 0."""
     answer = run_with(AGAIN + """os.mkfifo(folder + '/round-1.stream-1')
-told('probe')
+hears('probe')
 check()
 feeding = open(folder + '/round-1.stream-1', 'w')
 pid = lrupd_of(front, '--rounds')
 feeding.close()
-told('lrupd')
+hears('lrupd')
 forge('s UNSATISFIABLE')
 again(pid, 0, here + '/again')""", [], SATISFIABLE, work)
     want((answer.answers, answer.status), (["s UNKNOWN"], 0), "the answer")
@@ -223,7 +223,7 @@ def readers_id_again(work: Path) -> None:
         "case \"$*\" in *' /dev/null') sleep 1;; esac\nexec " + shlex.quote(PROGRAM) + ' "$@"',
         work)
     answer = run_with(AGAIN + """pid = lrupd_of(front, '/dev/null')
-told('probe')
+hears('probe')
 again(pid, 3, here + '/again')
 model('+')""", [], "p cnf 1 1\n1 -2 0\n", work, lrupd)
     want((answer.answers, answer.status, answer.said),
@@ -277,11 +277,11 @@ def killed():
     feeding = open(folder + '/round-1.stream-1', 'w')
     pid = lrupd_of(front, '--rounds')
     os.kill(pid, signal.SIGKILL)
-    told('lrupd')
+    hears('lrupd')
     for name in os.listdir(folder):     # the pipe, and the file for what it would have saved
         os.unlink(folder + '/' + name)
     return pid
-told('probe')
+hears('probe')
 """
     given = {"given": text} if how == "by a pipe" else {}
     answer = run_with(begin + body, ["--time", "1" if how == "for a second" else "15"],
@@ -299,7 +299,7 @@ def asked_for_more(body: str, starts: int, wanted: str, work: Path) -> None:
     lrupd = in_place_of_lrupd(f"case \"$*\" in *' /dev/null') exit 3;; esac\n"
                               f"echo x >> {work}/starts; count=$(wc -l < {work}/starts)\n{body}",
                               work)
-    asks = ("told('probe')\nstream(1, '')\ncheck()\ntold('lrupd')\ncheck()\ntime.sleep(0.5)\n"
+    asks = ("hears('probe')\nstream(1, '')\ncheck()\nhears('lrupd')\ncheck()\ntime.sleep(0.5)\n"
             "check()\ntime.sleep(0.5)")
     answer = run_with(asks, [], SATISFIABLE, work, lrupd)
     status = {"s UNKNOWN": 0, "s UNSATISFIABLE": 20}[wanted]
@@ -324,7 +324,7 @@ def empty_checker(work: Path) -> None:
         folder = work / f"run-{len(str(word))}"
         folder.mkdir()
         os.environ["PATH"], before = f"{work}:{os.environ['PATH']}", os.environ["PATH"]
-        answer = run_with("stream(1, '')\ncheck()\ntold('lrupd')", [], SATISFIABLE, folder, word)
+        answer = run_with("stream(1, '')\ncheck()\nhears('lrupd')", [], SATISFIABLE, folder, word)
         os.environ["PATH"] = before
         want((answer.answers, answer.status, answer.said),
              ([], 1, "lrup-solve: lrupd took no formula\n"), "the answer")
@@ -383,7 +383,7 @@ def length(work: Path) -> None:
 
 def rows() -> List[Row]:
     unknown, proved, found = "s UNKNOWN", "s UNSATISFIABLE", "s SATISFIABLE"
-    ends, lasting = "told('lrupd')", ["--time", "1"]
+    ends, lasting = "hears('lrupd')", ["--time", "1"]
     proves = f"stream(1, {PROOF!r})\ncheck()\n"
     listed: List[Row] = [
         ("a proof", hostile, proves + ends, proved, [], FOUR),
@@ -425,7 +425,7 @@ def rows() -> List[Row]:
             ("a second round",
              "stream(1, '')\nopen(folder + '/round-2.sizes', 'w').write('1 10 10\\n')\n"
              "open(folder + '/round-2.stream-1', 'w').write('3 0 1 2 0\\n')\ncheck()\n" + ends),
-            ("a report", "stream(1, '')\ncheck()\ntold('lrupd')\n"
+            ("a report", "stream(1, '')\ncheck()\nhears('lrupd')\n"
                          "for name in os.listdir(folder): open(folder + '/' + name, 'w').write('s "
                          "UNSATISFIABLE\\n')"),
             ("nothing", ""), ("status 20", "os._exit(20)"), ("status 10", "os._exit(10)"),
@@ -453,7 +453,7 @@ def rows() -> List[Row]:
                ("refused, and a proof", refused_proof),
                ("its reading killed, a model", reading_killed, SATISFIABLE,
                 "model('++-')\ntime.sleep(1)", unknown, 0),
-               ("its reading killed, nothing", reading_killed, SATISFIABLE, "told('probe')",
+               ("its reading killed, nothing", reading_killed, SATISFIABLE, "hears('probe')",
                 unknown, 0),
                ("its reading killed, a proof", reading_killed, FOUR, proves + ends, proved, 20),
                ("by a pipe", by_pipe), ("comments", without_lines),
@@ -503,7 +503,7 @@ def rows() -> List[Row]:
     for name, body, text, line in (
             ("a proof", proves + ends, FOUR, proved),
             ("a model", "model('++-')", SATISFIABLE, found),
-            ("nothing", "told('probe')", FOUR, unknown),
+            ("nothing", "hears('probe')", FOUR, unknown),
             ("a wrong model", "model('---')", SATISFIABLE, unknown),
             ("a proof under assumptions", "stream(1, '5 2 0 1 2 0\\n')\ncheck()\n" + ends,
              "p cnf 2 4\n1 2 0\n-1 2 0\n1 2 0\n1 2 0\n", "s UNSATISFIABLE UNDER ASSUMPTIONS")):
@@ -517,9 +517,9 @@ def rows() -> List[Row]:
     listed += [("help, expecting an answer", help_expected), ("never began", never_began, []),
                ("never began, with -q", never_began, ["-q"])]
     listed += [(f"dies after {number}", dies_at_each_moment, number) for number in range(7)]
-    under = "stream(1, '5 1 0 1 2 0\\n')\ncheck()\ntold('lrupd')"
+    under = "stream(1, '5 1 0 1 2 0\\n')\ncheck()\nhears('lrupd')"
     listed += [("under assumptions", assuming, "-2 0\n",
-                "stream(1, '5 2 0 1 2 0\\n')\ncheck()\ntold('lrupd')",
+                "stream(1, '5 2 0 1 2 0\\n')\ncheck()\nhears('lrupd')",
                 "s UNSATISFIABLE UNDER ASSUMPTIONS", 20),
                ("not under these", assuming, "2 0\n", under, unknown, 0),
                ("a model under assumptions", assuming, "2 -3 0\n", "model('++-')", found, 10),

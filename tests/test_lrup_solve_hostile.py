@@ -37,10 +37,10 @@ STATUSES = {UNKNOWN: 0, FOUND: 10, PROVED: 20, UNDER: 20}
 def want_no_other(answer: Answer, right: str, formula: Path) -> None:
     """No other verdict than this one. 's UNKNOWN' may come at any time, or a reason for no
     answer."""
-    found, is_told = answer.answers, answer.status in (1, 127) and answer.said != ""
+    found, has_message = answer.answers, answer.status in (1, 127) and answer.said != ""
     is_answer, is_killed = found in ([right], [UNKNOWN]), (answer.status or 0) < 0
     is_whole = is_answer and answer.status == STATUSES[found[0]]
-    is_right = is_whole or found == [] and is_told or (found == [] or is_answer) and is_killed
+    is_right = is_whole or found == [] and has_message or (found == [] or is_answer) and is_killed
     said = f"status {answer.status}, of\n{answer.out[-2000:]}{answer.said[-2000:]}"
     want(is_right, True, f"whether this is right: {said}")
     want(answer.status != 10 or is_model(answer, formula), True, f"whether this is a model: {said}")
@@ -61,15 +61,15 @@ ERRORS = {"read": ("EIO", "EINTR", "short"), "write": ("ENOSPC", "EINTR", "short
           **{name: ("ENOMEM", "EINTR") for name in ("close", "dup2", "fcntl", "fopen", "open",
                                                     "poll", "sigwaitinfo", "waitid", "waitpid")}}
 MOST = 12       # calls of one function
-WHOLE = 600     # from so many SIGNALS on each kind of run has each function refused
+WHOLE = 600     # SIGNALS with which each function is refused in each kind of run
 LIES = """signal.alarm(10)
 stream(1, {proof!r})
-told('probe')
+hears('probe')
 check()
 for line in ('s UNSATISFIABLE', 's UNSATISFIABLE UNDER ASSUMPTIONS'):
     forge(line)
     say(line)
-told('lrupd')
+hears('lrupd')
 forge('s UNSATISFIABLE')
 model({signs!r})
 time.sleep(1000)"""
@@ -81,7 +81,7 @@ except OSError:
     pass
 stream(1, "3 0 1 2 0\\n")
 check()
-told("lrupd")"""
+hears("lrupd")"""
 ENGINES = str(SOLVE.with_name("lrup-engines"))
 UNDER_PROOF = "5 2 0 1 2 0\n"       # of SATISFIABLE, under -2
 
@@ -98,7 +98,7 @@ class Kind(NamedTuple):
 
 
 def proving(proof: str) -> str:
-    return f"signal.alarm(10)\nstream(1, {proof!r})\ncheck()\ntold('lrupd')"
+    return f"signal.alarm(10)\nstream(1, {proof!r})\ncheck()\nhears('lrupd')"
 
 
 KINDS = {

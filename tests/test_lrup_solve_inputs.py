@@ -421,9 +421,9 @@ def refused_by_lrupd(text: Text, words: List[str], known: str, work: Path) -> No
     want((said[:7], said.count("\n")), ("lrupd: ", 0), "lrupd's refusal")
     for given, name in ((None, f"'{formula}'"), (text, "standard input")):
         answer = solve([*words, "-" if given else formula], given=given)
-        told = f"{said} ({known.format(name=name, work=work)})\n"
+        message = f"{said} ({known.format(name=name, work=work)})\n"
         if given is None or given:
-            want((answer.out, answer.said, answer.status), ("", told, 1), "the messages")
+            want((answer.out, answer.said, answer.status), ("", message, 1), "the messages")
 
 
 def refused_by_all(text: Text, fault: str, line: int, known: str, work: Path) -> None:

@@ -56,8 +56,8 @@ def kept(words: Sequence[object], formula: Path, work: Path,
                    cwd=work, **how)
     want((answer.status, answer.answers, answer.said), (20, [verdict], ""),
          f"the answer of\n{answer.out[-3000:]}")
-    told = sum(line.endswith(f": lrupd's verdict: {verdict}") for line in answer.comments)
-    want(told, 2, f"the number of such comments in\n{answer.out[-3000:]}")
+    count = sum(line.endswith(f": lrupd's verdict: {verdict}") for line in answer.comments)
+    want(count, 2, f"the number of such comments in\n{answer.out[-3000:]}")
     for path in () if names else (core, lrat):
         want(f"{path}: lrupd's verdict: {verdict}" in answer.comments, True,
              f"whether a comment names {path}:\n{answer.out[-3000:]}")
@@ -76,9 +76,9 @@ def of_random(words: str, formula_words: str, tested: Dict[str, object], work: P
     formula = generated(formula_words, work)
     answer = kept([*words.split(), formula], formula, work, tested)
     want(solve([work / "core.cnf"]).status, 20, "the status of the core by itself")
-    told = [line for line in answer.comments if line.startswith(str(work / "proof.lrat"))
+    lines = [line for line in answer.comments if line.startswith(str(work / "proof.lrat"))
             and ": lrupd --" in line]
-    done = run([PROGRAM, *shlex.split(told[0].split(": lrupd ")[1])])
+    done = run([PROGRAM, *shlex.split(lines[0].split(": lrupd ")[1])])
     want((done.out.splitlines()[-1], done.err, done.status), (PROVED, "", 0),
          "lrupd's answer to the printed command")
 
@@ -495,13 +495,13 @@ def strange_outputs(core: str, lrat: str, name: str, assumes: bool, work: Path) 
     words = ["-j", 1, *["--assume", cube.name] * assumes, "--", name]
     verdict = PROVED_UNDER if assumes else PROVED
     answer = kept(words, formula, work, verdict=verdict, names=(core, lrat))
-    told = [found[1] for found in (re.search(r": \d+ bytes of \d+: (lrupd .*)", line)
+    commands = [found[1] for found in (re.search(r": \d+ bytes of \d+: (lrupd .*)", line)
                                    for line in answer.comments if ": lrupd's verdict: " not in line)
             if found]
-    want(len(told), 1, "the number of printed commands")
+    want(len(commands), 1, "the number of printed commands")
     if (core + lrat + name).isprintable() and (core + lrat + name).isascii():
         done = run(
-            ["sh", "-c", f"lrupd() {{ {shlex.quote(PROGRAM)} \"$@\"; }}; {told[0]}"], cwd=work)
+            ["sh", "-c", f"lrupd() {{ {shlex.quote(PROGRAM)} \"$@\"; }}; {commands[0]}"], cwd=work)
         want((done.out.splitlines()[-1:], done.err), ([verdict], ""),
              "lrupd's answer to that command")
 
@@ -674,9 +674,9 @@ def explained(with_record: bool, work: Path) -> None:
     want((answer.status, answer.said), (0, ""), f"the answer of\n{answer.out[-3000:]}")
     if with_record:
         at = answer.comments.index(f"stream 1 ({record}), line 1: no conflict")
-        told = [any(word in line for line in answer.comments[at:])
+        named = [any(word in line for line in answer.comments[at:])
                 for word in ("  why: ", "  a right chain: ")]
-        want(told, [True, True], f"the comments\n{answer.out[-3000:]}")
+        want(named, [True, True], f"the comments\n{answer.out[-3000:]}")
     else:
         want("lrup-explain shows why, if --proofs DIR keeps the streams" in answer.comments, True,
              f"the comments\n{answer.out[-3000:]}")

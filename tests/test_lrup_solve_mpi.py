@@ -189,9 +189,9 @@ def cores(processes: int, words: str, tested: Optional[Dict[str, object]], work:
     answer = Answer(run(launched(processes, ["-j", "1", *options, formula], tested),
                         env=in_environment(tested, {"TMPDIR": str(files)})))
     want_answer(answer, 20)
-    told = [f"{path}: lrupd's verdict: s UNSATISFIABLE" in answer.comments
+    named = [f"{path}: lrupd's verdict: s UNSATISFIABLE" in answer.comments
             for path in kept.values()]
-    want(told, [True, True], f"whether both are told of in\n{answer.out}{answer.said}")
+    want(named, [True, True], f"whether comments name both in\n{answer.out}{answer.said}")
     clauses, core = read_formula(formula), read_formula(kept["--core"])
     want([clause for clause in core if clause not in clauses], [],
          "clauses of the core that aren't the formula's")

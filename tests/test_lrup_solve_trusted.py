@@ -25,7 +25,7 @@ FORGES = """os.kill(int(front), signal.SIGSTOP)
 time.sleep(0.3)
 forge({line!r})
 os.kill(int(front), signal.SIGCONT)
-told('lrupd')"""
+hears('lrupd')"""
 Attack = Callable[[Path, Path], bool]
 
 
@@ -66,7 +66,7 @@ def breaks(literals: str, body: str = "") -> Attack:
 
 def killed_by_its_status(front: Path, work: Path) -> bool:
     """SIGFPE has the number of the status for a proof under assumptions."""
-    body = ("os.mkfifo(folder + '/round-1.stream-1')\ntold('probe')\ncheck()\n"
+    body = ("os.mkfifo(folder + '/round-1.stream-1')\nhears('probe')\ncheck()\n"
             "open(folder + '/round-1.stream-1', 'w')\n"
             + "pid = int(open(f'/proc/{front}/task/{front}/children').read().split()[-1])\n"
             + FORGES.format(end="os.kill(pid, signal.SIGFPE)", line=UNDER))
@@ -79,7 +79,7 @@ def planted(work: Path, *names: str) -> Path:
     folder.mkdir()
     in_place_of_lrupd("echo s UNSATISFIABLE", folder)
     for name in names:
-        program("stream(1, '')\ncheck()\ntold('lrupd')", folder).rename(folder / name)
+        program("stream(1, '')\ncheck()\nhears('lrupd')", folder).rename(folder / name)
     return folder
 
 
@@ -111,18 +111,18 @@ def prints(front: Path, work: Path) -> bool:
 
 def as_expected(front: Path, work: Path) -> bool:
     """There is no answer, but the status says that it is the expected one."""
-    return answer_of(front, work, "told('probe')", ["--expect", "unsat"]).status == 0
+    return answer_of(front, work, "hears('probe')", ["--expect", "unsat"]).status == 0
 
 
-ENDS = ("os.mkfifo(folder + '/round-1.stream-1')\ntold('probe')\ncheck()\n"
+ENDS = ("os.mkfifo(folder + '/round-1.stream-1')\nhears('probe')\ncheck()\n"
         "feeding = open(folder + '/round-1.stream-1', 'w')\n")
 CHANGES = """os.pwrite(os.open(formula, os.O_RDWR), b"p cnf 1 2\\n1 0\\n-1 0\\n", 0)
 os.truncate(formula, 19)
 stream(1, "3 0 1 2 0\\n")
 check()
-told("lrupd")"""
+hears("lrupd")"""
 # Memory runs out before all assumptions are read.
-STARVES = """told('probe')
+STARVES = """hears('probe')
 time.sleep(0.3)
 import resource
 resource.prlimit(int(front), resource.RLIMIT_AS, (1 << 20, 1 << 20))
@@ -137,24 +137,25 @@ ATTACKS: Dict[str, Attack] = {
     "variables": gives("++"), "clauses": gives("---"), "model": gives("--+"),
     "assumptions": breaks("-2 0\n"), "assumed": breaks("2 3 0\n"), "assume": breaks("2 3 0\n"),
     "whole file": breaks("2 " * 60000 + "3 0\n", STARVES),
-    "lrupd reads them": breaks("c 3 0\n", "told('probe')\n"),
+    "lrupd reads them": breaks("c 3 0\n", "hears('probe')\n"),
     "formula": says(UNSATISFIABLE, "stream(1, 'p cnf 1 2\\n1 0\\n-1 0\\n')\n"
-                                   "stream(2, '3 0 1 2 0\\n')\ncheck('2 10 10 0')\ntold('lrupd')"),
+                                   "stream(2, '3 0 1 2 0\\n')\ncheck('2 10 10 0')\nhears('lrupd')"),
     "comments": says(UNSATISFIABLE, "say('s UNSATISFIABLE')"),
     "one line": says(UNSATISFIABLE, "say('c x\\ns UNSATISFIABLE')"), "expected": as_expected,
     "signal": killed_by_its_status, "status": says(UNSATISFIABLE, FORGED),
     "exit": says(UNSATISFIABLE, FORGED),
     "last line": lambda front, work: UNSATISFIABLE in answer_of(
-        front, work, "told('probe')\nstream(1, '')\ncheck()\ntold('lrupd')",
+        front, work, "hears('probe')\nstream(1, '')\ncheck()\nhears('lrupd')",
         lrupd=in_place_of_lrupd("echo another program; case \"$*\" in *' /dev/null') exit 3;; esac",
                                 work)).answers,
     "own line": lambda front, work: UNSATISFIABLE in answer_of(
-        front, work, "told('probe')\nstream(1, '')\ncheck()\ntold('lrupd')\ncheck()\ntold('lrupd')",
+        front, work,
+        "hears('probe')\nstream(1, '')\ncheck()\nhears('lrupd')\ncheck()\nhears('lrupd')",
         lrupd=in_place_of_lrupd(
             f"case \"$*\" in *' /dev/null') exit 3;; esac\n[ ! -e {work}/killed ] || exit 0\n"
             f"> {work}/killed\necho {UNSATISFIABLE}\nkill -9 $$", work)).answers,
     "refused": lambda front, work: answer_of(
-        front, work, "told('probe')\nmodel('+')\ntime.sleep(0.5)", text="p cnf 1 1\n1 -2 0\n",
+        front, work, "hears('probe')\nmodel('+')\ntime.sleep(0.5)", text="p cnf 1 1\n1 -2 0\n",
         lrupd=in_place_of_lrupd("kill -9 $$", work)).status == 10,
 }
 

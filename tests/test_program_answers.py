@@ -289,10 +289,10 @@ def watched() -> Iterator[Named]:
     """With --watch standard error has lines during the run; standard output and the status are the
     same."""
     said = ["0 added, 0 deleted, bad line 1 (spelling)", "0 added, 0 deleted, ended"]
-    told = "".join(f"lrupd: stream {number}: {words}\n" for number, words in enumerate(said, 1))
+    lines = "".join(f"lrupd: stream {number}: {words}\n" for number, words in enumerate(said, 1))
     words = ["--watch", "--serial", "formula", "stream", "/dev/null"]
     yield ("two streams with --serial, watched",
-           Wanted(words, 3, report(said, 3), told, files={"formula": FOUR, "stream": "\n"}))
+           Wanted(words, 3, report(said, 3), lines, files={"formula": FOUR, "stream": "\n"}))
     for options in WAYS:
         one = Wanted(["--watch", *options.split(), "formula", "two"], 0,
                      report([BOTH_ADDED], 0), files=FILES)
@@ -384,9 +384,9 @@ def many_watched(program: str, work: Path) -> None:
     plain = answered(program, Wanted(["formula", *["one"] * 64], 3, files=FILES), work)
     out, err, status = answered(program,
                                 Wanted(["--watch", "formula", *["one"] * 64], 3, files=FILES), work)
-    told = [line.replace("c ", "lrupd: ", 1) for line in plain.out.splitlines()
+    lines = [line.replace("c ", "lrupd: ", 1) for line in plain.out.splitlines()
             if line.startswith("c ")]
-    want((out, sorted(err.splitlines()), status), (plain.out, sorted(told), 3), "the answer")
+    want((out, sorted(err.splitlines()), status), (plain.out, sorted(lines), 3), "the answer")
 
 
 def watched_line_by_line(program: str, words: Words, lines: int, work: Path) -> None:

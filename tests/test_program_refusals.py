@@ -83,9 +83,9 @@ def sweep(machine: Machine, given: Input, kind: str, how: str) -> Tuple[int, Lis
             return number, [*wrong, f"{given.name}, more calls than may be: {refuse}"]
     if answer != ample or answer.status is None:
         wrong.append(f"{given.name}, nothing refused: {answer}")
-    told = complaints_in_rounds if isinstance(given, InRounds) else complaints
+    complain = complaints_in_rounds if isinstance(given, InRounds) else complaints
     return number - 1, wrong + [f"{given.name}, {kind} {how}: {complaint}"
-                                for complaint in told(kind, how, ample, answers, given)]
+                                for complaint in complain(kind, how, ample, answers, given)]
 
 
 def clauses(count: int) -> str:

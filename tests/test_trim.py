@@ -82,9 +82,9 @@ def over_formula(steps: Sequence[Step], core: List[int], clauses: int) -> List[S
 
 def verdicts(said: str, work: Path) -> List[Ran]:
     """lrupd's verdicts on each output, with the printed arguments."""
-    told = re.findall(r"^c \S+: \d+ bytes of \d+: lrupd (.*)$", said, re.M)
-    want(len(told), 2, f"the commands in\n{said}")
-    return [run([PROGRAM, *shlex.split(words)], cwd=work) for words in told]
+    commands = re.findall(r"^c \S+: \d+ bytes of \d+: lrupd (.*)$", said, re.M)
+    want(len(commands), 2, f"the commands in\n{said}")
+    return [run([PROGRAM, *shlex.split(words)], cwd=work) for words in commands]
 
 
 def are_right(formula: Path, said: str, work: Path, status: int = 0) -> None:
@@ -170,9 +170,9 @@ def longer_than_a_row(output: str, formula: str, work: Path) -> None:
     """The printed line for such an output, checked with small rows of the filter."""
     trimmed(example("bmc.cnf"), [example("bmc.lrup")], work)
     os.symlink(example("bmc.cnf"), work / "bmc.cnf")
-    told = (f'"$1" --rounds live --memory 48K {formula} {output} | {{ read ready && "$2" --rounds '
-            f'live {formula} live/round-1.stream-1; }}')
-    done = run(["sh", "-c", told, "sh", FILTER, PROGRAM], cwd=work)
+    command = (f'"$1" --rounds live --memory 48K {formula} {output} | {{ read ready && '
+               f'"$2" --rounds live {formula} live/round-1.stream-1; }}')
+    done = run(["sh", "-c", command, "sh", FILTER, PROGRAM], cwd=work)
     found = re.fullmatch(r"c round (\d+)\n.*\ns UNSATISFIABLE\n", done.out)
     want((found is not None and int(found[1]) > 5, done.err, done.status), (True, "", 0),
          f"lrupd's answer, {done.out}")

@@ -96,8 +96,8 @@ pub greatest : (codes : List ℕ) (n : ℕ) → AreCubeCodes codes → 0 < lengt
 greatest codes n are some =
     let last : ℕ = length codes - 1 in
     let inside : last < length codes = omega arith in (
-      (λ finished.
-          let literal = All-Has (IsLiteral n) (map literal_of codes) (literal_of (get_or codes last 0)) finished
+      (λ over.
+          let literal = All-Has (IsLiteral n) (map literal_of codes) (literal_of (get_or codes last 0)) over
           (has_at codes last inside) in
           omega (arith, literal.1, variable_of (get_or codes last 0))),
       (λ few. All-from_Has (IsLiteral n) (map literal_of codes) (λ l h.

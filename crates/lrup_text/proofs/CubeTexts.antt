@@ -17,11 +17,11 @@ stream_literal vars few (negsuc n) is = (is.0, omega (arith, few, is.1))
 pub printed_cube : (vars : ℕ) (literals : List ℤ) (bytes : List ℕ) (cube : CubeValue) → IsLiteralsText literals bytes
     → IsCubeOver vars literals → IsCubeOf literals cube → IsCubeText vars bytes cube
 unfolding words_text
-printed_cube vars literals bytes cube text finished set = record {
+printed_cube vars literals bytes cube text over set = record {
   literals = literals;
   text = text.is ∙ sym (words_end signed_decimal literals (line_feed ∷ []));
   few = text.few.count;
-  finished = finished;
+  over = over;
   set = set;
 }
 
@@ -29,12 +29,12 @@ read_cube : (vars : ℕ) (bytes : List ℕ) (cube : CubeValue) → vars < 10 ^ 1
     → IsLiteralsText h.literals bytes
 unfolding words_text
 read_cube vars bytes cube few h = record {
-  few = record { count = h.few; each = All-map (IsLiteral vars) IsStreamLiteral (stream_literal vars few) h.literals h.finished };
+  few = record { count = h.few; each = All-map (IsLiteral vars) IsStreamLiteral (stream_literal vars few) h.literals h.over };
   is = h.text ∙ words_end signed_decimal h.literals (line_feed ∷ []);
 }
 
 pub cube_text_is_read : CubeTextIsRead
 cube_text_is_read vars bytes cube few = (
-  λ h. (h.literals, read_cube vars bytes cube few h, h.finished, h.set),
+  λ h. (h.literals, read_cube vars bytes cube few h, h.over, h.set),
   λ h. printed_cube vars h.0 bytes cube h.1 h.2 h.3,
 )

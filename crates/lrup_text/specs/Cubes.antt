@@ -20,7 +20,7 @@ pub record IsCubeText (vars : ℕ) (bytes : List ℕ) (cube : CubeValue) : Type 
   pub literals : List ℤ
   pub text : bytes ≡ flat_map (λ l. signed_decimal l ++ codes " ") literals ++ codes "0\n"
   pub few : length literals ≤ 65535
-  pub finished : IsCubeOver vars literals
+  pub over : IsCubeOver vars literals
   pub set : IsCubeOf literals cube
 
 -- Faults.

@@ -56,7 +56,7 @@ pub fn read_cube(alloc: Global, bytes: &[u8], vars: u32) -> Result<Cube, CubeFau
 fn read_cube_literals(alloc: Global, text: &[u8], vars: u32) -> Result<Vec<Lit>, CubeFault>
     requires { vars ≤ max_variable }
     ensures text { IfOk result (λ literals. IsLiteralsText literals.items text.now) }
-    ensures finished { IfOk result (λ literals. IsCubeOver vars literals.items) }
+    ensures over { IfOk result (λ literals. IsCubeOver vars literals.items) }
     ensures fault { IfErr result (IsCubeFault vars text.now) }
 {
     let mut kept = Ok(Vec::new(alloc));

@@ -24,13 +24,13 @@ number_begins (negsuc n) vars rest bytes few is e = omega (arith, ap (λ (x : Li
 
 cube_begins : (vars : ℕ) (literals : List ℤ) → vars ≤ max_variable → IsCubeOver vars literals
     → codes "01 0\n" ≡ flat_map (λ l. signed_decimal l ++ codes " ") literals ++ codes "0\n" → ⊥
-cube_begins vars [] few finished e = omega (arith, ap (λ (x : List ℕ). get_or x 1 0) e)
-cube_begins vars (z ∷ literals) few finished e =
-    number_begins z vars (codes " " ++ flat_map (λ l. signed_decimal l ++ codes " ") literals ++ codes "0\n") (codes "1 0\n") few finished.0
+cube_begins vars [] few over e = omega (arith, ap (λ (x : List ℕ). get_or x 1 0) e)
+cube_begins vars (z ∷ literals) few over e =
+    number_begins z vars (codes " " ++ flat_map (λ l. signed_decimal l ++ codes " ") literals ++ codes "0\n") (codes "1 0\n") few over.0
     (simp append_assoc at e)
 
 pub zero_in_front : (vars : ℕ) (cube : CubeValue) → vars ≤ max_variable → ¬ IsCubeText vars (codes "01 0\n") cube
-zero_in_front vars cube few h = cube_begins vars h.literals few h.finished h.text
+zero_in_front vars cube few h = cube_begins vars h.literals few h.over h.text
 
 -- each such text ends with LF
 text_ends : (text : List ℕ) → codes "1 0" ≡ text ++ codes "0\n" → ⊥
@@ -46,7 +46,7 @@ text_of_set cube set = record {
   literals = negsuc 1 ∷ pos 1 ∷ negsuc 1 ∷ [];
   text = let one = decimal_digit 1 (omega arith) in let two = decimal_digit 2 (omega arith) in rw (one, two) refl;
   few = omega arith;
-  finished = ((omega arith, omega arith), ((omega arith, omega arith), ((omega arith, omega arith), tt)));
+  over = ((omega arith, omega arith), ((omega arith, omega arith), ((omega arith, omega arith), tt)));
   set = λ l. (λ h. there l ((set l).0 h), λ h. (set l).1 (back l h));
 }
   where

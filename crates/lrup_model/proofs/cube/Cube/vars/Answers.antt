@@ -18,6 +18,6 @@ returns-in-Some c n =
     let is : IsCubeOver n (map literal_of codes) ↔ (get_or codes (length codes - 1) 0 / 2 ≤ n) =
     greatest codes n c.self.invariant (omega arith) in
     let cube : map literal_of codes ≡ c.args.self.now = c.self.view_is in (
-      (λ finished. let few = is.0 (subst (IsCubeOver n) (sym cube) finished) in omega (arith, few, last)),
+      (λ over. let few = is.0 (subst (IsCubeOver n) (sym cube) over) in omega (arith, few, last)),
       (λ few. subst (IsCubeOver n) cube (is.1 (omega (arith, few, last)))),
     )
