@@ -196,6 +196,10 @@ $(HELPS) $(HELPS_OF_SOLVE): $(wildcard docs/lrup-*.1) tools/help.awk
 	@mkdir -p $(dir $@) && \
 	awk -v program=$(patsubst %.help.h,%,$(notdir $@)) -f tools/help.awk $(filter %.1,$^) > $@
 $(patsubst %,$(OBJECTS)/tools/%/main.o,exact trim explain): $(HELPS)
+FAULTS = $(OBJECTS)/lrup-explain.faults.h
+$(FAULTS): crates/stream_check/specs/Faults.antt tools/faults.awk
+	@mkdir -p $(dir $@) && awk -f $(filter %.awk,$^) $< > $@
+$(OBJECTS)/tools/explain/tell.o: $(FAULTS)
 $(SOLVE_OBJECTS)/tools/solve/options.o: $(HELPS_OF_SOLVE)
 
 # Functions that are in both scripts that check a record.
@@ -218,7 +222,7 @@ C_SOURCES := $(wildcard $(addsuffix /*.c,$(IN_C) tools/solve tools/solve/front t
 C_HEADERS := $(wildcard $(addsuffix /*.h,$(IN_C))) \
 	$(addprefix tools/solve/,shared.h test_hooks.h front/supervisor.h)
 STRICT = -std=c11 $(WARNINGS) -Werror -O2 -fsyntax-only -I tools/exact -I $(OBJECTS) -x c
-warnings: c-and-python libmd $(HELPS) ## check: C compiles without a warning, and each header by itself
+warnings: c-and-python libmd $(HELPS) $(FAULTS) ## check: C compiles without a warning, and each header by itself
 	@for compiler in $(firstword $(CC)) clang; do command -v $$compiler > /dev/null || continue; \
 	$$compiler $(STRICT) $(C_SOURCES) || exit 1; \
 	for file in $(C_HEADERS); do \
@@ -295,8 +299,9 @@ hol: $(BUILT) solve ## check: HOL Light proves 61 tautologies by lrup-solve, in 
 	@PATH="$(abspath $(dir $(SOLVE))):$$PATH" examples/hol/taut.sh
 
 # On AUDIT, THEOREMS, STORE_CALLS and PROOFS_AND_ROUNDS; `make pages` names other faults there.
-quotes: ## check: put changed definitions onto the pages that quote them
+quotes: ## check: put changed definitions onto the pages that quote them, and USING's faults into lrupd.1
 	@python3 gate/quotes.py --write
+	@python3 gate/interface.py --write
 
 # docs/PROMISES.md has this list in words.
 promises: ## check: list what each function promises, and the edits of it, of CRATE=name or of all crates

@@ -6,9 +6,9 @@
 rt lets one run at a time into a crate and the crates below it, and nearly all use lrup_model. So
 each library is proved in a lane: a folder with copies of its sources and of the libraries below,
 into which its out/ is moved for that time. Crates with the longest way to the program come first,
-by SECONDS. A build that is interrupted leaves what was proved to the next one. At the end `rt run`
-proves and runs the program. It knows by checksums which libraries are proved, and proves any other
-again: nothing depends on this script."""
+by SECONDS, and others get less of the cores. A build that is interrupted leaves what was proved to
+the next one. At the end `rt run` proves and runs the program. It knows by checksums which libraries
+are proved, and proves any other again: nothing depends on this script."""
 import fcntl
 import os
 import re
@@ -31,15 +31,16 @@ PARTS = ("src", "specs", "proofs")
 CORES = len(os.sched_getaffinity(0))
 JOBS = min(4, CORES)
 GB_EACH = 3.5  # with four jobs; at most 3.3 was seen
+SECONDS_EACH = 20  # of spare processor time, for a step of nice
 
 TEXT = (ROOT / "crates.txt").read_text()
 LINES = {name: line for line, name in re.findall(r"^((\w+):.*)", TEXT, re.M)}
 # What each uses of the repository.
 USES = {name: [word for word in line.split() if word in LINES] for name, line in LINES.items()}
-# How many seconds a crate's proofs take from nothing, by the clock, as `make building` measured
-# them. Processor time says less, since parts of each check run on one core.
-SECONDS = {name: 60 * int(minutes) + int(seconds) for name, minutes, seconds in re.findall(
-    r"^\| `(\w+)` \| (\d+):(\d+) \| \d+ \|$", (ROOT / "bench/building.md").read_text(), re.M)}
+# How many processor seconds a crate's proofs take from nothing, as `make building` measured them.
+# Time by the clock says less, since it also depends on what runs beside.
+SECONDS = {name: int(seconds) for name, seconds in re.findall(
+    r"^\| `(\w+)` \| [\d:]+ \| (\d+) \|$", (ROOT / "bench/building.md").read_text(), re.M)}
 
 
 def below(name):
@@ -175,10 +176,10 @@ def prove_libraries(rt, done):
             ready = [name for name in todo if below(name) <= done]
             for name in ready[:most - len(running)]:
                 todo.remove(name)
-                is_first = all(way(name) > way(lane.name) for lane in running)
                 running.append(Lane(name))
-                nice = [] if is_first else ["nice"]
-                running[-1].start(*nice, rt, "lib", "--jobs", str(JOBS))
+                spare = max(map(way, [name, *todo, *(lane.name for lane in running)])) - way(name)
+                running[-1].start("nice", "-n", str(min(19, spare // SECONDS_EACH)), rt, "lib",
+                                  "--jobs", str(JOBS))
             time.sleep(0.1)
             for lane in [lane for lane in running if lane.has_ended()]:
                 running.remove(lane)

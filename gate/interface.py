@@ -2,13 +2,15 @@
 """Checks what pages say of the program's options, faults, causes, limits and defaults: it has to be
 what code and definitions have.
 
-    python3 gate/interface.py
+    python3 gate/interface.py [--write]
 
-A part of USING and of the manual page lrupd.1 that is compared as a whole begins and ends with a
-comment that has its name. Each page that FIGURES names for a figure has to have it.
+With --write it puts USING's faults into the manual page. A part of USING and of the manual page
+lrupd.1 that is compared as a whole begins and ends with a comment that has its name. Each page that
+FIGURES names for a figure has to have it.
 """
 import re
 import sys
+import textwrap
 from typing import Dict, Iterator, List, Set
 
 sys.dont_write_bytecode = True
@@ -22,7 +24,6 @@ HELP, MANUAL = f"{COMMAND}/help.rt", "docs/lrupd.1"
 USING, EMITTING, FORMAT = "docs/USING.md", "docs/EMITTING.md", "docs/FORMAT.md"
 SOLVE, EXACT, EXPLAIN = "docs/lrup-solve.1", "docs/lrup-exact.1", "docs/lrup-explain.1"
 READER, EXPLAINER, FRONT = "tools/exact", "tools/explain/main.c", "tools/solve/front/front.c"
-TELLER = "tools/explain/tell.c"     # the tool's words for faults
 # The manual pages of tools, and the sources that read their options.
 READERS = {SOLVE: ["tools/solve/options.cpp", FRONT], EXACT: [f"{READER}/main.c"],
            EXPLAIN: [EXPLAINER], "docs/lrup-trim.1": ["tools/trim/main.c"]}
@@ -97,27 +98,26 @@ def words_in(text: str) -> List[str]:
     return re.findall(r"\w+", re.sub(r"^\.\w+", "", text, flags=re.M).lower())
 
 
+def of_manual(fault: str, meaning: str) -> str:
+    """A row of USING's table of faults as an item of the manual page."""
+    macros = {"--": ".Fl -", "H": ".Ar H"}
+    words = re.sub(r" ?`(--|H)(\w*)`([;,]?) ?", lambda found: "\n" + " ".join(
+        [macros[found[1]] + found[2], *found[3]]) + "\n", meaning)
+    lines = [line for text in words.split("\n") for line in textwrap.wrap(text, 80)]
+    return "\n".join([".It " + fault.replace(" H", " Ar H"), *lines, ""])
+
+
 def wrong_faults() -> Iterator[str]:
-    section = text_of(FORMAT).partition("## Faults\n")[2].partition("\n## ")[0]
     rows = dict(re.findall(r"^\| `([^`]+)` \| ([^|]*) \|", part(USING, "faults"), re.M))
-    items = {head.replace(" Ar ", " "): text for head, text in items_in("faults", "(.*)").items()}
-    for fault in sorted(rows.keys() & items.keys()):
-        if words_in(rows[fault]) != words_in(items[fault]):
-            yield f"{MANUAL}: {USING} has other words for the fault `{fault}`: use the same in both"
-    in_format = {span for span in re.findall("`([^`]+)`", section)
-                 if not re.fullmatch(r"H|--\w+|lrup[\w-]+", span)}
-    explained = text_of(EXPLAIN).partition("comes, for each fault:\n")[2].partition(".El\n")[0]
-    table = text_of(TELLER).partition("words[] = {")[2].partition("};")[0]
-    named = {USING: rows.keys(), MANUAL: items.keys(), FORMAT: in_format,
-             EXPLAIN: set(" , ".join(re.findall(r"^\.It Sy (.*)", explained, re.M)).split(" , ")),
-             TELLER: set(re.findall('"([^"]+)"', table))}
-    for page, faults in named.items():
-        defined = texts_of(FAULTS, "H")
-        if page in (EXPLAIN, TELLER):
-            defined = {text.removesuffix(" H") for text in defined}
-        for fault in sorted(faults ^ defined):
-            what = f"not in {FAULTS}: remove it" if fault in faults else "missing: add it"
-            yield f"{page}: the fault `{fault}` is {what}"
+    defined = texts_of(FAULTS, "H")
+    for fault in sorted(rows.keys() ^ defined):
+        what = f"not in {FAULTS}: remove it" if fault in rows else "missing: add it"
+        yield f"{USING}: the fault `{fault}` is {what}"
+    old, new = part(MANUAL, "faults"), "".join(of_manual(*row) for row in rows.items())
+    if old != new and "--write" in sys.argv:
+        (ROOT / MANUAL).write_text(text_of(MANUAL).replace(old, new))
+    elif old != new:
+        yield f"{MANUAL}: its faults aren't those of {USING}: make quotes puts them there"
 
 
 def is_cause(span: str, text: str) -> bool:

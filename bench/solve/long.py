@@ -1,11 +1,14 @@
 #!/usr/bin/env python3
 """Runs lrup-solve for a long time, and shows each round's figures.
 
-    long.py [--time SECONDS] [--memory SIZE] [--engines N] [--svg FILE] SOLVE LRUPD FORMULA
+    long.py [--time SECONDS] [--memory SIZE] [--engines N] [--svg FILE]
+            [--proofs DIR [--kills N] [--after SECONDS]] SOLVE LRUPD FORMULA
 
 It prints a line for each round: the row, the clauses that were derived and those that were carried
 over, and the pause; and each process's peak memory of its own, in MB. --svg draws the clauses that
-each round carried over, and the memory over time."""
+each round carried over, and the memory over time. With --proofs the run has a record, whose size it
+prints, and how long the record's check takes. With --kills the run is killed N times, each time
+after SECONDS, and resumed."""
 import argparse
 import re
 import subprocess
@@ -43,6 +46,11 @@ def children_of(pid: str) -> List[str]:
     """The process's children, and their children."""
     children = Path(f"/proc/{pid}/task/{pid}/children").read_text().split()
     return children + [other for child in children for other in children_of(child)]
+
+
+def size_of(record: Path) -> float:
+    """In MB."""
+    return sum(path.stat().st_size for path in record.rglob("*") if path.is_file()) / 1e6
 
 
 def look(pid: int, began: float, samples: Samples) -> None:
@@ -87,27 +95,47 @@ def chart(rounds: List[Round], samples: Samples) -> str:
     return "\n".join([head, *lines, "</svg>", ""])
 
 
+def solve(words: List[str], seconds: float, began: float,
+          samples: Samples) -> Tuple[int, List[str]]:
+    """Runs lrup-solve, and kills it after these seconds. Returns its status, and what it said."""
+    run = subprocess.Popen(words, stdout=subprocess.PIPE, text=True)
+    said: List[str] = []
+    assert run.stdout
+    reading = threading.Thread(target=lambda: said.extend(run.stdout or []))
+    reading.start()
+    end = time.monotonic() + seconds
+    while reading.is_alive():
+        look(run.pid, began, samples)
+        reading.join(min(5, max(0.1, end - time.monotonic())))
+        if time.monotonic() > end:
+            run.kill()
+            reading.join()
+    return run.wait(), said
+
+
 def main() -> None:
     arguments = argparse.ArgumentParser(description=__doc__,
                                         formatter_class=argparse.RawDescriptionHelpFormatter)
-    for name, usual in (("--time", "1200"), ("--memory", "64M"), ("--engines", "2"), ("--svg", "")):
+    for name, usual in (("--time", "1200"), ("--memory", "64M"), ("--engines", "2"), ("--svg", ""),
+                        ("--proofs", ""), ("--kills", "0"), ("--after", "600")):
         arguments.add_argument(name, default=usual)
     for name in ("solve", "lrupd", "formula"):
         arguments.add_argument(name)
     given = arguments.parse_args()
     words = [given.solve, "--lrupd", given.lrupd, "-v", "-j", given.engines, "--memory",
-             given.memory, "--time", given.time, given.formula]
-    run = subprocess.Popen(words, stdout=subprocess.PIPE, text=True)
+             given.memory, "--time", given.time]
+    record = ["--proofs", given.proofs] if given.proofs else []
     samples: Samples = {}
-    said: List[str] = []
-    assert run.stdout
-    reading = threading.Thread(target=lambda: said.extend(run.stdout or []))
-    began = time.monotonic()
-    reading.start()
-    while reading.is_alive():
-        look(run.pid, began, samples)
-        reading.join(5)
-    status, rounds = run.wait(), rounds_of("".join(said))
+    began, status, said, kills = time.monotonic(), -1, [""], int(given.kills)
+    for k in range(kills + 1):
+        seconds = float(given.after) if k < kills else float("inf")
+        status, more = solve([*words, *record, given.formula], seconds, began, samples)
+        said += more
+        print(f"after {time.monotonic() - began:.0f} s: status {status}")
+        if status >= 0:
+            break
+        record = ["--resume", given.proofs]
+    rounds = rounds_of("".join(said))
     for one in rounds:
         print(f"round {one.number}: row {one.words:,} words, {one.clauses:,} clauses, "
               f"{one.carried:,} carried over, pause {one.pause:.2f} s")
@@ -115,6 +143,11 @@ def main() -> None:
         print([line for line in said if line.startswith(letter)][-1], end="")
     for name, points in samples.items():
         print(f"{name}: at most {max(much for _, much in points):.1f} MB")
+    if given.proofs:
+        began = time.monotonic()
+        check = subprocess.run(["sh", f"{given.proofs}/command"], stdout=subprocess.DEVNULL)
+        print(f"the record: {size_of(Path(given.proofs)):.0f} MB; its check: status "
+              f"{check.returncode} after {time.monotonic() - began:.0f} s")
     if given.svg and rounds:
         Path(given.svg).write_text(chart(rounds, samples))
     sys.exit(status)

@@ -13,12 +13,12 @@
 #include "../exact/literals.h"
 #include "../trim/lines.h"
 
-// lrupd's faults, by lrupd's names.
+// lrupd's faults, by the names in lrupd's definitions, from which faults.awk makes the words; and
+// FAULT_WAITING: another stream has to go on first.
 typedef enum {
-    NO_FAULT, SPELLING, TOO_LONG_LINE, TRUNCATED, RAT_HINT, IDENTITY, LITERAL, TAUTOLOGICAL,
-    NO_ROOM, EXCESS, DROPPED, MISSING, RETIRED,
-    // WAITING: no fault, but another stream has to go on first
-    NOT_UNIT, NO_CONFLICT, NOT_LIVE, DIFFERS, WAITING
+    NO_FAULT, FAULT_SPELLING, FAULT_TOO_LONG, FAULT_TRUNCATED, FAULT_RAT_HINT, FAULT_IDENTITY,
+    FAULT_LITERAL, FAULT_TAUTOLOGY, FAULT_NO_ROOM, FAULT_EXCESS, FAULT_DROPPED, FAULT_MISSING,
+    FAULT_RETIRED, FAULT_NOT_UNIT, FAULT_NO_CONFLICT, FAULT_NOT_LIVE, FAULT_DIFFERS, FAULT_WAITING
 } Kind;
 
 typedef struct {

@@ -92,27 +92,27 @@ static FormFault first_fault(Line line, bool is_whole) {
     for (const unsigned char *at = line.start; at < line.end + is_whole; at++) {
         const Rule *rule = &rules[state];
         State next = after(rule, at < line.end ? *at : '\n');
-        FormFault fault = { SPELLING, (size_t)(at - line.start), rule->wanted, rule->of, rule->most,
-                            count };
+        FormFault fault = { FAULT_SPELLING, (size_t)(at - line.start), rule->wanted, rule->of,
+                            rule->most, count };
         bool begins = rule->most > 0 && (are_digits(next) || next == SIGN || next == STATED_SIGN);
         if (next == NOWHERE) {
-            if (state == HINTS && at < line.end && *at == '-') fault.kind = RAT_HINT;
+            if (state == HINTS && at < line.end && *at == '-') fault.kind = FAULT_RAT_HINT;
             return fault;
         }
         if (begins && count == rule->most) {
-            fault.kind = TOO_LONG_LINE;
+            fault.kind = FAULT_TOO_LONG;
             fault.count += count_on(at, line.end);
             return fault;
         }
         if (are_digits(next) && are_digits(state) && digits == DIGITS)
-            return (FormFault){ TOO_LONG_LINE, fault.place, rule->wanted, "digits", DIGITS,
+            return (FormFault){ FAULT_TOO_LONG, fault.place, rule->wanted, "digits", DIGITS,
                                 DIGITS + digits_on(at, line.end) };
         count = next == BETWEEN ? 0 : count + begins;
         digits = are_digits(next) ? (are_digits(state) ? digits + 1 : 1) : 0;
         state = next;
     }
     if (is_whole) return (FormFault){ .kind = NO_FAULT };
-    return (FormFault){ .kind = TRUNCATED, .place = (size_t)(line.end - line.start),
+    return (FormFault){ .kind = FAULT_TRUNCATED, .place = (size_t)(line.end - line.start),
                         .wanted = rules[state].wanted };
 }
 

@@ -93,14 +93,14 @@ bool is_awaited(const Replay *replay, uint64_t identity) {
 }
 
 static Kind look_up(const Replay *replay, const Stream *stream, uint64_t identity) {
-    if (is_dropped(stream, identity)) return DROPPED;
+    if (is_dropped(stream, identity)) return FAULT_DROPPED;
     if (identity <= replay->clauses) return NO_FAULT;
-    if (identity > replay->last) return MISSING;
+    if (identity > replay->last) return FAULT_MISSING;
     const Known *known = known_of(replay, identity);
     if (known->clause == 0)
-        return owner_of(replay, identity) != stream && is_awaited(replay, identity) ? WAITING
-                                                                                    : MISSING;
-    return known->deleted ? RETIRED : NO_FAULT;
+        return owner_of(replay, identity) != stream && is_awaited(replay, identity) ? FAULT_WAITING
+                                                                                    : FAULT_MISSING;
+    return known->deleted ? FAULT_RETIRED : NO_FAULT;
 }
 
 static bool are_literals(const Replay *replay, const Reading *line) {
@@ -122,11 +122,11 @@ static bool take_literals(Replay *replay, const Reading *line) {
 static Fault take_hint(Replay *replay, const Stream *stream, const Reading *line, size_t place,
                        bool *is_conflict) {
     uint64_t hint = (uint64_t)line->cited[place];
-    if (*is_conflict) return fault(EXCESS, hint, place);
+    if (*is_conflict) return fault(FAULT_EXCESS, hint, place);
     Kind kind = look_up(replay, stream, hint);
     if (kind != NO_FAULT) return fault(kind, hint, place);
     Literal unit = unit_of(replay, clause_of(replay, hint));
-    if (unit == NEITHER) return fault(NOT_UNIT, hint, place);
+    if (unit == NEITHER) return fault(FAULT_NOT_UNIT, hint, place);
     *is_conflict = unit == CONFLICT;
     if (unit != CONFLICT) make_true(replay, unit, (uint32_t)place + 1);
     return no_fault;
@@ -135,15 +135,15 @@ static Fault take_hint(Replay *replay, const Stream *stream, const Reading *line
 static Fault judge_addition(Replay *replay, const Stream *stream, const Reading *line) {
     bool is_conflict = false;
     if (!is_own(replay, stream, line->identity) || line->identity <= stream->last)
-        return fault(IDENTITY, 0, 0);
-    if (!are_literals(replay, line)) return fault(LITERAL, 0, 0);
-    if (!take_literals(replay, line)) return fault(TAUTOLOGICAL, 0, 0);
-    if (replay->trail.length > stream->room) return fault(NO_ROOM, 0, 0);
+        return fault(FAULT_IDENTITY, 0, 0);
+    if (!are_literals(replay, line)) return fault(FAULT_LITERAL, 0, 0);
+    if (!take_literals(replay, line)) return fault(FAULT_TAUTOLOGY, 0, 0);
+    if (replay->trail.length > stream->room) return fault(FAULT_NO_ROOM, 0, 0);
     for (size_t k = 0; k < line->count; k++) {
         Fault found = take_hint(replay, stream, line, k, &is_conflict);
         if (found.kind != NO_FAULT) return found;
     }
-    return is_conflict ? no_fault : fault(NO_CONFLICT, 0, 0);
+    return is_conflict ? no_fault : fault(FAULT_NO_CONFLICT, 0, 0);
 }
 
 // Whether both are the same set of literals.
@@ -161,12 +161,12 @@ static bool is_same(Replay *replay, const Reading *line, const Clause *clause) {
 
 static Fault judge_import(Replay *replay, const Stream *stream, const Reading *line) {
     if (line->identity > replay->last || is_own(replay, stream, line->identity))
-        return fault(IDENTITY, 0, 0);
-    if (!are_literals(replay, line)) return fault(LITERAL, 0, 0);
+        return fault(FAULT_IDENTITY, 0, 0);
+    if (!are_literals(replay, line)) return fault(FAULT_LITERAL, 0, 0);
     Kind kind = look_up(replay, stream, line->identity);
     if (kind != NO_FAULT) return fault(kind, line->identity, 0);
     const Clause *clause = clause_at(&replay->store, clause_of(replay, line->identity));
-    return is_same(replay, line, clause) ? no_fault : fault(DIFFERS, line->identity, 0);
+    return is_same(replay, line, clause) ? no_fault : fault(FAULT_DIFFERS, line->identity, 0);
 }
 
 // Identities before the one that can't be deleted are deleted.
@@ -182,7 +182,7 @@ static Fault take_deletion(Replay *replay, Stream *stream, const Reading *line) 
             is_right = !is_dropped(stream, identity);
             if (is_right) clauses_name(&stream->dropped, identity, 1);
         }
-        if (!is_right) return fault(NOT_LIVE, identity, k);
+        if (!is_right) return fault(FAULT_NOT_LIVE, identity, k);
     }
     return no_fault;
 }

@@ -49,14 +49,14 @@ static bool take_line(Replay *replay, Stream *stream) {
         return true;
     }
     Fault found = judge(replay, stream, &reading);
-    if (found.kind == WAITING) stream->awaited = found.object;
+    if (found.kind == FAULT_WAITING) stream->awaited = found.object;
     else if (found.kind != NO_FAULT) end_with(replay, stream, &reading, found);
     else {
         stream->at = line.end + 1;
         stream->lines++;
     }
     forget_values(replay);
-    return found.kind != WAITING;
+    return found.kind != FAULT_WAITING;
 }
 
 static bool take_turn(Replay *replay, Stream *stream) {

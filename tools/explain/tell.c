@@ -12,13 +12,8 @@ typedef unsigned long long Printed;
 
 const char *fault_words(const Fault *fault) {
     static const char *const words[] = {
-        [SPELLING] = "spelling", [TOO_LONG_LINE] = "too long", [TRUNCATED] = "truncated",
-        [RAT_HINT] = "rat hint", [IDENTITY] = "identity",
-        [LITERAL] = "literal", [TAUTOLOGICAL] = "tautology", [NO_ROOM] = "no room",
-        [EXCESS] = "excess", [DROPPED] = "dropped",
-        [MISSING] = "missing", [RETIRED] = "retired", [NOT_UNIT] = "not unit",
-        [NO_CONFLICT] = "no conflict", [NOT_LIVE] = "not live",
-        [DIFFERS] = "differs" };
+#include "lrup-explain.faults.h"
+    };
     static char text[LONGEST_WORD];
     if (fault->object == 0) return words[fault->kind];
     snprintf(text, sizeof text, "%s %llu", words[fault->kind], (Printed)fault->object);
@@ -126,7 +121,7 @@ static void tell_good_hint(const Replay *replay, size_t place) {
 }
 
 static void tell_hints(const Replay *replay, const Stream *stream) {
-    bool has_bad = stream->fault.kind != NO_CONFLICT;
+    bool has_bad = stream->fault.kind != FAULT_NO_CONFLICT;
     size_t good = has_bad ? stream->fault.place : replay->line.count,
            first = good > MOST_HINTS ? good - MOST_HINTS : 0;
     if (replay->line.count > 0)
@@ -152,7 +147,7 @@ static void tell_title(const Replay *replay, const Stream *stream) {
 
 void tell(const Replay *replay, const Stream *stream) {
     Kind kind = stream->fault.kind;
-    bool is_of_hints = replay->line.kind == 'a' && kind >= EXCESS;
+    bool is_of_hints = replay->line.kind == 'a' && kind >= FAULT_EXCESS;
     tell_title(replay, stream);
     printf("\n");
     if (replay->line.kind == 'a' || replay->line.kind == 'i') tell_derived(replay, is_of_hints);
@@ -164,12 +159,12 @@ void tell(const Replay *replay, const Stream *stream) {
 // read.
 bool is_cut_off(const Stream *owner, uint64_t identity) {
     if (owner->fault.kind == NO_FAULT || identity <= owner->last) return false;
-    return owner->fault.kind <= RAT_HINT || line_deriving(owner, identity) != 0;
+    return owner->fault.kind <= FAULT_RAT_HINT || line_deriving(owner, identity) != 0;
 }
 
 bool is_effect(const Replay *replay, const Stream *stream) {
     uint64_t missing = stream->fault.object;
-    return stream->fault.kind == MISSING && is_foreign(replay, stream, missing) &&
+    return stream->fault.kind == FAULT_MISSING && is_foreign(replay, stream, missing) &&
         is_cut_off(owner_of(replay, missing), missing);
 }
 

@@ -73,13 +73,14 @@ static void why_form(const Stream *stream) {
     FormFault fault = form_fault(stream, &line, &is_whole);
     bool is_end = line.start + fault.place == line.end;
     unsigned char byte = is_end ? '\n' : line.start[fault.place];
-    const char *guess = fault.kind == SPELLING ? guess_of(stream, line, fault.place, byte) : NULL;
-    if (fault.kind == SPELLING)
+    bool is_spelling = fault.kind == FAULT_SPELLING;
+    const char *guess = is_spelling ? guess_of(stream, line, fault.place, byte) : NULL;
+    if (is_spelling)
         printf("  why: expected %s, found %s\n", fault.wanted, name_of(byte));
-    else if (fault.kind == RAT_HINT)
+    else if (fault.kind == FAULT_RAT_HINT)
         printf("  why: a negative hint, of a RAT step, which lrupd doesn't check: switch "
                "off what makes such steps\n");
-    else if (fault.kind == TRUNCATED)
+    else if (fault.kind == FAULT_TRUNCATED)
         printf("  why: the stream ends within this line, after %zu bytes: expected %s\n",
                fault.place, fault.wanted);
     else
@@ -88,7 +89,7 @@ static void why_form(const Stream *stream) {
                fault.most == DIGITS ? "number" : "line", fault.most);
     tell_bytes(line, is_whole, fault.place);
     if (guess) printf("       %s\n", guess);
-    if (fault.kind == TRUNCATED)
+    if (fault.kind == FAULT_TRUNCATED)
         printf("       was the solver killed, or its buffer not flushed?\n");
 }
 
@@ -307,7 +308,7 @@ static void why_missing(const Replay *replay, const Stream *stream, uint64_t hin
 }
 
 static void why_deleted(const Replay *replay, const Stream *stream, uint64_t hint) {
-    if (stream->fault.kind == DROPPED) {
+    if (stream->fault.kind == FAULT_DROPPED) {
         printf("  why: this stream deleted %llu in its line %llu, for itself\n", (Printed)hint,
                (Printed)line_deleting(stream, hint));
         return;
@@ -401,7 +402,7 @@ static void why_no_conflict(const Replay *replay, const Stream *stream) {
 }
 
 static void tell_chain(const Replay *replay, const Stream *stream) {
-    bool is_deleted = stream->fault.kind == DROPPED || stream->fault.kind == RETIRED;
+    bool is_deleted = stream->fault.kind == FAULT_DROPPED || stream->fault.kind == FAULT_RETIRED;
     uint64_t also = is_deleted ? stream->fault.object : 0;
     Chain chain = chain_find(replay, stream, also);
     if (!chain.is_found) {
@@ -485,19 +486,21 @@ void tell_why(const Replay *replay, const Stream *stream) {
     uint64_t object = stream->fault.object;
     Kind kind = stream->fault.kind;
     switch (kind) {
-    case SPELLING: case TOO_LONG_LINE: case TRUNCATED: case RAT_HINT: why_form(stream); break;
-    case IDENTITY: why_identity(replay, stream); break;
-    case LITERAL: why_literal(replay); break;
-    case TAUTOLOGICAL: why_tautology(replay); break;
-    case NO_ROOM: why_no_room(replay, stream); break;
-    case EXCESS: why_excess(replay, stream); break;
-    case MISSING: why_missing(replay, stream, object); break;
-    case DROPPED: case RETIRED: why_deleted(replay, stream, object); break;
-    case NOT_UNIT: why_not_unit(replay, stream, object); break;
-    case NO_CONFLICT: why_no_conflict(replay, stream); break;
-    case NOT_LIVE: why_not_live(replay, stream, object); break;
-    case DIFFERS: why_differs(replay, object); break;
-    case NO_FAULT: case WAITING: break;
+    case FAULT_SPELLING: case FAULT_TOO_LONG: case FAULT_TRUNCATED: case FAULT_RAT_HINT:
+        why_form(stream);
+        break;
+    case FAULT_IDENTITY: why_identity(replay, stream); break;
+    case FAULT_LITERAL: why_literal(replay); break;
+    case FAULT_TAUTOLOGY: why_tautology(replay); break;
+    case FAULT_NO_ROOM: why_no_room(replay, stream); break;
+    case FAULT_EXCESS: why_excess(replay, stream); break;
+    case FAULT_MISSING: why_missing(replay, stream, object); break;
+    case FAULT_DROPPED: case FAULT_RETIRED: why_deleted(replay, stream, object); break;
+    case FAULT_NOT_UNIT: why_not_unit(replay, stream, object); break;
+    case FAULT_NO_CONFLICT: why_no_conflict(replay, stream); break;
+    case FAULT_NOT_LIVE: why_not_live(replay, stream, object); break;
+    case FAULT_DIFFERS: why_differs(replay, object); break;
+    case NO_FAULT: case FAULT_WAITING: break;
     }
-    if (replay->line.kind == 'a' && kind >= EXCESS) tell_chain(replay, stream);
+    if (replay->line.kind == 'a' && kind >= FAULT_EXCESS) tell_chain(replay, stream);
 }

@@ -89,22 +89,22 @@ number words n flat = both words (decimal n) (flat_so 10 words flat) (flat_decim
 -- The lines of a report
 
 flat_fault : (fault : Fault) → IsFlat 10 (fault_text fault)
-flat_fault (faults.Text texts.Spelling) = flat_so 10 (codes "spelling") refl
-flat_fault (faults.Text texts.TooLong) = flat_so 10 (codes "too long") refl
-flat_fault (faults.Text texts.Truncated) = flat_so 10 (codes "truncated") refl
-flat_fault (faults.Text texts.RatHint) = flat_so 10 (codes "rat hint") refl
-flat_fault faults.Identity = flat_so 10 (codes "identity") refl
-flat_fault faults.Literal = flat_so 10 (codes "literal") refl
-flat_fault faults.Tautology = flat_so 10 (codes "tautology") refl
-flat_fault faults.NoRoom = flat_so 10 (codes "no room") refl
-flat_fault (faults.Dropped hint) = number (codes "dropped ") hint refl
-flat_fault (faults.Missing hint) = number (codes "missing ") hint refl
-flat_fault (faults.Retired hint) = number (codes "retired ") hint refl
-flat_fault (faults.NotUnit hint) = number (codes "not unit ") hint refl
-flat_fault (faults.Excess hint) = number (codes "excess ") hint refl
-flat_fault faults.NoConflict = flat_so 10 (codes "no conflict") refl
-flat_fault (faults.NotLive id) = number (codes "not live ") id refl
-flat_fault (faults.Differs id) = number (codes "differs ") id refl
+flat_fault (faults.Text texts.Spelling) = flat_so 10 (fault_text (faults.Text texts.Spelling)) refl
+flat_fault (faults.Text texts.TooLong) = flat_so 10 (fault_text (faults.Text texts.TooLong)) refl
+flat_fault (faults.Text texts.Truncated) = flat_so 10 (fault_text (faults.Text texts.Truncated)) refl
+flat_fault (faults.Text texts.RatHint) = flat_so 10 (fault_text (faults.Text texts.RatHint)) refl
+flat_fault faults.Identity = flat_so 10 (fault_text faults.Identity) refl
+flat_fault faults.Literal = flat_so 10 (fault_text faults.Literal) refl
+flat_fault faults.Tautology = flat_so 10 (fault_text faults.Tautology) refl
+flat_fault faults.NoRoom = flat_so 10 (fault_text faults.NoRoom) refl
+flat_fault (faults.Dropped hint) = search number
+flat_fault (faults.Missing hint) = search number
+flat_fault (faults.Retired hint) = search number
+flat_fault (faults.NotUnit hint) = search number
+flat_fault (faults.Excess hint) = search number
+flat_fault faults.NoConflict = flat_so 10 (fault_text faults.NoConflict) refl
+flat_fault (faults.NotLive id) = search number
+flat_fault (faults.Differs id) = search number
 
 flat_ending : (ending : Ending) → IsFlat 10 (ending_text ending)
 flat_ending endings.Ended = flat_so 10 (codes "ended") refl
