@@ -20,15 +20,17 @@ WARNINGS := -Wall -Wextra -Wshadow -Wconversion
 # Objects; those of lrup-solve have their own folder, since tests build it in several ways.
 OBJECTS := out/objects
 SOLVE_OBJECTS = $(SOLVE).objects
-# Sources of the filter that lrup-solve, lrup-trim and lrup-explain use; and the example solver.
+# Sources of the filter that lrup-solve, lrup-trim and lrup-explain contain; and those of it that
+# the example solver shares.
 FILTER := $(filter-out tools/exact/main.c tools/exact/chain.c,$(wildcard tools/exact/*.c))
 SHARED_WITH_SOLVER := $(addprefix tools/exact/,errors.c formula.c lists.c literals.c)
 # lrup-engines without MPI.
 ALONE := $(filter-out $(wildcard tools/solve/mpi*.cpp),$(wildcard tools/solve/*.cpp))
 # Tests of programs build this first; 'make examples BUILT= PROGRAM=path' tests another program.
 BUILT ?= build
-# Debian's pytest, with which the tests of programs run. Files run at once, two more than there are
-# cores, since most rows wait now and then. With xdist's -n, runs of many files didn't end.
+# Debian's pytest, with which the tests of programs run. Files of tests run in parallel, two more
+# than there are cores, since most rows wait now and then. With xdist's -n, runs of many files
+# didn't end.
 PYTEST ?= pytest-3
 AT_ONCE := $(shell expr $$(nproc) + 2)
 rows_of = printf '%s\n' $(1) | xargs -P $(AT_ONCE) -I NAME $(PYTEST) --program $(PROGRAM) \
@@ -202,7 +204,7 @@ $(FAULTS): crates/stream_check/specs/Faults.antt tools/faults.awk
 $(OBJECTS)/tools/explain/tell.o: $(FAULTS)
 $(SOLVE_OBJECTS)/tools/solve/options.o: $(HELPS_OF_SOLVE)
 
-# Functions that are in both scripts that check a record.
+# Functions that both scripts which check a record contain.
 $(SOLVE_OBJECTS)/packed.sh.h: tools/lrup-chain
 	@mkdir -p $(dir $@) && { echo 'R"sh('; \
 	sed -n '/^stream() {/,/^}/p; /^unpack() {/,/^}/p' $<; echo ')sh"'; } > $@
@@ -216,7 +218,7 @@ $(OBJECTS)/flags $(SOLVE_OBJECTS)/flags: FORCE | c-and-python
 FORCE:
 -include $(wildcard $(OBJECTS)/*/*/*.d $(SOLVE_OBJECTS)/*/*/*.d $(SOLVE_OBJECTS)/*/*/*/*.d)
 
-# With clang, too, if it is installed.
+# The check compiles with clang, too, if it is installed.
 IN_C := $(addprefix tools/,exact trim explain) examples/solver
 C_SOURCES := $(wildcard $(addsuffix /*.c,$(IN_C) tools/solve tools/solve/front tests))
 C_HEADERS := $(wildcard $(addsuffix /*.h,$(IN_C))) \
@@ -255,7 +257,7 @@ trim-test: $(BUILT) solver exact trim pytest ## check: lrup-trim, on 300 random 
 explain-test: $(BUILT) solver explain pytest ## check: lrup-explain against lrupd, on 2,000 faulty streams and 1,000 mutated proofs
 	@$(call rows_of,explain)
 
-# Skipped without CaDiCaL's library, and those of --mpi without MPI.
+# These are skipped without CaDiCaL's library, and the rows of --mpi without MPI.
 SOLVE_TESTS := lrup_solve_rounds lrup_solve lrup_solve_inputs lrup_solve_folders \
 	lrup_solve_solvers lrup_check lrup_solve_kept lrup_solve_front lrup_solve_trusted \
 	lrup_solve_hostile lrup_solve_kills lrup_solve_cubes lrup_solve_resume lrup_solve_days \
@@ -340,7 +342,7 @@ packages: ## check: install, as root, the Debian packages that tests need
 
 # The whole gate: the pages; then rt ci, which proves everything from nothing, tries the edits, runs
 # the crates' tests, and builds the program with two compilers; then the tests of programs,
-# the longest files first, without the rows of --mpi that wait for long. The last line
+# the longest files first, without the rows of --mpi that wait long. The last line
 # is rt's own, 'N passed, M failed'.
 ROWS := lrup_solve_mpi lrup_solve_rounds program_refusals filter_mutants lrup_solve \
 	lrup_solve_solvers lrup_solve_cubes filter_rounds lrup_solve_resume explain trim \

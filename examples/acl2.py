@@ -82,7 +82,7 @@ def compressed_proof(path: str) -> Iterator[bytes]:
 
 
 def converted(kind: str, formula: str, proof: str, work: str) -> Tuple[str, str]:
-    """The paths of both in the forms that this checker reads."""
+    """The paths of formula and proof, in the forms that this checker reads."""
     narrow, steps = os.path.join(work, "formula"), os.path.join(work, kind)
     with open(narrow, "w") as file:
         file.write(narrow_formula(formula))

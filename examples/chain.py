@@ -20,7 +20,8 @@ from typing import Dict, List, NamedTuple, Set
 
 USAGE = "usage: chain.py ROUNDS FORMULA FOLDER STREAM..., with 1 round or more"
 MOST_CLAUSES = 16777215
-# No clause's identity: cited for a clause that no stream derived, or that a checkpoint lacks.
+# An identity that no clause has: cited for a clause that no stream derived, or that a checkpoint
+# lacks.
 NOWHERE = 10 ** 18 - 1
 
 
@@ -97,8 +98,8 @@ def renumbered(line: Line, now: Dict[int, int]) -> Line:
 
 
 def pieces(lines: List[Line], now: Dict[int, int], count: int, streams: int) -> List[List[Line]]:
-    """The streams of a round whose formula has `count` clauses. New clauses get their identities in
-    `now`."""
+    """The streams of a round whose formula has `count` clauses. Enters the identities of new
+    clauses in `now`."""
     identities = [iter(range(count + number, NOWHERE, streams)) for number in range(1, streams + 1)]
     found: List[List[Line]] = [[] for _ in range(streams)]
     for line in lines:

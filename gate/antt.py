@@ -87,7 +87,7 @@ class Source:
 
     def read(self, lines: Iterable[str]) -> None:
         comment: List[str] = []
-        at_title, indent, opens = True, 0, False    # `opens`: a block's first line goes on
+        at_title, indent, opens = True, 0, False    # `opens`: a block's first line continues
         for place, line in enumerate(lines):
             if line.strip():
                 indent = min(indent, len(line) - len(line.lstrip()))

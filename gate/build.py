@@ -5,10 +5,10 @@
 
 rt lets one run at a time into a crate and the crates below it, and nearly all use lrup_model. So
 each library is proved in a lane: a folder with copies of its sources and of the libraries below,
-into which its out/ is moved for that time. Crates with the longest way to the program come first,
+into which its out/ is moved for that time. Crates with the longest path to the program come first,
 by SECONDS, and others get less of the cores. A build that is interrupted leaves what was proved to
-the next one. At the end `rt run` proves and runs the program. It knows by checksums which libraries
-are proved, and proves any other again: nothing depends on this script."""
+the next one. At the end `rt run` proves and runs the program. It tells by checksums which
+libraries are proved, and proves any other again: nothing depends on this script."""
 import fcntl
 import os
 import re
@@ -35,10 +35,10 @@ SECONDS_EACH = 20  # of spare processor time, for a step of nice
 
 TEXT = (ROOT / "crates.txt").read_text()
 LINES = {name: line for line, name in re.findall(r"^((\w+):.*)", TEXT, re.M)}
-# What each uses of the repository.
+# What each crate uses of the repository.
 USES = {name: [word for word in line.split() if word in LINES] for name, line in LINES.items()}
 # How many processor seconds a crate's proofs take from nothing, as `make building` measured them.
-# Time by the clock says less, since it also depends on what runs beside.
+# Time by the clock says less, since it also depends on what else runs.
 SECONDS = {name: int(seconds) for name, seconds in re.findall(
     r"^\| `(\w+)` \| [\d:]+ \| (\d+) \|$", (ROOT / "bench/building.md").read_text(), re.M)}
 
@@ -55,7 +55,7 @@ def seconds(*names):
 
 
 def way(name):
-    """The seconds to the program by the longest way."""
+    """The seconds of the longest path from the crate to the program."""
     return seconds(name) + max((way(above) for above in ALL if name in USES[above]), default=0)
 
 
@@ -189,7 +189,7 @@ def prove_libraries(rt, done):
                 done.add(lane.name)
                 print_proved(done, lane.name, lane.began, lane.used)
     except BaseException:
-        # A second one would leave an out/ in its lane.
+        # A second signal would leave an out/ in its lane.
         for number in (signal.SIGINT, signal.SIGTERM):
             signal.signal(number, signal.SIG_IGN)
         raise

@@ -152,8 +152,8 @@ def wrong_options() -> Iterator[str]:
 
 
 def wrong_rows() -> Iterator[str]:
-    """Options that a tool's code reads, and its manual page, of which --help is made, doesn't list;
-    or the other way round."""
+    """Options that a tool's code reads, but that its manual page, from which --help is made,
+    doesn't list; or the other way round."""
     row = r'"([a-z][a-z-]*)", (?:\.value|\.flag|[01], |given\.|options\.)'
     for page, sources in READERS.items():
         items = " ".join(re.findall(r"^\.It Fl .*", text_of(page), re.M))

@@ -5,9 +5,9 @@
     promises.py --check     fails if docs/PROMISES.md gives a name that no contract has
 
 For each crate it prints the functions that have clauses, with the clauses' names, and how many have
-no name; the edits of the gate that change the function; and those of gate/edits, in brackets. 'no
-edit' is at a public function that none changes, except at laws, which have no body. An edit belongs
-to the function around its first old text.
+no name; the edits of the gate that change the function; and those of gate/edits, in brackets. A
+public function that no edit changes has 'no edit', unless it is a law, which has no body. An edit
+belongs to the function around its first old text.
 
 On docs/PROMISES.md each name in backticks under a crate has to be a function of the crate, a clause
 or a law. A lemma is none of these.
@@ -85,7 +85,7 @@ def names_of(crate: str) -> Set[str]:
 
 
 def unknown_names() -> Iterator[str]:
-    """What the page gives as proved, and no contract has. Words with a capital are types, and those
+    """What the page gives as proved, but no contract has. Words with a capital are types, and those
     with a hyphen options."""
     uses = antt.crates()
     libraries = {*uses, *(name for names in uses.values() for name in names)}

@@ -4,8 +4,8 @@
 #     sh gate/quick.sh RT CRATE SECONDS
 #
 # It lays out the files, and names them; checks the proofs, and that edits can be applied; runs the
-# tests in CRATE_tests before they are proved, as many as SECONDS allow; and checks the pages. Of a
-# failing step it shows everything except lines on proved parts.
+# tests in CRATE_tests before they are proved, as many as SECONDS allow; and checks the pages. If a
+# step fails, it shows everything except lines on proved parts.
 if [ $# -ne 3 ] || [ ! -d "$(dirname "$0")/../crates/${2%_tests}" ]; then
     echo "usage: make quick CRATE=name, with the name of a folder in crates/" >&2
     exit 2
@@ -72,7 +72,7 @@ crates_above() {
 }
 
 # Runs the crate's tests. A test without an answer within rt's limit of a minute hasn't failed: the
-# machine may be busy. If none was run, nothing is known, so that fails.
+# machine may be busy. If no test was run, nothing is known, so the step fails.
 tests() {
     began=$(date +%s)
     all=$(grep -rh '^ *#\[test\]' "crates/${crate}_tests/src" | wc -l)
@@ -92,8 +92,8 @@ COUNTS
     case $status in 0 | 124) ;; 6) [ "$open" -gt 0 ] || show "${crate}_tests" ;; *) show "${crate}_tests" ;; esac
     [ "$wrong" -eq 0 ] || show "${crate}_tests"
     echo "$passed of $all passed, before they are proved: $(($(date +%s) - began)) s"
-    [ "$open" -eq 0 ] || echo "${crate}_tests: $open had no answer within a minute"
-    [ $status -ne 124 ] || echo "${crate}_tests: no more were run in $seconds s: LIMIT=900 gives more time"
+    [ "$open" -eq 0 ] || echo "${crate}_tests: $open of its tests had no answer within a minute"
+    [ $status -ne 124 ] || echo "${crate}_tests: no more tests were run in $seconds s: LIMIT=900 gives more time"
     [ $((passed + open)) -gt 0 ] || { echo "${crate}_tests: failed"; exit 1; }
     [ $((passed + open)) -eq "$all" ] || unseen="$((all - passed - open)) of its tests weren't run, and "
 }

@@ -66,7 +66,7 @@ class Page:
             self.quotes.append(Quote(self.path, first, section, file_of(files[-1]), lines))
 
     def paragraphs(self) -> Iterator[Tuple[int, str]]:
-        """Each paragraph in one line, with the number of its first one."""
+        """Each paragraph as one line, with the number of its first line."""
         for found in re.finditer(r"(?:.+\n)+", self.text):
             yield self.text.count("\n", 0, found.start()) + 1, " ".join(found[0].split())
 
@@ -128,7 +128,7 @@ def wrong_choice(quotes: List[Quote]) -> Iterator[str]:
         for declared in quote.source().declarations:
             thing, place = Thing(shown(quote.file), declared.name), quote.at(declared.place)
             if thing in places:
-                yield f"{place}: {thing.name} is quoted at {places[thing]}, too: remove one of both"
+                yield f"{place}: {thing.name} is quoted at {places[thing]}, too: remove one of them"
             places[thing] = place
     reached = antt.closure(thing for quote in quotes for thing in quote.things())
     yield from (f"{places[thing]}: no statement reaches {thing.name}: remove it"

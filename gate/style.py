@@ -90,12 +90,12 @@ def words_of(name: str) -> int:
 def long_pages() -> Iterator[str]:
     for name, most in MOST_WORDS.items():
         if words_of(name) > most:
-            yield f"{name}: it has {words_of(name)} words, and may have {most}: shorten it"
+            yield f"{name}: it has {words_of(name)} words, but may have {most}: shorten it"
 
 
 @functools.lru_cache(maxsize=None)
 def anchors(path: Path) -> Set[str]:
-    """Those that GitHub gives the headings; if some are the same, the later ones get a number."""
+    """The anchors that GitHub gives to headings; of equal ones the later ones get a number."""
     titles = re.findall(r"^#+ (.*)$", prose(path).lower(), re.M)
     slugs = [re.sub(r"[^\w\- ]", "", title).replace(" ", "-") for title in titles]
     counts = [slugs[:at].count(slug) for at, slug in enumerate(slugs)]

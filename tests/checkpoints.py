@@ -1,4 +1,4 @@
-"""The checkpoint of a run, by the rules and not by the program."""
+"""The checkpoint of a run, by the rules, not by the program."""
 import re
 import shutil
 from pathlib import Path

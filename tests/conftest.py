@@ -14,7 +14,7 @@ def pytest_addoption(parser: pytest.Parser) -> None:
     program = harness.ROOT / "crates" / "lrupd" / "out" / "lrupd"
     given.addoption("--program", default=str(program), help="the lrupd that is tested")
     given.addoption("--rt", help="Rattle's command, for the crates' tests if they aren't built")
-    given.addoption("--flags", default="-O2", help="for lrup-solve's compilers, as "
+    given.addoption("--flags", default="-O2", help="for lrup-solve's compilers, such as "
                     "--flags='-O1 -g -fsanitize=thread'")
     given.addoption("--count", type=int, help="how many random rows, or mutants, a file has")
     given.addoption("--first", type=int, default=0, help="the first mutant of a proof")
@@ -30,7 +30,7 @@ def pytest_configure(config: pytest.Config) -> None:
 
 
 def pytest_report_teststatus(report: pytest.TestReport) -> Optional[Tuple[str, str, str]]:
-    """Rows that pass are counted, and not shown."""
+    """Rows that pass are counted, but not shown."""
     return ("passed", "", "PASSED") if report.passed and report.when == "call" else None
 
 
@@ -50,13 +50,13 @@ def work() -> Iterator[Path]:
 
 @pytest.fixture(scope="session")
 def lrup_solve() -> None:
-    """Built, or why its rows can't run."""
+    """Builds lrup-solve, or says why its rows can't run."""
     import solving
     solving.built("solve", for_tests=False)
 
 
 @pytest.fixture(scope="session")
 def solve_for_tests() -> None:
-    """Both builds."""
+    """Builds lrup-solve for use and for tests."""
     import solving
     solving.built("solve", for_tests=True)

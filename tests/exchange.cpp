@@ -17,7 +17,7 @@ int status = 0;
 
 void want(const std::string &found, const std::string &wanted) {
     if (found == wanted) return;
-    printf("wanted '%s', and not '%s'\n", wanted.c_str(), found.c_str());
+    printf("wanted '%s', not '%s'\n", wanted.c_str(), found.c_str());
     status = 1;
 }
 

@@ -10,7 +10,7 @@ Bits = List[int]
 
 def parity(numbers: random.Random, vertices: int, is_odd: bool) -> str:
     """A variable for each edge of a graph in which each vertex has three. At each vertex the sum of
-    its edges is even, but for the first one if `is_odd`: each edge counts twice, so that no
+    its edges is even, except at the first vertex if `is_odd`: each edge counts twice, so no
     assignment gives these sums."""
     ends = [vertex for vertex in range(vertices) for _ in range(3)]
     pairs = list(zip(ends[::2], ends[1::2]))
@@ -25,7 +25,7 @@ def parity(numbers: random.Random, vertices: int, is_odd: bool) -> str:
 
 
 def table(holds: Callable[..., bool], variables: Sequence[int]) -> List[List[int]]:
-    """A clause for each row of the truth table that doesn't hold."""
+    """A clause for each row of the truth table in which the function is false."""
     rows = [[number >> place & 1 for place in range(len(variables))]
             for number in range(1 << len(variables))]
     return [[-variable if bit else variable for variable, bit in zip(variables, row)]

@@ -37,7 +37,7 @@ TRIM = ROOT / "tools" / "trim" / "out" / "lrup-trim"
 SANITIZED_TRIM = TRIM.with_name("lrup-trim-sanitized")
 EXPLAIN = ROOT / "tools" / "explain" / "out" / "lrup-explain"
 SANITIZED_EXPLAIN = EXPLAIN.with_name("lrup-explain-sanitized")
-# The options of conftest.py. COUNT is of random rows; without it each file has its own.
+# The options of conftest.py. COUNT is the number of random rows; each file has its own default.
 PROGRAM, FLAGS = "", "-O2"
 COUNT: Optional[int] = None
 FIRST, SEED, MINUTES = 0, 1, 0.0
@@ -49,8 +49,8 @@ COMPRESSED = {"zcat": b"\x1f\x8b\x08\0", "xzcat": b"\xfd7zXZ\0", "bzcat": b"BZh9
               "zstdcat": b"\x28\xb5\x2f\xfd"}
 VERDICTS = {0: "s UNSATISFIABLE", 3: "s UNKNOWN", 8: "s UNSATISFIABLE UNDER ASSUMPTIONS"}
 
-# Shells start background processes with the first two ignored, and nohup with the third; then
-# programs under test would ignore them, too. Handlers aren't inherited.
+# Shells start background processes with the first two of these signals ignored, and nohup with the
+# third; then programs under test would ignore them, too. Handlers aren't inherited.
 signal.signal(signal.SIGINT, signal.default_int_handler)
 signal.signal(signal.SIGQUIT, signal.SIG_DFL)
 if signal.getsignal(signal.SIGHUP) == signal.SIG_IGN:

@@ -141,9 +141,9 @@ for name in os.listdir('/proc'):
 # the front is killed
 os.kill(int(front), 9); time.sleep(1000)
 """
-# For one that has none, and PROOF is its proof.
+# For a formula that has no model, and PROOF as its proof.
 PROVING = """
-# lrupd stops and goes on
+# lrupd is stopped and continued
 waits(); children(1, turns, pid); feeding.write(PROOF); feeding.close(); hears('lrupd')
 # its output is cut
 stream(1, PROOF); check(); children(1, always, os.truncate, OUTPUT, 0); hears('lrupd')

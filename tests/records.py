@@ -143,7 +143,7 @@ CHANGES: Dict[str, Change] = {
     "a list of nothing": written_anew("rounds.sha256", "x\n"),
     "a list without its end": list_changed(r"\n\Z", ""),
     "a list without its last line": list_changed(r"^.*checkpoint.*\n", ""),
-    "a list with a stream less": list_changed(r"^.*round-1.stream-1\n", ""),
+    "a list that lacks a stream": list_changed(r"^.*round-1.stream-1\n", ""),
     "a list with two of one": list_changed(r"stream-2$", "stream-1"),
     "another folder's file": list_changed(r"checkpoint-", "../checkpoint-"),
     "another digest": list_changed(r"^[0-9a-f]", "g"),

@@ -16,7 +16,7 @@ Saved = Union[None, str, Tuple[Optional[str], ...]]
 
 class Answer(NamedTuple):
     """The two outputs, the status, and the text of the checkpoint, if one was created; in rounds
-    the texts of all."""
+    the texts of all checkpoints."""
     out: str
     err: str
     status: Optional[int]
@@ -38,7 +38,7 @@ ERRORS_OF_READS = ["EIO", "EINTR"]
 SHORT = ["short", "half"]
 EACH = ["thread", "open", "create", "hold", "sync"]  # kinds in which each call has its own answer
 HELD = 3  # opens of /dev/null, for closed standard streams
-# Within which a run ends if a thread isn't started; the others' tries would take a minute.
+# A run has to end within these if a thread isn't started; tries of other threads take a minute.
 SECONDS = 20
 HANGS = 300  # seconds after which a run counts as hanging
 LATE = 50  # milliseconds that threads take to begin, if one isn't started
@@ -51,7 +51,7 @@ class Input:
     def __init__(self, name: str, words: Words, streams: int = 0, dropped: Sequence[Answer] = (),
                  waits: bool = False, out: Optional[str] = None) -> None:
         self.name, self.words, self.streams, self.out = name, list(map(str, words)), streams, out
-        self.dropped = dropped  # reports if the growth for a dropped identity is refused
+        self.dropped = dropped  # answers if the set of dropped identities can't grow
         self.waits = waits  # for a minute, if a stream that others cite fails
         self.assumes = "--assume" in self.words
         self.checkpoint = (Path(self.words[self.words.index("--checkpoint") + 1])
@@ -88,11 +88,11 @@ class InRounds(Input):
         return tuple(found + [None] * (MOST_SAVED - len(found)))
 
     def stopped(self, number: int, cause: str, status: int, *more: str) -> Answer:
-        """Without a report."""
+        """The answer without a report."""
         return Answer("", fault(number, cause), status, self.before(number, *more))
 
     def ended(self, number: int) -> Answer:
-        """A round is the last one."""
+        """The answer if this round is the last."""
         return Answer(self.reports[number - 1], "", 3 if number < self.count else self.status,
                       self.before(number + 1))
 
@@ -383,8 +383,8 @@ def in_turn(kind: str, how: str, given: InRounds) -> List[Answer]:
 
 
 def threads_of_round(number: int, given: InRounds) -> Iterator[Answer]:
-    """With --watch a thread for each opening, which isn't missed: of the formula or of sizes, and
-    of streams. Then those of the streams."""
+    """With --watch first a thread for each opening, of the formula or of sizes, and of streams: the
+    run ends as usual without it. Then the threads of the streams."""
     streams = range(1, given.streams + 1) if number <= given.count else []
     if "--watch" in given.words:
         yield from [given.ended(given.count)] * (1 + max(1, len(streams)))
@@ -483,7 +483,7 @@ def complaints_in_rounds(kind: str, how: str, ample: Answer, answers: List[Answe
         yield f"never said: {said!r}"
     if kind == "write" and how not in SHORT and answers.count(ample) != given.watch_lines:
         changeless = answers.count(ample)
-        yield f"{changeless} writes refused that change nothing, and not {given.watch_lines}"
+        yield f"{changeless} writes refused that change nothing, not {given.watch_lines}"
 
 
 # The calls of a run.

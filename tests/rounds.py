@@ -4,7 +4,7 @@ from typing import Dict, Iterator, List, Mapping, NamedTuple, Optional, Sequence
 
 from harness import FOUR, Pieces, Wanted, report
 
-Texts = Sequence[Sequence[str]]  # for each round those of its streams
+Texts = Sequence[Sequence[str]]  # for each round the texts of its streams
 Named = Tuple[str, Wanted]
 
 
@@ -80,7 +80,7 @@ def rounds(name: str, status: int, texts: Texts, out: str = "", err: str = "",
     """Streams of these texts, and what was saved after each round; no other formula of a round is
     there, and no file has changed.
 
-    The shell first executes `do`; streams that are gone, or that are pipes, are no files in the
+    The shell first executes `do`; streams that are gone, or that are pipes, aren't files at the
     end."""
     given = {name: text for name, text in {**round_files(texts), **others}.items()
              if name not in pipes}

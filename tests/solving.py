@@ -188,7 +188,7 @@ def sleep(pids: Sequence[int]) -> None:
 
 
 def goes_on(process: "subprocess.Popen[Any]") -> None:
-    """Waits until it has passed its loop several times, each with a wait, or has ended."""
+    """Waits until the run has passed its loop several times, each with a wait, or has ended."""
     looping = children_of(process.pid).get("lrup-engines", 0)
     before = waits_of(looping)
     until("the program continues",
@@ -244,7 +244,7 @@ def kill_children(children: Mapping[str, int], names: Sequence[str],
 
 
 def is_built(path: Path) -> bool:
-    """Whether it is newer than its sources."""
+    """Whether the build is newer than its sources."""
     files = ("Makefile", "VERSION", "tools/lrup-chain", "tools/help.awk")
     globs = ("docs/lrup-*.1", "tools/solve/*.[ch]*", "tools/solve/front/*.[ch]", "tools/exact/*.*")
     return is_newer(path, [*(ROOT / name for name in files),

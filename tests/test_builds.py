@@ -40,7 +40,7 @@ def commands(target: str, words: Sequence[str], env: Dict[str, str]) -> List[Lis
 
 
 def with_flags(target: str, by_environment: bool, work: Path) -> None:
-    """Each command has the flags of its language, and neither another one's nor -O2."""
+    """Each command has the flags of its language, and neither another language's nor -O2."""
     words, env = [f"{name}={value}" for name, value in WORDS.items()], {}
     found = commands(target, *(([], WORDS) if by_environment else (words, env)))
     compilers = {word for line in found for word in line[:2]

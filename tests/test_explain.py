@@ -6,7 +6,7 @@ reordered, literals get wrong signs, deletions and imports are inserted; or byte
 each stream, fault and line have to be those of lrupd --serial; with threads, too, if no stream
 deletes what others cite. Each chain that is offered has to be right: with it instead of the line's
 hints, lrupd accepts the line. If only hints are wrong, a chain has to be offered. While streams are
-rewritten and truncated, it still ends. lrup-explain is built for tests, with
+rewritten and truncated, lrup-explain still ends. It is built for tests, with
 -fsanitize=address,undefined if the compiler can; three of four runs on faulty streams use the
 normal build."""
 import functools
@@ -28,7 +28,7 @@ from test_filter_mutants import Mutant, proofs
 
 PAGE = ROOT / "docs" / "lrup-explain.1"
 BAD = 3         # the status if a line is bad
-# The example solver's.
+# The sources that the example solver shares with the filter.
 LIBRARY = [ROOT / "tools" / "exact" / name
            for name in ("errors.c", "formula.c", "lists.c", "literals.c")]
 QUICK = 4       # one run in four uses the build for tests
@@ -134,7 +134,7 @@ def cited_in(lines: List[List[str]]) -> List[str]:
 
 
 def deletion(line: List[str], lines: List[List[str]], numbers: random.Random) -> List[str]:
-    """A deletion of something that the line cites, usually; or of anything."""
+    """A deletion, usually of something that the line cites, otherwise of anything."""
     hints = line[line.index("0") + 1:-1]
     named = hints if hints and numbers.random() < 0.7 else cited_in(lines)
     return ["1", "d", *numbers.choices(named, k=numbers.choice((1, 1, 1, 2))), "0"]
@@ -150,7 +150,7 @@ def import_of(lines: List[List[str]], numbers: random.Random) -> List[str]:
 
 
 def with_a_fault(streams: List[str], numbers: random.Random, hints_only: bool = False) -> List[str]:
-    """One fault in a line, usually, of one stream."""
+    """Usually one fault, in a line of one stream."""
     everywhere = [[line.split() for line in text.splitlines()] for text in streams]
     number = numbers.choice([place for place, lines in enumerate(everywhere)
                              if any(map(is_addition, lines))])
@@ -295,7 +295,7 @@ def deleted_by(text: str) -> Set[int]:
 
 
 def with_threads(seed: int, work: Path) -> None:
-    """No stream deletes an own clause that others cite, so threads have one report."""
+    """No stream deletes a clause of its own that others cite, so threads have one report."""
     numbers = random.Random(f"{seed} threads")
     found = base(1 + seed % (BASES - 1))
     texts = with_a_fault(found.streams, numbers)
@@ -316,7 +316,7 @@ def with_threads(seed: int, work: Path) -> None:
 
 
 def mutant(number: int, work: Path) -> None:
-    """The proof of a mutant of filter_mutants.py, as a stream."""
+    """The proof of a mutant of test_filter_mutants.py, as a stream."""
     found = Mutant(number, proofs(), work)
     names = [written(found.proof, work, "stream") if place == found.stream else Path("/dev/null")
              for place in range(1, found.streams + 1)]
@@ -397,12 +397,13 @@ FAULTS = [
     ("retired", [FIRST + "5 d 5 0\n6 0 5 3 4 0\n"], "",
      "stream 1 (f1), line 3: retired 5\n" + EMPTY + row(5, "BAD", "2?", "stream 1, line 1")
      + "        3  unread   .. 1 more\n"
-     "  why: its owner deleted 5 in stream 1, line 2, for all\n"
+     "  why: its owner deleted 5 in stream 1, line 2, for all streams\n"
      "  a right chain: 5 3 4    (if 5 isn't deleted)\n"),
     ("retired by another",
      [FIRST + "5 d 5 0\n", "2 i -1 2 0\n2 i 2 -1 0\n6 0 5 3 4 0\n"], "--serial",
      "stream 2 (f2), line 3: retired 5\n" + EMPTY + row(5, "BAD", "2?", "stream 1, line 1")
-     + "        3  unread   .. 1 more\n  why: its owner deleted 5 in stream 1, line 2, for all\n"
+     + "        3  unread   .. 1 more\n  why: its owner deleted 5 in stream 1, line 2, for all "
+     "streams\n"
      "       threads may reach that line earlier or later: don't delete a clause that others cite\n"
      "  a right chain: 5 3 4    (if 5 isn't deleted)\n"),
     ("missing, never derived", ["5 2 0 1 9 0\n"], "", "stream 1 (f1), line 1: missing 9\n"
@@ -427,7 +428,7 @@ FAULTS = [
     ("missing with --serial", ["5 2 0 1 6 0\n", "6 2 0 1 2 0\n"], "--serial",
      "stream 1 (f1), line 1: missing 6\n" + ONE_FALSE
      + row(6, "BAD", "-", "stream 2, no such line so far") + "  why: 6 is of stream 2, which "
-     "derives it in its line 1, and with --serial only later: threads wait for it\n" + RIGHT),
+     "derives it in its line 1, but with --serial only later: threads wait for it\n" + RIGHT),
     ("a circle", ["5 2 0 6 0\n", "6 2 0 7 0\n", "7 2 0 6 0\n"], "",
      "stream 2 (f2), line 1: missing 7\n  derives  2    so at first -2 is true\n" + HINTS
      + row(7, "BAD", "-", "stream 3, no such line so far")
@@ -486,7 +487,7 @@ FAULTS = [
      "  why: 6 belongs to stream 2: 2 streams take turns above 4\n"
      "       stream 1 has no identity left: its next one would be 7\n"
      "       --lines 2 would be enough\n"),
-    ("an import of an own clause", [FIRST + "5 i 2 0\n"], "",
+    ("an import of its own clause", [FIRST + "5 i 2 0\n"], "",
      "stream 1 (f1), line 2: identity\n  states   2\n"
      "  why: 5 is this stream's own: an import names a clause of another stream, or of "
      "the formula\n"),
@@ -755,7 +756,8 @@ REFUSED = [
     ("none s", 1, "none: No such file or directory"),
     ("z s", 1, "z: compressed: unpack it with zcat"),
     ("--lines 268435456 f s", 1,
-     "row too long: 269484045 words, and lrupd takes at most 268435456: smaller --lines or --room")]
+     "row too long: 269484045 words, but lrupd takes at most 268435456: use smaller --lines or "
+     "--room")]
 
 
 def compressed(program: str, work: Path) -> None:

@@ -138,8 +138,8 @@ def units_needed(steps: int, order: str, work: Path) -> None:
 
 
 def circuit(gates: Iterable[Tuple[int, int]], given: Sequence[int], first: int) -> List[List[int]]:
-    """Exclusive ors over variables from `first` on. With the given ones the last one has a value
-    that leads to a conflict."""
+    """Exclusive ors, whose variables count from `first` on. If the given variables are true, the
+    value of the last gate leads to a conflict."""
     clauses, value, variable = [], dict.fromkeys(given, True), first
     for variable, (one, other) in enumerate(gates, first):
         value[variable] = value[one] != value[other]
@@ -150,8 +150,8 @@ def circuit(gates: Iterable[Tuple[int, int]], given: Sequence[int], first: int) 
 
 
 def clause_of_many(count: int, gates: int, work: Path) -> None:
-    """A clause that needs all gates, each over the one before and any other. Each depends on most
-    of its literals."""
+    """A clause that needs all gates, each over the gate before it and any other. Each gate
+    depends on most of the clause's literals."""
     numbers, inputs = random.Random(count), range(1, count + 1)
     clauses = circuit(((last, numbers.randrange(1, last)) for last in range(count, count + gates)),
                       inputs, count + 1)

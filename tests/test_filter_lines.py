@@ -302,7 +302,7 @@ def in_another_order() -> List[Row]:
          "8 2 0 1 2 0\n9 3 0 8 3 0\n10 4 0 9 4 5 0\n11 5 1 0 1 0\n12 0 9 10 6 7 0\n", []),
         ("LRAT of two streams, which has no numbers to spare", LATER, "8 4 0 0\n10 0 0\n",
          "8 4 0 1 2 3 4 5 0\n10 0 1 2 3 6 7 8 0\n", ONE_OF_TWO),
-        ("steps behind the empty clause", FOUR, "2 0\n0\nd 1 2 0\n1 0\n",
+        ("steps after the empty clause", FOUR, "2 0\n0\nd 1 2 0\n1 0\n",
          FIRST + "6 0 3 4 5 0\n", []),
         ("a unit that is deleted, LRAT without hints", FOUR, "5 2 0 0\n" + unit + "6 0 0\n",
          FIRST + "6 0 3 4 5 0\n", []),

@@ -270,7 +270,7 @@ def wrong(form: str, at: int, work: Path) -> None:
     want((checked.added(), len(checked.rounds) > 2), (count, True),
          "additions before it, in more than two rounds")
     assert checked.filter_said.startswith(f"lrup-exact: {place}: no conflict"), (
-        f"wanted a word on {place}, and not\n{checked.filter_said}")
+        f"wanted a word on {place}, not\n{checked.filter_said}")
 
 
 @functools.lru_cache(maxsize=None)
@@ -280,7 +280,7 @@ def largest_row() -> Path:
 
 
 def no_room(work: Path) -> None:
-    """At the start, and for carried clauses: only if lrupd makes no larger row."""
+    """There is no room at the start, or for carried clauses, only if lrupd makes no larger row."""
     said = "leave{} no room in a row of " + f"{8 * WORDS} bytes\n"
     checked = check(generated("random 400 1", work), "", [], work, largest_row())
     want((checked, left(work)),
@@ -444,7 +444,7 @@ USAGE = [("--rounds", "no value after --rounds"), ("--rounds= FORMULA", "no fold
          ("--rounds d --memory 3G FORMULA", "more than 2147483648 bytes: 3G"),
          ("--rounds d --memory 99999999999999999999999 FORMULA",
           "more than 2147483648 bytes: 99999999999999999999999")]
-USAGE += [(f"--rounds d --memory {word} FORMULA", f"not a size as 500000000, 500M or 2G: {word}")
+USAGE += [(f"--rounds d --memory {word} FORMULA", f"not a size like 500000000, 500M or 2G: {word}")
           for word in ("0", "0G", "x", "1x", "1GB", "G", "-1", "1.5G", "+1")]
 
 
@@ -464,7 +464,7 @@ def lrupd_ends(body: str, status: int, awaited: int, work: Path) -> None:
                     work, lrupd=lrupd)
     want((checked.status, checked.filter_status), (status, 1), "the ends")
     assert re.fullmatch("lrup-exact: (byte [0-9]+: )?" + gone(awaited), checked.filter_said), (
-        f"wanted '{gone(awaited)}', and not\n{checked.filter_said}")
+        f"wanted '{gone(awaited)}', not\n{checked.filter_said}")
     want(left(work), [], "files that are left")
 
 
@@ -489,7 +489,7 @@ class Sides(NamedTuple):
 
 
 def is_on(pipe: IO[bytes], work: Path) -> bool:
-    """Everything is read, and the third round or a later one hasn't ended."""
+    """Everything is read, but the third round, or a later one, hasn't ended."""
     time.sleep(0.05)
     return waiting(pipe.fileno()) == 0 and [int(re.sub(r"round-(\d+)\.cnf|.*", r"\1", name) or 0)
                                             > 3 for name in left(work)] == [True]
@@ -512,7 +512,8 @@ def in_a_round(work: Path) -> Iterator[Sides]:
 
 
 def lrupd_killed(work: Path) -> None:
-    """Nobody will read the next stream. This one can't be written, or was written just before."""
+    """Nobody will read the next stream. The current one can't be written, or was written just
+    before."""
     with in_a_round(work) as sides:
         sides.checking.kill()
         sides.go_on()
@@ -545,7 +546,7 @@ def sleeps(pid: int) -> bool:
 
 
 def ended_while_lrupd_waits(by: int, work: Path) -> None:
-    """lrupd is at the FIFO, and the filter isn't yet: lrupd gets an empty stream."""
+    """lrupd is at the FIFO, but the filter isn't yet: lrupd gets an empty stream."""
     formula = example("bmc.cnf")
     with filtering([formula, "/dev/null"], work) as running:
         assert running.stdout
@@ -638,7 +639,7 @@ def rows() -> List[Row]:
               for form in ("LRAT text", "DRAT text", "binary DRAT")]
     found += [(f"a wrong step, {form}", wrong, form, 2500)
               for form in ("LRAT text", "DRAT text", "binary DRAT")]
-    found += [("rows grow", rows_grow), ("behind the empty clause", behind), ("no room", no_room),
+    found += [("rows grow", rows_grow), ("after the empty clause", behind), ("no room", no_room),
               ("room for one clause", room_for_one), ("an import", imported),
               ("other files", beside_others), ("no folder", no_folder),
               ("a folder of another run", locked), ("another folder", another_folder),

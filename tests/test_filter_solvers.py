@@ -115,8 +115,8 @@ def in_rounds(program: str, memory: str, rounds: int, work: Path) -> None:
 
 
 def while_it_runs(commands: str, words: str, work: Path) -> None:
-    """The filter's first line comes while the solver runs: it writes more than the pipes hold, and
-    nobody reads on."""
+    """The filter's first line comes while the solver runs: the solver writes more than the pipes
+    hold, and nobody reads further lines."""
     wanted_on_path(commands)
     formula, proof = make_formula(words, work), piped(work / "proof")
     solver = commands.splitlines()[0].split(" > ")[0].split()

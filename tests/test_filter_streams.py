@@ -2,7 +2,7 @@
 
 The recorded streams of examples/, with their hints shuffled, doubled and missing, with comments and
 extra spaces, have to become good streams with as many additions. So have streams of several solvers
-with an import for each clause that they cite of another one, the recorded streams in each other
+with an import for each clause of another stream that they cite, the recorded streams in each other
 form, and CaDiCaL's DRAT text in tests/proofs. Then limits from both sides, truncated proofs, pipes
 that stay open, and outputs that fail. Proofs of a few lines are in test_filter_lines.py."""
 import os
@@ -35,8 +35,8 @@ def clauses_of(path: Path) -> Dict[str, List[str]]:
 
 
 def with_imports(path: Path, others: Iterable[Path], seed: str, out: Path) -> None:
-    """The stream, with an import of each clause of another one before the line that cites it
-    first."""
+    """The stream, with an import of each clause of another stream before the line that cites
+    it first."""
     numbers = random.Random(seed)
     foreign = {identity: literals for other in others
                for identity, literals in clauses_of(other).items()}
@@ -272,8 +272,8 @@ def is_whole(form: str, proof: bytes, length: int) -> bool:
 
 
 def cut(form: str, work: Path) -> None:
-    """Truncated at each byte: whole steps are written, and otherwise standard error says that a
-    step is incomplete."""
+    """A proof that is truncated at each byte: its whole steps are written, and if it ends within a
+    step, standard error says so."""
     word, _ = FORMS[form]
     parts, rest = parts_of(form)
     proof, formula = b"".join(parts) + rest, written(FOUR, work)

@@ -1,6 +1,6 @@
 """Runs lrup-chain with the program, by each installed shell, and under failures.
 
-lrupd decides what rounds come to; the tests check which arguments lrupd gets, that its report and
+lrupd decides the verdict; the tests check which arguments lrupd gets, that its report and
 status are passed on, and which files are left. A file that replaces a round's formula changes
 nothing. Then wrong scripts, each an edit of the right one: a row has to notice. Expected results
 follow from the clauses, by the rules of rounds."""
@@ -58,7 +58,7 @@ def ends() -> Iterator[Named]:
     both = {2: SAVED[0], 3: SAVED[1]}
     yield chain("three rounds", 0, ROUNDS, REFUTED)
     yield chain("three rounds kept", 0, ROUNDS, REFUTED, saved=both, words=["--keep"])
-    yield chain("rounds behind the last one", 0, [*ROUNDS, BAD], REFUTED)
+    yield chain("rounds after the last one", 0, [*ROUNDS, BAD], REFUTED)
     yield chain("two rounds", 3, ROUNDS[:2], last(2, [FOUND], 3), saved={3: SAVED[1]})
     yield chain("two rounds kept", 3, ROUNDS[:2], last(2, [FOUND], 3), saved=both, words=["--keep"])
     yield chain("one round", 3, ROUNDS[:1], report([FOUND], 3), saved={2: SAVED[0]})
@@ -88,7 +88,7 @@ def ends() -> Iterator[Named]:
 
 
 def sizes() -> Iterator[Named]:
-    """Sizes of round 1; lrupd reads the others."""
+    """Sizes of round 1; lrupd reads those of later rounds."""
     yield chain("sizes", 0, ROUNDS, REFUTED,
                 others={"d/round-1.sizes": "1 1 1\n", "d/round-2.sizes": "1 1 1\n",
                         "d/round-3.sizes": "1 1 0\n"})
@@ -120,7 +120,7 @@ def sizes() -> Iterator[Named]:
 
 
 def refused(text: str, shell: str, script: Path, work: Path) -> None:
-    """Anything but two numbers after another one is refused by lrupd."""
+    """If anything but two numbers follows the first, lrupd refuses it."""
     lay(work, others={"d/round-1.sizes": text, "d/round-1.stream-2": "", "x": ""})
     done = run([shell, script, "--lrupd", PROGRAM, "formula", "d"], cwd=work)
     want((done.out, done.status, (work / "d/round-2.cnf").exists()), ("", 2, False),
@@ -349,9 +349,9 @@ def make_pipes(folder: Path, number: int) -> List[Path]:
 
 
 def live(shell: str, script: Path, work: Path) -> None:
-    """Before a round's pipes are closed, there is one for the sizes of the next round. When that is
-    opened, the round's formula is whole; it is removed, and the round's pipes are made, before the
-    sizes are written."""
+    """Before a round's pipes are closed, there is one for the sizes of the next round. When this
+    pipe is opened, the round's formula is whole; it is removed, and the round's pipes are made,
+    before the sizes are written."""
     folder, seen = work / "d", {}
     folder.mkdir()
     pipes = make_pipes(folder, 1)

@@ -177,7 +177,7 @@ class Running:
 
 def killed(names: List[str], number: int, status: int, cause: str, work: Path) -> None:
     """Children are killed: the others continue, or the answer is 'unknown'. A run that ends before
-    is tried again."""
+    that is tried again."""
     formula = generated("random 220 5", work) if status else generated("pigeons 11", work)
     said = ""
     for _ in range(TRIES):
@@ -371,8 +371,8 @@ def read_terminal(leader: int) -> bytes:
 
 
 def shown_on_terminal(words: List[str], count: int, columns: int, work: Path) -> Tuple[bytes, str]:
-    """Until that many progress lines have come, or for some turns of the program's loop; also
-    returns standard output."""
+    """What is shown until that many progress lines have come, or for some turns of the program's
+    loop; and standard output."""
     leader, terminal = pty.openpty()
     fcntl.ioctl(terminal, termios.TIOCSWINSZ, struct.pack("HHHH", 24, columns, 0, 0))
     fcntl.fcntl(leader, fcntl.F_SETFL, os.O_NONBLOCK)
@@ -436,7 +436,7 @@ def large_formula(words: List[str], work: Path) -> None:
             running.terminate()
         out = running.communicate(timeout=LIMIT)[0]
         lasts = time.monotonic() - begun
-    why = "time is up, and the formula isn't read" if words else "ended by a signal: Terminated"
+    why = "time is up, but the formula isn't read yet" if words else "ended by a signal: Terminated"
     want((out, running.returncode),
          (f"c {why}\ns UNKNOWN\n", 0 if words else -signal.SIGTERM), "the end")
     want(lasts < 4, True, f"whether it ended soon, after {lasts} seconds")
@@ -526,7 +526,7 @@ def options_listed(work: Path) -> None:
          "options of the manual page")
 
 
-# Rules of sharing: leaving one out is noticed, and with it nothing of the kind happens.
+# Rules of sharing: leaving one out is noticed, and with the rule nothing of the kind happens.
 
 
 def rests_on(what: str, count: int, found: str, variables: Tuple[int, int], early: str,
@@ -635,7 +635,7 @@ def what_happens() -> List[Row]:
              for engines in (3, 4, 6)
              for words, status in (("random 200 2", 20), ("pigeons 8", 20), ("order 20", 20),
                                    ("random 260 3 4.1", 10))]
-    untaken = "lrupd (hasn't taken the proof|ended with status 3)"
+    untaken = "lrupd (hasn't accepted the proof|ended with status 3)"
     for body, cause in (("exit 3", untaken), ("exit 6", "ended with status 6"),
                         ("exit 10", "ended with status 10"),
                         ("echo s UNSATISFIABLE; exit 3", untaken),

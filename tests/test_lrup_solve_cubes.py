@@ -31,7 +31,7 @@ def covering(variables: Sequence[int]) -> List[List[int]]:
 
 
 def refuted(answer: Answer) -> List[int]:
-    """How many cubes of how many."""
+    """How many cubes were refuted, of how many."""
     found = [re.fullmatch(r"([\d,]+) of ([\d,]+) cubes? refuted", line) for line in answer.comments]
     return [int(number.replace(",", "")) for one in found if one for number in one.groups()]
 

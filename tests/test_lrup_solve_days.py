@@ -174,7 +174,7 @@ class Chain:
 
     def found(self, status: int) -> None:
         want(self.status in (None, status), True,
-             f"whether {status} is right, and not {self.status}")
+             f"whether {status} is right, not {self.status}")
         self.status = status
         if status == 10:
             return
@@ -320,7 +320,7 @@ def rows(seed: int) -> List[Row]:
 
 @pytest.fixture(autouse=True)
 def in_time(request: pytest.FixtureRequest) -> None:
-    """With --minutes no row begins after them."""
+    """With --minutes no row begins after that time."""
     if MINUTES and time.monotonic() > END:
         request.session.shouldstop = f"{MINUTES} minutes have passed"
         pytest.skip(f"{MINUTES} minutes have passed")

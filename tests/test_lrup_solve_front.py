@@ -22,7 +22,7 @@ from solving import (LRUP_SOLVE, PROGRAM, SOLVE, Answer, before_lrupd, in_place_
 
 FRONT = ROOT / "tools" / "solve" / "front" / "front.c"
 def hostile(body: str, wanted: str, words: List[str], text: str, work: Path) -> None:
-    """The answer is this, or none; with a status for none."""
+    """The answer is this one; if it is a status, there is no answer."""
     answer = run_with(body, words, text, work)
     if wanted.isdigit():
         return want((answer.answers, answer.status), ([], int(wanted)),
@@ -89,7 +89,7 @@ def expects(body: str, expected: str, line: str, status: int, text: str, work: P
     words = (["--assume", str(written("-2 0\n", work, "cube"))]
              if line.endswith("ASSUMPTIONS") else [])
     answer = run_with(body, ["--expect", expected, *words], text, work)
-    said = f"lrup-solve: --expect {expected}, and the answer is {line}\n" if status else ""
+    said = f"lrup-solve: --expect {expected}, but the answer is {line}\n" if status else ""
     want((answer.answers, answer.status, answer.said.splitlines(True)[-1:]),
          ([line], status, [said] * status),
          f"the answer of\n{answer.out[-2000:]}{answer.said[-2000:]}")
@@ -152,14 +152,14 @@ def impostor(status: int, words: List[str], wanted: str, work: Path) -> None:
 
 
 def refused_formula(work: Path) -> None:
-    """lrupd refuses the formula, however an assignment was found."""
+    """lrupd refuses the formula, no matter how an assignment was found."""
     for text, values in (("p cnf 1 1\n1 -2 0\n", "+"), ("p cnf 2 1\n1 x 2 0\n", "++"),
                          ("p cnf 2 3\n1 0\n", "++"), ("", "+")):
         folder = work / str(len(text))
         folder.mkdir()
         answer = run_with(f"model('{values}')\ntime.sleep(1)", [], text, folder)
         want((answer.answers, answer.status, answer.said),
-             ([], 1, "lrup-solve: lrupd took no formula\n"), "the answer")
+             ([], 1, "lrup-solve: lrupd accepted no formula\n"), "the answer")
 
 
 def signalled(number: int, body: str, whole_group: bool, work: Path) -> None:
@@ -227,7 +227,7 @@ hears('probe')
 again(pid, 3, here + '/again')
 model('+')""", [], "p cnf 1 1\n1 -2 0\n", work, lrupd)
     want((answer.answers, answer.status, answer.said),
-         ([], 1, "lrup-solve: lrupd took no formula\n"), "the answer")
+         ([], 1, "lrup-solve: lrupd accepted no formula\n"), "the answer")
     came_again(work)
 
 
@@ -269,7 +269,7 @@ with open(sys.argv[1], "w") as proof:
 
 def asked_again(body: str, wanted: str, text: str, how: str, work: Path) -> None:
     """lrupd waits for its stream, and is killed; then the program asks for another one, which
-    begins with the formula. That is named, or comes by a pipe."""
+    begins with the formula. The formula is named, or comes by a pipe."""
     begin = AGAIN + """
 def killed():
     os.mkfifo(folder + '/round-1.stream-1')
@@ -294,8 +294,8 @@ hears('probe')
 
 
 def asked_for_more(body: str, starts: int, wanted: str, work: Path) -> None:
-    """A program in lrupd's place counts its starts, as it is asked for three times. Only after a
-    signal there is another one, and nothing that the killed one wrote counts."""
+    """A program in lrupd's place counts its starts while it is requested three times. It is started
+    again only after a signal, and nothing that the killed one wrote counts."""
     lrupd = in_place_of_lrupd(f"case \"$*\" in *' /dev/null') exit 3;; esac\n"
                               f"echo x >> {work}/starts; count=$(wc -l < {work}/starts)\n{body}",
                               work)
@@ -317,7 +317,8 @@ def reading_stopped(work: Path) -> None:
 
 
 def empty_checker(work: Path) -> None:
-    """A shell would run it, with status 0. A name without a slash is looked up on the PATH."""
+    """lrupd is an empty file, which a shell would run, with status 0. A name without a slash is
+    looked up on the PATH."""
     lrupd = written("", work, "lrupd")
     lrupd.chmod(0o755)
     for word in (lrupd, "lrupd"):
@@ -327,11 +328,11 @@ def empty_checker(work: Path) -> None:
         answer = run_with("stream(1, '')\ncheck()\nhears('lrupd')", [], SATISFIABLE, folder, word)
         os.environ["PATH"] = before
         want((answer.answers, answer.status, answer.said),
-             ([], 1, "lrup-solve: lrupd took no formula\n"), "the answer")
+             ([], 1, "lrup-solve: lrupd accepted no formula\n"), "the answer")
 
 
 def signals_of_the_end(work: Path) -> None:
-    """Each process gets a signal a few times, not as long as it stays."""
+    """Each process gets a signal a few times, not for as long as it exists."""
     body = f"""def count(*_):
     open({str(work / 'signals')!r}, 'a').write('x')
 signal.signal(signal.SIGTERM, count)

@@ -316,7 +316,7 @@ def hostile() -> List[Row]:
 
 
 def rows() -> List[Row]:
-    """Rows that wait for long come first."""
+    """Rows that wait long come first."""
     random_ones = [(f"signals {seed}", signals, seed, A_ROW) for seed in range(SIGNALS // A_ROW)]
     return [*hostile(), *random_ones, *refusals()]
 

@@ -63,7 +63,7 @@ def keeps_not_utf8(words: List[str], tested: Dict[str, object], work: Path) -> N
 
 def keeps_by_short_names(work: Path) -> None:
     """The command works in any folder, even if formula, checker and record were named relative to
-    another one."""
+    another folder."""
     written("0\n", work, "cube")
     os.symlink(PROGRAM, work / "lrupd")
     shutil.copy(example("bmc.cnf"), work / "formula.cnf")
@@ -187,12 +187,12 @@ def locked(name: str, ends: int, work: Path) -> None:
 
 
 def own_files(name: str, work: Path) -> None:
-    """A file with a name of a record's that isn't a record's is left alone. Every run that has read
-    its formula leaves a record."""
+    """A file that has the name of a record's file, but isn't one, is left alone. Every run that has
+    read its formula leaves a record."""
     own = work / "own"
     path, other = written("mine\n", own, name), written("mine\n", own, "round-5.cnf")
     refused(["--proofs", own, example("bmc.cnf")],
-            f"{path} is there, and isn't of an earlier run: choose another --proofs", work)
+            f"{path} is there, but isn't from an earlier run: choose another --proofs", work)
     want((path.read_text(), sorted(os.listdir(own))), ("mine\n", sorted([name, other.name])),
          "the files' contents")
     path.unlink()
@@ -201,7 +201,8 @@ def own_files(name: str, work: Path) -> None:
     (own / "files").unlink()
     said = solve(["--proofs", own, example("bmc.cnf")]).said
     wanted = (
-        f"lrup-solve: {own}/about is there, and isn't of an earlier run: choose another --proofs\n")
+        f"lrup-solve: {own}/about is there, but isn't from an earlier run: choose another "
+        "--proofs\n")
     want(said, wanted, "the message on a record without a list")
     check_again(own)
     for text, status in ((FOUR, 20), ("x", 1), ("p cnf 1 0\n", 10),
@@ -221,7 +222,7 @@ def own_list(text: Optional[str], work: Path) -> None:
          own / "files")}.get(str(text), lambda: written(str(text), own, "files"))()
     answer = solve(["--proofs", own, example("bmc.cnf")], limit=60)
     want((answer.out, answer.said, answer.status),
-         ("", f"lrup-solve: {own}/files is there, and isn't of an earlier run: choose "
+         ("", f"lrup-solve: {own}/files is there, but isn't from an earlier run: choose "
               "another --proofs\n", 1),
          "the messages")
     want([path.read_text() for path in (report, target, mine)],
@@ -250,7 +251,7 @@ def replaced(work: Path) -> None:
             want({path.name: path.read_bytes() for path in kept.iterdir()}, files, "the record")
     other = written(b"", kept, "round-9.stream-1.xz")
     answer = solve([*words, "--replace", sat])
-    own = f"lrup-solve: {other} is there, and isn't of an earlier run: choose another --proofs\n"
+    own = f"lrup-solve: {other} is there, but isn't from an earlier run: choose another --proofs\n"
     want((answer.out, answer.said, answer.status), ("", own, 1),
          "the message on another compressed stream")
     other.unlink()
@@ -505,8 +506,8 @@ int pthread_create(pthread_t *thread, const pthread_attr_t *how, void *(*work)(v
 
 
 def refused_early(work: Path) -> None:
-    """The thread that reads the formula has refused it before the first one knows the thread, and
-    lrupd refuses it later: one thread waits for that, since what the front says is read once."""
+    """The reading thread refuses the formula before the main thread has that thread's id, and lrupd
+    refuses it later: only one thread waits for that, since what the front says is read once."""
     source = written(LATE_THREAD, work, "late.c")
     late = compiled(work / "late.so", [source], "-shared", "-fPIC", "-ldl")
     formula = written("p cnf 2 1\n1000000000000000000 2 0\n", work)
@@ -568,10 +569,10 @@ def words_and_files() -> List[Row]:
     runs += [(f"a folder of mode {mode:o}", others_write, mode, taken)
              for mode, taken in ((0o777, False), (0o757, False), (0o1777, True), (0o775, True),
                                  (0o700, True))]
-    runs += [(f"an own {name}", own_files, name) for name in (
+    runs += [(f"the user's {name}", own_files, name) for name in (
         "about", "formula.cnf", "formula.sha256", "assumptions", "report", "command", ".report.new",
         "round-7.sizes", "round-2.stream-3")]
-    runs += [(f"an own list {text!r}", own_list, text) for text in LISTS]
+    runs += [(f"the user's list {text!r}", own_list, text) for text in LISTS]
     runs += [("a formula of a round", formula_of_a_round), ("a record with a proof", replaced)]
     runs += [(f"control bytes {what!r}", control_bytes, what, shown) for what, shown in (
         (b"\x1b[31m", "?[31m"), (b"\xc2\x9b31m", "?31m"), (b"\x9b", "?"), (b"\x07\x7f\b", "???"),
@@ -700,7 +701,7 @@ def refusals() -> List[Row]:
         runs.append((" ".join(["lrup-solve", *words]), refused, words, cause))
     runs += [(f"refused {text[:20]!r}", refused_by_all, text, *rest)
              for text, *rest in refused_texts()]
-    beyond = "the literal {}, and the formula has the variables 1 to 2"
+    beyond = "the literal {}, but the formula has the variables 1 to 2"
     for name, known in (("bad", ": not a number: x"), ("beyond", ": " + beyond.format(-7)),
                         ("spaces", SPACED), ("crlf", ": it has a CR, but lines end with LF alone"),
                         ("noend", ": no LF at its end"), ("two", ": a second line"),

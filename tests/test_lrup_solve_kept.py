@@ -89,7 +89,7 @@ def from_a_pipe(work: Path) -> None:
 
 
 def of_a_record(work: Path) -> None:
-    """Both are kept, and a record, too."""
+    """Both outputs are kept, and a record, too."""
     formula = generated("pigeons 6", work)
     kept(["-j", 2, "--proofs", "d", "--re-hint", formula], formula, work)
     check_again(work / "d")
@@ -244,7 +244,7 @@ def checked_by(words: Sequence[object], work: Path, formula: Path, **how: object
 
 
 def names_a_formula(work: Path) -> None:
-    """The record is checked on the named formula, and on that only."""
+    """The record is checked on the named formula, and only on that."""
     formula, here = generated("pigeons 5", work), work / "here"
     here.mkdir()
     want(solve(["-j", 1, "--proofs", "d", formula], cwd=work).status, 20, "the status")
@@ -397,7 +397,7 @@ def packed_and_interrupted(number: int, work: Path) -> None:
 
 
 def lrupd_moved(work: Path) -> None:
-    """Then the lrupd of the PATH is used."""
+    """If lrupd has moved, the one on the PATH is used."""
     lrupd = work / "bin" / "lrupd"
     lrupd.parent.mkdir()
     shutil.copy(PROGRAM, lrupd)

@@ -88,12 +88,12 @@ class Kills:
         self.rounds: List[int] = []
 
     def round(self) -> int:
-        """The one that has begun last."""
+        """The round that has begun last."""
         return max((int(re.findall(r"\d+", path.name)[0])
                     for path in self.kept.glob("round-*.sizes")), default=0)
 
     def lrupd(self) -> int:
-        """Another one than those that were killed; 0: there is none."""
+        """An lrupd other than those that were killed; 0: there is none."""
         pid = processes_of_run(self.running.pid).get("lrupd", 0)
         return pid if pid not in self.pids and is_alive(pid) else 0
 
@@ -101,7 +101,7 @@ class Kills:
         return self.running.poll() is not None
 
     def kill(self, most: float) -> None:
-        """At most that many seconds after it can be killed."""
+        """Kills lrupd, at most that many seconds after it has become possible."""
         until("lrupd is there", lambda: self.lrupd() != 0 or self.has_ended())
         if len(self.rounds) > 1:
             until("a round has ended", lambda: self.round() > self.rounds[-2] or self.has_ended())

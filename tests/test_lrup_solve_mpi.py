@@ -34,8 +34,8 @@ SMALL = {"SAME_WORDS": 1, "SLICE": 100, "EXCHANGING": 50}
 PATIENCE = ["--mca", "odls_base_sigkill_timeout", "3"]
 ENDED = 30      # seconds within which a hopeless run has to end; it takes ten on an idle machine
 LATE = ["sh", "-c", 'test "$OMPI_COMM_WORLD_RANK" != 0 || sleep 2; exec "$@"', "sh"]    # process 0
-BROKEN = "bad line|hasn't taken|hasn't saved"
-# Whichever is seen first.
+BROKEN = "bad line|hasn't accepted|hasn't saved"
+# The cause is whichever of these is seen first.
 ENGINE_KILLED = "the engine ended by a signal: Killed|its filter stopped: .*the proof ends "
 GROWING = 16_000_000    # bytes: two streams with 4 MB on the way, 2 MB waiting, and the pipes
 
@@ -69,7 +69,7 @@ def rounds_of(answer: Answer) -> int:
 
 
 def of_processes(answer: Answer, what: str) -> List[int]:
-    """That number of each process."""
+    """This figure of each process."""
     return [int(number.replace(",", ""))
             for number in re.findall(rf"^c process \d+: .*?([\d,]+) {what}", answer.out, re.M)]
 
@@ -208,7 +208,7 @@ def engines_go(work: Path) -> None:
     check_again(kept)
     causes = [line.split(" is lost: ")[1] for line in answer.lost()]
     want((len(causes) in (1, 2), set(causes)),
-         (True, {"the clauses of all leave no room in a row of 100,000 bytes"}),
+         (True, {"the clauses of all engines leave no room in a row of 100,000 bytes"}),
          f"engines that are lost in\n{answer.out}")
 
 
@@ -345,8 +345,8 @@ def children_of_all(pid: int) -> List[int]:
 
 
 def ends(process: int, name: str, number: int, cause: str, work: Path) -> None:
-    """The run ends soon, without an answer. The front has started those of process 0's processes
-    that aren't there."""
+    """The run ends soon, without an answer. Processes that process 0 lacks were started by the
+    front."""
     running = Running(generated("pigeons 11", work), 2, more=PATIENCE)
     os.kill(running.ids[process][name], number)
     answer = Answer(running.end())
@@ -395,7 +395,7 @@ def checks_again(work: Path) -> None:
 
 
 def bytes_kept(pid: int) -> int:
-    """With streams that are kept in memory."""
+    """The bytes of its files in memory, with streams that are kept there."""
     files = [f"/proc/{pid}/fd/{name}" for name in os.listdir(f"/proc/{pid}/fd")]
     return sum(os.stat(file).st_size for file in files if "memfd:" in os.readlink(file))
 
@@ -453,7 +453,7 @@ def rounds() -> List[Row]:
                   12000 * processes, [], 20),
                  (f"rounds, satisfiable, {processes}", in_rounds, processes, "random 260 5 4.15",
                   30000 * processes, [], 10)]
-    rows += [(f"a run of {first} processes goes on with {second}", resumed, first, second,
+    rows += [(f"a run of {first} processes continues with {second}", resumed, first, second,
               {**SMALL, "FIRST_WORDS": 20000})
              for first, second in ((2, 2), (2, 4), (0, 3), (3, 0), (1, 2))]
     return rows + [
@@ -497,7 +497,7 @@ def deaths() -> List[Row]:
         (0, "mpirun", "interrupted", signal.SIGINT, "Terminated"),
         (0, "mpirun", "terminated", signal.SIGTERM, "Terminated"),
         (0, "front", "interrupted", signal.SIGINT, "ended by a signal: Interrupt"))]
-    rows.append(("a checker that stands still", slow_checker))
+    rows.append(("a stopped checker", slow_checker))
     return rows + [(f"{name} of process {process} of {processes} killed", goes_on, processes,
                     process, name, lost) for processes, process, name, lost in (
                         (3, 0, "engine 1", f"engine 1 is lost: ({ENGINE_KILLED})"),
@@ -511,7 +511,7 @@ def small_rows() -> List[Row]:
     return [
         ("an exchange without MPI", alone), *refusals(),
         *(row for processes in (1, 2, 4) for row in answering(processes, 1, SMALL_FORMULAS)),
-        ("a core and LRAT", cores, 2, "pigeons 6", None), ("a run goes on", resumed, 2, 2, None),
+        ("a core and LRAT", cores, 2, "pigeons 6", None), ("a run continues", resumed, 2, 2, None),
         ending(0, "lrupd", "killed", signal.SIGKILL, "lrupd ended by a signal: Killed$"),
         ("lrupd killed, with a record", checks_again),
         ending(1, "run", "killed", signal.SIGKILL, "Terminated"),

@@ -72,7 +72,7 @@ def killed(seed: int, work: Path) -> None:
                        numbers.uniform(0, lasts) * (0.3 + count / 10))
         if answer.said.endswith(" checks it\n") and right.status == 20:
             return whole(kept, formula, work)       # it was killed once it had the proof
-        # Of engines whose front is gone.
+        # The engines of a killed front may say something.
         said = "" if answer.status == -signal.SIGKILL else answer.said
         want((answer.answers in ([], right.answers), said), (True, ""),
              f"whether this is right:\n{answer.out[-2000:]}")
@@ -99,7 +99,7 @@ def with_others(first: Sequence[str], second: Sequence[str], text: str, work: Pa
     want_answer(answer, 20, verdict=text)
     begun = re.search(r"^c \S+: round (\d+) begins, with ", answer.out, re.M)
     want(begun is not None and int(begun[1]) > 3, True,
-         f"whether it goes on, in\n{answer.out[:2000]}")
+         f"whether it continues, in\n{answer.out[:2000]}")
     want("lrupd has read what was saved" in answer.comments, True,
          f"whether a comment says so, in\n{answer.out[-2000:]}")
     if text == PROVED:
@@ -177,7 +177,7 @@ def way_on(answer: Answer, kept: Path, formula: Path) -> Tuple[int, bool]:
                          rf"--resume {kept} {formula} continues the run",
                          line) for line in answer.comments]
     found = [one for one in said if one]
-    want(len(found), 1, f"whether a comment says how to go on, in\n{answer.out}{answer.said}")
+    want(len(found), 1, f"whether a comment says how to continue, in\n{answer.out}{answer.said}")
     return int(found[0][1]), found[0][2] is not None
 
 
@@ -246,7 +246,7 @@ def by_the_clock(work: Path) -> None:
     want((4 <= rounds <= 13, is_lost), (True, False), f"{rounds} rounds in\n{answer.out}")
     rows = [int(row.replace(",", ""))
             for row in re.findall(r"^c round \d+: .* in a row of ([\d,]+) words", answer.out, re.M)]
-    # A quick machine may fill one.
+    # A quick machine may fill a row.
     want(max(rows) < 6 * min(rows), True, f"whether rows grow that aren't full: {rows}")
     answer = solve(["-j", "2", "--time", "2", "--resume", kept, formula])
     want((answer.comments[0].startswith(f"{kept}: round {rounds + 1} begins, with "),
@@ -458,7 +458,7 @@ def kept_by_others(work: Path) -> None:
 
 
 def unnamed(work: Path) -> None:
-    """Without the formula's name, standard input has to have it."""
+    """If the formula isn't named, it has to come by standard input."""
     marked(work)
     formula, kept = generated("pigeons 7", work), work / "d"
     recorded(["-j", "2", formula], kept, 1, SMALL)
@@ -510,7 +510,7 @@ def rows(count: int) -> List[Row]:
                   (["-j", "2", "--no-share"], ["-j", "2"], PROVED),
                   (["-j", "2"], ["-j", "2", "--no-share"], PROVED),
                   (["-j", "2", "--assume", "CUBE"], ["-j", "3", "--assume", "CUBE"], under))]
-    found += [("a solver goes on", with_others, ["-j", "1"],
+    found += [("a solver continues", with_others, ["-j", "1"],
                ["--solver", "cadical -q %formula %proof"], PROVED)]
     found += [(f"saved at the end, {ENDS[number]}, {'small rows' if tested else 'one row'}",
                saved_at_the_end, number, tested) for number, tested in (

@@ -1,5 +1,5 @@
-"""Runs lrup-solve with rows so small that a run continues for many rounds, and under failures
-there.
+"""Runs lrup-solve with rows so small that a run takes many rounds, and with failures in and between
+rounds.
 
 One to four engines, with and without sharing, each answer; the record, which lrupd checks again,
 and lrup-chain; a child killed in a round or in the pause after it, checkpoints that can't be
@@ -125,7 +125,7 @@ def rows_grow(work: Path) -> None:
 
 
 def rows_stay_large(work: Path) -> None:
-    """However often they are doubled."""
+    """Rows stay large, however often they are doubled."""
     answer = solve(["-v", "-j", "1", "--memory", "1M", generated("pigeons 8", work)],
                    tested={"FIRST_WORDS": 1 << 62})
     want_answer(answer, 20)
@@ -135,7 +135,7 @@ def rows_stay_large(work: Path) -> None:
 
 
 def one_clause(work: Path) -> None:
-    """A row has no room for one clause: the next one has."""
+    """A row has no room for a clause: the next row has."""
     clauses = [[-k for k in range(1, 400)], *([k, 1000 + k] for k in range(1, 400)),
                *([k, -1000 - k] for k in range(1, 400))]
     answer = solve(["-j", "1", written(dimacs(1400, clauses), work)],
@@ -177,7 +177,7 @@ def engines_go(engines: int, options: List[str], work: Path) -> None:
     check_again(kept)
     lost = answer.lost()
     wanted = re.compile(
-        r"engine \d+ is lost: the clauses of all leave no room in a row of 100,000 bytes")
+        r"engine \d+ is lost: the clauses of all engines leave no room in a row of 100,000 bytes")
     want((1 <= len(lost) < engines, [line for line in lost if not wanted.fullmatch(line)]),
          (True, []), f"engines that are lost: {lost}")
     want(f", {engines - len(lost)} of {engines} engines, " in answer.comments[-1], True,
@@ -222,7 +222,7 @@ class Running:
         self.number, self.work, self.pause, self.folder = number, work, pause, work / "folder"
         self.folder.mkdir(exist_ok=True)
         hooks = {"SLICE": 5000 if pause else 40, "SAME_WORDS": 1, **tested}
-        # Freed memory would be kept.
+        # Otherwise freed memory would be kept.
         more = {"TMPDIR": str(self.folder), "ASAN_OPTIONS": "quarantine_size_mb=1"}
         self.process = subprocess.Popen(command(["-v", *words], hooks), stdout=subprocess.PIPE,
                                         stderr=subprocess.PIPE, text=True,
@@ -324,7 +324,7 @@ def checker_killed(work: Path) -> None:
 
 
 def ended_by(number: int, round_number: int, pause: bool, work: Path) -> None:
-    """In a round, or in the pause after it. SIGKILL goes to all processes at once."""
+    """A signal in a round, or in the pause after it. SIGKILL goes to all processes at once."""
     with Running(["-j", "2", generated("pigeons 11", work)], round_number, work, pause,
                  FIRST_WORDS=50000) as running:
         if number == signal.SIGKILL:
@@ -358,7 +358,7 @@ def folder_removed(work: Path) -> None:
                      re.search(r"cannot (open|make) \S*/round-\d+\.", answer.said) is not None),
                     ([], True), f"the message: {answer.said}")
     want_answer(answer, 0)
-    want_cause(answer, r"^lrupd ended with status [459](: TMPDIR .*)?$|^lrupd hasn't taken|"
+    want_cause(answer, r"^lrupd ended with status [459](: TMPDIR .*)?$|^lrupd hasn't accepted|"
                        r"^engine \d is lost: its filter stopped: ")
 
 
@@ -508,8 +508,8 @@ def stays_small(work: Path) -> None:
              f"kilobytes of {name}, {before[name]} and then {size}")
 
 
-# Rules of sharing between rounds: leaving one out is noticed, and with it nothing of the kind
-# happens.
+# Rules of sharing between rounds: leaving one out is noticed, and with the rule nothing of the
+# kind happens.
 
 
 def rests_on(what: str, found: str, tested: Mapping[str, object], work: Path) -> None:
@@ -581,7 +581,7 @@ def what_happens() -> List[Row]:
     rows += [(f"signal {number} in round {at}, pause {pause}", ended_by, number, at, pause)
              for number in (signal.SIGINT, signal.SIGTERM, signal.SIGHUP, signal.SIGKILL)
              for at, pause in ((3, False), (1, True), (2, True))]
-    untaken, waits = "^lrupd hasn't taken the proof$", "exec sleep 1000 < $next.sizes"
+    untaken, waits = "^lrupd hasn't accepted the proof$", "exec sleep 1000 < $next.sizes"
     for body, status, cause in (
             ("exit 3", 0, untaken), ("exit 9", 0, "ended with status 9"),
             ("kill -9 $$", 0, "ended by a signal"), ("cp $formula $saved; exit 3", 0, untaken),
@@ -594,8 +594,8 @@ def what_happens() -> List[Row]:
 
 def sharing() -> List[Row]:
     small = {"FIRST_WORDS": 20000, "SLICE": 30}
-    return [("identities of gifts", rests_on, "renewal", r"bad line|hasn't taken", small),
-            ("floors of gifts", rests_on, "floor", r"bad line|hasn't taken|hasn't saved",
+    return [("identities of gifts", rests_on, "renewal", r"bad line|hasn't accepted", small),
+            ("floors of gifts", rests_on, "floor", r"bad line|hasn't accepted|hasn't saved",
              {**small, "OUTBOX": 200})]
 
 

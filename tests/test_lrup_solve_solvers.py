@@ -195,7 +195,7 @@ def sealed(work: Path) -> None:
 
 # Solvers that misbehave.
 
-UNFOUNDED = "it says 'satisfiable', and gives no assignment in lines v"
+UNFOUNDED = "it says 'satisfiable', but gives no assignment in lines v"
 MODEL = "echo s SATISFIABLE; echo v {}; exit 10"
 # A command; the cause if it is alone.
 NOTHING = [("exit 1 # %formula %proof", "the solver ended with status 1"),
@@ -249,7 +249,8 @@ STANDING = ["sleep 1000 # %formula %proof", "sleep 1000 > %proof # %formula",
 
 
 def wrong(command: str, cause: str, work: Path) -> None:
-    """A wrong solver alone gives no verdict, but the reason; with a good one, that one answers."""
+    """A wrong solver alone gives a reason, not a verdict; beside a good solver, the good one
+    answers."""
     formula = given("random 120 5", work)
     answer = solve(["--time", "60", *by([command]), formula])
     want_answer(answer, 0)
@@ -260,7 +261,7 @@ def wrong(command: str, cause: str, work: Path) -> None:
 
 
 def nothing_runs(command: str, cause: str, work: Path) -> None:
-    """If the only solver ends at its start, that is an error and not an answer."""
+    """If the only solver ends at its start, that is an error, not an answer."""
     formula = given("random 120 5", work)
     answer = solve(by([command]) + [formula])
     said = f"lrup-solve: nothing could run: {cause}"
@@ -280,7 +281,7 @@ def beside_others(command: str, formula: Path) -> None:
 
 
 def missing(work: Path) -> None:
-    """Beside a good one: the loss is reported, and the summary counts the remaining ones."""
+    """Beside a good solver: the loss is reported, and the summary counts the remaining ones."""
     answer = solve([*by(["sleep 1; " + CADICAL, "no-such-solver %formula %proof"]),
                     given("random 120 5", work)])
     want_answer(answer, 20)
@@ -305,8 +306,8 @@ def after_a_model(work: Path) -> None:
 
 
 def silent_solver(command: str, work: Path) -> None:
-    """A solver neither reads nor answers until the run ends. Alone, time is up; with a good one,
-    that one answers. The silent one is ended, with its children."""
+    """A solver neither reads nor answers until the run ends. Alone, it uses up the time; beside a
+    good solver, the good one answers. The silent one is ended, with its children."""
     mark, formula = marked(work), given("random 120 5", work)
     answer = solve(["--time", "1", *by([command]), formula])
     want((answer.answers, answer.comments[0], answer.status),
@@ -343,8 +344,8 @@ def killed(number: int, whom: str, work: Path) -> None:
 
 
 def stopped(work: Path) -> None:
-    """A solver is stopped and continued when engines are, for instance while another one's filter
-    catches up."""
+    """A solver is stopped and continued when engines are, for instance while another engine's
+    filter catches up."""
     mark = marked(work)
     with started([SOLVE, "--lrupd", PROGRAM, *by([CADICAL]), given("pigeons 11", work)],
                  stdout=subprocess.PIPE) as running:

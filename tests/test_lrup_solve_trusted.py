@@ -1,6 +1,6 @@
 """Leaves out, one by one, each line of lrup-solve's front that is marked as trusted.
 
-A hostile program gets a wrong answer from each front that lacks such a line, and none from the
+A hostile program gets a wrong answer from each front that lacks such a line, but none from the
 whole front."""
 import os
 import re

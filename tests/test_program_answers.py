@@ -95,8 +95,8 @@ def one_stream() -> Iterator[Named]:
     yield streams("a repeated literal", "--room 1", 3, ADDED, "5 2 2 0 1 2 0\n")
     yield streams("a bad line after the empty clause", "", 0,
                   "2 added, 0 deleted, bad line 3 (no conflict)", TWO + "7 2 0 1 0\n")
-    yield streams("an identity that is behind", "", 3, "1 added, 0 deleted, bad line 2 (identity)",
-                  "7 2 0 1 2 0\n6 0 7 3 4 0\n")
+    yield streams("an identity below the last one", "", 3,
+                  "1 added, 0 deleted, bad line 2 (identity)", "7 2 0 1 2 0\n6 0 7 3 4 0\n")
     yield streams("no identities left", "--lines 1", 3,
                   "1 added, 0 deleted, bad line 2 (identity)", TWO)
     yield streams("a clause deleted", "", 3, "1 added, 1 deleted, bad line 3 (retired 5)",

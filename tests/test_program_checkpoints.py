@@ -51,7 +51,7 @@ def one_stream() -> Iterator[Named]:
     yield from saved("an addition", 3, [ADDED], [ONE], SAVED_ONE)
     yield from saved("an addition with a gap before it", 3, [ADDED], ["7 2 0 1 2 0\n"],
                      SAVED_FOUR.replace("2 4", "2 5") + "c id 7\n2 0\n")
-    yield from saved("an own clause deleted", 3, ["2 added, 1 deleted, ended"],
+    yield from saved("its own clause deleted", 3, ["2 added, 1 deleted, ended"],
                      [ONE + "6 2 0 1 2 0\n5 d 5 0\n"],
                      SAVED_FOUR.replace("2 4", "2 5") + "c id 6\n2 0\n")
     yield from saved("all clauses dropped", 3, ["0 added, 4 deleted, ended"],
@@ -100,7 +100,7 @@ def several_streams() -> Iterator[Named]:
     identities are in order, no matter who owns them."""
     both = ["5 d 1 2 0\n", "6 d 3 1 0\n"]
     kept = "c id 2\n-1 2 0\nc id 3\n1 -2 0\nc id 4\n-1 -2 0\n"
-    yield from saved("what both have dropped", 3, ["0 added, 2 deleted, ended"] * 2, both,
+    yield from saved("what both streams have dropped", 3, ["0 added, 2 deleted, ended"] * 2, both,
                      "p cnf 2 3\n" + kept)
     yield from saved("what two of three have dropped", 3,
                      ["0 added, 2 deleted, ended"] * 2 + [NOTHING], [*both, ""], SAVED_FOUR)
@@ -155,7 +155,7 @@ def order_of_work() -> Iterator[Named]:
 
 
 def before_the_check(program: str, way: str, work: Path) -> None:
-    """If it can't be created, the message comes while the stream is still silent."""
+    """If the checkpoint can't be created, the message comes while the stream is still silent."""
     with held(work / "silent"):
         found = run([program, *way.split(), "--checkpoint", "absent/saved", written(FOUR, work),
                      "silent"], cwd=work)

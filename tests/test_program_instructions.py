@@ -1,8 +1,8 @@
 """Counts the program's instructions by valgrind, and compares them with the recorded figures.
 
 PROGRAM is built by LLVM. With --serial, runs over the same files take the same number of
-instructions. The count is for the lines, so a run over empty streams is subtracted. Each has to be
-within 5 % of its figure: the toolchain is fixed, and the margin is for other C libraries and
+instructions. The count is for the lines, so a run over empty streams is subtracted. Each count has
+to be within 5 % of its figure: the toolchain is fixed, and the margin is for other C libraries and
 processors. If a change is meant to move a count, replace its figure by the printed one. How the
 work grows with an assumed cube is compared by ratios, which need no figure."""
 import os
@@ -65,7 +65,8 @@ def assumed(program: str, literals: int, lines: int, work: Path) -> int:
 
 
 def lines_under_a_cube(program: str, work: Path) -> None:
-    """A cube is searched by halves: lines under a large one take little more than under a small."""
+    """A cube is searched by halves: lines under a large cube take little more than
+    under a small one."""
     few, many = [assumed(program, count, LINES, work) - assumed(program, count, 0, work)
                  for count in (1, ASSUMED)]
     print(f"{many} instructions under {ASSUMED:,} literals, {few} under one")
@@ -73,7 +74,7 @@ def lines_under_a_cube(program: str, work: Path) -> None:
 
 
 def large_cube(program: str, work: Path) -> None:
-    """It is sorted once: twice as many literals take little more than twice as long."""
+    """A cube is sorted once: twice as many literals take little more than twice as long."""
     none, small, large = [assumed(program, count, 0, work) for count in (0, 4_000, 8_000)]
     print(f"{large - none} instructions for 8,000 literals, {small - none} for 4,000")
     assert large - none <= 3 * (small - none), "more than three times as many"

@@ -60,8 +60,8 @@ VERY_LATE = 1000
 
 
 def run_twice(machine: Machine, given: Input, refuse: str) -> Tuple[Answer, bool, float]:
-    """Again if a clause is missing: a machine may delay a thread for longer than another one's
-    tries."""
+    """Runs again if a clause is missing: a machine may delay a thread for longer than another
+    thread's tries last."""
     found = machine.run(given.words, refuse, given.out)
     return machine.run(given.words, refuse, given.out) if " (missing " in found[0].out else found
 
@@ -348,8 +348,8 @@ def leave(machine: Machine, folder: Path, count: int) -> Tuple[int, List[str]]:
 
 def kept(work: Path) -> None:
     """A test that opens and drops a store of 16 million words four times. Opening takes 128,000,000
-    bytes for the row, and as much again until it returns. Here are 307,200,000; a second list that
-    is still there would need 384,000,000."""
+    bytes for the row, and as much again until it returns. 307,200,000 are allowed; a second list
+    that is still there would need 384,000,000."""
     name, most = "memory::a_large_store_is_given_back", 307_200_000
     ran = run([program_of_tests("clause_store"), f"tests::{name}"],
               preexec_fn=lambda: resource.setrlimit(resource.RLIMIT_AS, (most, most)))

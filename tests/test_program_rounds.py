@@ -35,7 +35,7 @@ def ends() -> Iterator[Named]:
         yield from rounds(f"one round, {count}", 3, texts[:1], last(1, said[0], 3), saved=saved[:1])
     texts, said, saved = ONE
     end = last(3, said[2], 0)
-    yield from rounds("rounds behind the last one", 0, [*texts, [BAD]], end, saved=saved)
+    yield from rounds("rounds after the last one", 0, [*texts, [BAD]], end, saved=saved)
     yield from rounds("a round that is left out", 3, texts[:1], last(1, said[0], 3),
                       saved=saved[:1], others={stream_name(3): texts[2][0]})
     yield from rounds("no round but the first", 0, [[REFUTING], [BAD]],
@@ -129,7 +129,8 @@ def formulas() -> Iterator[Named]:
 
 
 def assumptions() -> Iterator[Named]:
-    """Assumptions hold in each round; a round that ends under them is the last."""
+    """Assumptions hold in each round; a round that refutes the formula under them is the
+    last."""
     def under(name: str, cube: str, *more: Any, **most: Any) -> Iterator[Named]:
         yield from rounds(f"under {name}", *more, options=f"{TRIES} --assume cube",
                           others={"cube": cube}, **most)
@@ -189,7 +190,7 @@ def wrong_lines() -> Iterator[Named]:
                       [["", ""], [REFUTING.replace("6 0", "7 0"), BAD.replace("5", "6")],
                        [BAD, BAD]],
                       last(2, ["2 added, 0 deleted, ended", BAD_SAID], 0), saved=[FOUR, ""])
-    yield from rounds("a wrong line behind a refutation in round 2", 0,
+    yield from rounds("a wrong line after a refutation in round 2", 0,
                       [[""], [REFUTING + "\n"], [BAD]],
                       last(2, ["2 added, 0 deleted, bad line 3 (spelling)"], 0), saved=[FOUR, ""])
     yield from rounds("half a line in round 2", 3, [[""], [REFUTING[:-1]], [BAD]],
@@ -333,7 +334,7 @@ def killed(program: str, way: List[str], work: Path) -> None:
     lay(texts[1:], work / "next")
     shutil.move(work / saved_name(2), work / "next/formula")
     found = run([program, *TRIES.split(), *way, *first_words(texts)], cwd=work / "next")
-    want(found, Ran(last(2, said[2], 0), "", 0), "the answer of the run that goes on")
+    want(found, Ran(last(2, said[2], 0), "", 0), "the answer of the run that continues")
     want((work / "next" / saved_name(2)).read_text(), saved[1], "its checkpoint")
 
 
@@ -388,9 +389,9 @@ def pause(program: str, way: List[str], work: Path) -> None:
 
 
 def many(count: int, limits: str, options: str, program: str, way: List[str], work: Path) -> None:
-    """x1, and each variable implies the next, and not the last: round R derives the next one, and
-    drops what it used. No file stays open, and no memory is kept: there is enough for a few
-    rounds."""
+    """The formula says that x1 holds, that each variable implies the next, and that the last
+    doesn't hold: round R derives the next variable, and drops what it used. No file stays open,
+    and no memory is kept: there is enough for a few rounds."""
     texts, saved = [], []
     for number in range(1, count):
         clauses = count + 2 - number

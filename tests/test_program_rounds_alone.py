@@ -1,5 +1,6 @@
-"""Runs the program with --rounds, and each of these rounds separately, with --checkpoint on the
-checkpoint before: the last report is that of the last run, and each file has the same bytes.
+"""Runs the program with --rounds, and each of these rounds separately, with --checkpoint, on the
+checkpoint of the round before: the last report is that of the last run, and each file has the same
+bytes.
 
 Recorded streams are cut into rounds, and random ones are derived on the way, with some wrong
 lines."""
@@ -124,7 +125,7 @@ class Writer:
             chosen = self.numbers.choice(live)
             self.add(self.clauses[chosen], [chosen])
         elif kind < 0.2:
-            chosen = min(live)      # a clause of the formula: an own one can't be imported
+            chosen = min(live)      # a clause of the formula: a stream can't import its own
             literals = self.numbers.sample(self.clauses[chosen], len(self.clauses[chosen]))
             self.lines.append(" ".join(map(str, [chosen, "i", *literals, 0])))
         elif kind < 0.3:

@@ -60,8 +60,8 @@ def unopened() -> Iterator[Named]:
             if number > 1:
                 yield from stopped(number, "sizes", 2, f"which are /dev/{device}",
                                    do=f"ln -s /dev/{device} {name}; ")
-    # Of at most 4,095 bytes in a path, that of round 2's formula has 4,095, or 4,093 and that of
-    # its sizes 4,095.
+    # A path has at most 4,095 bytes. That of round 2's formula has 4,095; or it has 4,093, and that
+    # of round 2's sizes 4,095.
     for cause, times in ("cannot read sizes", 2041), ("cannot open stream 1", 2040):
         for way in WAYS:
             words = [*way.split(), "--rounds", "d" + "/." * times, "formula", stream_name(1)]
@@ -164,7 +164,7 @@ WRONG_SIZES = [
     "4294967297 1 1\n", "1 4294967297 1\n", "1 1 4294967297\n", "18446744073709551617 1 1\n",
     "1 18446744073709551617 1\n", "1 1 18446744073709551617\n",
     "1 340282366920938463463374607431768211457 1\n",
-    # Of a longer file the first 64 bytes are read, and not its end.
+    # The first 64 bytes of a longer file are read, not its end.
     *("1 1 1\n".ljust(length, fill) for fill in "\n1 \0"
       for length in (63, 64, 65, 66, 127, 128, 129, 1_000_000)),
     *("1 1 1\n".rjust(length, fill) for fill in "0 \n" for length in (63, 64, 65, 66, 128)),
@@ -213,7 +213,7 @@ def sizes() -> Iterator[Named]:
     yield from second("", NO_ROOM, SAVED_ONE, "--room 2")
     yield from second("1 2 3\n", LINES_SAID, LINES_SAVED, "--lines 0 --room 0")
     yield from second("1 1 3\n", NO_LINE, SAVED_ONE, "--lines 2 --room 3")
-    # The options' limits are allowed there, and exceed a row.
+    # The options' limits are allowed there, but exceed a row.
     for text in "1 268435456 0\n", "1 0 268435456\n", "1 268435456 268435456\n":
         yield from too_long(text)
     # The formula has 4 clauses and 8 literals; the total is at most 268,435,455.

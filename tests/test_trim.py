@@ -211,7 +211,7 @@ def whole_pages(work: Path) -> None:
         rest = pages * mmap.PAGESIZE - len(lines)
         stream = written("10 d 0\n" * (rest % 6) + "1 d 0\n" * (rest // 6 - rest % 6) + lines,
                          work, "a stream")
-        want(stream.stat().st_size % mmap.PAGESIZE, 0, "the bytes behind the last page")
+        want(stream.stat().st_size % mmap.PAGESIZE, 0, "the bytes after the last page boundary")
         trimmed(written(FOUR, work), [stream], work)
         for name in OUTPUTS:
             (work / name).unlink()
@@ -352,7 +352,7 @@ def garbled_trim(found: Garbled, formula: Path, rehints: bool,
 
 
 def garbled(number: int, work: Path) -> None:
-    """lrupd accepts both outputs, and the LRAT checker its one, or none does."""
+    """lrupd accepts both outputs, and the LRAT checker its own, or neither accepts any."""
     numbers = random.Random(f"{number} garbled")
     found = base(number, work)
     for name in numbers.sample(sorted(found.files), numbers.randint(1, min(2, len(found.files)))):
@@ -365,7 +365,7 @@ def garbled(number: int, work: Path) -> None:
 
 
 def no_hints(work: Path) -> None:
-    """A line that cites nothing is copied, and lrupd refuses it."""
+    """A line that cites nothing is copied, but lrupd refuses it."""
     formula, stream = written(FOUR, work), written("5 0 0\n", work, "stream")
     done = trim(["--lrat", "lrat", formula, stream], work)
     lines = "4 d 1 2 3 4 0\n5 0 0\n"
@@ -414,7 +414,7 @@ FAULTS = [("spelling", [FIRST + "6  0 5 3 4 0\n"], ["f1, line 2: spelling"]),
           ("DRAT", ["2 0\n0\n"], ["f1, line 1: spelling"]),
           ("no end", [FIRST + "6 0 5 3 4 0"], ["f1, line 2: truncated"]), ("no line", [""], []),
           ("CR LF", [FIRST.replace("\n", "\r\n")], ["f1, line 1: spelling"]),
-          ("behind 0", [FIRST + "6 0 5 3 4 0 7\n"], ["f1, line 2: spelling"]),
+          ("after 0", [FIRST + "6 0 5 3 4 0 7\n"], ["f1, line 2: spelling"]),
           ("three ends", ["5 2 0 1 0 2 0\n"], ["f1, line 1: spelling"]),
           ("a RAT step", ["5 2 0 1 -2 3 0\n"], ["f1, line 1: rat hint"]),
           ("identity of the formula", ["4 2 0 1 2 0\n"], ["f1, line 1: identity"]),

@@ -2,8 +2,8 @@
 #
 #     awk -v program=lrup-check -f tools/help.awk docs/lrup-*.1
 #
-# The program's own page has the synopsis and, up to .Pp, what it does. Of a list below a comment
-# 'help of lrup-solve, lrup-check' each item is taken up to the end of its first sentence.
+# The program's own page has the synopsis and, up to .Pp, what it does. Each item of a list below a
+# comment 'help of lrup-solve, lrup-check' is taken up to the end of its first sentence.
 
 # A line without macros.
 function plain(line,    end, name) {

@@ -5,7 +5,7 @@
 
 It makes the formulas and the streams first, unless FOLDER has them from an earlier run. Then, for
 each set, the program and the checker run in turn, with a thread for each stream, and on one thread
-if all streams are accepted so. It prints the ratios of the medians. The outputs have to be the
+if all streams are accepted there. It prints the ratios of the medians. The outputs have to be the
 same. Needs Python 3 and a C compiler."""
 import argparse
 import os

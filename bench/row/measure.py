@@ -2,10 +2,11 @@
 """measure.py [--rounds N] [--programs FOLDER]
 
 Measures how fast the row of words (`idwords`) and the clause store over it (`clause_store`, through
-its desks) publish and read clauses, on one thread and on four, and a C program with the same words
-in plain memory and C's sequentially consistent loads, stores and exchanges; and how long it takes
-to open a row, and to touch each page of as much zeroed memory. They run in turn; each round takes
-the best pass of each, and the figures are medians over the rounds. All have to find the same sums.
+its desks) publish and read clauses, on one thread and on four. A C program does the same with the
+same words in plain memory, by C's sequentially consistent loads, stores and exchanges. The script
+also measures how long it takes to open a row, and to touch each page of as much zeroed memory. The
+programs run in turn; each round takes the best pass of each, and the figures are medians over the
+rounds. All programs have to find the same sums.
 The programs in FOLDER are used if they exist, and otherwise built there. Needs the toolchain's
 `rt`, `cc`, and 5 GiB of memory."""
 

@@ -1,4 +1,4 @@
-"""Circuits, as clauses. Each function but `factor` makes two equal ones, and asks for
+"""Circuits, as clauses. Each function but `factor` makes two equal circuits, and asks for
 a difference."""
 
 

@@ -20,8 +20,8 @@
     formulas.py waerden A B COUNT       COUNT numbers in two colours, without A evenly spaced ones
                                         of the first, and B of the second; satisfiable below van der
                                         Waerden's number
-    formulas.py pigeons HOLES           the same as of examples/solver/generate.py
-    formulas.py random VARIABLES SEED   the same as of examples/solver/generate.py"""
+    formulas.py pigeons HOLES           the formula of examples/solver/generate.py
+    formulas.py random VARIABLES SEED   the formula of examples/solver/generate.py"""
 import os
 import subprocess
 import sys

@@ -4,7 +4,7 @@
     split.py COUNT FORMULA > CUBES
 
 There are at least COUNT cubes, unless the formula has too few variables. Cubes that unit
-propagation refutes are left out, since any solver refutes them so. Look-ahead splitters such as
+propagation refutes are left out, since any solver refutes them, too. Look-ahead splitters such as
 march_cu make better cubes, in the same form."""
 import sys
 from collections import Counter

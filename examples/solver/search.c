@@ -231,9 +231,9 @@ static void forget_watches(Solver *solver) {
     }
 }
 
-// Deletes the worse half. An own clause that others have gets no deletion in the stream: they may
-// still cite it. For other solvers' clauses the line only says that this stream won't cite them
-// again.
+// Deletes the worse half. A clause of this solver that others have gets no deletion in the stream:
+// they may still cite it. For other solvers' clauses the line only says that this stream won't cite
+// them again.
 static void reduce(Solver *solver) {
     Clauses *clauses = &solver->clauses;
     Identities *deleted = &solver->hints;

@@ -1,5 +1,5 @@
 // Unverified, like the whole filter. Option --rounds: writes a stream for each round of lrupd
-// --rounds, through FIFOs. A FIFO exists before the stream of the round before it ends, since lrupd
+// --rounds, through FIFOs. Each FIFO exists before the previous round's stream ends, since lrupd
 // then looks for it. Once lrupd has opened it, the FIFO and the file of sizes are removed, and so
 // is a checkpoint once it is read. So the folder has files of an unfinished round only while this
 // program waits for lrupd.

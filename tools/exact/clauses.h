@@ -54,7 +54,7 @@ static inline ClauseRef clauses_named(const Clauses *clauses, uint64_t name) {
 }
 void clauses_name(Clauses *clauses, uint64_t name, ClauseRef ref);
 void clauses_forget_name(Clauses *clauses, uint64_t name);
-void clauses_keep_sets(Clauses *clauses);       // from now on, and of the clauses present
+void clauses_keep_sets(Clauses *clauses);       // of the clauses present, and of later ones
 void clauses_keep_set(Clauses *clauses, ClauseRef ref);
 ClauseRef clauses_take_set(Clauses *clauses, const Literal *literals, size_t length,
                            const unsigned char *marks);

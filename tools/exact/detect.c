@@ -76,7 +76,7 @@ void check_plain(Input *input) {
     stop("compressed: unpack it with %s", program);
 }
 
-// Whether a text is LRAT or DRUP and DRAT, its steps decide.
+// The steps of a text decide whether it is LRAT, or DRUP or DRAT.
 Form form_of(Input *input, const Formula *formula) {
     position_set("byte", 1);
     int first = input_ahead(input, 0);

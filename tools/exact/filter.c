@@ -18,9 +18,9 @@ static void make_known(Filter *filter, ClauseRef ref) {
     if (!filter->frat) clauses_keep_set(&filter->clauses, ref);
 }
 
-// In FRAT the proof names the formula's clauses; otherwise their order does. Of the formula only
-// its two counts are kept. LRAT's identities aren't used in rounds, since gaps between them would
-// count towards the row's lines.
+// In FRAT the proof names the formula's clauses; otherwise their order does. Only the formula's two
+// counts are kept. LRAT's identities aren't used in rounds, since gaps between them would count
+// towards the row's lines.
 void filter_open(Filter *filter, bool frat) {
     Formula *formula = &filter->formula;
     Literals *literals = &filter->literals;

@@ -27,7 +27,7 @@ typedef struct {
     // the identity of the clause given away there
     uint64_t (*gift)(uint64_t engine, uint64_t position);
     void (*passed)(uint64_t engine, uint64_t position);  // no earlier clause will be taken over
-    // whether the solver starts without it; NULL: it has all
+    // whether the solver starts without this clause; NULL: it has all clauses
     bool (*lacks)(uint64_t clause, uint64_t length);
 } Hooks;
 

@@ -222,7 +222,7 @@ static void use(Filter *filter, ClauseRef ref, int own, size_t floor) {
     }
 }
 
-// Counts the uses of all literals from the floor on that the conflict needs.
+// Counts the uses of all literals that the conflict needs, from the floor on.
 static void count_uses(Filter *filter, ClauseRef conflict, size_t floor) {
     const Propagation *propagation = &filter->propagation;
     use(filter, conflict, NONE, floor);

@@ -79,7 +79,7 @@ static const char *path_of(const char *word, uint64_t *number) {
 
 static uint64_t memory_of(const char *word) {
     uint64_t bytes = word ? memory_read(word) : 0;
-    if (word && bytes == 0) refuse("not a size as 500000000, 500M or 2G:", word);
+    if (word && bytes == 0) refuse("not a size like 500000000, 500M or 2G:", word);
     if (bytes > MOST_MEMORY) refuse("more than 2147483648 bytes:", word);
     return bytes;
 }

@@ -10,7 +10,7 @@
 #define VERSION "unknown"       // make passes the version
 #endif
 
-enum { MOST_OPTIONS = 64, NAMED = 256 };        // NAMED: added to the row of an option's name
+enum { MOST_OPTIONS = 64, NAMED = 256 };        // NAMED + its place: the code of an option's name
 
 // NULL if there is no such option; a name has to be whole.
 static const Option *option_of(const Option *options, int code, const char *word) {

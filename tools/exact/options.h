@@ -1,5 +1,5 @@
 // Unverified: reads the words of a command line, by a table of the options. lrup-solve's front has
-// a table of its own, since it is believed.
+// a table of its own, since it is trusted.
 #ifndef OPTIONS_H
 #define OPTIONS_H
 
@@ -14,9 +14,9 @@ extern "C" {
 
 typedef LIST_OF(const char *) Texts;
 
-// An option that has neither flag, value nor values ends the reading, as --help.
+// An option that has neither flag, value nor values ends the reading, like --help.
 typedef struct {
-    const char *name;           // without --; NULL if it has a letter alone, and then it comes last
+    const char *name;           // without --; NULL if it has only a letter: such options come last
     char letter;                // 0: none
     bool *flag;                 // becomes true
     const char **value;         // becomes the value

@@ -1,7 +1,7 @@
 // Unverified, like the whole filter. The sizes of lrupd's rows in a chain of runs. A row is made
 // before the first line is read, and doesn't grow. So rows begin small, for short runs, and double
 // from round to round, up to --memory. Live clauses always fit: if they take more than half of a
-// row, the next one has twice their size.
+// row, the next row has twice their size.
 #include <string.h>
 #include <unistd.h>
 
@@ -10,7 +10,7 @@
 #define USUAL_MEMORY (UINT64_C(1) << 29)
 #define LEAST_MEMORY (UINT64_C(1) << 26)
 #define FIRST_WORDS (UINT64_C(1) << 20)  // of the first round's streams; or, if that is more:
-#define FIRST_OF_EACH (UINT64_C(1) << 18)       // of each one
+#define FIRST_OF_EACH (UINT64_C(1) << 18)       // of each stream
 
 enum { LEAST_WORDS = 64 };                      // of a stream
 enum { LEAST_SHARE = 8 };  // several streams have at least an eighth of the largest row

@@ -24,9 +24,9 @@ typedef struct {
 #endif
 #define MOST_MEMORY (8 * MOST_WORDS)
 
-// as 2000000000, 2000M or 2G; 0: no size; above MOST_MEMORY: too much
+// such as 2000000000, 2000M or 2G; 0: no size; above MOST_MEMORY: too much
 uint64_t memory_read(const char *word);
-// bytes; 0: by the machine's
+// memory, most: bytes; 0: by the machine's memory
 void rows_open(Rows *rows, uint64_t memory, uint64_t most, uint64_t streams);
 void rows_grow(Rows *rows);                     // before the next round
 

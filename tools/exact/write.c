@@ -35,7 +35,7 @@ static void (*out)(const char *bytes, size_t length) = to_standard_output;
 
 void write_to(void (*place)(const char *bytes, size_t length)) { out = place; }
 
-// Writes the whole lines; the beginning of another one stays.
+// Writes the whole lines; the beginning of another line stays.
 void write_flush(void) {
     size_t length = whole;
     assert(whole <= buffer.length && buffer.length <= buffer.capacity);

@@ -89,7 +89,7 @@ static void put(Search *search, ClauseRef ref) {
     search->values[complement_of(open)] = -1;
 }
 
-// Whether the literal is false by propagation, and not yet by the chain.
+// Whether the literal is false by propagation, but not yet by the chain.
 static bool is_wanted(const Search *search, Literal literal) {
     return search->propagation.values[literal] < 0 && search->values[literal] >= 0;
 }

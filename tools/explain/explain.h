@@ -14,7 +14,7 @@
 #include "../trim/lines.h"
 
 // lrupd's faults, by the names in lrupd's definitions, from which faults.awk makes the words; and
-// FAULT_WAITING: another stream has to go on first.
+// FAULT_WAITING: another stream has to move on first.
 typedef enum {
     NO_FAULT, FAULT_SPELLING, FAULT_TOO_LONG, FAULT_TRUNCATED, FAULT_RAT_HINT, FAULT_IDENTITY,
     FAULT_LITERAL, FAULT_TAUTOLOGY, FAULT_NO_ROOM, FAULT_EXCESS, FAULT_DROPPED, FAULT_MISSING,
@@ -98,9 +98,9 @@ void forget_values(Replay *replay);
 void replay_all(Replay *replay, const char *formula, const char *folder, const char *const *paths,
                 uint32_t count);
 Line line_at_hand(const Stream *stream, bool *is_whole);
-// from the current line on: its number, or 0
+// the line from the current one on that derives it: its number, or 0
 uint64_t line_deriving(const Stream *stream, uint64_t identity);
-// the first one, up to the current line
+// the first line up to the current one that deletes it: its number, or 0
 uint64_t line_deleting(const Stream *stream, uint64_t identity);
 
 // form.c

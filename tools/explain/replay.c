@@ -78,8 +78,8 @@ static Stream *in_circle(const Replay *replay) {
     return first;
 }
 
-// Takes a line of each stream in turn. Unless --serial is given, a stream that cites a line which
-// another stream hasn't reached waits.
+// Takes a line of each stream in turn. Unless --serial is given, a stream waits if it cites a line
+// that another stream hasn't reached.
 static void replay_round(Replay *replay) {
     uint32_t over = 0;
     for (bool moves = true; moves;) {
@@ -139,7 +139,8 @@ static void open_streams(Replay *replay, const char *folder, const char *const *
     replay->last = replay->clauses + count * replay->row.lines;
     uint64_t words = 1 + replay->last + replay->literals + count * replay->row.room;
     if (words > MOST_WORDS)
-        stop("row too long: %llu words, and lrupd takes at most %llu: smaller --lines or --room",
+        stop("row too long: %llu words, but lrupd takes at most %llu: use smaller --lines or "
+             "--room",
              (unsigned long long)words, (unsigned long long)MOST_WORDS);
     replay->streams = zeroed(count, sizeof *replay->streams);
     for (uint32_t k = 0; k < count; k++) {

@@ -52,7 +52,7 @@ static const char *guess_of(const Stream *stream, Line line, size_t place, unsig
     static char text[64];
     const char *program = stream->lines == 0 ? unpacked_by(line.start[0], line.start[1]) : NULL;
     if (program) return snprintf(text, sizeof text, "compressed: unpack it with %s", program), text;
-    if (byte == '\r') return "lines end with LF alone, and not with CR LF";
+    if (byte == '\r') return "lines end with LF alone, not with CR LF";
     if (place == 0 && byte == '\n') return "an empty line, which streams don't have";
     if (place == 0 && byte == 'c') return "a comment, which streams don't have?";
     if (place == 0 && byte == 'd') return "a deletion of DRAT, which has no identities?";
@@ -298,7 +298,7 @@ static void why_missing(const Replay *replay, const Stream *stream, uint64_t hin
         printf(", whose line %llu waits for %llu, in a cycle that leads back to this line\n",
                (Printed)owner->lines + 1, (Printed)owner->awaited);
     else
-        printf(", which derives it in its line %llu, and with --serial only later: threads "
+        printf(", which derives it in its line %llu, but with --serial only later: threads "
                "wait for it\n",
                (Printed)later);
     if (later || is_cut_off(owner, hint)) return;
@@ -314,8 +314,8 @@ static void why_deleted(const Replay *replay, const Stream *stream, uint64_t hin
         return;
     }
     const Stream *owner = owner_of(replay, hint);
-    printf("  why: its owner deleted %llu in stream %u, line %llu, for all\n", (Printed)hint,
-           owner->number, (Printed)line_deleting(owner, hint));
+    printf("  why: its owner deleted %llu in stream %u, line %llu, for all streams\n",
+           (Printed)hint, owner->number, (Printed)line_deleting(owner, hint));
     if (owner != stream)
         printf("       threads may reach that line earlier or later: don't delete a clause "
                "that others cite\n");
@@ -331,7 +331,7 @@ static uint64_t clause_with_unit(const Replay *replay, const Stream *stream, Lit
     return 0;
 }
 
-// The place of the first later hint that is; the number of hints if none is.
+// The place of the first later hint that is such a clause; the number of hints if none is.
 static size_t later_with_unit(const Replay *replay, const Stream *stream, Literal literal) {
     const Reading *line = &replay->line;
     size_t place = stream->fault.place + 1;

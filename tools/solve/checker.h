@@ -17,7 +17,7 @@ public:
     Child child;
 
     void ask(const std::string &path);
-    bool has_opened(std::string &path);     // the first one asked for; the opener waits for go_on
+    bool has_opened(std::string &path);     // the first path asked for; the opener waits for go_on
     void go_on();
     void end();
     pollfd says() const { return { socket, POLLIN, 0 }; }   // for when something was opened
@@ -111,7 +111,7 @@ struct Front {
 
 private:
     int pid = 0, told = -1, hears = -1;                 // its descriptors
-    uint64_t number = 0;                                // the inode of the first one; 0: not known
+    uint64_t number = 0;                                // the inode of `told`; 0: not known
     int file = -1, heard = -1;                          // from it, and to it
     std::string given, unread;
 

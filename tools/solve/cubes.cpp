@@ -21,7 +21,7 @@ bool has_cube(const EngineStatus &engine_status) {
         LOAD(engine_status.refuted_cube) != engine_status.cube_number;
 }
 
-// Without those of the user's cube.
+// The literals of its cube, without those of the user's cube.
 Cube literals_of(const EngineStatus &engine_status) {
     return { engine_status.cube, engine_status.cube + engine_status.cube_length };
 }
@@ -107,7 +107,7 @@ void Cubes::tell_usable() {
     STORE(engine_status.ready, 1);
 }
 
-// If the first process writes another cube meanwhile, that one is taken after the next slice.
+// If the first process writes another cube meanwhile, it is taken after the next slice.
 void Cubes::take() {
     uint64_t found = LOAD(engine_status.cube_number);
     bool may_come = literals.empty() && LOAD(engine.shared->cubes_left) > 0;
@@ -165,7 +165,7 @@ void Dealer::deal(Shared &shared, const Options &options) {
     STORE(shared.cubes_left, queue.size() + elsewhere);
 }
 
-// Whether it has no cube, or has refuted it; a refuted one is counted once.
+// Whether the engine has no cube, or has refuted its cube; a refuted cube is counted once.
 bool Dealer::is_idle(const Shared &shared, int k) {
     const EngineStatus &engine_status = shared.engine_statuses[k];
     if (LOAD(engine_status.gone) || has_cube(engine_status)) return false;

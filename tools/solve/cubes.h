@@ -2,11 +2,11 @@
 // divide the search space.
 //
 // Each assumes the literals of a cube. What it learns doesn't depend on them, and is given away as
-// usual; the clause that refutes a cube is a clause like any other. So proofs know nothing of
+// usual; the clause that refutes a cube is a clause like any other. So nothing in proofs is about
 // cubes. The first engine stays on the whole formula, since a cube may be as hard as that. After
 // some conflicts it chooses the variables by which cubes are made, and all engines keep these. The
 // first process deals cubes out: an idle engine gets the cube of a lost engine, or half of the
-// oldest cube. Until it gets one, it works on the whole formula, too.
+// oldest cube. Until then it works on the whole formula, too.
 //
 // If the user gives cubes, all engines first take these, one after the other, and no engine
 // eliminates their variables.
@@ -27,7 +27,7 @@ class Cubes {
 public:
     Cubes(const Engine &engine, CaDiCaL::Solver &solver);
 
-    void keep_variables();              // freezes those of the user's cubes, before solving
+    void keep_variables();              // freezes the variables of the user's cubes, before solving
     const Cube &cube() const { return literals; }
     bool looks() const;                 // whether it counts the variables of learned clauses
     void count_conflict();

@@ -104,8 +104,8 @@ private:
         solver.traverse_witnesses_forward(*this);
     }
 
-    // The first two each stay in one of the two modes between which CaDiCaL alternates; each is
-    // best on other formulas.
+    // The first two each stay in one of the two modes between which CaDiCaL alternates; which mode
+    // is better depends on the formula.
     void differ() {
         switch ((engine.number - 1) % 8) {
             case 0: solver.configure("unsat"); break;
@@ -215,7 +215,7 @@ private:
 
     // Taking over.
 
-    // When one half is full, the older one is forgotten, so a clause may be taken twice.
+    // When one half is full, the older half is forgotten, so a clause may be taken twice.
     bool is_new(const Literal *literals, size_t length) {
         uint64_t sum = hash_literals(literals, length);
         if (known.size() >= MOST_KNOWN) known_before = std::move(known), known.clear();

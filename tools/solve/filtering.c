@@ -149,7 +149,7 @@ static void open_stream(void) {
 }
 
 // Ends the stream. Clauses that were given away aren't deleted, since others may cite them; the
-// next round's formula has them. A filter that ends with its stream keeps nothing else.
+// next round's formula has them. A filter that ends with this stream keeps no other clauses.
 static void end_stream(bool goes_on) {
     uint64_t literals, clauses = round_clauses(&filter, &literals);
     STORE(engine_status->held, clauses + literals);

@@ -23,8 +23,8 @@ int place = -1, folder_file = -1;           // the folder that it is in; the fol
 Pipe life;                                  // closed when this process ends
 pid_t cleaner = 0;
 
-// Removes what has names that begin so, by descriptors only, since a name may be another file's by
-// now. Closes `file`.
+// Removes everything whose name begins in this way, by descriptors only, since a name may be
+// another file's by now. Closes `file`.
 void remove_within(int file, const std::string &beginning = "") {
     DIR *list = file < 0 ? nullptr : fdopendir(file);
     while (const dirent *entry = list ? readdir(list) : nullptr) {
@@ -37,7 +37,7 @@ void remove_within(int file, const std::string &beginning = "") {
     if (list) closedir(list);
 }
 
-// Whether its name still names it.
+// Whether the folder's name still names it.
 bool is_named(int file) {
     struct stat ours, found;
     return fstat(file, &ours) == 0 &&

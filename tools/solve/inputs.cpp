@@ -25,7 +25,7 @@ const int LONGEST_NUMBER = 21;
 const Inputs *the_inputs;
 
 // A thread reads the formula, and then writes to the file; a fault ends the run. The thread may
-// have a fault before the first one knows that it is there.
+// have a fault before the main thread knows that it is there.
 thread_local bool is_reader = false;
 int read_file = -1;
 std::string fault;
@@ -182,7 +182,7 @@ void Inputs::read_assumptions() {
             refuse_formula(name + ": not a number: " + shown);
         if (std::abs(literal) > formula.variables)
             refuse_formula(name + ": the literal " + shown +
-                           ", and the formula has the variables 1 to " +
+                           ", but the formula has the variables 1 to " +
                            std::to_string(formula.variables));
         assumed.push_back(literal > 0 ? 2 * (literal - 1) : 2 * (-literal - 1) + 1);
     }

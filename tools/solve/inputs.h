@@ -29,7 +29,7 @@ public:
     std::string contradiction() const;          // of the assumptions; or ""
     bool is_model(const signed char *values) const;
     std::string fault_of_assumptions() const;   // in their spelling; "" if unknown
-    // in lrupd's words, if it refuses it, too
+    // in lrupd's words, if lrupd refuses it, too
     [[noreturn]] void refuse_formula(const std::string &cause) const;
 
 private:

@@ -125,7 +125,7 @@ bool Peer::keeps(const Message &message) {
     if (word == GIFTS && message.head.process == 0) awaited--;
     bool is_kept = test_hooks.late_saved && word == CONTROL &&
         beginning<Control>(message).saved_round > LOAD(teams.shared->saved_round);
-    // one may be on its way; the others share until the last one
+    // one message may be on its way; the other processes share until the last one comes
     if (is_kept && kept.empty()) awaited = 3;
     return is_kept;
 }

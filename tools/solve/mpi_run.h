@@ -23,7 +23,7 @@ enum Word : uint32_t {
     HELLO,          // from the carrier: the processes, and how many engines each has
     INPUT,          // from process 0 to all: a piece of what is read first; an empty one is the end
     GIFTS,          // from each process to all: the clauses of an exchange
-    LEAVE,          // the last one: the process exchanges nothing more
+    LEAVE,          // from each process, the last message: it exchanges nothing more
     EXCHANGED,      // from the carrier: the nanoseconds that an exchange took
     CONTROL,        // from process 0: what it stores in `Shared`
     SAVED,          // from process 0, before a round counts as saved: the checkpoint's identities

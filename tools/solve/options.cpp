@@ -22,7 +22,7 @@ const char help_of_check[] =
 #include "lrup-check.help.h"
     ;
 
-// What was given. Of an option that is given twice the last value counts.
+// What was given. If an option is given twice, the last value counts.
 struct {
     bool no_share;
     const char *engines, *share_size, *seed, *save_every, *time, *memory, *expect, *lrupd, *program;
@@ -61,7 +61,7 @@ double seconds(const char *name, const char *value, double usual) {
 
 uint64_t bytes(const std::string &value, uint64_t least) {
     uint64_t found = memory_read(value.c_str());
-    if (found == 0) bad_value("--memory", "bytes, as 2000000000, 2000M or 2G", value.c_str());
+    if (found == 0) bad_value("--memory", "bytes, such as 2000000000, 2000M or 2G", value.c_str());
     if (found > MOST_MEMORY) bad_value("--memory", "at most 2147483648 bytes", value.c_str());
     if (found < least)
         bad_value("--memory", "a second number that isn't below the first", value.c_str());

@@ -99,7 +99,7 @@ std::vector<std::string> files_of(const std::string &folder) {
 }
 
 [[noreturn]] void refuse_own(const std::string &path) {
-    refuse(path + " is there, and isn't of an earlier run: choose another --proofs");
+    refuse(path + " is there, but isn't from an earlier run: choose another --proofs");
 }
 
 bool write_list(const std::string &text) {
@@ -107,7 +107,7 @@ bool write_list(const std::string &text) {
 }
 
 // A last name without LF has no file, since the run ended before making it. Another user's list is
-// refused: it may name files that this user can remove, and that one can't.
+// refused: it may name files that this user can remove, but the other can't.
 void read_list(const std::string &path) {
     struct stat found;
     const int how = O_RDWR | O_APPEND | O_NOFOLLOW | O_NONBLOCK | O_CLOEXEC;

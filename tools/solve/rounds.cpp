@@ -79,7 +79,8 @@ bool Rounds::make_room(bool fits) {
     STORE(shared->crowded, !is_alone && (!fits || double(rows.formula) > CROWDED * double(rows.most)));
     if (fits || is_alone) return fits;
     if (!was_crowded) return true;
-    std::string lost = teams.choose_leaving("the clauses of all leave no room" + in_a_row_of(rows.most));
+    std::string lost =
+        teams.choose_leaving("the clauses of all engines leave no room" + in_a_row_of(rows.most));
     if (!lost.empty()) display.tell_more(lost);
     return true;
 }
@@ -296,7 +297,8 @@ void Rounds::start_checker(Row wanted) {
     if (goes_on) checker.expect_round(Folder::name() + "/" + name_of_round(checked + 1));
 }
 
-// The record has what the killed lrupd read. Each may be killed, so the number of starts is limited.
+// The record has what the killed lrupd read. The next one may be killed, too, so the number of
+// starts is limited.
 bool Rounds::may_check_again() {
     if (!checker.was_killed()) return false;
     teams.look_at_record();
@@ -502,7 +504,8 @@ void Rounds::end_round(bool full) {
     teams.go_on();
 }
 
-// lrupd has saved the round: filters take the new identities, and meanwhile it begins the next one.
+// lrupd has saved the round: filters take the new identities, and meanwhile lrupd begins the next
+// round.
 std::string Rounds::map_round() {
     uint64_t streams = teams.shared->streams;
     teams.cut_streams();

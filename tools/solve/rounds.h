@@ -33,7 +33,7 @@ public:
     std::string beginning() const;              // a message about a resumed run
     bool may_check_again();                     // whether another lrupd may replace a killed one
     std::string check_again();                  // starts it; returns why it can't, or ""
-    std::string look();                         // returns why the run can't go on, or ""
+    std::string look();                         // returns why the run can't continue, or ""
     std::string feed(bool is_last);             // feeds lrupd; returns why it can't, or ""
     bool is_behind() const { return checked < number; }     // lrupd reads rounds that have ended
     void save_last();                           // round, so that the run can be resumed

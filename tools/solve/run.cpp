@@ -53,7 +53,7 @@ void Run::await_formula(int file) {
         poll(files, 2, milliseconds_to(std::min(limit, display.next_reading())));
         is_read = files[1].revents != 0;
         if (files[0].revents != 0) front.read_on(nullptr);
-        if (now() >= limit && !is_read) why = "time is up, and the formula isn't read";
+        if (now() >= limit && !is_read) why = "time is up, but the formula isn't read yet";
         if (!front.stopped.empty()) why = front.stopped;
     }
     display.end_reading();
@@ -138,7 +138,7 @@ void Run::look() {
 
 bool Run::may_check_again() { return asked.empty() && rounds.may_check_again(); }
 
-// Another lrupd begins, while engines go on, once no filter reads what the killed one has saved.
+// Another lrupd begins, while engines continue, once no filter reads what the killed one has saved.
 void Run::look_at_killed() {
     if (!may_check_again() || rounds.state == Rounds::MAPPING) return;
     display.show_lines();
@@ -231,10 +231,10 @@ bool Run::look_at_end(size_t k) {
     if (LOAD(facts.answer) != 0 || facts.cause[0] || !has_ended) return false;
     bool unfounded = LOAD(facts.unfounded);
     team.idle = !unfounded && LOAD(facts.lines) == 0 && !is_usual(team.engine);
-    static const char no_values[] = "it says 'satisfiable', and gives no assignment in lines v";
+    static const char no_values[] = "it says 'satisfiable', but gives no assignment in lines v";
     std::string end = inputs.options.check ? "it can't be read" : end_of(k);
     tell_lost(k, unfounded ? no_values : end);
-    if (LOAD(facts.group)) kill(-LOAD(facts.group), SIGKILL);       // in case its process couldn't
+    if (LOAD(facts.group)) kill(-LOAD(facts.group), SIGKILL);       // in case the engine couldn't
     return true;
 }
 
@@ -289,7 +289,7 @@ void Run::verdict() {
     if (is_proved || is_unknown) unkept = rounds.keep_report();
     has_report = (is_proved || is_unknown) && unkept.empty();
     if (is_proved) return finish(UNSATISFIABLE, "");
-    finish(UNKNOWN_ANSWER, is_unknown ? "lrupd hasn't taken the proof" : end_of_checker());
+    finish(UNKNOWN_ANSWER, is_unknown ? "lrupd hasn't accepted the proof" : end_of_checker());
 }
 
 std::string Run::end_of_checker() const {

@@ -11,7 +11,7 @@
 // Engines on other hosts, and what this process does for them (mpi_leader.cpp).
 struct Elsewhere {
     std::function<void()> begin;                        // before engines start here
-    std::function<std::string()> look;  // in each turn; returns why the run can't go on, or ""
+    std::function<std::string()> look;  // in each turn; returns why the run can't continue, or ""
     std::function<double()> next_look;                  // when `look` is due at the latest
     std::function<std::vector<pollfd>()> files;         // to wait for
     std::function<void()> details;                      // with -v

@@ -69,7 +69,7 @@ void SavedRounds::read_list(const std::string &text) {
         if (!is_right) refuse_file(path + ", line " + std::to_string(number) + ", isn't as it was written");
         digests[name] = line.substr(0, DIGEST_DIGITS);
     }
-    if (text.empty() || text.back() != '\n') refuse_file(path + " is cut");
+    if (text.empty() || text.back() != '\n') refuse_file(path + " is truncated");
 }
 
 SavedRounds::Sizes SavedRounds::read_sizes(uint64_t round) const {
@@ -214,7 +214,7 @@ void Saver::start() {
     close_file(now.file);
 }
 
-// Once the list names the new checkpoint, the last one isn't needed any more.
+// Once the list names the new checkpoint, the previous one isn't needed any more.
 std::string Saver::write() const {
     const std::string path = folder + checkpoint_name(now.round), list = folder + LIST_OF_ROUNDS;
     for (size_t k = on_disk; k < now.digests.size(); k++) bring_to_disk(now.digests[k].substr(BEFORE_NAME));

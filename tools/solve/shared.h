@@ -39,7 +39,7 @@ typedef struct {
     // the end of a solver's standard error; read it once it has ended
     char last_words[LONGEST_CAUSE];
     int ready;                  // it has frozen the variables of cubes
-    uint64_t usable;            // bits: those that it hadn't eliminated before, and that are open
+    uint64_t usable;            // bits: variables that are open, and weren't eliminated before that
     uint64_t refuted_cube;      // the number of the last cube that it refuted
     uint64_t refuted_cubes;
     // The filter writes:
@@ -81,7 +81,7 @@ typedef struct {
     int over;                           // the run has its answer: streams end after a whole line
     uint64_t round;                     // from 1
     uint64_t ending_round;              // all streams of this round end after a whole line
-    // lrupd has saved this round; `checkpoint` and the streams' numbers are the next one's
+    // lrupd has saved this round; `checkpoint` and the streams' numbers are the next round's
     uint64_t saved_round;
     uint64_t streams;
     uint64_t leaving;                   // the engine that ends with this round; 0: none

@@ -16,7 +16,7 @@ extern const char *program_name;         // options.cpp
 
 // options.cpp: the command line.
 struct Options {
-    int engines = 0;            // 0: half of the cores; later with the solvers
+    int engines = 0;            // 0: half of the cores; solvers are added later
     bool check = false;         // lrup-check: solvers are existing proofs
     // commands, or paths of proofs: the last engines, which share nothing
     std::vector<const char *> solvers;
@@ -34,7 +34,7 @@ struct Options {
     double save_every = 0;              // seconds after which a round ends
     std::string words;          // the command line, quoted for a shell
     const char *core = nullptr, *lrat = nullptr;     // files to write
-    bool rehint = false;        // for both
+    bool rehint = false;        // for core and LRAT text
     bool replace = false;       // even a record with a proof, or with rounds of an unfinished run
     bool verbose = false, quiet = false;
 

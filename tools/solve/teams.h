@@ -60,8 +60,8 @@ public:
     bool end_streams(bool is_late);     // after a whole line; true once all filters have ended
     // an engine that ends with the next round; returns why
     std::string choose_leaving(const std::string &cause);
-    void keep_last();                   // keeps that one, if no other is left
-    void end_leaving();                 // that one: its round has ended
+    void keep_last();                   // keeps that engine, if no other is left
+    void end_leaving();                 // ends that engine: its round has ended
     void tell_filters() const;          // wakes them after stores
     void tell_fed(size_t k, uint64_t bytes) const;
 

@@ -100,8 +100,8 @@ static Outcome step(Proof *proof, const Round *round, Stream *stream, unsigned c
     return TAKEN;
 }
 
-// Reads a stream until it cites a line of another one that wasn't read; then reads that one up to
-// the cited line. If that leads back to a waiting stream, no order is right.
+// Reads a stream until it cites a line of another stream that wasn't read; then reads that stream
+// up to the cited line. If that leads back to a waiting stream, no order is right.
 static void merge(Proof *proof, const Round *round, unsigned char *dropped) {
     struct { uint32_t stream; uint64_t slots; } stack[STREAMS];
     bool waits[STREAMS] = { false };

@@ -1,6 +1,6 @@
 // Unverified, like the whole tool. Option --re-hint: the filter gets the needed lines over the
-// core, without their hints and without deletions. It finds hints by unit propagation, which need
-// fewer lines in all.
+// core, without their hints and without deletions. By unit propagation it finds hints that
+// need fewer lines in all.
 #include "../exact/errors.h"
 #include "../exact/filter.h"
 #include "trim.h"

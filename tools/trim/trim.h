@@ -50,8 +50,8 @@ typedef struct {
     unsigned char *assumed;             // by literal; NULL: nothing is assumed
     uint64_t numbers;                   // the next free number
     Number target;                      // the clause that ends the proof, or 0
-    // by number: the last line that cites it, 0: not needed; its place among the needed ones, from
-    // 1
+    // by number: the last line that cites it, 0: not needed; its place among the needed lines,
+    // from 1
     Number *last_use, *place;
     uint64_t lines, bytes;              // read
     uint64_t core, kept, room;          // needed clauses of FORMULA, lines, literals of these lines

@@ -72,7 +72,7 @@ static long until, latest;                      // deadlines, by now(): of the s
 static const char *self, *lrupd, *formula, *assume;     // paths
 static const char *verdict;                     // a line; NULL: there is none
 static signed char *assignment;                 // from 1 on: 1 true, -1 false
-static long known;                              // variables in it
+static long known;                              // how many variables it has
 static bool is_whole, has_refused;              // the assignment; lrup-engines
 static int ended_by, null, signals, told[2], heard[2];  // a signal; files; pipes of lrup-engines
 static sigset_t mask_before;
@@ -86,7 +86,7 @@ static char *text(const char *format, ...) {
     return made;
 }
 
-// False for words that can't be used: lrup-engines gets the same, and says why.
+// False for words that can't be used: lrup-engines gets the same words, and says why.
 static bool read_words(int count, char **words) {
     static const struct option list[] = {       // 1: a value follows
         { "assume", 1, NULL, 'a' },   { "check", 0, NULL, 'p' },    { "core", 1, NULL, 'c' },
@@ -145,7 +145,7 @@ static const char *find_program(const char *named, const char *name) {
     if (found == NULL) found = name;
     if (strchr(found, '/') == NULL) found = on_the_path(found);     // trusted (name)
     if (found != NULL && is_program(found)) return found;
-    errx(1, "no %s that can be run: %s", name, named ? named : "none beside this or on the PATH");
+    errx(1, "no %s that can be run: %s", name, named ? named : "none beside lrup-solve or on PATH");
 }
 
 // The open file's name for all processes, even once its path is another file's.
@@ -405,16 +405,16 @@ static int as_expected(const char *line) {      // by --expect: 0 for the line t
     if (strcmp(both, "sat: s SATISFIABLE") == 0) return 0;
     if (strcmp(both, "unsat: s UNSATISFIABLE") == 0) return 0;
     if (strcmp(both, "unsat-under-assumptions: s UNSATISFIABLE UNDER ASSUMPTIONS") == 0) return 0;
-    errx(1, "--expect %s, and the answer is %s", options.expect, line);
+    errx(1, "--expect %s, but the answer is %s", options.expect, line);
 }
 
 static int answer(void) {
     bool is_read = exited_with(PROBE, UNKNOWN), is_satisfied = is_whole && !verdict;
     bool is_refused = children[PROBE].end.si_code == CLD_EXITED && !is_read;    // by lrupd
-    if (!is_read) is_satisfied = false;                     // trusted (refused): lrupd took none
+    if (!is_read) is_satisfied = false;                    // trusted (refused): lrupd accepted none
     if (is_satisfied && !satisfies(formula, true)) is_satisfied = false;        // trusted (model)
     if (assume && is_satisfied) is_satisfied = satisfies(assume, false);        // trusted (assumed)
-    if (is_refused && !has_refused && !verdict && !ended_by) errx(1, "lrupd took no formula");
+    if (is_refused && !has_refused && !verdict && !ended_by) errx(1, "lrupd accepted no formula");
     sigprocmask(SIG_SETMASK, &mask_before, NULL);           // a signal ends a wait for a reader
     const char *line = is_satisfied ? "s SATISFIABLE" : verdict ? verdict : "s UNKNOWN";
     if (is_satisfied) print_assignment();
