@@ -182,7 +182,7 @@ def locked(name: str, ends: int, work: Path) -> None:
         running.wait(LIMIT)
         none_left(mark)
         want(set(before) <= set(listed(kept)), True, f"whether all of {before} is listed")
-        want_answer(solve(words), 20)
+        want_answer(solve(["--replace", *words]), 20)   # it may have saved a round
     check_again(kept)
 
 
