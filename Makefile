@@ -344,11 +344,11 @@ packages: ## check: install, as root, the Debian packages that tests need
 # the crates' tests, and builds the program with two compilers; then the tests of programs,
 # the longest files first, without the rows of --mpi that wait long. The last line
 # is rt's own, 'N passed, M failed'.
-ROWS := lrup_solve_mpi lrup_solve_rounds program_refusals filter_mutants lrup_solve \
-	lrup_solve_solvers lrup_solve_cubes filter_rounds lrup_solve_resume explain trim \
-	lrup_solve_front lrup_solve_days lrup_solve_hostile lrup_solve_inputs lrup_solve_kept \
-	lrup_solve_folders lrup_solve_kills lrup_solve_trusted lrup_check builds program_leaks \
-	program_instructions filter_chains filter_streams filter_lines filter_solvers \
+ROWS := filter_mutants program_refusals lrup_solve_rounds lrup_solve lrup_solve_kept \
+	lrup_solve_solvers filter_chains lrup_solve_resume lrup_solve_hostile explain trim \
+	lrup_solve_cubes filter_rounds lrup_solve_mpi lrup_solve_front lrup_solve_days \
+	lrup_solve_inputs lrup_solve_folders lrup_solve_kills lrup_solve_trusted lrup_check \
+	builds program_leaks program_instructions filter_streams filter_lines filter_solvers \
 	program_checkpoints lrup_chain example_chain program_rounds program_rounds_faults \
 	program_rounds_alone program_answers program_groups example_solver program_neighbours \
 	program_live shown quotes

@@ -31,7 +31,7 @@ PARTS = ("src", "specs", "proofs")
 CORES = len(os.sched_getaffinity(0))
 JOBS = min(4, CORES)
 GB_EACH = 3.5  # with four jobs; at most 3.3 was seen
-SECONDS_EACH = 20  # of spare processor time, for a step of nice
+SECONDS_EACH = 40  # of spare processor time, for a step of nice
 
 TEXT = (ROOT / "crates.txt").read_text()
 LINES = {name: line for line, name in re.findall(r"^((\w+):.*)", TEXT, re.M)}

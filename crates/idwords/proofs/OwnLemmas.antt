@@ -55,7 +55,8 @@ retired_word (retired c) o spells is = absurd is
 module _ (v : ThreadState) (more : History) (words : List ℕ) (views : List (List ThreadState)) (seat : ℕ)
     (kept : OwnKeeps v more words views)
     (here : get_elem? views seat ≡ some (v ∷ [])) where
-  -- what the map has at an own identity is what the thread state's calls left there
+  -- what the map has at one of the stream's own identities is what the thread state's calls left
+  -- there
   pub own_slot : (id : ℕ) → Owns v.view.caller.layout (thread_stream v) id
       → state v.view.caller.formula (v.view.seen ++ more) id ≡ state v.view.caller.formula v.view.mine id
   own_slot id owns =

@@ -160,10 +160,10 @@ pub trait Word: Copy {
     /// How it is spelled.
     ghost text: { Self → List ℕ };
 
-    /// Whether a line can have it.
+    /// Whether the word may occur in a line.
     ghost fits: { Self → Type 0 };
 
-    /// Reads a word, and returns it and the index after it, where any byte may be.
+    /// Reads a word. Returns it and the index of the byte after it, which may be any byte.
     fn read(bytes: &[u8], start: usize) -> Option<(Self, usize)>
         requires ends { EndsWord bytes.now }
         requires inside { start < length bytes.now }

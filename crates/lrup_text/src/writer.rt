@@ -62,8 +62,7 @@ impl WriteBuffer {
         }
     }
 
-    /// Writes all that is held. If the sink fails, a prefix of it was written. Nothing is held
-    /// then.
+    /// Writes all that is held, or a prefix of it if the sink fails. Afterwards nothing is held.
     pub fn flush<W: Sink>(&mut self, sink: &mut W) -> Result<(), WriteFault>
         requires { W.has_failed sink.old ≡ false }
         ensures text { WritesText result (W.written sink.old) (W.written sink.new) self.old }

@@ -1,4 +1,4 @@
--- What kinds of events a line has: a deletion only retires, and no other line does.
+-- What kinds of events a line has: a deletion only retires, and no other line retires.
 use Rattle.std.proofs.Common.{ℕ, Bool, List, [], ◌∷◌}
 use Rattle.std.specs.Prelude.{IsTrue}
 use Rattle.std.specs.List.{AllByRecursion}

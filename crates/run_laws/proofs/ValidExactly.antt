@@ -180,7 +180,7 @@ addition_mirrors f c m base before id lits hints es a judged =
 
 -- Deletions
 
--- the identity can be deleted: an own one is live, and one of the formula isn't dropped
+-- the identity can be deleted: the stream's own is live, and one of the formula isn't dropped
 abbrev CanGo : StreamParams → (ℕ → Bool) → List ℕ → State → ℕ → Type 0
 CanGo c is_dropped earlier m id =
     ((ownership_of c id ≡ ownerships.Own) × IsLive (m id))

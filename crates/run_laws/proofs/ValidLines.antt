@@ -476,7 +476,7 @@ pub left : (b : Bool) (o : Option Clause) (d : Clause) → cond b None o ≡ Som
 left true o d is = absurd (let no : None ≡ Some d = is in cc)
 left false o d is = (refl, is)
 
--- an own identity is never dropped
+-- the stream never drops one of its own identities
 not_shared : (is_dropped among : Bool) (ownership : Ownership) → is_dropped ≡ false → ownership ≡ ownerships.Own
     → (is_dropped || (is_shared ownership && among)) ≡ false
 not_shared is_dropped among ownership kept own =

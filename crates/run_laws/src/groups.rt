@@ -15,7 +15,7 @@ pub fn beginnings_within()
     a_beginning_is_cut_alike();
 }
 
-/// A set of streams is closed if all bytes that its readers have left at first cite within it.
+/// A set of streams is closed if all bytes that its readers have left at the start cite within it.
 pub fn readers_closed()
     ensures { ReadersClosed }
 {

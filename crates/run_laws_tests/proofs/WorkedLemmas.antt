@@ -88,7 +88,7 @@ unit_differs valid =
     let has : Has unit (pos 1) = (valid.same (pos 1)).0 (subst (λ (x : Clause). Has x (pos 1)) same (inl refl)) in
     elim has [ inl e ↦ two_not_one e | inr none ↦ none ]
 
--- 1 is the formula's, and no stream's own
+-- 1 is the formula's, not a stream's own
 pub one_is_the_formulas : Owns one_stream 1 1 → ⊥
 one_is_the_formulas owns = let no : owners.Formula ≡ owners.Stream 1 = owns in cc
 

@@ -45,7 +45,7 @@ spent-fetches s (events.retire t id r ∷ es) h = absurd h.0
 pub room_stays : (p q : CallerView) (es : History) → CallerStep p q es → AllByRecursion IsFetch es → q.room ≡ p.room
 room_stays p q es step quiet = omega (arith, step.room, spent-fetches p.caller.stream es quiet)
 
--- an own identity, as a view of the stream has it
+-- one of the stream's own identities, as a view of the stream has it
 pub owns_at : (c : StreamParams) (p : CallerView) (id : ℕ) → IsViewOf c p → Owns c.layout c.stream id
     → Owns p.caller.layout p.caller.stream id
 owns_at c p id at owns =

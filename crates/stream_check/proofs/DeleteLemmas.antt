@@ -34,7 +34,7 @@ own_bool false true false true h = sym (h refl)
 own_bool false true false false h = refl
 own_bool false false e b h = refl
 
--- the dropped identities after one more identity, a shared one or an own one
+-- the dropped identities after one more identity, a shared one or one of the stream's own
 dropped_shared : (c : StreamParams) (first earlier old new : List ℕ) (id : ℕ) → is_shared (ownership_of c id) ≡ true
     → AreDropped c first earlier old
     → ((j : ℕ) → is_among new j ≡ (is_among old j || id == j)) → AreDropped c first (earlier ++ id ∷ []) new

@@ -180,7 +180,7 @@ live_not_retired absent a b = a
 live_not_retired (live d) a b = b
 live_not_retired (retired d) a b = a
 
--- an own identity that was live is retired
+-- one of the stream's own identities that was live is retired
 took_own : (c : StreamParams) (n : State) (is_dropped : ℕ → Bool) (earlier : List ℕ) (id many : ℕ) → ownership_of c id ≡ ownerships.Own
     → OwnAnswers n (events.retire c.stream id retiring.Done)
     → AreTaken c n is_dropped earlier many → AreTaken c (after n (events.retire c.stream id retiring.Done)) is_dropped (earlier ++ id ∷ [])

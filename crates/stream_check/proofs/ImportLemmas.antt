@@ -23,7 +23,7 @@ use Rattle.stream_check.proofs.DeletedLemmas.{identity_below}
 
 -- What may be imported
 
--- the number is an identity, and not the stream's own
+-- the number is an identity, but not the stream's own
 abbrev IsOthers : StreamParams → ℕ → Type 0
 IsOthers c id = IsIdentity c.layout id × (¬ Owns c.layout c.stream id)
 

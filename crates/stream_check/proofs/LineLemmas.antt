@@ -37,7 +37,7 @@ use Rattle.stream_check.specs.lemmas.StoppingLemmas.{drops_none}
 
 -- The view after fetches alone
 
--- what the view before had at an own identity
+-- what the view before had at one of the stream's own identities
 own_before : (p q : CallerView) (es : History) (j : ℕ) → CallerStep p q es → Owns q.caller.layout q.caller.stream j
     → Owns p.caller.layout p.caller.stream j
 own_before p q es j step theirs = subst (λ (r : Caller). Owns r.layout r.stream j) step.caller theirs

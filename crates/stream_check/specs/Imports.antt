@@ -10,7 +10,7 @@ use Rattle.stream_check.specs.StreamContext.{StreamContext}
 use Rattle.stream_check.specs.Verdicts.{LineVerdict, Good, Bad, Violates}
 use Rattle.stream_check.specs.Lookup.{AreFound, LooksUp}
 
--- An import is valid: its identity is an identity, and not the stream's own; its literals are over
+-- An import is valid: its identity is an identity, but not the stream's own; its literals are over
 -- the variables; and the clause that its identity names has the same literals, in any order and
 -- each written any number of times.
 pub record IsValidImport (layout : LayoutValue) (stream : ℕ)

@@ -180,8 +180,8 @@ ReducedStream = (c : StreamParams) (bytes : List ℕ) (end : StreamEnd) (blocks 
 
 -- What lines cite
 
--- each identity that the judgement of a line may fetch, including own ones and the formula's: the
--- hints of an addition, and the identity of an import; a deletion fetches none
+-- each identity that the judgement of a line may fetch, including the stream's own and the
+-- formula's: the hints of an addition, and the identity of an import; a deletion fetches none
 abbrev pub cited_by : StreamLine → List ℕ
 cited_by (Addition id lits hints) = hints
 cited_by (Deletion lead ids) = []

@@ -33,8 +33,8 @@ fn retire_own<M: ClauseMap>(state: &mut StreamState, map: &mut M, id: Id) -> Res
     }
 }
 
-/// Deletes one identity: an own one is retired at the map; one of the formula or of another stream
-/// is only dropped by this stream.
+/// Deletes one identity: one of the stream's own is retired at the map; one of the formula or of
+/// another stream is only dropped by this stream.
 fn delete_one<M: ClauseMap>(state: &mut StreamState, map: &mut M, id: Id) -> Result<(), LineStop>
     requires at { IsViewOf state.old.params (M.caller_view map.old) }
     ensures deletes { (es : History) × M.moves map.old map.new es × AllByRecursion IsRetire es

@@ -36,8 +36,8 @@ pub enum Fault {
     Excess(Id),
     /// The hints ended without a conflict.
     NoConflict,
-    /// An identity to delete: an own one that isn't live, another one that the stream dropped
-    /// before, or a number that isn't an identity.
+    /// An identity to delete: one of the stream's own that isn't live, another's that the stream
+    /// dropped before, or a number that isn't an identity.
     NotLive(Id),
     /// The literals of this import aren't those of its identity's clause.
     Differs(Id),

@@ -120,7 +120,7 @@ impl StreamState {
         self.line = self.line.saturating_add(1);
     }
 
-    /// Counts an own identity that was retired. The count stays at 2^64 - 1.
+    /// Counts one of the stream's own identities that was retired. The count stays at 2^64 - 1.
     pub fn count_retired(&mut self)
         ensures { self.new ≡ record self.old { retired = capped (self.old.retired + 1) } }
     {

@@ -291,7 +291,7 @@ fn hints_that_are_not_foreign_are_fetched_once(rt: HostRuntime) -> Result<(), Fa
     have_reports(&rt, rt.alloc(), TWO_STREAMS, HINTS_FETCHED_ONCE)
 }
 
-/// The other stream publishes 6 never or right before some fetch, and may retire it immediately.
+/// The other stream publishes 6 right before some fetch, or never, and may retire it at once.
 static FOREIGN_HINTS: &[&str] = &[
     "tries=0: 5 -2 0 6 0\n => 0 added, 0 deleted, bad line 1 (missing 6); fetches 1",
     "tries=0 published=1: 5 -2 0 6 0\n => 1 added, 0 deleted, ended; fetches 1",
@@ -336,7 +336,8 @@ fn a_hint_may_come_at_the_last_try(rt: HostRuntime) -> Result<(), Fail> {
     Ok(())
 }
 
-/// A deletion makes one retire for each own identity that it reaches, and no call for others.
+/// A deletion makes one retire for each of the stream's own identities that it reaches, and no call
+/// for others.
 static DELETIONS: &[&str] = &[
     "5 d 0\n => 0 added, 0 deleted, ended; fetches 0",
     "5 d 1 6 0\n => 0 added, 2 deleted, ended; fetches 0",

@@ -55,7 +55,7 @@ fn missing_hints_are_judged()
         [] (Bad 0 (Fault.Dropped 1)) }
 {}
 
-/// Deletions: an own identity is retired, and one of the formula dropped, once each.
+/// Deletions: the stream's own identity is retired, and one of the formula is dropped, once each.
 fn deletions_are_judged()
     ensures own { JudgesLine first_stream at_start (Deletion 5 (5 ∷ 5 ∷ []))
         (five_retired ∷ five_refused ∷ []) (Bad 1 (Fault.NotLive 5)) }

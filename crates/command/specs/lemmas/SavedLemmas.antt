@@ -96,7 +96,8 @@ module _ {its : Effects} {given : CommandLine} {cube : CubeValue} (round : Round
       leaves_kept its round.formula layout h dropped round.verdict round.opened round.after path round.next unrefuted
       (subst (Leaves (Some path)) saved (subst (λ (o : Option Text). Leaves o round.unsaved) at round.leaves))
 
-  -- so did a round after which the run continues, and its checkpoint's formula is the next one
+  -- a round after which the run continues saved its checkpoint, too, whose formula is the next
+  -- round's
   pub carried : (next : Cnf) (on : CarriesOn round next)
       → KeptAt its round.formula round.opened (formula_path on.folder (round.number + 1))
       (Some next) round.after

@@ -33,8 +33,8 @@ fn is_last(done: &str, sign: &str) -> bool {
 }
 
 /// Whether a run whose status would be this may end like this after one allocation or thread was
-/// refused. A file was discarded if the formula was refuted or a checkpoint couldn't be saved; none
-/// was if a report says 'unknown' and everything was saved.
+/// refused. A file was discarded if the formula was refuted or a checkpoint couldn't be saved; no
+/// file was discarded if a report says 'unknown' and everything was saved.
 fn may_end(ran: &Ran, in_rounds: bool, status: u8) -> bool {
     let (found, out, err) = ran.ends();
     let (done, kept, _) = ran.left();

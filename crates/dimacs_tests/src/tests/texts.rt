@@ -14,7 +14,7 @@ fn zeros_in_front_are_refused()
     ensures header { (f : Cnf) → ¬ IsFormulaText (codes "p cnf 01 0\n") f }
 {}
 
-/// A clause ends at its 0, and not at the end of a line. A comment has no tokens.
+/// A clause ends at its 0, not at the end of a line. A comment has no tokens.
 fn a_clause_ends_at_its_zero()
     ensures lines { let only : Cnf = record { vars = 2; clauses = (pos 1 ∷ pos 2 ∷ []) ∷ [] } in
         (f : Cnf) → IsFormulaText (codes "p cnf 2 1\n1\n2 0\n") f ↔ (f ≡ only) }

@@ -173,8 +173,8 @@ pub own-none : (h : History) (s : ℕ) → AllByRecursion (λ e. stream_of e ≡
 own-none [] s others = refl
 own-none (e ∷ h) s others = own-other e h s others.0 ∙ own-none h s others.1
 
--- states that agree at an own identity agree there after a legal history and the stream's part of
--- it
+-- states that agree at one of the stream's own identities agree there after a legal history and the
+-- stream's part of it
 pub run-own : (f : Cnf) (p : LayoutValue) (m n : State) (h : History) (s id : ℕ) → LegalFrom f p m h
     → Owns p s id → m id ≡ n id → run m h id ≡ run n (own h s) id
 run-own f p m n [] s id legal owns agree = agree

@@ -73,7 +73,8 @@ line_verdict (Err fault) = Bad 0 fault
 
 -- Deletions
 
--- Deleting an own identity: the reply to one retire decides. Only this has an event.
+-- Deleting one of the stream's own identities: the reply to one retire decides. Only this has an
+-- event.
 abbrev pub DeletesOwn : StreamParams → ℕ → List ℕ → List ℕ → History → Result (Unit {0}) LineStop
     → Type 0
 DeletesOwn params id old new history (Ok _) =

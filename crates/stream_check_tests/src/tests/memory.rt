@@ -14,8 +14,8 @@ use std::test::Fail;
 use stream_check::{CheckStatus, Checker, Ending, Report};
 
 /// The first line, an addition of three literals, takes no memory. Each later line drops one more
-/// identity, and the second retires an own one before that. So if line `L` is refused memory, `L -
-/// 1` identities were deleted before.
+/// identity, and the second line first retires one of the stream's own. So if line `L` is refused
+/// memory, `L - 1` identities were deleted before.
 const LINES: &str = "5 1 2 1 0 1 0\n5 d 5 1 0\n\
     5 d 2 0\n5 d 3 0\n5 d 4 0\n5 d 6 0\n5 d 8 0\n5 d 10 0\n5 d 12 0\n5 d 14 0\n5 d 16 0\n\
     5 d 18 0\n5 d 20 0\n5 d 22 0\n5 d 24 0\n5 d 26 0\n5 d 28 0\n5 d 30 0\n5 d 32 0\n5 d 34 0\n";
