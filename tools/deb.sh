@@ -29,7 +29,7 @@ sed -i -e 's#](\(\.\./\)*docs/#](#g' -e 's#](\.\./#](#g' "$documents"/*.md
 for target in $(grep -ohE '\]\([^)#]+' "$documents"/*.md "$documents"/examples/*.md | sed 's/^](//' | sort -u); do
     for page in "$documents"/*.md "$documents"/examples/*.md; do
         case $target in http*) continue ;; esac
-        [ -e "${page%/*}/$target" ] || sed -i "s#\[\([^][]*\)\]($target[^)]*)#\1#g" "$page"
+        [ -e "${page%/*}/$target" ] || sed -zi "s#\[\([^][]*\)\]($target[^)]*)#\1#g" "$page"
     done
 done
 for file in "$top"/LICENSE* "$top"/COPYING* "$top"/copyright; do
