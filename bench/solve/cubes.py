@@ -26,7 +26,7 @@ class Split(NamedTuple):
 
 FORMULAS = (Split("waerden 4 6 73", "van der Waerden, 4 and 6", 200),
             Split("waerden 3 12 135", "van der Waerden, 3 and 12", 100),
-            Split("factor 1099511627689", "factoring", 64))
+            Split("commute 9", "two multipliers of 9 bits", 64))
 
 
 def output_of(words: List[object], to: Path) -> Path:
