@@ -338,8 +338,8 @@ def ended_by(number: int, round_number: int, pause: bool, work: Path) -> None:
 
 
 def nobody_looks(pause: bool, work: Path) -> None:
-    """While lrupd is stopped, filters wait: in the pause until it saves, and in a round since their
-    streams are far ahead."""
+    """While lrupd is stopped, filters wait: in the pause until it saves, and in a round because
+    their streams are far ahead."""
     with Running(["-j", "2", generated("pigeons 11", work)], 1, work, pause,
                  FIRST_WORDS=150000 if pause else 1 << 24, AHEAD=1000) as running:
         running.stop_lrupd()

@@ -46,7 +46,7 @@ ERRORS_OF_OPENINGS = ["EACCES", "EMFILE", "ELOOP", "ENOENT"]
 ERRORS_OF_CREATIONS = ["EACCES", "EMFILE", "ENOSPC"]
 ERRORS_OF_FLUSHES = ["EIO", "ENOSPC"]
 MANY = 5_000
-# Equally many allocations: lines take none.
+# Both need the same number of allocations: lines need none.
 ONE_LINE, MANY_LINES = "a line and an import", f"{MANY} lines and imports"
 BURDENED = " under assumptions, after a drop"
 FEW_CLAUSES, MANY_CLAUSES = "two clauses", f"{MANY} clauses"
@@ -372,7 +372,7 @@ def with_input(name: str, program: str, work: Path) -> None:
 
 
 def lines_and_clauses(serial: str, program: str, work: Path) -> None:
-    """Lines take no allocations, and clauses few."""
+    """Lines need no allocations, and clauses need few."""
     machine, counts = Machine(program, work), {}
     for given in inputs(work):
         if given.name.startswith(COUNTED) and given.name.endswith("--serial") == bool(serial):

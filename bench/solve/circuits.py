@@ -45,7 +45,7 @@ class Circuit:
                 for a, b in zip(then, other)]
 
     def sum(self, one, other, carry):
-        """The sum, of as many bits, and the carry."""
+        """The sum, with the same number of bits, and the carry."""
         bits = []
         for a, b in zip(one, other):
             half = self.differ(a, b)

@@ -3,8 +3,8 @@
 
     cubes.py [--rounds N] [--engines N] SOLVE LRUPD
 
-Each formula is split by examples/cubes/split.py. It is solved without and with the cubes, in turn
-and on the same cores; the least time by the clock of each counts."""
+examples/cubes/split.py splits each formula, which is then solved without and with the cubes, in
+turn and on the same cores. The shortest time by the clock counts."""
 import argparse
 import subprocess
 import sys

@@ -21,7 +21,7 @@ struct Options {
     // commands, or paths of proofs: the last engines, which share nothing
     std::vector<const char *> solvers;
     double seconds = 0;         // for the run; 0: no limit
-    // bytes of lrupd's row: usually, at most; 0: by the machine's memory
+    // bytes of lrupd's row: the usual and the largest size; 0: by the machine's memory
     uint64_t memory = 0, most_memory = 0;
     int share_size = 4;         // most literals of a clause that is given away; units always are
     bool share = true;

@@ -144,7 +144,7 @@ void round_add(Proof *proof, const char *const *paths, uint32_t count) {
 }
 
 // The formula of the next round, as lrupd makes it: the round's formula without clauses that all
-// streams deleted, and the derived clauses that their owners didn't delete, by identity.
+// streams deleted, and the derived clauses that their owners didn't delete, in order.
 static void carry(const Proof *proof, const Round *round, const unsigned char *dropped,
                   Round *next) {
     const Stream *streams = &proof->streams.items[round->first];
