@@ -163,7 +163,7 @@ def scope_of(uses: Iterable[str]) -> Scope:
         use = r"use (?:Rattle\.)?([\w.]+?)(?:\.\{ ?(.*?),? ?\})?(?: as ([\w-]+))?;?$"
         match = re.match(use, line)
         if not match:
-            sys.exit(f"a line that isn't read: {line}")
+            sys.exit(f"this line can't be read: {line}")
         for item in match[2].split(",") if match[2] else []:
             name, _, other = item.strip().partition(" as ")
             scope[other or name] = (match[1], name)

@@ -392,7 +392,7 @@ FAULTS = [
      "  why: 2 literals are neither true nor false: 1 2\n" + NO_CHAIN.format(0, 4)),
     ("dropped", ["4 d 3 1 0\n" + FIRST], "", "stream 1 (f1), line 2: dropped 1\n"
      "  derives  2    so at first -2 is true\n" + HINTS + row(1, "BAD", "1? 2F", of_formula(1))
-     + "        2  unread\n  why: this stream deleted 1 in its line 1, for itself\n"
+     + "        2  unread\n  why: this stream deleted 1 in its line 1, for this stream only\n"
      "  a right chain: 1 2    (if 1 isn't deleted)\n"),
     ("retired", [FIRST + "5 d 5 0\n6 0 5 3 4 0\n"], "",
      "stream 1 (f1), line 3: retired 5\n" + EMPTY + row(5, "BAD", "2?", "stream 1, line 1")
@@ -541,7 +541,7 @@ FAULTS = [
      "       right here: 6, or after a gap 8, 10 and so on\n"),
     ("an import that was dropped", ["1 d 2 0\n2 i -1 2 0\n"], "",
      "stream 1 (f1), line 2: dropped 2\n  states   -1 2\n"
-     "  why: this stream deleted 2 in its line 1, for itself\n"),
+     "  why: this stream deleted 2 in its line 1, for this stream only\n"),
 ]
 
 

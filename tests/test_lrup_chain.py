@@ -110,7 +110,7 @@ def sizes() -> Iterator[Named]:
                   ["--tries", "1", "--room=1", "--serial"]):
         option = next(word for word in words if word[2:6] in ("line", "room")).split("=")[0]
         yield chain(f"sizes and {' '.join(words)}", 2, ROUNDS, "",
-                    f"lrup-chain: {option}: refused, since d/round-1.sizes has it\n", words=words,
+                    f"lrup-chain: {option}: refused, since d/round-1.sizes gives it\n", words=words,
                     others={"d/round-1.sizes": "1 1 1\n"})
     yield chain("no sizes", 2, ROUNDS, "", NO_SIZES, others={"d/round-1.sizes": ""})
     yield ("fewer streams",

@@ -5,7 +5,7 @@ function literal(code) { return (code % 2 ? "-" : "") (code < 2 ? constant : int
 function complement(code) { return literal(code % 2 ? code - 1 : code + 1) }
 NR == 1 {
     if ($1 != "aag" || $4 > 0) {
-        print "aiger2cnf.awk: not a circuit in ASCII AIGER without latches" > "/dev/stderr"
+        print "aiger2cnf.awk: not ASCII AIGER, or a circuit with latches" > "/dev/stderr"
         exit 1
     }
     constant = $2 + 1   # a variable that is false

@@ -309,8 +309,8 @@ static void why_missing(const Replay *replay, const Stream *stream, uint64_t hin
 
 static void why_deleted(const Replay *replay, const Stream *stream, uint64_t hint) {
     if (stream->fault.kind == FAULT_DROPPED) {
-        printf("  why: this stream deleted %llu in its line %llu, for itself\n", (Printed)hint,
-               (Printed)line_deleting(stream, hint));
+        printf("  why: this stream deleted %llu in its line %llu, for this stream only\n",
+               (Printed)hint, (Printed)line_deleting(stream, hint));
         return;
     }
     const Stream *owner = owner_of(replay, hint);
