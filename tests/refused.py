@@ -38,7 +38,7 @@ ERRORS_OF_READS = ["EIO", "EINTR"]
 SHORT = ["short", "half"]
 EACH = ["thread", "open", "create", "hold", "sync"]  # kinds in which each call has its own answer
 HELD = 3  # opens of /dev/null, for closed standard streams
-# A run has to end within these if a thread isn't started; tries of other threads take a minute.
+# A run has to end within them if a thread isn't started; tries of other threads take a minute.
 SECONDS = 20
 HANGS = 300  # seconds after which a run counts as hanging
 LATE = 50  # milliseconds that threads take to begin, if one isn't started

@@ -122,6 +122,8 @@ def main() -> None:
     for name in ("solve", "lrupd", "formula"):
         arguments.add_argument(name)
     given = arguments.parse_args()
+    if int(given.kills) and not given.proofs:
+        arguments.error("--kills needs --proofs")
     words = [given.solve, "--lrupd", given.lrupd, "-v", "-j", given.engines, "--memory",
              given.memory, "--time", given.time]
     record = ["--proofs", given.proofs] if given.proofs else []

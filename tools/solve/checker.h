@@ -111,7 +111,7 @@ struct Front {
 
 private:
     int pid = 0, told = -1, hears = -1;                 // its descriptors
-    uint64_t number = 0;                                // the inode of `told`; 0: not known
+    uint64_t number = 0;                                // the inode of the pipe that `told` is; 0: unknown
     int file = -1, heard = -1;                          // from it, and to it
     std::string given, unread;
 

@@ -39,7 +39,7 @@ typedef struct {
     // the end of a solver's standard error; read it once it has ended
     char last_words[LONGEST_CAUSE];
     int ready;                  // it has frozen the variables of cubes
-    uint64_t usable;            // bits: variables that are open, and weren't eliminated before that
+    uint64_t usable;            // bits: the open variables that it hadn't eliminated before
     uint64_t refuted_cube;      // the number of the last cube that it refuted
     uint64_t refuted_cubes;
     // The filter writes:
