@@ -32,7 +32,7 @@ layout_of_two = layout_of usual four 2
 abbrev pub two_terms : RunParamsValue
 two_terms = run_params_of usual [] four 2
 
--- with these bytes, and an end after them, stream 1 may alone have only this report
+-- with these bytes, and an end after them, stream 1, alone, may have only this report
 pub record IsOnlyReport (bytes : List ℕ) (report : Report) : Type 0 where
   pub alone : IsReportAlone four two_terms 1 bytes stream_ends.Ended report
   pub only : (other : Report) → IsReportAlone four two_terms 1 bytes stream_ends.Ended other

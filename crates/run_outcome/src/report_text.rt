@@ -74,7 +74,7 @@ pub fn write_finished<W: Sink>(stream: u64, report: &Report, sink: &mut W) -> Re
     buffer.flush(sink)
 }
 
-/// Also writes with one write: that a stream has waited for the clause of an identity.
+/// Writes that a stream has waited for the clause of an identity, again with one write.
 pub fn write_wait<W: Sink>(stream: u64, id: Id, sink: &mut W) -> Result<(), WriteFault>
     requires { W.has_failed sink.old ≡ false }
     ensures text { WritesText result (W.written sink.old) (W.written sink.new)
