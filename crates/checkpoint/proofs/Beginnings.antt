@@ -32,7 +32,7 @@ record IsAfter (xs ys front back : List ℕ) : Type 0 where
   front_is : front ≡ xs ++ between
   back_is : ys ≡ between ++ back
 
--- or within it
+-- the cut is within the first list
 record IsWithin (xs ys front back : List ℕ) : Type 0 where
   between : List ℕ
   some : 0 < length between
@@ -98,7 +98,7 @@ first_byte : (vars : ℕ) (l : ℤ) → vars ≤ max_variable → IsLiteral vars
 first_byte vars (pos n) few is = let first = first_decimal n (omega (arith, is.0)) (omega (arith, is.1)) in λ e. omega arith
 first_byte vars (negsuc n) few is = λ e. omega arith
 
--- the tokens of a clause have one
+-- the tokens of a clause contain one `0`
 clause_zeros : (vars : ℕ) (few : vars ≤ max_variable) (c rest : List ℤ) → AllByRecursion (IsLiteral vars) c
     → zeros (map signed_decimal (c ++ pos 0 ∷ rest)) ≡ 1 + zeros (map signed_decimal rest)
 unfolding zeros
@@ -313,8 +313,8 @@ zero_alone zero back fits is = (refl, cc (decimal_digit 0 (omega arith)))
 zero_alone (suc n) back fits is = absurd (omega (arith, first_decimal (suc n) (omega arith) fits, ap (λ (t : List ℕ). get_or t 0 0) is))
 
 module _ (vars count : ℕ) (few_vars : vars < 2 ^ 64) (few : count < 2 ^ 64) where
-  -- if a header that is cut is read as a header, it is a line alone, and its count isn't 0, or only
-  -- the LF is missing
+  -- if a header that is cut is read as a header, no other line has tokens, and its count is 0 only
+  -- if it was 0 before the cut and only the LF is missing
   header_part : (front back : List ℕ) → header_line vars count ≡ front ++ back → 0 < length back
       → (v n : ℕ) (lines : List (List (List ℕ))) → token_lines front ≡ (codes "p" ∷ codes "cnf" ∷ decimal v ∷ decimal n ∷ []) ∷ lines
       → (lines ≡ []) × (n ≡ 0 → (count ≡ 0) × (length back ≡ 1))

@@ -100,7 +100,7 @@ first_next f count last replies r all answer first =
           }
     ]
 
--- in the end all of them are
+-- in the end all of the formula's clauses are
 pub first_whole : (wants : ℕ → Bool) (f : Cnf) (count last : ℕ) (replies : List Reply) → count ≡ length f.clauses → count ≤ last
     → First f count last replies → (more : List Entry) × (wanted_of wants 1 replies ≡ wanted_clauses wants f.clauses ++ more)
 first_whole wants f count last replies all within first = (
@@ -175,7 +175,7 @@ pub kept_wanted : (wants : ℕ → Bool) (p : CallerView) (id : ℕ) (clip : Cli
     → entries_of p (clip ∷ []) ≡ wanted_of wants id (live (clip_clause p clip) ∷ [])
 kept_wanted wants p id clip wanted same = rw wanted (ap (λ n. record { id = n; clause = clip_clause p clip } ∷ []) same)
 
--- an unwanted one is left out
+-- an unwanted clause is left out
 pub kept_unwanted : (wants : ℕ → Bool) (p : CallerView) (id : ℕ) (clip : ClipValue) → wants id ≡ false
     → wanted_of wants id (live (clip_clause p clip) ∷ []) ≡ []
 kept_unwanted wants p id clip unwanted = rw unwanted refl

@@ -36,8 +36,8 @@ AreWithinLimits clauses =
     × AllByRecursion (λ clause. length clause ≤ max_clause_literals) clauses
 
 -- The result of saving clauses: their text was written, and the next formula, if one is given, is
--- the printed one; or nothing was written, because they are too many or too long; or a write
--- failed, and a prefix of the text was written.
+-- the printed one; or nothing was written, because the clauses are too many or one is too long; or
+-- a write failed, and a prefix of the text was written.
 abbrev pub Saves : Result (Option Cnf) SaveFault → ℕ → List Entry → Option (List ℕ)
     → Option (List ℕ) → Type 0
 Saves (Ok next) vars entries before after =

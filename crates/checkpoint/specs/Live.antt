@@ -15,7 +15,7 @@ abbrev pub fetches : ℕ → ℕ → List Reply → History
 fetches s id [] = []
 fetches s id (reply ∷ replies) = fetch s id reply ∷ fetches s (id + 1) replies
 
--- the live and wanted ones among the replies for the identities from id on, in order
+-- the live and wanted clauses among the replies for the identities from id on, in order
 abbrev pub wanted_of : (ℕ → Bool) → ℕ → List Reply → List Entry
 wanted_of wants id [] = []
 wanted_of wants id (vacant ∷ replies) = wanted_of wants (id + 1) replies

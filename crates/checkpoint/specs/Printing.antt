@@ -11,7 +11,7 @@ abbrev pub header_line : ℕ → ℕ → List ℕ
 header_line vars count =
     codes "p cnf " ++ decimal vars ++ codes " " ++ decimal count ++ codes "\n"
 
--- a comment with the clause's identity, unless that is its place
+-- a comment with the clause's identity, unless the identity is its place
 unfoldable pub note : ℕ → ℕ → List ℕ
 note id place = if id == place then [] else codes "c id " ++ decimal id ++ codes "\n"
 

@@ -1,6 +1,6 @@
-//! Laws of checkpoints: what a formula whose clauses follow from another formula says about that
-//! one. Each function does nothing: its contract is the law, and if it calls another function, its
-//! proof uses that law.
+//! Laws of checkpoints: what a formula says about another one from which its clauses follow. Each
+//! function does nothing: its contract is the law. If it calls another function, its proof uses
+//! that function's law.
 ghost use Rattle.checkpoint.specs.Checkpoints.{FilesRefute, FilesRefuteUnder};
 ghost use Rattle.checkpoint.specs.Entails.{ChainRefutes, ChainRefutesUnder, EntailsItself, EntailsOnward, RefutesBack, RefutesBackUnder};
 ghost use Rattle.checkpoint.specs.Printing.{ABeginningIsNoText, PrintedIsRead};
@@ -12,7 +12,7 @@ pub fn entails_itself()
     ensures { EntailsItself }
 {}
 
-/// What an entailed formula entails is entailed.
+/// Entailment is transitive.
 pub fn entails_onward()
     ensures { EntailsOnward }
 {}
@@ -22,7 +22,8 @@ pub fn refutes_back()
     ensures { RefutesBack }
 {}
 
-/// A formula that entails one that is unsatisfiable under a cube is unsatisfiable under it, too.
+/// A formula that entails one that is unsatisfiable under a cube is unsatisfiable under that cube,
+/// too.
 pub fn refutes_back_under()
     ensures { RefutesBackUnder }
 {}

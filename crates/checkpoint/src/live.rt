@@ -20,7 +20,7 @@ pub trait Wanted {
 }
 
 /// The clips of the wanted clauses that are live under the identities 1 to `last`, in order. Each
-/// identity is fetched once. If memory is refused, only the first of these fetches were made.
+/// identity is fetched once. If memory is refused, only a prefix of these fetches was made.
 pub fn live_clauses<M: ClauseMap, K: Wanted>(
     alloc: Global,
     map: &mut M,

@@ -1,4 +1,4 @@
-//! Makes the formula of live clauses, with which a later round starts.
+//! Makes the formula with which the next round starts, from live clauses.
 ghost use Rattle.std.specs.Prelude.{◌≡◌, ◌≤◌, [], IfErr, IfOk, is_some, length, true};
 ghost use Rattle.std.specs.List.{AllByRecursion};
 ghost use Rattle.std.specs.Option.{ForSome};
@@ -11,8 +11,8 @@ ghost use Rattle.checkpoint.specs.Printing.{printed};
 use lrup_model::{ClauseMap, Clip, Formula, Lit};
 use std::alloc::{AllocError, Global};
 
-/// The formula of the clips' clauses, over the variables 1 to `vars`, if the run continues. It
-/// makes no event.
+/// The formula of the clips' clauses, over the variables 1 to `vars`, if the run continues. The
+/// call makes no event.
 pub(crate) fn next_formula<M: ClauseMap>(
     alloc: Global,
     map: &mut M,

@@ -48,8 +48,8 @@ impl From<AllocError> for SaveFault {
 
 /// Writes the formula of the clauses that are live at the map and wanted, each of which follows
 /// from the run's formula, and returns it if the run continues. All identities are fetched, each
-/// once, before the first write. Before it, memory is allocated for the clips, 16 bytes for each
-/// clause, and for the formula that is returned.
+/// once, before the first write. Memory is allocated before that write, too: 16 bytes for the clip
+/// of each clause, and what the returned formula takes.
 pub fn save<M: ClauseMap, K: Wanted, W: Sink>(
     alloc: Global,
     map: &mut M,
@@ -84,9 +84,9 @@ pub fn save<M: ClauseMap, K: Wanted, W: Sink>(
     save_clips(alloc, map, &clips, layout.vars(), goes_on, sink)
 }
 
-/// Writes the formula of these clauses, each of which follows from the run's formula: all that are
-/// live, or fewer. It returns the formula if the run continues; only then does it allocate. It
-/// makes no event at the map.
+/// Writes the formula of these clauses, each of which follows from the run's formula. They may be
+/// all live clauses, or fewer. It returns the formula if the run continues; only then does it
+/// allocate. It makes no event at the map.
 pub fn save_clips<M: ClauseMap, W: Sink>(
     alloc: Global,
     map: &mut M,

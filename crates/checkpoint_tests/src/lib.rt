@@ -1,4 +1,4 @@
-//! Tests of `checkpoint`, by its public calls alone.
+//! Tests of `checkpoint`, which use only its public calls.
 #![tactic(auto)]
 
 #[cfg(test)]

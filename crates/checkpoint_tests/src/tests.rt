@@ -16,7 +16,7 @@ use test_support::Paper;
 mod limits;
 mod worked;
 
-/// Stops the test if two values differ. As a function the assertion is proved only once.
+/// Stops the test if two values differ. In a function the assertion is proved only once.
 fn same<T: PartialEq + fmt::Debug + Drop>(rt: &impl Abort, value: T, wanted: T) {
     assert_eq!(rt; value, wanted);
 }
@@ -36,7 +36,7 @@ impl Wanted for Except {
     }
 }
 
-/// Opens a formula's map for one stream without identities, and saves it.
+/// Opens a formula's map for one stream without identities, and saves its clauses.
 fn save_formula(
     alloc: Global,
     formula: &Formula,
@@ -115,8 +115,8 @@ fn long_text(alloc: Global) -> Result<String, AllocError> {
     Ok(text)
 }
 
-/// 1,000 clauses fill the buffer again and again. Before write number `fails_at` the others wrote a
-/// prefix, in nearly full pieces of 4,096 bytes.
+/// 1,000 clauses fill the buffer again and again. The writes before write number `fails_at` have
+/// written a prefix, in nearly full pieces of 4,096 bytes.
 #[test]
 fn a_long_text_breaks_at_any_write(rt: HostRuntime) -> Result<(), Fail> {
     let text = long_text(rt.alloc())?;

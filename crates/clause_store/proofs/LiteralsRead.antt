@@ -26,7 +26,7 @@ pub start_read : (v : View) (id word : ℕ) → ShowsStored (stored_in v.spelt i
     → LieWithin (row_words v.caller.layout) v.spelt → IsFair v → start_of word < 4294967296
 start_read v id word shows some within fair = start_shown v id word (stored_in v.spelt id) refl shows some within fair
 
--- a clause has a literal at each place below its length
+-- a clause has a literal at each index below its length
 literal_at : (vars : ℕ) (c : Clause) (k : ℕ) → k < length c → AllByRecursion (IsLiteral vars) c
     → (l : ℤ) × (slice_get c k ≡ Some l) × IsLiteral vars l
 literal_at vars [] k below all = absurd (omega arith)
@@ -38,11 +38,11 @@ module _ (v : View) (clip : ClipValue) (k place : ℕ) (known : IsKnown (pass_ca
   abbrev stored : StoredClause
   stored = record { start = clip.start; literals = clip_clause (pass_caller_view v) clip }
 
-  -- the place is inside the row
+  -- the index is inside the row
   place_within : LieWithin (row_words v.caller.layout) v.spelt → place < row_words v.caller.layout
   place_within within = omega (arith, within clip.id stored known.stored, known.len, lies)
 
-  -- the clause has a literal here, and half k % 2 of the word at the place is its code
+  -- the clause has a literal here, and half k % 2 of the word at this index is the literal's code
   literal_of : IsFair v → (word : ℕ) → IsText v.spelt place word
       → (l : ℤ) × (slice_get (clip_clause (pass_caller_view v) clip) k ≡ Some l) × (half_of (k % 2) word ≡ code_of l)
       × IsCode max_variable (half_of (k % 2) word)

@@ -11,7 +11,7 @@ IsSynced (suc i) u v [] ys = ⊥
 IsSynced (suc i) u v (x ∷ xs) [] = ⊥
 IsSynced (suc i) u v (x ∷ xs) (y ∷ ys) = (w : View) × SyncViews u x.view w y.view × IsSynced i w v xs ys
 
--- it meets one more
+-- the pass meets one more
 pub sync_next : (i : ℕ) (u v w : View) (xs ys : List PassValue) (d y : PassValue) → i < length ys → IsSynced i u v xs ys
     → SyncViews v (get_or ys i d).view w y.view → IsSynced (suc i) u w xs (set ys i y)
 sync_next zero u v w xs [] d y within synced meets = absurd (omega arith)
@@ -28,7 +28,7 @@ sync_next (suc i) u v w (x ∷ xs) [] d y within synced meets = absurd synced
 sync_next (suc i) u v w (x ∷ xs) (z ∷ ys) d y within synced meets =
     (synced.0, synced.1, sync_next i synced.0 v w xs ys d y (omega arith) synced.2 meets)
 
--- it has met all
+-- the pass has met all
 pub synced_all : (u v : View) (xs ys : List PassValue) → IsSynced (length xs) u v xs ys → SyncInTurn u (views xs) v (views ys)
 synced_all u v [] [] synced = synced.0
 synced_all u v [] (y ∷ ys) synced = absurd (let same : y ∷ ys ≡ [] = synced.1 in cc)

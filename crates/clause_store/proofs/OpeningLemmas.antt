@@ -31,7 +31,7 @@ are_of store (seat ∷ seats) each = (each 0 seat refl, are_of store seats (λ k
 -- from the seats that the row gives at the opening
 module _ (row : Row) (f : Cnf) (p : LayoutValue) (seats : List SeatValue) (count : length seats ≡ p.streams)
     (given : (s : ℕ) → IsStream p s → slice_get seats (s - 1) ≡ Some (opening_seat row f p s)) where
-  -- the seat at place k is the opening seat of stream k + 1
+  -- the seat at index k is the opening seat of stream k + 1
   seat_at : (k : ℕ) (seat : SeatValue) → slice_get seats k ≡ Some seat → IsStream p (k + 1) × (seat ≡ opening_seat row f p (k + 1))
   seat_at k seat here =
       let below : k < length seats = slice_get_within seats k seat here in

@@ -3,7 +3,7 @@ use Rattle.std.specs.Prelude.{◌≡◌, List, []}
 use Rattle.lrup_model.specs.Pass.{View, IsFair, PassMoves, SyncInTurn, AreSynced, AllSaw}
 
 -- If a pass meets all others in turn, and then all again, all have seen what the pass had seen
--- after the first time.
+-- after the first round.
 abbrev pub SyncTwice : Type 0
 SyncTwice = (u v w : View) (xs ys zs : List View) → SyncInTurn u xs v ys → SyncInTurn v ys w zs
     → (w.seen ≡ v.seen) × AllSaw w.seen zs

@@ -21,7 +21,7 @@ pub record PassValue : Type 0 where
 abbrev pub store_of : PassValue → StoreValue
 store_of pass = record { row = pass.row; layout = pass.view.caller.layout }
 
--- This is the pass of a stream of this store and formula that has seen nothing and made no call.
+-- This is the pass of stream s of this store and formula, and it has seen nothing and made no call.
 pub record IsOpened (opened : StoreValue) (formula : Cnf) (s : ℕ) (pass : PassValue) : Type 0 where
   pub store : store_of pass ≡ opened
   pub caller : pass.view.caller ≡ record { formula = formula; layout = opened.layout; stream = s }

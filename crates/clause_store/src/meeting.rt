@@ -10,7 +10,7 @@ use crate::store::Store;
 impl Store {
     /// Lets all passes share what they have seen: the first pass meets each of the others in turn,
     /// and then each again. Afterwards all have seen the same history, which begins with what each
-    /// had seen. It is no event.
+    /// had seen before. The call is not an event.
     #[tactic(auto, using(crate::proofs::MeetingLemmas::rounds_next, crate::proofs::MeetingLemmas::synced_in_rounds, crate::proofs::MeetingLemmas::one_in_rounds))]
     pub fn meet_all(&self, passes: &mut [Pass])
         requires { AreOf self.now passes.old }

@@ -1,4 +1,4 @@
-//! A pass: a stream's handle at a store.
+//! A pass: a stream's handle to a store.
 ghost use Rattle.std.specs.Prelude.{◌≡◌, ◌+◌, ℕ, IfOk, Some, map, slice_get};
 ghost use Rattle.lrup_model.specs.Pass.{IsFair};
 ghost use Rattle.idwords.specs.Seats.{SeatValue};
@@ -8,8 +8,8 @@ use idwords::Seat;
 use std::alloc::{AllocError, Global};
 use std::marker::Model;
 
-/// A stream's handle at the store that opened it. It works at no other store, and can't be copied,
-/// so each stream has one caller.
+/// A stream's handle to the store that opened it. It works only with that store, and can't be
+/// copied, so each stream has one caller.
 #[derive(Drop)]
 pub struct Pass {
     pub(crate) seat: Seat,
@@ -38,7 +38,7 @@ impl Pass {
     }
 }
 
-/// Makes a pass of each seat. The seats are in the order of the streams.
+/// Makes a pass from each seat. The seats are in the order of the streams.
 pub(crate) fn passes_of(alloc: Global, seats: Vec<Seat>) -> Result<Vec<Pass>, AllocError>
     requires { (k : ℕ) (seat : SeatValue) → slice_get seats.items k ≡ Some seat
         → IsAtRest seat (k + 1) }

@@ -17,8 +17,8 @@ use lrup_model::{Clip, Fetched, Formula, Id, Layout, Lit, Owner, Published, Reti
 use std::alloc::{AllocError, Global};
 use std::marker::Model;
 
-/// The clauses of a formula, which stay live, and those that the streams publish and retire. All
-/// threads share a store without a lock. In the code only `open` allocates memory, and no call
+/// The clauses of a formula, which stay live, and the clauses that the streams publish and retire.
+/// All threads share a store without a lock. In the code only `open` allocates memory, and no call
 /// waits or retries.
 #[derive(Drop)]
 pub struct Store {
@@ -36,9 +36,9 @@ impl Model for Store {
 
 impl Store {
     /// Opens a store of a formula's clauses, with a layout that fits the formula, and makes a pass
-    /// for each stream, in the order of the streams. It allocates all the memory that the store
-    /// will need, 8 bytes for each word of the row, and as much again until it returns. If an
-    /// allocation fails, everything is freed.
+    /// for each stream, in the order of the streams. Allocates all the memory that the store will
+    /// need, 8 bytes for each word of the row, and temporarily as much again. If an allocation
+    /// fails, everything is freed.
     pub fn open(
         alloc: Global,
         formula: &Formula,
@@ -86,9 +86,10 @@ impl Store {
         pass.seat.room()
     }
 
-    /// Looks up an identity (1 to the last one) by one load of its word, which holds the state, the
-    /// length and the place of the clause. The reply is what the store had there at that moment.
-    /// The call changes nothing; the pass is `&mut` since contracts record in it what was seen.
+    /// Looks up an identity (1 to the last one) with one load of the identity's word, which holds
+    /// the state, the length and the start of the clause. The reply is what the store had there at
+    /// that moment. The call changes nothing; the pass is `&mut` since contracts record in it what
+    /// was seen.
     #[inline]
     #[tactic(auto, using(crate::proofs::LiteralsRead::start_read))]
     pub fn fetch(&self, pass: &mut Pass, id: Id) -> Fetched
@@ -109,9 +110,9 @@ impl Store {
         }
     }
 
-    /// Reads literal `k`, counted from 0, of a clause whose clip the pass has fetched, by one load.
-    /// The literals are in the order in which the clause was published or is in the formula. The
-    /// clause may be retired: its literals stay.
+    /// Reads literal `k`, counted from 0, of a clause whose clip the pass has fetched, with one
+    /// load. The literals are in the order in which they were published or occur in the formula.
+    /// The clause may be retired: its literals stay.
     #[inline]
     pub fn literal(&self, pass: &mut Pass, clip: &Clip, k: u32) -> Lit
         requires store { store_of pass.old ≡ self.now }
@@ -125,7 +126,7 @@ impl Store {
         lit(self.row.word(&mut pass.seat, place), k % 2)
     }
 
-    /// Reads pair `i`, counted from 0, of a clause whose clip the pass has fetched, by one load:
+    /// Reads pair `i`, counted from 0, of a clause whose clip the pass has fetched, with one load:
     /// literal `2 * i` and, if the clause has it, literal `2 * i + 1`.
     #[inline]
     pub fn pair(&self, pass: &mut Pass, clip: &Clip, i: u32) -> (Lit, Option<Lit>)
@@ -149,11 +150,11 @@ impl Store {
         }
     }
 
-    /// Publishes a clause under an identity that the pass's stream owns. The clause follows from
-    /// the formula, has at most 65,535 literals and fits into the room left. The literals are
-    /// written first, in the given order, two by each atomic store. Then one compare-exchange makes
-    /// the clause live. If a clause was published under the identity before, the reply is `Taken`,
-    /// and nothing changes.
+    /// Publishes a clause under an identity that the pass's stream owns. The clause must follow
+    /// from the formula, have at most 65,535 literals and fit into the room left. The literals are
+    /// written first, in the given order, two with each atomic store. Then one compare-exchange
+    /// makes the clause live. If a clause had already been published under the identity, the reply
+    /// is `Taken`, and nothing changes.
     pub fn publish(&self, pass: &mut Pass, id: Id, clause: &[Lit]) -> Published
         requires store { store_of pass.old ≡ self.now }
         requires owns { Owns pass.old.view.caller.layout pass.old.view.caller.stream id }
@@ -192,8 +193,8 @@ impl Store {
     }
 
     /// Lets two passes share what they have seen: afterwards both have seen the same history, which
-    /// begins with what each had seen. If one had seen all that the other had, it is the history of
-    /// that one. It is no event, and changes no clause.
+    /// begins with what each had seen before. If one had seen all that the other had, what that one
+    /// has seen doesn't change. The call is not an event, and changes no clause.
     pub fn meet(&self, first: &mut Pass, second: &mut Pass)
         requires first { store_of first.old ≡ self.now }
         requires second { store_of second.old ≡ self.now }
@@ -205,7 +206,7 @@ impl Store {
     }
 }
 
-/// The place in the row of word `k`, counted from 0, of a clip's clause.
+/// The index in the row of word `k`, counted from 0, of a clip's clause.
 #[inline]
 fn place_of(clip: &Clip, k: u32) -> u64
     ensures { result ≡ clip.now.start + k }

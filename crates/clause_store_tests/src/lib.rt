@@ -1,4 +1,4 @@
-//! Tests of `clause_store`, by its public calls alone.
+//! Tests of `clause_store`, through its public calls only.
 #![tactic(auto)]
 
 #[cfg(test)]

@@ -27,7 +27,8 @@ mod interleavings;
 mod meeting;
 mod memory;
 
-/// Stops the test if two values differ. As a function the assertion is proved only once.
+/// Stops the test if two values differ. This is a function so that the assertion is proved only
+/// once.
 fn same<T: PartialEq + fmt::Debug + Drop>(rt: &impl Abort, value: T, wanted: T) {
     assert_eq!(rt; value, wanted);
 }
@@ -61,8 +62,8 @@ fn two_of(mut passes: Vec<Pass>) -> Result<(Pass, Pass), Fail>
     Ok((first, second))
 }
 
-/// A store of the four clauses for two streams with this many identities and room each, and their
-/// passes.
+/// A store of the four clauses for two streams with this many identities and this much room each,
+/// and the streams' passes.
 fn open_two(alloc: Global, identities: u64, room: u64) -> Result<(Store, Pass, Pass), Fail>
     ensures { IfOk result (λ opened. ArePassesAt four opened.0 (opened.1 ∷ opened.2 ∷ [])) }
 {
@@ -114,7 +115,7 @@ fn live(store: &Store, pass: &mut Pass, id: Id) -> Option<Clip>
     }
 }
 
-/// Publishes a clause under an identity of the pass's own.
+/// Publishes a clause under one of the pass's own identities.
 fn publish(store: &Store, pass: &mut Pass, id: Id, clause: &[Lit]) -> Option<Published>
     requires at { IsPassAt four store.now pass.old }
     requires clause { IsPublishable four clause.now }
@@ -126,7 +127,7 @@ fn publish(store: &Store, pass: &mut Pass, id: Id, clause: &[Lit]) -> Option<Pub
     Some(store.publish(pass, id, clause))
 }
 
-/// Retires the clause of an identity of the pass's own.
+/// Retires the clause of one of the pass's own identities.
 fn retire(store: &Store, pass: &mut Pass, id: Id) -> Option<Retired>
     requires { store_of pass.old ≡ store.now }
     ensures store { store_of pass.new ≡ store.now }
@@ -138,7 +139,7 @@ fn retire(store: &Store, pass: &mut Pass, id: Id) -> Option<Retired>
     Some(store.retire(pass, id))
 }
 
-/// A call under an identity.
+/// A call for an identity.
 #[derive(Clone, Copy)]
 enum Call {
     Publish(Id),
@@ -158,7 +159,7 @@ fn call_once(store: &Store, mut pass: Pass, call: Call) -> (Pass, Option<bool>)
     (pass, done)
 }
 
-/// The same, if `apart` in a thread of its own, which is joined.
+/// Makes this call, if `apart` in a thread of its own, which is joined.
 fn call_by<R: Threads>(
     rt: &R,
     apart: bool,
@@ -199,8 +200,8 @@ fn publish_in_turn<R: Threads + Abort>(
     b
 }
 
-/// The second pass retires 6, and publishes 8. The first can still read its clip of 6, and once
-/// they have met it finds 6 retired and 8 live.
+/// The second pass retires 6, and publishes 8. The first can still read its clip of 6, and once the
+/// two have met, it finds 6 retired and 8 live.
 fn retire_in_turn<R: Threads + Abort>(
     rt: &R,
     apart: bool,
@@ -225,7 +226,7 @@ fn retire_in_turn<R: Threads + Abort>(
     b
 }
 
-/// All of that; afterwards the second pass can neither publish nor retire there again.
+/// Does both in turn; afterwards the second pass can neither publish nor retire there again.
 fn call_in_turn<R: Threads + Abort>(rt: &R, apart: bool, store: &Store, a: &mut Pass, b: Pass)
     requires first { IsPassAt four store.now a.old }
     requires second { IsPassAt four store.now b }
@@ -276,7 +277,8 @@ fn is_kept(store: &Store, pass: &mut Pass, id: Id, clause: &[Lit]) -> bool
     }
 }
 
-/// Publishes clauses of three literals, two and one, which spend the room, and then an empty one.
+/// Publishes clauses of three literals, two and one, which use up the room, and then the empty
+/// clause.
 fn spend_room(rt: &impl Abort, store: &Store, pass: &mut Pass)
     requires { IsPassAt four store.now pass.old }
     ensures { IsPassAt four store.now pass.new }
@@ -292,7 +294,7 @@ fn spend_room(rt: &impl Abort, store: &Store, pass: &mut Pass)
     same(rt, (again, store.room(pass)), (Some(Published::Taken), 0));
 }
 
-/// Reads these and a clause of the formula back, literal by literal.
+/// Reads these clauses and one of the formula back, literal by literal.
 fn read_all(rt: &impl Abort, store: &Store, pass: &mut Pass)
     requires { IsPassAt four store.now pass.old }
 {
@@ -312,7 +314,8 @@ fn a_pass_spends_its_room_and_reads_back(rt: HostRuntime) -> Result<(), Fail> {
     Ok(())
 }
 
-/// Publishes `2`, which follows from the first two clauses, under an identity of the caller's own.
+/// Publishes `2`, which follows from the first two clauses, under one of the caller's own
+/// identities.
 fn publish_two<M: ClauseMap>(map: &mut M, id: Id) -> Option<Published>
     requires { (M.caller_view map.old).caller.formula ≡ four }
     ensures { (es : History) × M.moves map.old map.new es }
@@ -323,7 +326,7 @@ fn publish_two<M: ClauseMap>(map: &mut M, id: Id) -> Option<Published>
     Some(map.publish(id, &[lit(2)]))
 }
 
-/// The literal of a live clause that has just one.
+/// The literal of a live unit clause.
 fn read_one<M: ClauseMap>(map: &mut M, id: Id) -> Option<Lit>
     ensures { (es : History) × M.moves map.old map.new es }
 {
@@ -342,8 +345,8 @@ fn read_one<M: ClauseMap>(map: &mut M, id: Id) -> Option<Lit>
 /// The reply to a client's publish, and the literal that it read.
 type ClientFound = (Option<Published>, Option<Lit>);
 
-/// A client of any clause map: it publishes `2` under its own identity, and reads the other one's
-/// clause.
+/// A client of any clause map: it publishes `2` under its own identity, and reads the other
+/// client's clause.
 fn publish_and_read<M: ClauseMap>(map: &mut M, own: Id, other: Id) -> ClientFound
     requires { (M.caller_view map.old).caller.formula ≡ four }
     ensures { (es : History) × M.moves map.old map.new es }
@@ -426,8 +429,8 @@ fn refuted(alloc: Global) -> Result<Formula, AllocError>
     Ok(formula)
 }
 
-/// The store of a race, for this many streams with this many identities and room each, and its
-/// passes.
+/// The store of a race, for this many streams with this many identities and this much room each,
+/// and its passes.
 fn open_race(
     alloc: Global,
     streams: u64,
@@ -441,7 +444,8 @@ fn open_race(
     open(alloc, &formula, layout)
 }
 
-/// The literals of an identity's clause: its own number, and the complement of the one before.
+/// The literals of an identity's clause: the identity's number as a literal, and the complement of
+/// the number before it.
 fn raced_literals(id: Id) -> (Lit, Lit)
     requires { (1 < id) × (id ≤ 40001) }
     ensures first { result.0 ≡ pos id }

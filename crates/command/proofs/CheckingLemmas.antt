@@ -77,7 +77,7 @@ pub names_unsatisfiable : (files : FilesView) (words : List Text) (given : Comma
 names_unsatisfiable files words given bytes next line read refuted =
     (given.formula.now, assumed_at given, bytes, refuted.0, next, ask_for words given line, read, refuted.1, refuted.2)
 
--- the same with the assumed literals, if the files' contents are known as before
+-- the same with the assumed literals, if what is known of the files' contents hasn't changed
 pub names_unsatisfiable_under : (files : FilesView) (words : List Text) (given : CommandLine) (bytes : List ℕ) (next : files.its.State)
     (contents : Text → Option (List ℕ))
     → contents ≡ files.contents → IsCommandLineOf words given → WasReadIn files files.first given.formula.now bytes next
@@ -116,7 +116,7 @@ module _ (its : Effects) (serial : Bool) (f : Cnf) (run_params : RunParamsValue)
   run_start faults.Memory after none cause unused = inr (none, inr unused)
   run_start fault after none cause unused = absurd cause
 
--- the same for a round, by what the program holds of it
+-- the same for a round, from the values that the program has for it
 pub round_start : (its : Effects) (given : CommandLine) (cube : CubeValue) (number : ℕ) (f : Cnf) (sizes : Sizes)
     (readers : List its.Reader) (before : its.State) (serial : Bool) (run_params : RunParamsValue) (path : Option Text)
     → serial ≡ given.serial → run_params ≡ run_params_by given cube f sizes → path ≡ created_path given.next number

@@ -38,7 +38,7 @@ module _ (itself : EntailsItself) (onward : EntailsOnward) {its : Effects} {give
       onward formula b.formula round.formula (round_entailed first b more rounds.1)
       (carried_entails b round.formula rounds.0.goes_on)
 
-  -- so what each round but the last saved follows from it
+  -- so what each round but the last saved follows from the first formula
   save_entailed : (first : its.State) (round : Round its given cube) (before : List (Round its given cube))
       → AreRounds formula first (round ∷ before) → SaveEntailed folder formula before
   save_entailed first round [] rounds = tt

@@ -112,7 +112,7 @@ module _ (its : Effects) (given : CommandLine) (cube : CubeValue) (formula : Cnf
     finished = finished;
   }
 
-  -- the words ask for no others;
+  -- the words ask for no further rounds;
   pub ends_alone : (last : CheckedRound) (next : Option Cnf) (after : its.State) → rounds_of given.next ≡ None → SoFar last next after
       → EndsAt its given cube formula first last after
   ends_alone last next after once so_far = ends_so last next after after so_far (inl (inl once, refl))
@@ -131,14 +131,14 @@ module _ (its : Effects) (given : CommandLine) (cube : CubeValue) (formula : Cnf
       ends_so last (Some next) before after so_far
       (inr (next, on, inl (subst (λ (f : Text). IsAlone its f last before after) same alone)))
 
-  -- the number of the next one would be too high.
+  -- the next round's number would be too high.
   pub ends_high : (last : CheckedRound) (next : Option Cnf) (after : its.State) → SoFar last next after
       → 2 ^ 64 < last.number + 3 → EndsAt its given cube formula first last after
   ends_high last None after so_far high = ends_barred last after so_far
   ends_high last (Some next) after so_far high =
       ends_so last (Some next) after after so_far (inr (next, so_far.is_found.goes_on next refl, inr (high, refl)))
 
-  -- The next one has no report.
+  -- The next round has no report.
   pub fails_after : (last : CheckedRound) (next : Cnf) (before after : its.State) (failed : RoundFault) (folder : Text)
       → rounds_of given.next ≡ Some folder → SoFar last (Some next) before
       → IsRoundCause its given cube folder failed.round last.sizes next before failed.fault after → failed.round ≡ last.number + 1

@@ -70,8 +70,7 @@ left_unused its before next after (Some path) None created discards = absurd cre
 left_unused its before next after (Some path) (Some first) created discards =
     record { output = first; next = next; created = created.0; empty = created.1; discarded = discards }
 
--- A save of what a run left is a save for the run: with its layout, and with what its streams
--- dropped.
+-- What holds for the layout and the dropped identities that a run left holds for the run's own.
 pub left_moved : {R : Type 0} {view : SourceView R} {serial : Bool} {f : Cnf} {run_params : RunParamsValue} {firsts : List R}
     {reports : List Report} {verdict : Verdict} {clauses : Clauses} {dropped : List DroppedIdsValue}
     (result_is : IsCheckResult view serial f run_params firsts reports verdict clauses dropped)

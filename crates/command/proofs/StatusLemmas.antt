@@ -66,7 +66,7 @@ open_is false None Unknown is = (refl, λ no. let never : Unknown ≡ Unsatisfia
 
 -- ---- the status of a fault
 
--- what holds for each status of a fault holds for a fault's status
+-- by cases: the statuses that a fault may have
 by_status : (P : CommandFault → ℕ → Type 0) → ((n : ℕ) (f : CommandFault) → (n ≡ 2) ⊎ ((n ≡ 4) ⊎ ((n ≡ 5) ⊎ (n ≡ 6))) → P f n)
     → P faults.Unwritten 7 → ((unsaved : SaveFault) → P (faults.NotSaved unsaved) 9) → (fault : CommandFault) → P fault (status_of fault)
 by_status P low seven nine (faults.Usage text) = low 2 _ (inl refl)
@@ -127,7 +127,7 @@ unsaved_is fault =
     (λ n f low is. absurd (low_unreported n low is))
     (λ is. absurd (not_of_report 7 (λ e. cc) (λ e. cc) (λ e. cc) (λ e. cc) is)) (λ unsaved is. (unsaved, refl)) fault
 
--- neither is a cause for a round without a report
+-- neither of these two faults is a cause for a round without a report
 module _ (files : FilesView) (words : List Text) (after : files.its.State) where
   unassumed : (vars : ℕ) (before : files.its.State) (path : Option Text) → IsAssumeCause files vars before path faults.Unwritten after
       → ⊥
@@ -172,7 +172,7 @@ module _ (files : FilesView) (words : List Text) (after : files.its.State) where
   ]
 
 module _ (files : FilesView) (words : List Text) (after : files.its.State) (out err : SinkChange) (status : ℕ) where
-  -- so no program that ends without a report has a status of a report
+  -- so a program that ends without a report never has the status of a report
   pub never_reported : EndsWithFault files words after out err status → IsOfReport status → ⊥
   never_reported ends is =
       let fault = unsaved_is ends.fault (subst IsOfReport ends.status_is is) in
@@ -265,7 +265,7 @@ module _ (files : FilesView) (words : List Text) (after : files.its.State) (out 
       absurd (never_reported files words after out err status fault
       (elim is [ inl three ↦ inr (inl three) | inr eight ↦ inr (inr (inl eight)) ]))
 
-  -- with status 0 none was written
+  -- with status 0 no checkpoint was written
   pub all_empty : ProgramEnds files words after out err status → CheckpointLeftEmpty files words after status
   all_empty (inl report) path ask is = report_empty files words after out err status report path ask is
   all_empty (inr fault) path ask is = absurd (never_reported files words after out err status fault (inl is))

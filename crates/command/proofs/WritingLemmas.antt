@@ -42,8 +42,8 @@ took_after_text true a b c first text one took = (
 abbrev changed : Option (List ℕ) → Option (List ℕ) → Bool → SinkChange
 changed before after failed = record { before = before; after = after; failed = failed }
 
--- The message about the report follows the one about the round's checkpoint, if that was written
--- whole.
+-- The message about the report follows the one about the round's checkpoint, if the latter was
+-- written in full.
 pub says_both : (round : ℕ) (a b c : Option (List ℕ)) (broken failed : Bool) (unsaved : Option SaveFault)
     → SaysOfRound round false unsaved (changed a b broken)
     → (broken ≡ true → (c ≡ b) × (failed ≡ true)) → (broken ≡ false → SinkTook (changed b c failed) (error_text faults.Unwritten))
@@ -87,7 +87,7 @@ pub last_of_more : (number : ℕ) (reports : List Report) (verdict : Verdict) �
     → last_text number reports verdict ≡ round_text number ++ report_text reports verdict
 last_of_more number reports verdict other = rw (ne_eqb number 1 other) refl
 
--- for a fault of round 1 just the fault is reported
+-- for a fault of round 1 only the fault is reported
 pub first_error : (fault : CommandFault) → round_error_text 1 fault ≡ error_text fault
 first_error (faults.Usage text) = refl
 first_error fault = refl

@@ -43,7 +43,8 @@ IsUnsatisfiableTextWith {F = F} Read bytes before path =
     × AreAssumed Read formula.vars before path cube after × IsUnsatisfiableUnder formula cube
 
 -- The words name a formula and, if given, a file of assumed literals. These two files, the first to
--- be opened, hold texts of them, and no assignment satisfies the formula under the literals.
+-- be opened, hold texts of the formula and of the literals, and no assignment satisfies the formula
+-- under the literals.
 abbrev pub NameUnsatisfiableUnder : (F : Type 0) → (F → Text → List ℕ → F → Type 0) → F
     → List Text → Type 0
 NameUnsatisfiableUnder F Read first words =
@@ -54,8 +55,8 @@ NameUnsatisfiableUnder F Read first words =
     × IsUnsatisfiableUnder formula cube
 
 -- The bytes read from FORMULA, the first file to be opened, are a text of a formula. Then the
--- assumed literals were read, if any, and the streams were opened. `Came` of the formula describes
--- the rest of what was done to the files.
+-- assumed literals were read, if any, and the streams were opened. `Came formula` describes what
+-- else was done to the files.
 pub record ComesLast {F R : Type 0} (opens : F → Text → R → F → Type 0)
     (Read : F → Text → List ℕ → F → Type 0) (Came : Cnf → F → F → Type 0) (first : F)
     (words : List Text) (last : F) : Type 0 where
@@ -109,13 +110,13 @@ CheckpointLeftEmpty files words last status =
 
 -- The output.
 
--- a sink: what had been written to it before and after, and whether it has failed at the end
+-- a sink: what was written to it by the start and by the end, and whether it has failed at the end
 pub record SinkChange : Type 0 where
   pub before : Option (List ℕ)
   pub after : Option (List ℕ)
   pub failed : Bool
 
--- the change of a sink, in the terms of its type
+-- the change of a sink, in terms of its type
 abbrev pub change : {W : Type 0} → Sink.Ghosts W → W → W → SinkChange
 change its before after = record {
   before = its.written before;
@@ -142,14 +143,14 @@ verdict_status Unsatisfiable = 0
 verdict_status UnsatisfiableUnder = 8
 verdict_status Unknown = 3
 
--- the status: for a report that wasn't written; else for a checkpoint that wasn't saved; else for
--- the verdict
+-- the status: for a report that wasn't written; otherwise for a checkpoint that wasn't saved;
+-- otherwise for the verdict
 abbrev pub report_status : Bool → Option SaveFault → Verdict → ℕ
 report_status true unsaved verdict = status_of faults.Unwritten
 report_status false (Some fault) verdict = status_of (faults.NotSaved fault)
 report_status false None verdict = verdict_status verdict
 
--- the messages on standard error then, for the round with this number
+-- the messages on standard error in these cases, for the round with this number
 abbrev pub SaysOfRound : ℕ → Bool → Option SaveFault → SinkChange → Type 0
 SaysOfRound round true (Some fault) err =
     SinkTook err (round_error_text round (faults.NotSaved fault) ++ error_text faults.Unwritten)

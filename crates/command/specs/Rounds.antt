@@ -43,10 +43,10 @@ pub record LeavesFile (its : Effects)
   pub saving : Saves result first last
   pub closed : ClosesSink its result opened last unsaved next after
 
--- What a round with this verdict leaves at the path; why that wasn't saved, if it wasn't; and the
--- next formula, if there is one. Without a path: nothing. With 'unsatisfiable': a new file,
--- discarded before anything was written to it. Else: a new file, to which the program tried to save
--- the checkpoint.
+-- What a round with this verdict leaves at the path; why the checkpoint wasn't saved, if it wasn't;
+-- and the next formula, if there is one. Without a path: nothing. With 'unsatisfiable': a new file,
+-- discarded before anything was written to it. Otherwise: a new file, to which the program tried to
+-- save the checkpoint.
 abbrev pub LeavesAtPath : (its : Effects)
     → (Result (Option Cnf) SaveFault → its.Output → its.Output → Type 0) → Verdict → its.State
     → Option Text → Option SaveFault → Option Cnf → its.State → Type 0
@@ -59,9 +59,9 @@ LeavesAtPath its Saves verdict before (Some path) unsaved next after =
     LeavesFile its Saves before path unsaved next after
 
 -- A round: its number, formula and sizes; the readers of its streams as they were opened, and the
--- files then; its reports and its verdict; why its checkpoint wasn't saved, if it wasn't; the next
--- formula, if there is one; and the files at its end. Its streams were checked, and `leaves` says
--- what became of their clauses.
+-- files at that point; its reports and its verdict; why its checkpoint wasn't saved, if it wasn't;
+-- the next formula, if there is one; and the files at its end. Its streams were checked, and
+-- `leaves` says what became of their clauses.
 pub record Round (its : Effects) (given : CommandLine) (cube : CubeValue) : Type 0 where
   pub number : ℕ
   pub formula : Cnf
@@ -113,8 +113,8 @@ pub record ComesNext {its : Effects} {given : CommandLine} {cube : CubeValue}
   pub opened : StreamsOpened its sized
       (stream_paths goes_on.folder round.number round.sizes.streams) round.readers round.opened
 
--- Round 1, with this formula and from these files: its sizes and its streams are those of the
--- command line.
+-- Round 1, with this formula, starting from these files: the command line gives its sizes and its
+-- streams.
 pub record IsFirst {its : Effects} {given : CommandLine} {cube : CubeValue} (formula : Cnf)
     (first : its.State) (round : Round its given cube) : Type 0 where
   pub number : round.number ≡ 1
@@ -133,7 +133,7 @@ AreRounds formula first (round ∷ before ∷ more) =
     ComesNext before round × AreRounds formula first (before ∷ more)
 
 -- why there is no round after the last one, and the files at the end: the run doesn't continue; or
--- it would, and the next round has sizes but no file for its stream 1; or the next round's number
+-- it would, but the next round has sizes and no file for its stream 1, or the next round's number
 -- would be 2 ^ 64 - 1 or more
 abbrev pub RoundsEnd : {its : Effects} {given : CommandLine} {cube : CubeValue}
     → Round its given cube
@@ -149,8 +149,8 @@ RoundsEnd {its} last after =
 -- Causes.
 
 -- why the round with this number and this formula, after one with the old sizes, has no report: its
--- sizes weren't read; or they were, and a stream wasn't opened; or all streams were opened, and
--- weren't checked
+-- sizes weren't read; or they were, but a stream wasn't opened; or all streams were opened, but not
+-- checked
 abbrev pub IsRoundCause : (its : Effects) → CommandLine → CubeValue → Text → ℕ → Sizes → Cnf
     → its.State → CommandFault → its.State → Type 0
 IsRoundCause its given cube folder number old formula before fault after =
@@ -254,16 +254,16 @@ SavesEntailed {its} folder formula round =
     × WasSavedBy its round.opened (formula_path folder (round.number + 1)) bytes round.after
     × IsCheckpoint formula bytes
 
--- each of these rounds did so
+-- each of these rounds saved such a text
 abbrev pub SaveEntailed : {its : Effects} {given : CommandLine} {cube : CubeValue} → Text → Cnf
     → List (Round its given cube) → Type 0
 SaveEntailed folder formula [] = Unit {0}
 SaveEntailed folder formula (round ∷ before) =
     SavesEntailed folder formula round × SaveEntailed folder formula before
 
--- The program ends with the report of rounds. Each round but the last saved, for the next one, a
--- text of a formula over the same variables, whose clauses all follow from FORMULA. With status 3
--- or 8 the last round did so, too.
+-- The program ends with a report after some rounds. Each round but the last saved, for the next
+-- one, a text of a formula over the same variables, whose clauses all follow from FORMULA. With
+-- status 3 or 8 the last round did so, too.
 pub record ReportsEntailed (files : FilesView) (words : List Text) (folder : Text)
     (after : files.its.State) (out err : SinkChange) (status : ℕ) : Type 0 where
   pub ending : EndsWithReport files words after out err status
@@ -271,8 +271,8 @@ pub record ReportsEntailed (files : FilesView) (words : List Text) (folder : Tex
   pub last_saved : (status ≡ 3) ⊎ (status ≡ 8)
       → SavesEntailed folder ending.were.formula ending.last
 
--- If the words ask for rounds, and the status says that a report was written (0, 3, 8 or 9), it is
--- the report of rounds as `ReportsEntailed` describes them.
+-- If the words ask for rounds, and the status says that a report was written (0, 3, 8 or 9), the
+-- program ended as `ReportsEntailed` says.
 abbrev pub RoundsEntailed : (files : FilesView) → List Text → files.its.State → SinkChange
     → SinkChange → ℕ → Type 0
 RoundsEntailed files words after out err status =

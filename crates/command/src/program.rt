@@ -29,9 +29,10 @@ use std::time::Clock;
 ///
 /// 1. It parses the words, reads the formula's file and parses it, and then the file of the assumed
 ///    literals, if there is one.
-/// 2. It opens the streams. If they have a layout, and the words have `--checkpoint` or `--rounds`,
-///    it creates the file for the checkpoint or for the next round's formula.
-/// 3. It checks the streams. With `--watch`, watchers report their progress, and slow openings.
+/// 2. It opens the streams. If they have a layout, and `--checkpoint` or `--rounds` was given, it
+///    creates the file for the checkpoint or for the next round's formula.
+/// 3. It checks the streams. With `--watch`, watchers report the streams' progress, and slow
+///    openings.
 /// 4. It saves the checkpoint, unless the verdict is 'unsatisfiable'. If that fails, `err` gets the
 ///    cause.
 /// 5. With `--rounds`, the checkpoint of a round is the next round's formula, and the folder holds
@@ -41,23 +42,23 @@ use std::time::Clock;
 /// 6. It writes the report of the last round to `out`.
 ///
 /// If there is no report, nothing goes to `out`, and the cause goes to `err`. If the report can't
-/// be written, `out` has a prefix of it, and `err` gets a message. The call blocks while a file
-/// does.
+/// be written, `out` has a prefix of it, and `err` gets a message. The call blocks as long as an
+/// operation on a file does.
 ///
 /// The statuses:
 ///
 /// - 0: the report says `s UNSATISFIABLE`.
-/// - 2: the words have a mistake, ask for help, or ask both for a checkpoint and for rounds; there
-///   are too many streams; the row would be too long; the sizes of a round have a mistake.
+/// - 2: the words have a mistake, ask for help, or ask for both a checkpoint and rounds; there are
+///   too many streams; the row would be too long; the sizes of a round have a mistake.
 /// - 3: the report says `s UNKNOWN`.
-/// - 4: the formula or the assumptions were refused for another cause than memory.
+/// - 4: the formula or the assumptions were refused for a cause other than memory.
 /// - 5: the file of the formula, of the assumptions or of a round's sizes couldn't be opened or
-///   read; a stream's couldn't be opened; the checkpoint's couldn't be created.
-/// - 6: out of memory, except within a report and while saving; a thread couldn't be started; a
-///   stream's end got lost between its two threads.
+///   read; a stream's file couldn't be opened; the checkpoint's file couldn't be created.
+/// - 6: out of memory, unless a stream's report says so or it happened while saving; a thread
+///   couldn't be started; a stream's end got lost between its two threads.
 /// - 7: the report couldn't be written.
 /// - 8: the report says `s UNSATISFIABLE UNDER ASSUMPTIONS`.
-/// - 9: in place of 3 and 8, if the checkpoint couldn't be saved.
+/// - 9: instead of 3 or 8, if the checkpoint couldn't be saved.
 pub fn command<T: Threads + Wait + Sync, C: Clock + Sync, F: Machine, O: Sink, E: Sink>(
     threads: &T,
     clock: &C,
@@ -135,9 +136,10 @@ pub fn check_formula<T: Threads + Wait + Sync, C: Clock + Sync, F: Machine, O: S
     ensures sound_under { let read = WasRead F.opens F.Input.Source.reads (F.contents files.old) in
         result ≡ 8 → IsUnsatisfiableTextWith read asked.entry.formula.items files.old
         (assumed_at asked.entry.line) }
-    // If words give this command line, and the bytes were read from FORMULA by the first opening,
-    // of files that were `first`, the program ends as `ProgramEnds` says for these words and files:
-    // with a report, or without one and with the cause; and the output and the status match.
+    // If words give this command line, and the bytes were read from FORMULA, the first file to be
+    // opened, when the files were `first`, the program ends as `ProgramEnds` says for these words
+    // and files: with a report, or without one and with the cause; and the output and the status
+    // match.
     ensures ends { (words : List Text) (first : F) →
         let view = from_first (⟦<F as Viewed>⟧.view files.old) first in
         IsCommandLineOf words asked.entry.line
@@ -236,7 +238,7 @@ fn say_next<E: Sink>(fault: &CommandFault, err: &mut E) -> u8
     say(fault, err)
 }
 
-/// Reports a fault and returns its status, even if the report couldn't be written.
+/// Reports a fault and returns its status, even if the message couldn't be written.
 pub fn say<E: Sink>(fault: &CommandFault, err: &mut E) -> u8
     requires err { E.has_failed err.old ≡ false }
     ensures said { SinkTook (change E.Sink err.old err.new) (error_text fault.now) }
@@ -245,7 +247,7 @@ pub fn say<E: Sink>(fault: &CommandFault, err: &mut E) -> u8
     say_of_round(1, fault, err)
 }
 
-/// Reports a fault of a round, counted from 1, and returns its status, even if the report couldn't
+/// Reports a fault of a round, counted from 1, and returns its status, even if the message couldn't
 /// be written.
 fn say_of_round<E: Sink>(round: u64, fault: &CommandFault, err: &mut E) -> u8
     requires err { E.has_failed err.old ≡ false }

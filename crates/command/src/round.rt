@@ -28,8 +28,7 @@ use std::time::Clock;
 use stream_check::{Ending, Report};
 
 /// Checks a round whose streams are open, and saves their clauses if the words ask for that.
-/// Streams that have no layout are refused before the file is created that the clauses are saved
-/// to.
+/// Streams that have no layout are refused before the file for the clauses is created.
 pub(crate) fn check_round<T: Threads + Wait + Sync, C: Clock + Sync, F: Machine>(
     threads: &T,
     clock: &C,
@@ -127,7 +126,7 @@ fn close_round<C: Clock + Sync, F: Machine>(
     requires streams { 0 < sizes.streams }
     requires ready { CanBeSaved run.clauses }
     requires output { ForSome output (λ sink. F.Output.Sink.has_failed sink ≡ false) }
-    // It holds for each round whose check had these results.
+    // The clause holds for each round whose check had these results.
     ensures found { let its = ⟦<F as Viewed>⟧.effects in
         let line = course.now.line.now in
         let cube = course.now.cube.now in

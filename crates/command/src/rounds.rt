@@ -32,8 +32,7 @@ use std::sync::Wait;
 use std::thread::Threads;
 use std::time::Clock;
 
-/// Checks the round with this number, which follows the last one, if there is a file for its stream
-/// 1.
+/// Checks the round with this number, which follows `last`, if there is a file for its stream 1.
 fn next_round<T: Threads + Wait + Sync, C: Clock + Sync, F: Machine>(
     threads: &T,
     clock: &C,
@@ -141,7 +140,7 @@ fn check_rounds<T: Threads + Wait + Sync, C: Clock + Sync, F: Machine>(
 }
 
 /// Parses the formula, reads the assumed literals, opens the streams of round 1, and checks the
-/// rounds. It blocks while a file does.
+/// rounds. It blocks as long as an operation on a file does.
 pub(crate) fn begin_and_check<T: Threads + Wait + Sync, C: Clock + Sync, F: Machine>(
     threads: &T,
     clock: &C,

@@ -149,8 +149,8 @@ fn run_in_threads<T: Threads + Wait + Sync, C: Clock + Sync, F: Machine>(
     })
 }
 
-/// A gate for each of `count` streams that are checked in threads. If `report_on` is given, each
-/// gate reports on a watcher of its own.
+/// One gate for each of `count` streams that are checked in threads. If `report_on` is given, each
+/// gate reports to a watcher of its own.
 fn thread_gates<'a, C: Clock + Sync, F: Machine>(
     alloc: Global,
     clock: &'a C,
@@ -167,8 +167,8 @@ fn thread_gates<'a, C: Clock + Sync, F: Machine>(
     Ok(gates)
 }
 
-/// A gate for each of `count` streams that are checked on one thread. If `report_on` is given, each
-/// gate reports on a watcher of its own.
+/// One gate for each of `count` streams that are checked on one thread. If `report_on` is given,
+/// each gate reports to a watcher of its own.
 fn turn_gates<'a, C: Clock + Sync, F: Machine>(
     alloc: Global,
     clock: &'a C,

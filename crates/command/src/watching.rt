@@ -17,9 +17,9 @@ pub(crate) fn now_if<C: Clock + Sync>(clock: &C, asked: bool) -> Option<Instant>
     }
 }
 
-/// Reports on a watcher that a round begins, the size of its formula, and the pause since the round
-/// before it ended. Without a time from the clock the pause is left out; without memory, the
-/// report.
+/// Reports to a watcher that a round begins, the size of its formula, and the pause since the
+/// previous round ended. If the clock gives no time, the pause is left out; if memory runs out, the
+/// whole report is.
 pub(crate) fn report_begin<C: Clock + Sync, F: Machine>(
     clock: &C,
     alloc: Global,

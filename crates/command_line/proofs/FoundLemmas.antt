@@ -70,7 +70,7 @@ HasParser id q r = bytes_eq r.id id ≡ true → parser_of_value r.parser ≡ q
 abbrev Parses : Text → ValueParser → Type 0
 Parses id q = EachArgument (HasParser id q)
 
--- the text read for an argument passed its parser, if that reads texts as written
+-- the text read for an argument passed its parser, if the parser reads texts as written
 text_passed : (d : Command) (f : Found) (id : Text) (q : ValueParser) → IsProgram d → ValuesPass d f → (id ≡ [] → ⊥) → Parses id q
     → reading_of q ≡ AsWritten → (text : Text) → one_of id (rows_of f) ≡ Some text → (ignore_case : Bool) × Accepts ignore_case q text
 text_passed d f id q is pass named parses plain text found = go (matched_of f id) refl (one_text-rows f id ∙ found)
@@ -192,7 +192,7 @@ filled d f id is pass named takes_one used =
         let held = entry_holds d f id entry.1 pass (program_simple d is).groups named found in
         (entry.1, found, elim held.filled [ inl lt ↦ lt | inr or ↦ absurd (none or) ])
 
--- it is set or appended, with at least one value
+-- an argument that sets or appends takes at least one value
 sets : (Set ≡ Count → ⊥) × (◌≡◌ {A = ℕ} 1 0 → ⊥)
 sets = (λ e. cc, λ e. absurd (omega arith))
 
@@ -211,7 +211,7 @@ stream_takes = (
   (other, (other, (other, (other, (other, (other, (other, (other, (other, (λ _. appends, (other, (other, tt)))))))))))),
 )
 
--- ---- all of it
+-- ---- everything together
 
 are_found : (words : List Text) (c d : Command) (f : Found) → app_of c ≡ lrupd → BuildsOrBreaks c d → (is_broken d ≡ true → ⊥)
     → ValuesPass d f → fault_of lrupd words ≡ [] → rows_of f ≡ matches_of lrupd words → AreRowsOf words (rows_of f)
@@ -254,7 +254,7 @@ pub fails_by : (words : List Text) (c : Command) (r : Result ArgMatches Error) �
 fails_by words c r is kinds =
     subst (λ (a : App). is_simple_and_free a ≡ true → FailsBy (fault_of a words) r) is kinds simple_and_free
 
--- and finds what the words contain if they have none
+-- and finds what the words contain if they have no fault
 pub finds : (words : List Text) (c d : Command) (r : Result ArgMatches Error) → app_of c ≡ lrupd → BuildsOrBreaks c d
     → (is_broken d ≡ true → IsErrAnd r (λ e. kind_of e ≡ OutOfMemory))
     → IfOk r (λ m. BuildsTo c d × ((out-Command d).has_globals ≡ false → IsParsed d (found_of m) (has_subcommand m))

@@ -1,4 +1,4 @@
--- The walk over words none of which begins with a hyphen.
+-- The walk over words that don't begin with a hyphen.
 use Rattle.std.proofs.Common.{◌≡◌, ◌∙◌, ◌<◌, ◌^◌, ap, sym, refl, arith, ℕ, Bool, true, false, not, cond, List, [], ◌∷◌, ◌++◌, length}
 use Rattle.std.proofs.Common.{Option, Some, None, codes, is_some}
 use Rattle.std.specs.Option.{option_map_or}
@@ -157,7 +157,7 @@ flag_row name = record {
   reading = AsWritten;
 }
 
--- what is found in them
+-- what is found in the words
 pub plain_rows : (formula first : Text) (rest : List Text) → is_plain formula ≡ true → list_all is_plain (first ∷ rest) ≡ true
     → matches_of lrupd (formula ∷ first ∷ rest) ≡ formula_row formula ∷ stream_row (first ∷ rest) ∷ flag_row (codes "serial")
     ∷ flag_row (codes "watch") ∷ []

@@ -26,7 +26,7 @@ number_read E G only (Some t) (Some n) default none some number = (only t (Ok n)
 pub up_to_is_number : (most : ℕ) (name : Text) (rows : List Row) → HasUpTo most name rows → HasNumber name rows
 up_to_is_number most name rows up_to text is = ((up_to text is).0, (up_to text is).1)
 
--- the number of an option is at most `most`, as its default is
+-- the number of an option is at most `most` if its default is
 pub number_within : (most : ℕ) (name : Text) (default : ℕ) (rows : List Row) → HasUpTo most name rows → default ≤ most
     → option_number name default rows ≤ most
 number_within most name default rows up_to small = go (one_of name rows) up_to
@@ -46,11 +46,11 @@ flag_read (Some t) read none on off truth = elim (truth t refl) [
   | inr is ↦ off (ap Some is) ∙ sym (ap (λ (u : Text). bytes_eq u (codes "true")) is)
 ]
 
--- two lists read from the same place have the same length
+-- if one of two equal lists isn't empty, the other isn't either
 pub same_length : {A : Type 0} {o : Option (List A)} {a b : List A} → o ≡ Some a → o ≡ Some b → 0 < length a → 0 < length b
 same_length {A} {o} {a} {b} one two some = subst (λ (r : Option (List A)). 0 < length (unwrap_or r [])) (sym one ∙ two) some
 
--- why the rows of words give no command line is why the words give none
+-- if the words' rows give no command line, the words give none, for the same cause
 pub fault_of_rows : {A : Type 0} (words : List Text) (rows : List Row) → AreRowsOf words rows → (result : Result A WordsFault)
     → IfErr result (IsRowsFault rows) → IfErr result (IsWordsFault words)
 fault_of_rows words rows are (Ok line) is = is

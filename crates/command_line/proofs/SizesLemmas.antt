@@ -68,7 +68,7 @@ after_streams sizes = decimal sizes.lines ++ 32 ∷ (decimal sizes.room ++ 10 �
 abbrev pub after_lines : Sizes → List ℕ
 after_lines sizes = decimal sizes.room ++ 10 ∷ []
 
--- a text of sizes is three numbers, each before its character
+-- a text of sizes is three numbers, each followed by its character
 pub record HasThreeNumbers (bytes : List ℕ) (sizes : Sizes) : Type 0 where
   pub streams : IsNumberBefore bytes 32 sizes.streams (after_streams sizes)
   pub lines : IsNumberBefore (after_streams sizes) 32 sizes.lines (after_lines sizes)
@@ -84,7 +84,7 @@ three_numbers bytes sizes is = record {
   room = record { parts = refl; small = omega (arith, is.within.small_room) };
 }
 
--- a number, a character and an ASCII text are ASCII together
+-- a number, an ASCII character and an ASCII text together are ASCII
 ascii : (number end : ℕ) (rest : List ℕ) → number < 2 ^ 64 → end < 128 → IsAscii rest → IsAscii (decimal number ++ end ∷ rest)
 ascii number end rest small low tail = IsAscii-append (decimal number) (end ∷ rest) (IsAscii-decimal number small) after
   where
@@ -100,7 +100,7 @@ sizes_utf8 bytes sizes is =
     let all = ascii sizes.streams 32 (after_streams sizes) numbers.streams.small (omega arith) lines in
     IsUtf8-from_ascii bytes (subst IsAscii (sym numbers.streams.parts) all)
 
--- if the numbers of a text are these, its sizes are these
+-- if these numbers equal the sizes of a text, they are in their ranges
 pub same_sizes : (bytes : List ℕ) (sizes : Sizes) (streams lines room : ℕ) → IsSizesText bytes sizes
     → streams ≡ sizes.streams → lines ≡ sizes.lines → room ≡ sizes.room
     → AreWithinSizes (record { streams = streams; lines = lines; room = room })
@@ -111,7 +111,7 @@ same_sizes bytes sizes streams lines room is one two three = record {
   small_room = omega (arith, three, is.within.small_room);
 }
 
--- a number before its character, in the same text
+-- a number before its character, in an equal text
 pub along : {one two : List ℕ} (end number : ℕ) (rest : List ℕ) → one ≡ two → IsNumberBefore two end number rest
     → IsNumberBefore one end number rest
 along end number rest same is = subst (λ (text : List ℕ). IsNumberBefore text end number rest) (sym same) is

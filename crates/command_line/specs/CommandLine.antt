@@ -44,9 +44,9 @@ stream_rule = record (new_rule (codes "STREAM")) {
 }
 
 -- The command, with its arguments in the order of the help; its words don't begin with the
--- program's name. Arguments without `long` are positional. The numbers are how often a vacant hint
--- is fetched again, how many identities a stream has, and how many literals its clauses may have
--- together.
+-- program's name. Arguments without `long` are positional. The three numbers say how often a vacant
+-- hint is fetched again, how many identities a stream has, and how many literals its clauses may
+-- have together.
 abbrev pub lrupd : App
 lrupd = record {
   top = record (new_shape (codes "lrupd")) {
@@ -129,13 +129,13 @@ pub record IsSaidBy (rows : List Row) (given : CommandLine) : Type 0 where
   pub streams : all_of (codes "STREAM") rows ≡ Some given.streams
   pub one : 0 < length given.streams
 
--- The command line that the words give: they have no fault, and it is what is found in them.
+-- The words have no fault, and the command line is what is found in them.
 pub record IsCommandLineOf (words : List Text) (given : CommandLine) : Type 0 where
   pub good : fault_of lrupd words ≡ []
   pub said : IsSaidBy (matches_of lrupd words) given
 
--- Why there is none: the words have a fault, or ask both for a checkpoint and for rounds; or memory
--- ran out.
+-- Why there is no command line: the words have a fault, or ask both for a checkpoint and for
+-- rounds; or memory ran out.
 abbrev pub IsWordsFault : List Text → WordsFault → Type 0
 IsWordsFault words (Usage text) = HaveFault words
 IsWordsFault words TwoCheckpoints = AskForBoth words

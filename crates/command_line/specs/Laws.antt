@@ -23,8 +23,8 @@ pub record HasDefaults (first : Text) (rest : List Text) (given : CommandLine) :
   pub serial : given.serial ≡ false
   pub watch : given.watch ≡ false
 
--- If no word begins with a hyphen, the words are a formula and its streams in order, and ask for no
--- checkpoint and for no rounds.
+-- If no word begins with a hyphen, the words are a formula and its streams in order, and ask for
+-- neither a checkpoint nor rounds.
 abbrev pub PlainWords : Type 0
 PlainWords = (formula : Text) (streams : List Text) → is_plain formula ≡ true
     → list_all is_plain streams ≡ true → 0 < length streams → length streams < 2 ^ 64

@@ -66,7 +66,7 @@ fn number<'a>(alloc: Global, name: &'a str, most: u64, help: &'a str) -> Arg<'a>
         .help(help)
 }
 
-/// The option `--name FILE`, or with a word other than FILE for its path.
+/// The option `--name FILE`; the help shows `value` in place of FILE.
 fn file<'a>(alloc: Global, name: &'a str, value: &'a str, help: &'a str) -> Arg<'a>
     ensures rule { rule_of result ≡ file_rule name.now }
     ensures local { result.global ≡ false }

@@ -66,8 +66,8 @@ fn begins_as_number(text: &str) -> bool
     }
 }
 
-/// The number at the beginning of the text, in decimal without a leading 0, and the text after it
-/// and after the character `end`, which has to follow the number.
+/// The number at the beginning of the text, in decimal without a leading 0, and the text after
+/// `end`, the character that has to follow the number.
 fn number_before(text: &str, end: char) -> Option<(u64, &str)>
     requires { end < 48 }
     ensures some { IfSome result (λ found. IsNumberBefore text.now end found.0 found.1.now) }

@@ -39,11 +39,11 @@ pub struct CommandLine<'a> {
 /// For which run, if any, the clauses that are live at the end are saved.
 #[derive(Clone, Copy, Debug, PartialEq, Eq)]
 pub enum Next<'a> {
-    /// Nothing: they aren't saved.
+    /// For no run: the clauses aren't saved.
     Nothing,
-    /// A later run: the path of its formula.
+    /// For a later run: the path of its formula.
     Checkpoint(&'a str),
-    /// The next round: the folder of the rounds after the first.
+    /// For the next round: the folder of the rounds after the first.
     Rounds(&'a str),
 }
 
@@ -56,7 +56,7 @@ impl<'a> Next<'a> {
     }
 }
 
-/// Paths in their order.
+/// Paths, in order.
 #[derive(Debug, Drop)]
 pub struct Paths<'a> {
     paths: Vec<&'a str>,
@@ -114,10 +114,10 @@ impl fmt::Display for UsageText {
 /// Why the words give no command line.
 #[derive(Debug, Drop, Error)]
 pub enum WordsFault {
-    /// They have a mistake, or ask for help; this is the text from `clap`.
+    /// The words have a mistake, or ask for help; the text comes from `clap`.
     #[error("{0}")]
     Usage(UsageText),
-    /// They ask both for a checkpoint and for rounds, which name their checkpoints themselves.
+    /// The words ask both for a checkpoint and for rounds, which name their checkpoints themselves.
     #[error("--checkpoint and --rounds exclude each other")]
     TwoCheckpoints,
     /// Out of memory.
@@ -225,7 +225,7 @@ fn formula_of<'a>(matches: &ArgMatches<'a>) -> &'a str
     matches.get_str("FORMULA").unwrap()
 }
 
-/// The words STREAM, in their order.
+/// The words STREAM, in order.
 fn streams_of<'a>(alloc: Global, matches: &ArgMatches<'a>) -> Result<Paths<'a>, AllocError>
     requires { IsSome (all_of (codes "STREAM") (rows_of (found_of matches.now))) }
     ensures { IfOk result (λ streams.

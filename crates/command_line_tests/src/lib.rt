@@ -1,4 +1,4 @@
-//! Tests of `command_line`, by its public calls alone.
+//! Tests of `command_line`, through its public calls only.
 #![tactic(auto)]
 
 #[cfg(test)]

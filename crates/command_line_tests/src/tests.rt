@@ -200,7 +200,7 @@ static PATHS: [(&str, &str, &[&str]); 9] = [
     ("- -- -", "-", &["-"]),
 ];
 
-/// Paths keep their order; after `--` one may begin with a hyphen.
+/// Paths keep their order; after `--` a path may begin with a hyphen.
 #[test]
 fn formula_and_streams_have_paths(rt: HostRuntime) -> Result<(), Fail> {
     for &(words, formula, streams) in &PATHS {
@@ -282,7 +282,7 @@ static BOTH: [&[&str]; 2] = [
     &["--checkpoint=c", "--rounds=c", "f", "s"],
 ];
 
-/// That is a fault with a text of its own.
+/// Asking for both is a fault with a text of its own.
 #[test]
 fn a_checkpoint_excludes_rounds(rt: HostRuntime) -> Result<(), Fail> {
     for &words in &BOTH {
@@ -331,7 +331,7 @@ fn help_says_what_each_option_is(rt: HostRuntime) -> Result<(), Fail> {
 /// Words that ask for the version.
 static VERSION: [&[&str]; 3] = [&["--version"], &["-V"], &["f", "s", "--version"]];
 
-/// `make pages` and `make examples` compare its number with the file VERSION.
+/// `make pages` and `make examples` compare the number with the file VERSION.
 #[test]
 fn the_version_is_one_line(rt: HostRuntime) -> Result<(), Fail> {
     for &words in &VERSION {

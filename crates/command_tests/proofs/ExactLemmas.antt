@@ -1,4 +1,4 @@
--- What the clauses of `command` say of files of which contracts know everything.
+-- What the clauses of `command` say of files about which contracts know everything.
 use Rattle.std.proofs.Common.{◌≡◌, ◌∙◌, ◌++◌, ◌+◌, ◌⊎◌, ℕ, ℤ, Bool, true, false, List, [], ◌∷◌, Option, None, Some, Result, Ok, Err}
 use Rattle.std.proofs.Common.{inl, inr, ap, length, refl, sym, subst}
 use Rattle.std.proofs.lemmas.List.{append-nil}
@@ -98,7 +98,7 @@ module _ (files : FilesView) (words : List Text) where
   never_assumed vars before None why after cause = cause
   never_assumed vars before (Some path) why after cause = cause
 
-  -- no cause is one of saving
+  -- no cause is that saving failed
   never_unsaved : (number : ℕ) (why : SaveFault) (after : files.its.State) → IsCauseIn files words number (faults.NotSaved why) after
       → ⊥
   never_unsaved number why after (inl (one, cause)) = elim cause.2 [
@@ -141,8 +141,8 @@ module _ (files : FilesView) (words : List Text) where
       absurd (never_unsaved fault.number is.0 after
       (subst (λ (f : CommandFault). IsCauseIn files words fault.number f after) is.1 fault.cause))
 
--- Files of which contracts know everything: their readers have these bytes left, and their new
--- files these.
+-- Files about which contracts know everything: `left` is what their readers have left, and
+-- `content` the bytes of their new files.
 module _ {R W : Type 0} (left : R → List ℕ) (content : W → List ℕ) (reading : SourceView R) (has_failed : W → Bool) where
   abbrev exact_effects : Effects
   exact_effects = record {
@@ -320,7 +320,7 @@ module _ {R W : Type 0} (left : R → List ℕ) (content : W → List ℕ) (read
 
   -- Rounds.
 
-  -- the files with another new one
+  -- the files with another new file
   abbrev with_new : List ℕ → List ℕ → ExactValue → ExactValue
   with_new path bytes files = record files { path = path; bytes = bytes; closing = closings.Kept }
 

@@ -1,4 +1,4 @@
--- Files in memory, of which contracts know everything: a formula and a stream, and the file that
+-- Files in memory, about which contracts know everything: a formula and a stream, and the file that
 -- was created last.
 use Rattle.std.specs.Prelude.{◌≡◌, ◌≢◌, ◌++◌, ◌⊎◌, ℕ, Bool, true, List, [], Option, None, Some, if◌then◌else◌, length, nat_eq}
 use Rattle.lrup_model.specs.Formula.{Cnf}
@@ -52,8 +52,8 @@ abbrev pub IsCreated : ExactValue → List ℕ → List ℕ → ExactValue → T
 IsCreated before path bytes after = (text_at before path ≡ None) × (bytes ≡ [])
     × (after ≡ record before { path = path; bytes = []; closing = closings.Open })
 
--- creating a file is refused, since there is one or there is no memory for the path, and nothing
--- changes
+-- creating a file is refused, since there already is one, or there is no memory for the path; and
+-- nothing changes
 abbrev pub RefusesNew : ExactValue → List ℕ → OpenFault → ExactValue → Type 0
 RefusesNew before path fault after = (after ≡ before)
     × ((fault ≡ open_faults.Memory)
@@ -85,7 +85,7 @@ IsKept words before after status = (path : List ℕ) → AskToSave words path
     → (status ≡ 3) ⊎ (status ≡ 8)
     → FileLies IsCheckpoint words before path closings.Kept after
 
--- With status 0 there is an empty file, which was discarded.
+-- With status 0 there is an empty file at that path, which was discarded.
 abbrev pub IsEmptied : List (List ℕ) → ExactValue → ExactValue → ℕ → Type 0
 IsEmptied words before after status = (path : List ℕ) → AskToSave words path → status ≡ 0
     → FileLies (λ formula bytes. bytes ≡ []) words before path closings.Discarded after
@@ -97,8 +97,8 @@ BeginsCheckpoint formula bytes =
     (entries : List Entry) × (rest : List ℕ)
     × (formula_text formula.vars entries ≡ bytes ++ rest)
 
--- With status 9 the file there can't be relied on: it is a whole checkpoint that couldn't be kept,
--- or a prefix of one.
+-- With status 9 the file at that path can't be relied on: it is a whole checkpoint that couldn't be
+-- kept, or a prefix of a checkpoint.
 abbrev pub IsUnsure : List (List ℕ) → ExactValue → ExactValue → ℕ → Type 0
 IsUnsure words before after status = (path : List ℕ) → AskToSave words path → status ≡ 9
     → (FileLies IsCheckpoint words before path closings.Lost after × (before.is_lossy ≡ true))

@@ -1,6 +1,6 @@
 //! Files in memory whose contracts say exactly what each call does to them, and what follows for
 //! such files from the clauses of `command`: what is at the path of a checkpoint after the statuses
-//! 0, 3, 8 and 9, and which file a round kept last after 3 and 8.
+//! 0, 3, 8 and 9, and, after 3 and 8, which file a round kept last.
 ghost use Rattle.std.specs.Prelude.{◌≡◌, ℕ, Some, option_map, string_bytes, true, false};
 ghost use Rattle.clap.specs.Walk.{texts};
 ghost use Rattle.command_tests.specs.ExactFiles.{ExactValue, text_at, text_or_none, FindsText, HasNoFile, RefusesOpening, IsCreated, RefusesNew, ClosesFile};
@@ -19,7 +19,7 @@ use test_support::{Paper, Pieces};
 /// How the file that was created last was closed.
 #[derive(Clone, Copy, Debug, PartialEq, Eq)]
 pub enum Closing {
-    /// It wasn't.
+    /// It wasn't closed.
     Open,
     Kept,
     /// Keeping it failed.
@@ -27,8 +27,8 @@ pub enum Closing {
     Discarded,
 }
 
-/// Each path of one byte has the formula, each of two bytes the stream; and the file that was
-/// created last.
+/// The formula at each path of one byte, the stream at each path of two bytes, and the file that
+/// was created last.
 #[derive(Drop)]
 pub struct ExactFiles<'a> {
     alloc: Global,
@@ -54,7 +54,7 @@ impl<'a> Model for ExactFiles<'a> {
 
 impl<'a> ExactFiles<'a> {
     /// Files of these two texts, before any file is created. Write number `fails_at` to a new file
-    /// fails; if that is 0, none does.
+    /// fails; if that number is 0, none does.
     pub fn new(
         alloc: Global,
         formula: &'a str,
@@ -178,8 +178,8 @@ impl<'a> Machine for ExactFiles<'a> {
     }
 }
 
-/// Runs the program over these files. What is then at the path follows from the clauses of
-/// `command` alone.
+/// Runs the program over these files. What is at the path afterwards follows from nothing but the
+/// clauses of `command`.
 pub fn run_exactly<T: Threads + Wait + Sync + Clock>(
     threads: &T,
     alloc: Global,

@@ -1,4 +1,4 @@
-//! Tests of `command`, by its public calls alone.
+//! Tests of `command`, through its public calls only.
 #![tactic(auto)]
 
 pub mod exact_files;

@@ -1,4 +1,4 @@
-//! Runs of the whole program over files and sinks of the tests' own.
+//! Runs of the whole program over the tests' own files and sinks.
 ghost use Rattle.std.specs.Prelude.{None, Some};
 
 use command::command;
@@ -41,12 +41,12 @@ const FOUR: &str = "p cnf 2 4\n1 2 0\n-1 2 0\n1 -2 0\n-1 -2 0\n";
 
 /// Adds the unit clause 2 to the four clauses.
 const ADDS: &str = "5 2 0 1 2 0\n";
-/// Adds it, and the empty clause.
+/// Adds the unit clause 2, and the empty clause.
 const REFUTES: &str = "5 2 0 1 2 0\n6 0 5 3 4 0\n";
-/// Adds it, and drops the first clause.
+/// Adds the unit clause 2, and drops the first clause.
 const DROPS: &str = "5 2 0 1 2 0\n7 d 1 0\n";
 
-/// The four clauses and the unit clause: each is at the place of its identity.
+/// The four clauses and the unit clause: each clause's position is its identity.
 const ALL: &str = "p cnf 2 5\n1 2 0\n-1 2 0\n1 -2 0\n-1 -2 0\n2 0\n";
 /// The same without the first clause.
 const LESS: &str = "p cnf 2 4
@@ -198,7 +198,7 @@ fn assert_unwritten(
     Ok(())
 }
 
-/// Checks that the run ends without a report, with this message and status, after this was done to
+/// Checks that the run ends without a report, with this message and status, and that it did this to
 /// the files.
 fn assert_refused(
     rt: &impl Host,

@@ -100,7 +100,7 @@ set_push w old new l set added = record {
 
 -- ## the reader's state
 
--- These tokens are left of all; the builder has what was made from those before them.
+-- `left` is what is left of `all`; the builder has what was made from the tokens before `left`.
 pub record Reads (header : Header) (all left : List Token) (b : Builder) : Type 0 where
   pub before : List Token
   pub split : all ≡ before ++ left

@@ -133,7 +133,7 @@ somes-injective (x ∷ xs) (y ∷ ys) e =
     let tail : somes xs ≡ somes ys = cc in
     let below = somes-injective xs ys tail in cc
 
--- two readings have equally many clauses, and equally many literals after them
+-- two readings have the same number of clauses, and of literals after them
 pub one_reading : (vars count : ℕ) (all : List Token) (closed closed' : List (List ℤ)) (begun begun' : List ℤ)
     → TokensSpell vars count all closed begun → TokensSpell vars count all closed' begun'
     → (length closed ≡ length closed') × (length begun ≡ length begun')

@@ -45,7 +45,7 @@ number_more b n bs low = rw (first_run-begun b bs (digit_begins b low)) refl
 pub after_run_more : (b : ℕ) (bs : List ℕ) → 48 ≤ b → after_run (b ∷ bs) ≡ after_run bs
 after_run_more b bs low = after_run-begun b bs (digit_begins b low)
 
--- a byte inside a number that isn't a digit
+-- inside a number, a byte that isn't a digit
 pub digits_broken : (b : ℕ) (bs : List ℕ) → is_separator b ≡ false → is_digit b ≡ false → all_digits (first_run (b ∷ bs)) ≡ false
 digits_broken b bs begins none = rw (first_run-begun b bs begins, none) refl
 

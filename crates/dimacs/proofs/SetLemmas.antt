@@ -36,7 +36,7 @@ IsMarked-read words p =
     let e = shr_and_one (get_or words (p / 64) 0) (p % 64) in
     (λ h. sym e ∙ eqb-true _ 1 h, λ h. eq-eqb _ 1 (e ∙ h))
 
--- one more bit, at place k of word i
+-- one more bit: bit k of word i
 pub IsMarked-set : (words : List ℕ) (i k p : ℕ) → i < length words → k < 64
     → IsBitSet (set words i (bit_or (get_or words i 0) (1 * 2 ^ k % 2 ^ 64))) p ↔ (IsBitSet words p ⊎ ((p / 64 ≡ i) × (p % 64 ≡ k)))
 unfolding IsBitSet

@@ -24,7 +24,7 @@ HasBadHeader [] = ⊥
 HasBadHeader (header ∷ lines) =
     BeginsHeader header.tokens × ((vars count : ℕ) → ¬ IsHeader header.tokens vars count)
 
--- a header that is spelled right, but says too much
+-- a header that is spelled right, but has a number above its limit
 pub record SaysTooMuch (header : List (List ℕ)) : Type 0 where
   pub vars : ℕ
   pub count : ℕ
@@ -35,8 +35,8 @@ abbrev pub HasLargeHeader : List Line → Type 0
 HasLargeHeader [] = ⊥
 HasLargeHeader (header ∷ lines) = SaysTooMuch header.tokens
 
--- The tokens before this one have no fault, and spell the clauses of `closed` and, without its 0,
--- `begun`.
+-- The tokens before this one have no fault, and spell the clauses of `closed`, and then `begun`
+-- without its 0.
 pub record OccursAt (token : Token) (vars count : ℕ) (tokens : List Token) (closed : List (List ℤ))
     (begun : List ℤ) : Type 0 where
   pub before : List Token

@@ -1,4 +1,4 @@
--- What it means that a file is the text of a formula (DIMACS CNF; the limits are this project's
+-- What it means for a file to be the text of a formula (DIMACS CNF; the limits are this project's
 -- own).
 use Rattle.std.specs.Prelude.{◌≡◌, ◌≤◌, ℕ, ℤ, pos, List, [], ◌∷◌, ◌++◌, codes, length, map, flat_map}
 use Rattle.std.specs.Fmt.{decimal, signed_decimal}

@@ -1,5 +1,5 @@
 -- A text of a formula, read token by token: definitions for this crate's own functions, and for the
--- faults. `IsFormulaText` says what a text is, and a law says that this is the same.
+-- faults. `IsFormulaText` says what a text is, and a law says that both agree.
 use Rattle.std.specs.Prelude.{◌≡◌, ◌↔◌, ◌≤◌, ◌<◌, ℕ, ℤ, pos, IsTrue, Some, List, [], ◌∷◌, ◌++◌, codes, length, map, flat_map}
 use Rattle.std.specs.List.{AllByRecursion}
 use Rattle.lrup_model.specs.Literal.{IsLiteral, max_variable}
@@ -61,13 +61,13 @@ pub record TokensSpell (vars count : ℕ) (tokens : List Token) (closed : List (
   pub begun_count : 0 < length begun → length closed < count
 
 -- The clause is the set of the literals, and has each literal once, in the order of first
--- occurrence. The last field alone implies the other two, which say it as textbooks do.
+-- occurrence. The last field implies the other two, which are what textbooks say.
 pub record IsSetOf (literals : List ℤ) (clause : Clause) : Type 0 where
   pub members : (l : ℤ) → Has clause l ↔ Has literals l
   pub each_once : EachOnce clause
   pub order : clause ≡ distinct literals
 
--- the same clause by clause, in order
+-- the same for each clause, in order
 abbrev pub AreSetsOf : List (List ℤ) → List Clause → Type 0
 AreSetsOf [] [] = Unit {0}
 AreSetsOf (literals ∷ rest) (clause ∷ clauses) = IsSetOf literals clause × AreSetsOf rest clauses

@@ -25,7 +25,7 @@ abbrev pub is_comment : List ℕ → Bool
 is_comment [] = false
 is_comment (byte ∷ bytes) = byte == 99
 
--- The tokens of each line that isn't a comment and has any; a line ends at LF.
+-- The tokens of each line that isn't a comment and has a token; a line ends at LF.
 abbrev pub token_lines : List ℕ → List (List (List ℕ))
 token_lines bytes =
     filter (λ tokens. not (is_empty tokens))

@@ -35,7 +35,7 @@ is_zero (byte ∷ next ∷ bytes) = false
 abbrev pub is_count : List ℕ → Bool
 is_count text = is_zero text || is_numeral text
 
--- the number that a minus sign and a numeral spell; `None` if it isn't spelled so, as `-0` isn't
+-- the number that a minus sign and a numeral spell; `None` for another spelling, such as `-0`
 abbrev pub negative_of : List ℕ → Option ℤ
 negative_of [] = None
 negative_of (byte ∷ digits) =

@@ -14,11 +14,11 @@ use crate::tokens::{Next, Tokens};
 use lrup_model::{Formula, Lit};
 use std::alloc::Global;
 
-/// The largest number of literals that may be written in one clause.
+/// The maximum number of literals that may be written in one clause.
 const MAX_CLAUSE_LITERALS: u32 = Formula::MAX_CLAUSE_LITERALS;
 
-/// The formula so far, the clause being read, and how many literals were written in it, counting
-/// repeats.
+/// The formula so far, the clause being read, how many literals were written in that clause,
+/// counting repeats, and how many clauses are left.
 #[derive(Drop)]
 struct Builder {
     formula: Formula,

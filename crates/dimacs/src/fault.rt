@@ -17,7 +17,7 @@ pub enum DimacsFault {
     /// zero.
     #[error("formula refused: bad header")]
     BadHeader,
-    /// A token in this line is neither 0 nor a number without plus sign and leading zero.
+    /// A token in this line isn't a number, or has a plus sign or a leading zero.
     #[error("formula refused: bad number in line {0}")]
     BadNumber(u64),
     /// A number in this line has a magnitude above the header's number of variables.

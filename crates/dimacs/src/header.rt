@@ -15,7 +15,7 @@ pub struct Header {
     pub clauses: u32,
 }
 
-/// The largest number of clauses.
+/// The maximum number of clauses.
 const MAX_CLAUSES: u32 = Formula::MAX_CLAUSES;
 
 fn skip_separators(line: &[u8]) -> &[u8]
@@ -54,7 +54,7 @@ fn next_run(line: &[u8]) -> (&[u8], &[u8])
 }
 
 /// The number that a token spells, without a sign; `None` if it spells none. For a number above
-/// `MAX_VARIABLE` the result is any number above it.
+/// `MAX_VARIABLE` the result is any number above that limit.
 fn count(text: &[u8]) -> Option<u32>
     requires { first_run text.now ≡ text.now }
     ensures { MatchOption result (is_count text.now ≡ false) (ReadsCount text.now) }

@@ -24,7 +24,7 @@ pub fn one_fault()
         → IsFormulaFault bytes other → one ≡ other }
 {}
 
-/// A text is that of at most one formula: even the order of the literals is fixed.
+/// A file is a text of at most one formula: even the order of the literals is fixed.
 pub fn one_formula()
     ensures { (bytes : List ℕ) (one other : Cnf)
         → IsFormulaText bytes one → IsFormulaText bytes other → one ≡ other }

@@ -23,8 +23,8 @@ use std::alloc::Global;
 /// clause once. A file that isn't a formula is refused with its first fault in byte order, and all
 /// memory is freed; `Memory` says nothing about the file.
 ///
-/// In the code, though no clause says so, the time is linear in the size of the file, however long
-/// clauses and numbers are. A formula takes 4 bytes for each literal and 8 for each clause, in two
+/// Though no contract says so, the time is linear in the size of the file, however long clauses
+/// and numbers are. A formula takes 4 bytes for each literal and 8 for each clause, in two
 /// lists that double when they are full: so they take up to twice as much, and three times as much
 /// while they grow. The clause being read takes at most 11 MB more.
 pub fn parse(alloc: Global, bytes: &[u8]) -> Result<Formula, DimacsFault>

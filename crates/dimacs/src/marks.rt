@@ -9,7 +9,7 @@ use std::alloc::AllocError;
 /// The number of words that have a bit for each literal.
 const WORDS: usize = 524_288;
 
-/// The place of a literal's mark.
+/// The index of a literal's mark.
 fn place(l: Lit) -> usize
     ensures place { result ≡ code_of l }
     ensures few { result < 64 * all_words }
@@ -57,7 +57,7 @@ pub fn set_mark(words: &mut [u64], l: Lit)
     mark(words, place(l));
 }
 
-/// Marks the literals; no mark may be set before. The words have a place for each literal.
+/// Marks the literals; no mark may be set before. The words have a bit for each literal.
 fn mark_all(words: &mut [u64], literals: &[Lit])
     requires marks { MarksAre words.old [] }
     requires words { all_words ≤ length words.old }

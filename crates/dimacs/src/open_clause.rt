@@ -82,7 +82,7 @@ impl OpenClause {
         self.literals.as_slice()
     }
 
-    /// Adds a literal, unless the clause already has it. A refusal changes nothing.
+    /// Adds a literal, unless the clause already has it. If memory is refused, nothing changes.
     pub fn add(&mut self, l: Lit) -> Result<(), AllocError>
         ensures ok { OnOk result (AddsLiteral self.old self.new l) }
         ensures err { OnErr result (self.new ≡ self.old) }

@@ -11,7 +11,7 @@ use memchr::memchr;
 /// The first byte of a comment.
 const COMMENT: u8 = b'c';
 
-/// The rest of a file from some place on, which isn't inside a token or a comment.
+/// The rest of a file from an index on that isn't inside a token or a comment.
 #[derive(Drop)]
 pub struct Tokens<'a> {
     rest: &'a [u8],
@@ -83,9 +83,9 @@ fn skip_digits(text: &[u8]) -> Option<&[u8]>
     Some(rest)
 }
 
-/// Reads a number that begins with a digit from 1 to 9, up to the end of its token, and returns it
-/// and the rest. For a number above `MAX_VARIABLE` the result is any number above it. `None` if the
-/// token has another spelling.
+/// Reads a number that begins with a digit from 1 to 9, up to the end of its token, and returns the
+/// number and the rest. For a number above `MAX_VARIABLE` the result is any number above that
+/// limit. `None` if the token has another spelling.
 pub(crate) fn numeral(text: &[u8]) -> Option<(u32, &[u8])>
     ensures { MatchOption result (is_numeral (first_run text.now) ≡ false)
         (λ r. ReadsNumeral text.now r.0 r.1.now) }
@@ -147,7 +147,7 @@ impl<'a> Tokens<'a> {
         tokens
     }
 
-    /// The number of the line at this place, counted from 1.
+    /// The number of the current line, counted from 1.
     pub fn line(&self) -> u64
         ensures { result ≡ self.now.line }
     {

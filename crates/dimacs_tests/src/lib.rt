@@ -1,4 +1,4 @@
-//! Tests of `dimacs`, by its public calls alone.
+//! Tests of `dimacs`, which use only its public calls.
 #![tactic(auto)]
 
 #[cfg(test)]

@@ -114,7 +114,7 @@ fn repeated(alloc: Global, header: &str, text: &str, count: usize) -> Result<Str
     format!(in alloc; "{header}{texts}")
 }
 
-/// A header, a text and how often it is repeated, and why that is refused.
+/// A header, a text and how often it is repeated, and why the whole is refused.
 static LONG: [(&str, &str, usize, &str); 3] = [
     ("p cnf 1 1\n", "1\n", 1_048_575, "open clause"),
     ("p cnf 1 1\n", "1\n", 1_048_576, "limit"),
@@ -145,7 +145,7 @@ fn largest_counts(rt: HostRuntime) -> Result<(), Fail> {
     Ok(())
 }
 
-/// A clause with the largest number of literals, one of each variable.
+/// A clause with the maximum number of literals, one of each variable.
 fn largest_clause(alloc: Global) -> Result<String, AllocError> {
     let mut text = String::from_str(alloc, "p cnf 1048575 1\n")?;
     for variable in 1..=1_048_575 {
@@ -162,8 +162,8 @@ fn check_literals(rt: &(impl Abort + AllocGlobal), text: &str, wanted: usize) ->
     Ok(())
 }
 
-/// If `parse` searched the whole clause for repeats, or cleared all marks after each clause, these
-/// would take minutes.
+/// If `parse` searched the whole clause for repeats, or cleared all marks after each clause, this
+/// test would take minutes.
 #[test]
 fn long_clauses_take_linear_time(rt: HostRuntime) -> Result<(), Fail> {
     let largest = largest_clause(rt.alloc())?;

@@ -1,4 +1,4 @@
--- Lemmas about a meeting: thread states move between tokens, and of two thread states each sees the
+-- Lemmas about a meeting: thread states move between tokens, and two thread states both see the
 -- longer history.
 use Rattle.std.proofs.Common.{◌≡◌, ◌⊎◌, ℕ, ◌+◌, ◌≤◌, List, [], ◌∷◌, ◌++◌, length, set, slice_index, refl, sym, ap, subst, ◌∙◌, inl, inr}
 use Rattle.std.proofs.Common.{arith, ap₂, cond, eqb, append-nil, append_assoc, length-append}
@@ -41,8 +41,8 @@ count-append : (s : ℕ) (vs ws : List ThreadState) → count_in s (vs ++ ws) �
 count-append s [] ws = omega arith
 count-append s (v ∷ vs) ws = let rest = count-append s vs ws in omega arith
 
--- the row still fits the history if tokens have other thread states, each of which agrees with it,
--- and no stream has more than before
+-- the row still fits the history if tokens have other thread states, each of which agrees with the
+-- history, and no stream has more thread states than before
 with_views : (f : Cnf) (p : LayoutValue) (log : History) (words : List ℕ) (views views' : List (List ThreadState))
     → Keeps f p log words views
     → AllThreads (Agrees f p log words) views' → ((s : ℕ) → times s views' ≤ times s views) → Keeps f p log words views'
@@ -72,7 +72,7 @@ module _ {S : Type 0} where
             (arith, times-snoc t (set s.views id back) front, times-set t s.views id (front ++ back) back here, count-append t front back)),
       )
 
-  -- a new token has the back
+  -- a new token gets the second part
   pub splits_back : (f : Cnf) (p : LayoutValue) (id : ℕ) (front back : List ThreadState)
       → Splits {S = S} (HoldsRowInvariant f p) id (front ++ back) front back
   splits_back f p id front back s kept here =
@@ -144,7 +144,7 @@ own_all seen rest more mine s here all =
     own-append seen rest s ∙ ap (λ (h : History). own seen s ++ h) (front_nil (own rest s) (own more s) nothing)
     ∙ append-nil (own seen s) ∙ here
 
--- it agrees with the log, and has made no call
+-- the new thread state agrees with the log, and has made no call
 pub record Learns (f : Cnf) (p : LayoutValue) (log : History) (words : List ℕ) (v w : ThreadState) (h : History) : Type 0 where
   pub agrees : Agrees f p log words w
   pub moves : PassMoves v.view w.view []

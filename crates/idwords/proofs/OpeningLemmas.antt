@@ -35,7 +35,7 @@ words_in cs = sum_by (λ c. words_for (length c)) cs
 words_in-cons : (c : Clause) (cs : List Clause) → words_in (c ∷ cs) ≡ words_for (length c) + words_in cs
 words_in-cons c cs = sum_by-cons (λ d. words_for (length d)) c cs
 
--- no more than there are literals
+-- no more words than there are literals
 pub words_in-le : (cs : List Clause) → words_in cs ≤ sum_by length cs
 words_in-le cs = sum_by-le-sum_by (λ d. words_for (length d)) length cs (λ d. omega arith)
 
@@ -130,7 +130,7 @@ opened_words f p first n k w1 w2 w3 w4 w5 fits from to all e1 e2 e3 e4 e5 =
     e5 ∙ ap (λ (ws : List ℕ). ws ++ replicate (k - length w4) 0) (take_all k w4 (omega arith) ∙ w4_is)
     ∙ ap (λ (m : ℕ). front ++ vacant ++ literal_words cs ++ replicate m 0) (omega arith)
 
--- The words at each place
+-- The words at each index
 
 pub length-opening_words : (f : Cnf) (p : LayoutValue) → Fits p f → length (opening_words f p) ≡ row_words p
 length-opening_words f p fits =
@@ -152,7 +152,7 @@ length-opening_words f p fits =
       fits.literals,
     )
 
--- a clause's word is that of what is stored for it
+-- a clause's word is the word of what is stored for the clause
 clause_word_at : (id start : ℕ) (cs : List Clause) (back : List ℕ) (k : ℕ) → k < length cs
     → get_or (clause_words start cs ++ back) k 0 ≡ stored_word 1 (stored_in (clauses_spelling id start cs) (id + k))
 clause_word_at id start [] back k within = absurd (omega arith)
@@ -170,7 +170,7 @@ vacant_at : (n k : ℕ) (back : List ℕ) → k < n → get_or (replicate n 0 ++
 vacant_at n k back within = get_or_append_left (replicate n 0) back 0 k (omega (arith, length-replicate {A = ℕ} n 0))
     ∙ get_or-replicate n k 0 0 within
 
--- the row has words from a place on, if it has them after a front of that length
+-- the row has words from an index on if they come after that many other words
 agree_front : (pre back ws : List ℕ) (place : ℕ) → length pre ≡ place → OccurAt (pre ++ (ws ++ back)) place ws
 agree_front pre back [] place len = tt
 agree_front pre back (w ∷ ws) place len = (

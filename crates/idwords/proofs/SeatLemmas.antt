@@ -105,7 +105,7 @@ module _ {S : Type 0} where
         within = seated.within;
       })
 
-  -- after a call that takes nothing from the stream's room
+  -- after a call that uses none of the stream's room
   pub seated_call : (table table' : TableId) (me me' : Me S (List ThreadState)) (top drafted room : ℕ) (w : ThreadState) (e : Event)
       → IsSeated table me top drafted room → table' ≡ table
       → me'.0 ≡ w ∷ [] → me'.1 ≡ me.1 → Calls (first_thread me.0).view w.view e → stream_of e ≡ thread_stream (first_thread me.0)

@@ -37,7 +37,7 @@ words_spent_one s e is = ap (sum_by words_taken) (own-mine e [] s is) ∙ omega 
 pub words_spent-own : (log mine : History) (s : ℕ) → own log s ≡ mine → words_spent s mine ≡ words_spent s log
 words_spent-own log mine s all = ap (λ (h : History). words_spent s h) (sym all) ∙ ap (sum_by words_taken) (own-own log s)
 
--- they are no more than the literals
+-- the words are no more than the literals
 pub words_within : (s : ℕ) (h : History) → words_spent s h ≤ spent s h
 words_within s h = omega (arith, spent-sizes s h, sum_by-le-sum_by words_taken size_of (own h s) (λ e. omega arith))
 
@@ -106,7 +106,7 @@ once-snoc (y ∷ ys) x once none =
       once-snoc ys x once.1 threads.1,
     )
 
--- What is stored are the clauses of the map
+-- The clauses of the map are what is stored
 
 -- for each slot its clause is stored, once
 pub record SpellsState (m : State) (xs : List Spelling) : Type 0 where

@@ -13,9 +13,9 @@ use Rattle.idwords.specs.internal.Steps.{Changes, Writes, Stores}
 use Rattle.idwords.proofs.RuleLemmas.{OwnKeeps}
 use Rattle.idwords.proofs.ViewLemmas.{all_at}
 
--- In every row with this thread state as the only one of token id, that fits a log beginning with
--- what the thread state has seen: after the step on word i there is a new thread state with which
--- the row fits a log, and of which `then` is true.
+-- In every row that fits a log beginning with what this thread state has seen, and in which this is
+-- the only thread state of token id: after the step on word i there is a new thread state with
+-- which the row fits a log, and for which `then` is true.
 abbrev pub OwnStep : ThreadState → ℕ → ℕ → (ℕ → ℕ) → (ℕ → ThreadState → Type 0) → Type 0
 OwnStep v id i f then =
     (more : History) (words : List ℕ) (views : List (List ThreadState)) → OwnKeeps v more words views → get_elem? views id ≡ some (v ∷ [])

@@ -52,7 +52,7 @@ shows_slot (retired c) (Some stored) spells short = shows_word 2 stored (omega a
 
 -- Words in the row
 
--- words are still at their place after a write elsewhere
+-- words stay the same after a write elsewhere
 stand-set : (words : List ℕ) (place : ℕ) (ws : List ℕ) (at n : ℕ) → OccurAt words place ws → (at < place) ⊎ (place + length ws ≤ at)
     → OccurAt (slice_set words at n) place ws
 stand-set words place [] at n stand apart = tt

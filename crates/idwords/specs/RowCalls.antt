@@ -19,8 +19,8 @@ pub record Calls (old new : View) (event : Event) : Type 0 where
   pub fair : IsFair new
   pub within : LieWithin (row_words new.caller.layout) new.spelt
 
--- If a literal of a stored clause is at this place of the row, the word has the literal's code: in
--- half 0 if the literal's index in the clause is even, else in half 1.
+-- If a literal of a stored clause is in this word of the row, the word has the literal's code: in
+-- half 0 if the literal's index in the clause is even, otherwise in half 1.
 abbrev pub IsText : List Spelling → ℕ → ℕ → Type 0
 IsText spellings place word =
     (id k : ℕ) (stored : StoredClause) (l : ℤ) → stored_in spellings id ≡ Some stored

@@ -7,8 +7,8 @@ use Rattle.lrup_model.specs.Layout.{LayoutValue}
 use Rattle.lrup_model.specs.Pass.{View}
 use Rattle.idwords.specs.Spelling.{spelling_of, first_place}
 
--- The row of the seat, what its stream knows, the first place of its room after its published
--- clauses, and the literals stored from there on.
+-- The row of the seat, what its stream knows, the index of the first word of the stream's room
+-- after its published clauses, and the literals stored from there on.
 pub record SeatValue : Type 0 where
   pub table : TableId
   pub view : View

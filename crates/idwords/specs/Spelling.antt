@@ -1,6 +1,6 @@
 -- Where in the row the clauses of a history are stored, and their literals (this project's own):
--- the formula's clauses one after the other, then those of each stream in the stream's room, in the
--- order in which they were published. Each clause begins in a new word.
+-- first the formula's clauses, one after the other, then each stream's clauses in the stream's
+-- room, in the order in which they were published. Each clause begins in a new word.
 use Rattle.std.specs.Prelude.{◌≡◌, ◌≤◌, ◌+◌, ◌-◌, ◌*◌, ◌++◌, ℕ, List, [], ◌∷◌, length, Some}
 use Rattle.std.specs.List.{sum_by}
 use Rattle.lrup_model.specs.Clause.{Clause}
@@ -13,29 +13,29 @@ use Rattle.lrup_model.specs.Pass.{Spelling, stored_in}
 use Rattle.lrup_model.specs.declared.clause_map.Published.TheVariants as publishing
 use Rattle.idwords.specs.Words.{words_for}
 
--- this clause of this identity, stored at this place
+-- this clause, under this identity, stored at this index
 abbrev pub spelling : ℕ → ℕ → Clause → Spelling
 spelling id start clause = record { id = id; stored = record { start = start; literals = clause } }
 
--- clauses one after the other, from this identity and this place on
+-- clauses one after the other, from this identity and this index on
 abbrev pub clauses_spelling : ℕ → ℕ → List Clause → List Spelling
 clauses_spelling id start [] = []
 clauses_spelling id start (clause ∷ clauses) =
     spelling id start clause ∷ clauses_spelling (id + 1) (start + words_for (length clause)) clauses
 
--- the first place of a stream's room
+-- the index of the first word of a stream's room
 abbrev pub first_place : LayoutValue → ℕ → ℕ
 first_place layout s = 1 + last_identity layout + layout.literals + (s - 1) * layout.room
 
--- the words of its stream's room that an event takes
+-- how many words of its stream's room an event uses
 abbrev pub words_taken : Event → ℕ
 words_taken event = words_for (size_of event)
 
--- the words of the clauses that a stream published with `Done`, added up
+-- how many words the clauses that a stream published with `Done` have together
 abbrev pub words_spent : ℕ → History → ℕ
 words_spent s history = sum_by words_taken (own history s)
 
--- the first place of a stream's room after its published clauses
+-- the index of the first word of a stream's room after its published clauses
 abbrev pub top_after : LayoutValue → ℕ → History → ℕ
 top_after layout s history = first_place layout s + words_spent s history
 
@@ -47,7 +47,7 @@ event_spelling layout before (events.publish s id clause publishing.Done) =
 event_spelling layout before (events.publish s id clause publishing.Taken) = []
 event_spelling layout before (events.retire s id reply) = []
 
--- what the events of a history add after those before
+-- what the events of a history add after the events of an earlier one
 abbrev pub added_spelling : LayoutValue → History → History → List Spelling
 added_spelling layout before [] = []
 added_spelling layout before (event ∷ history) =

@@ -14,7 +14,7 @@ length_of word = word / 4 % 1048576
 abbrev pub start_of : ℕ → ℕ
 start_of word = word / 4194304
 
--- one literal and, if there is one, the other
+-- one literal and, if there is one, the second
 abbrev pub pair_of : ℤ → Option ℤ → Clause
 pair_of l None = l ∷ []
 pair_of l (Some other) = l ∷ other ∷ []
@@ -27,8 +27,8 @@ half_of half word = (if half == 0 then word % 4294967296 else word / 4294967296)
 abbrev pub words_for : ℕ → ℕ
 words_for literals = (literals + 1) / 2
 
--- The word shows what is stored for its identity: it is vacant if nothing is, else it has the
--- length and the start of the stored clause.
+-- The word shows what is stored for its identity: it is vacant if nothing is stored; otherwise it
+-- has the length and the start of the stored clause.
 abbrev pub ShowsStored : Option StoredClause → ℕ → Type 0
 ShowsStored None word = word_state word ≡ 0
 ShowsStored (Some stored) word = (0 < word_state word) × (word_state word < 3)

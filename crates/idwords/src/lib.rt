@@ -1,6 +1,5 @@
-//! The row of words that all streams share, without a lock. Each call takes a few steps on single
-//! words, all of them `SeqCst`. The row's rule says what the words mean between any two steps of
-//! any threads.
+//! The row of words that all streams share, without a lock. Each call takes a few `SeqCst` steps on
+//! single words. The row's rule says what the words mean between any two steps of any threads.
 #![tactic(auto)]
 
 mod opening;

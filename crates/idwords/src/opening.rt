@@ -10,8 +10,8 @@ use crate::word::{live_word, pair_word};
 use lrup_model::{Formula, Layout, Lit};
 use std::alloc::{AllocError, Global};
 
-/// Makes all words of the row, 8 bytes each: word 0, those of identities, those of literals. It
-/// reads the formula twice.
+/// Makes all words of the row, 8 bytes each: word 0, the words of identities, the words of
+/// literals. Reads the formula twice.
 pub(crate) fn all_words(
     alloc: Global,
     formula: &Formula,
@@ -30,7 +30,7 @@ pub(crate) fn all_words(
     Ok(words)
 }
 
-/// Adds the words of the formula's identities. The literals of the first clause are at the place
+/// Adds the words of the formula's identities. The literals of the first clause start at index
 /// `first`.
 fn add_clauses(words: &mut Vec<u64>, formula: &Formula, first: u64) -> Result<(), AllocError>
     requires { first + formula_literals formula.now < 2 ^ 41 }

@@ -28,8 +28,8 @@ use std::alloc::{AllocError, Global};
 use std::marker::Model;
 use std::snapshot::Snapshot;
 
-/// Makes a seat for each stream, in their order, from the one token that has the thread states of
-/// all streams.
+/// Makes a seat for each stream, in the streams' order, from the one token that has the thread
+/// states of all streams.
 fn seats_of(
     alloc: Global,
     table: &WordTable,
@@ -70,7 +70,7 @@ fn seats_of(
 /// and a word for each literal of the formula and of the streams' room. A word holds two literals,
 /// so a clause of n literals takes (n + 1) / 2 words: with a word for each literal there is enough
 /// room even if all clauses are unit clauses. Words that aren't needed stay 0: the length of the
-/// row follows from the layout, which doesn't say how long each clause is. To contracts the row is
+/// row follows from the layout, which doesn't say how long each clause is. In contracts the row is
 /// only a name.
 #[derive(Drop)]
 pub struct Row {
@@ -88,9 +88,9 @@ impl Model for Row {
 }
 
 impl Row {
-    /// Makes the row of a formula and a layout that fits it, and a seat for each stream, in their
-    /// order. It allocates 8 bytes for each word of the row, and as much again until it returns. If
-    /// an allocation fails, everything is freed.
+    /// Makes the row for a formula and a layout that fits it, and a seat for each stream, in the
+    /// streams' order. Allocates 8 bytes for each word of the row, and temporarily as much again.
+    /// If an allocation fails, everything is freed.
     pub fn open(
         alloc: Global,
         formula: &Formula,
@@ -134,9 +134,9 @@ impl Row {
         shared.load::<Look>(&mut seat.token, id as usize)
     }
 
-    /// Loads the word at a place of the row, which is no event. If a clause is stored there that
-    /// the seat's stream has fetched, the word has the codes of one or two of its literals. Such a
-    /// word never changes, not even when the clause is retired.
+    /// Loads the word at an index of the row, which is not an event. If the word belongs to a
+    /// clause that the seat's stream has fetched, it has the codes of one or two of the clause's
+    /// literals. Such a word never changes, not even when the clause is retired.
     #[inline]
     pub fn word(&self, seat: &mut Seat, place: u64) -> u64
         requires row { seat.old.table ≡ self.now }
@@ -148,7 +148,7 @@ impl Row {
         shared.load::<Read>(&mut seat.token, place as usize)
     }
 
-    /// Adds two literals to the draft, or one last literal, by one store. The word is in the
+    /// Adds two literals to the draft, or one last literal, with one store. The word is in the
     /// stream's own room, after all clauses that the stream has published.
     #[inline]
     pub fn write(&self, seat: &mut Seat, first: Lit, second: Option<Lit>)
@@ -165,8 +165,9 @@ impl Row {
         seat.drafted += if second.is_some() { 2 } else { 1 };
     }
 
-    /// Publishes the draft under an identity that the stream owns: one compare-exchange of its
-    /// word, from vacant to live. Afterwards the draft is empty, even if the reply is `Taken`.
+    /// Publishes the draft under an identity that the stream owns: one compare-exchange of the
+    /// identity's word, from vacant to live. Afterwards the draft is empty, even if the reply is
+    /// `Taken`.
     pub fn claim(&self, seat: &mut Seat, id: u64) -> Published
         requires row { seat.old.table ≡ self.now }
         requires owns { Owns seat.old.view.caller.layout seat.old.view.caller.stream id }
@@ -212,14 +213,15 @@ impl Row {
         if state(found) != LIVE {
             return Retired::NotLive;
         }
-        // Adding 1 makes the state retired, and keeps the length and the place.
+        // Adding 1 makes the state retired, and keeps the length and the start.
         shared.compare_exchange::<Retire>(&mut seat.token, id as usize, found, found + 1);
         Retired::Done
     }
 
     /// Lets two seats share what they have seen: afterwards both have seen the same history, which
-    /// begins with what each had seen. If one had seen all that the other had, it is the history of
-    /// that one. Used for contracts only: the one load changes nothing in the row, and is no event.
+    /// begins with what each had seen before. If one had seen all that the other had, what that one
+    /// has seen doesn't change. Used for contracts only: the one load changes nothing in the row,
+    /// and is not an event.
     pub fn meet(&self, first: &mut Seat, second: &mut Seat)
         requires first { first.old.table ≡ self.now }
         requires second { second.old.table ≡ self.now }

@@ -1,14 +1,15 @@
 //! The rule of the row, which holds between any two steps of any threads, and a type for each kind
-//! of step. The prover shows for each kind that a step keeps the rule, and what its caller learns.
+//! of step. The prover shows for each kind that a step keeps the rule, and what the step's caller
+//! learns.
 use atomic_table::{Join, Play, Split, Table, TableRule};
 use lrup_model::{Formula, Layout};
 use std::alloc::Global;
 use std::marker::{Model, PhantomData};
 use std::snapshot::Snapshot;
 
-/// What a token knows: a thread state for each of its streams, i.e. what the thread that checks the
-/// stream knows of the row: what it has seen, where its free room begins, and its draft. Ghost
-/// type: used in contracts only, never constructed.
+/// What a token knows: a thread state for each of its streams. A thread state is what the thread
+/// that checks the stream knows of the row: what it has seen, where the stream's free room begins,
+/// and the draft. Ghost type: used in contracts only, never constructed.
 pub struct Knowledge {
     none: PhantomData<u8>,
 }
@@ -31,8 +32,8 @@ pub struct Plan {
 }
 
 /// The rule: some legal history leads to exactly these words. The history that each stream has seen
-/// is a prefix of it, and has all calls of the stream, in the order in which the stream made them.
-/// In a legal history each reply is right after the calls before it.
+/// is a prefix of that history, and has all calls of the stream, in the order in which the stream
+/// made them. In a legal history each reply is correct, given the earlier calls.
 pub struct RowInvariant;
 
 impl TableRule<u8, Knowledge, Plan> for RowInvariant {
@@ -47,7 +48,7 @@ impl TableRule<u8, Knowledge, Plan> for RowInvariant {
 pub type WordTable = Table<u8, Knowledge, Plan, RowInvariant, Global>;
 
 /// The right to take steps at the table, which `atomic_table` calls a seat. A `Seat` of this crate
-/// has such a token and a few numbers. The table's field `shared` has the steps.
+/// has such a token and a few numbers. The steps are calls of the table's field `shared`.
 pub type StepToken = atomic_table::Seat<u8, Knowledge>;
 
 /// The load of a fetch.
@@ -59,7 +60,7 @@ impl Play<u8, Knowledge> for Look {
     ghost then = { Changes Looks };
 }
 
-/// The load of a word of literals, which is no event.
+/// The load of a word of literals, which is not an event.
 pub struct Read;
 
 impl Play<u8, Knowledge> for Read {
@@ -68,7 +69,7 @@ impl Play<u8, Knowledge> for Read {
     ghost then = { Changes Reads };
 }
 
-/// The store of a word of literals, which is no event.
+/// The store of a word of literals, which is not an event.
 pub struct Write;
 
 impl Play<u8, Knowledge> for Write {
@@ -147,7 +148,7 @@ impl Split<Knowledge> for SplitRest {
     ghost right = { others };
 }
 
-/// A token takes over the thread states of another.
+/// A token takes over the thread states of another token.
 pub struct JoinAll;
 
 impl Join<Knowledge> for JoinAll {

@@ -1,8 +1,8 @@
 //! Words of the row. The word of identity `id` is word `id` of the row: bits 0 and 1 are its state,
-//! bits 2 to 21 the number of literals of the clause, bits 22 to 63 the clause's place, i.e. the
+//! bits 2 to 21 the number of literals of the clause, bits 22 to 63 the clause's start, i.e. the
 //! index in the row of the word with its first two literals. A word of literals has the code of one
-//! literal in bits 0 to 31, and in bits 32 to 63 that of the next one, or 0. A code is twice the
-//! variable, plus one if the literal is negative.
+//! literal in bits 0 to 31, and in bits 32 to 63 the code of the next one, or 0. A code is twice
+//! the variable, plus one if the literal is negative.
 ghost use Rattle.std.specs.Prelude.{◌≡◌, ◌^◌, ◌<◌, IfSome};
 ghost use Rattle.lrup_model.specs.Literal.{max_variable, code_of, IsCode};
 ghost use Rattle.idwords.specs.internal.RowWords.{identity_word, literal_word};
@@ -35,7 +35,7 @@ pub fn len(word: u64) -> u64
     (word >> 2) & 0xf_ffff
 }
 
-/// The place of an identity's clause: the index in the row of its first word of literals.
+/// The start of an identity's clause: the index in the row of its first word of literals.
 #[inline]
 pub fn start(word: u64) -> u64
     ensures { result ≡ start_of word }

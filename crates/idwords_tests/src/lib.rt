@@ -1,4 +1,4 @@
-//! Tests of `idwords`, by its public calls alone.
+//! Tests of `idwords`, through its public calls only.
 #![tactic(auto)]
 
 #[cfg(test)]

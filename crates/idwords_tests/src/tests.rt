@@ -14,7 +14,8 @@ use std::process::Abort;
 use std::test::Fail;
 use test_support::{four_clauses, lit};
 
-/// Stops the test if two values differ. As a function the assertion is proved only once.
+/// Stops the test if two values differ. This is a function so that the assertion is proved only
+/// once.
 fn same<T: PartialEq + fmt::Debug + Drop>(rt: &impl Abort, value: T, wanted: T) {
     assert_eq!(rt; value, wanted);
 }
@@ -100,7 +101,7 @@ fn has_words(row: &Row, layout: &Layout, seat: &mut Seat, words: &[u64]) -> bool
     true
 }
 
-/// The word of an identity; `None` if the number isn't one.
+/// The word of an identity; `None` if the number isn't an identity.
 fn look(row: &Row, layout: &Layout, seat: &mut Seat, stream: u64, id: u64) -> Option<u64>
     requires { IsSeatAt four row.now layout.now stream seat.old }
     ensures { IsSeatAt four row.now layout.now stream seat.new }
@@ -126,7 +127,7 @@ fn draft(row: &Row, seat: &mut Seat, clause: &[Lit])
     }
 }
 
-/// Publishes a clause of at most two literals under an identity of the stream's own.
+/// Publishes a clause of at most two literals under one of the stream's own identities.
 fn publish(
     row: &Row,
     layout: &Layout,
@@ -147,7 +148,7 @@ fn publish(
     Some(row.claim(seat, id))
 }
 
-/// Retires the clause of an identity of the stream's own.
+/// Retires the clause of one of the stream's own identities.
 fn retire(row: &Row, layout: &Layout, seat: &mut Seat, stream: u64, id: u64) -> Option<Retired>
     requires { IsSeatAt four row.now layout.now stream seat.old }
     ensures { IsSeatAt four row.now layout.now stream seat.new }
@@ -158,7 +159,7 @@ fn retire(row: &Row, layout: &Layout, seat: &mut Seat, stream: u64, id: u64) -> 
     Some(row.withdraw(seat, id))
 }
 
-/// The words of two literals: the first is in the lower half.
+/// Words of two literals, the first one in the lower half.
 const PAIR_1_2: u64 = 17179869186;
 
 const PAIR_N1_2: u64 = 17179869187;
@@ -173,7 +174,7 @@ static OPENED: [u64; 16] = [
     0, 0, 0, 0,
 ];
 
-/// Checks that row after opening, after a publish, and after that clause was retired.
+/// Checks this row after opening, after a publish, and after the published clause was retired.
 fn check_words(rt: &impl Abort, row: &Row, layout: &Layout, seat: &mut Seat)
     requires { IsSeatAt four row.now layout.now 1 seat.old }
 {
@@ -201,13 +202,13 @@ fn the_row_has_its_words(rt: HostRuntime) -> Result<(), Fail> {
     Ok(())
 }
 
-/// The words of the row after a clause of one literal, and then one of two.
+/// The words of the row after a clause of one literal and then a clause of two were published.
 static ONE_AND_TWO: [u64; 18] = [
     0, 29360137, 33554441, 37748745, 41943049, 62914565, 67108873, PAIR_1_2, PAIR_N1_2, PAIR_1_N2,
     PAIR_N1_N2, 0, 0, 0, 0, 4, PAIR_1_2, 0,
 ];
 
-/// Publishes a clause of one literal, and then one of two.
+/// Publishes a clause of one literal, and then a clause of two.
 fn publish_one_and_two(rt: &impl Abort, row: &Row, layout: &Layout, seat: &mut Seat)
     requires { IsSeatAt four row.now layout.now 1 seat.old }
 {
@@ -237,12 +238,12 @@ fn uneven_clauses(alloc: Global) -> Result<Formula, AllocError> {
     Ok(formula)
 }
 
-/// The words of these clauses' row.
+/// The words of the row for these clauses.
 static UNEVEN: [u64; 11] = [
     0, 20971533, 29360129, 29360137, 0, PAIR_1_2, 6, PAIR_N1_N2, 0, 0, 0,
 ];
 
-/// The row of these clauses, and its seat.
+/// The row for these clauses, and its seat.
 fn open_uneven(rt: &(impl Abort + AllocGlobal), layout: &Layout) -> Result<(Row, Seat), AllocError>
     requires { layout.now.streams ≡ 1 }
     ensures { IfOk result (λ opened. (opened.1.table ≡ opened.0)
@@ -319,7 +320,7 @@ fn two_streams_take_turns(rt: HostRuntime) -> Result<(), Fail> {
     Ok(())
 }
 
-/// The first literal of an identity's clause, if it is live.
+/// The first literal of an identity's clause, if the clause is live.
 fn first_literal(row: &Row, layout: &Layout, seat: &mut Seat, stream: u64, id: u64) -> Option<i64>
     requires { IsSeatAt four row.now layout.now stream seat.old }
     ensures { IsSeatAt four row.now layout.now stream seat.new }
@@ -349,8 +350,8 @@ fn publish_both(rt: &impl Abort, row: &Row, layout: &Layout, first: &mut Seat, s
     same(rt, (one, other), (done, done));
 }
 
-/// Once the streams have met, each sees what the other did; then the first sees that the second
-/// one's clause is retired.
+/// Once the streams have met, each sees what the other did; then the first stream sees that the
+/// second stream's clause is retired.
 fn meet_and_look(rt: &impl Abort, row: &Row, layout: &Layout, first: &mut Seat, second: &mut Seat)
     requires first { IsSeatAt four row.now layout.now 1 first.old }
     requires second { IsSeatAt four row.now layout.now 2 second.old }

@@ -41,7 +41,7 @@ reordered xs ys literals same is l =
           (has_contains (map literal_of xs) l (subst (λ (zs : List ℤ). Has zs l) (sym is) h)))),
     )
 
--- the literal of a code at a place, and the place of a literal's code
+-- the literal of a code at an index, and the index of a literal's code
 
 pub has_at : (codes : List ℕ) (k : ℕ) → k < length codes → Has (map literal_of codes) (literal_of (get_or codes k 0))
 has_at [] k lt = absurd (omega (arith, lt))
@@ -90,7 +90,7 @@ variable_of code = elim (parity code) [
     abs_neg zero = refl
     abs_neg (suc v) = refl
 
--- the last code has the largest variable
+-- the last code is for the largest variable
 pub greatest : (codes : List ℕ) (n : ℕ) → AreCubeCodes codes → 0 < length codes
     → IsCubeOver n (map literal_of codes) ↔ (get_or codes (length codes - 1) 0 / 2 ≤ n)
 greatest codes n are some =

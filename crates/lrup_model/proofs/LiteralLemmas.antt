@@ -10,7 +10,7 @@ use Rattle.lrup_model.specs.lemmas.CodeLemmas.{parity, literal_of-even, literal_
 xor_one : (code : ℕ) → bit_xor code 1 + 2 * (code % 2) ≡ code + 1
 xor_one code = omega (arith, xor_add_and code 1, and_mask code 1)
 
--- the other code of the same variable is that of the complement
+-- the other code of the same variable is the complement's code
 pub literal_of-xor_one : (code : ℕ) → literal_of (bit_xor code 1) ≡ neg_ℤ (literal_of code)
 literal_of-xor_one code =
     let other = xor_one code in

@@ -1,4 +1,4 @@
--- The clause map of one thread when it is opened: it has the formula's clauses, and nothing else.
+-- When the clause map of one thread is opened, it has the formula's clauses and nothing else.
 use Rattle.std.proofs.Common.{◌≡◌, ℕ, zero, suc, ℤ, ◌+◌, ◌-◌, ◌*◌, ◌<◌, ◌≤◌, List, [], ◌∷◌, ◌++◌, length, get_or, take, drop, replicate}
 use Rattle.std.proofs.Common.{refl, sym, ap, subst, ◌∙◌, inl, inr, arith, length-append, append_assoc}
 use Rattle.std.specs.Prelude.{map, sum}
@@ -57,13 +57,13 @@ stored_more cs i c start ls more es grown first within here lits from grows ents
       grows ∙ ap (λ (xs : List ℤ). xs ++ c) lits ∙ sym (flat-push (take i cs) c) ∙ ap flat (sym cut),
     )
 
--- the literals added so far, and those of the next clause, are no more than all literals
+-- the literals added so far and the literals of the next clause are at most all literals
 pub stored_fits : (cs : List Clause) (i : ℕ) → i < length cs → length (flat (take i cs)) + length (get_or cs i []) ≤ sum_by length cs
 stored_fits cs i within = omega (arith, length-flat (take i cs), sum_by_more_le length cs i [] within)
 
 -- The map of these entries and literals
 
--- the slot of a live entry whose literals come after a front
+-- the slot of a live entry whose literals come after other literals
 entry_is : (front c back : List ℤ)
     → plain_slot_in (front ++ c ++ back) (Live (length front) (length c)) ≡ plain.live (record { start = length front; literals = c })
 entry_is front c back =
@@ -109,7 +109,7 @@ none_there zero i = refl
 none_there (suc n) zero = refl
 none_there (suc n) (suc i) = none_there n i
 
--- the slot at a place after identity 0
+-- the slot at an identity above 0
 slot_here : (from : ℕ) (cs : List Clause) (n i : ℕ) → i < length cs
     → slot_of (get_or (plain_slot_from from cs ++ replicate n plain.vacant) i plain.vacant) ≡ slots.live (get_or cs i [])
 unfolding plain_slot_from

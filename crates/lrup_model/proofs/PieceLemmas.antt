@@ -15,7 +15,7 @@ pub length-pieces : (ls : Clause) (from : ℕ) (ends : List ℕ) → length (pie
 length-pieces ls from [] = refl
 length-pieces ls from (end ∷ ends) = ap suc (length-pieces ls end ends)
 
--- the first place is not above the last
+-- the start is at most the last end
 pub AreEnds-le : (from : ℕ) (ends : List ℕ) (all : ℕ) → AreEnds from ends all → from ≤ all
 AreEnds-le from [] all h = omega (arith, h)
 AreEnds-le from (end ∷ ends) all h = omega (arith, h.0, AreEnds-le end ends all h.1)

@@ -77,7 +77,7 @@ pub view_more : (p : LayoutValue) (es : List Entry) (ls c : List ℤ) (free : Li
 view_more p es ls c free id h =
     ap (λ (xs : List PlainSlot). record { layout = p; plain_slots = xs; free = free }) (stored_more ls c es id h)
 
--- the sum of the rooms after a stream took n literals
+-- the sum of the rooms after a stream used room for n literals
 sum-less : (free : List ℕ) (i n : ℕ) → i < length free → n ≤ get_or free i 0 → sum (set free i (get_or free i 0 - n)) + n ≡ sum free
 sum-less free i n within fits =
     let step : sum (set free i (get_or free i 0 - n)) + get_or free i 0 ≡ sum free + (get_or free i 0 - n) =
@@ -203,7 +203,7 @@ literal_lies ls es id k start text h e lt =
           ∙ get_or-take lies.0 (drop start ls) k (pos 0) short ∙ get_or-drop start ls k (pos 0)),
     )
 
--- The same for the whole map, for the entry that was read
+-- The same for the whole map and the entry that was read
 
 within_count : (p : LayoutValue) (es : List Entry) (id : ℕ) → length es ≡ last_identity p + 1 → id ≤ last_identity p → id < length es
 within_count p es id count le = omega arith

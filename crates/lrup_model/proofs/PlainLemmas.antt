@@ -120,7 +120,7 @@ pub moves_taken : (m : Plain) (s id : ℕ) (c : Clause) → Owns m.layout s id �
     → plain_state m id ≢ slots.absent → PlainMoves m m s (events.publish s id c publishing.Taken ∷ [])
 moves_taken m s id c owns clause taken = stays m s (events.publish s id c publishing.Taken) refl refl refl taken (owns, clause)
 
--- the room of a stream after it took n literals
+-- the room of a stream after it used up n literals
 room_left : (free : List ℕ) (i n : ℕ) → i < length free → n ≤ get_or free i 0
     → get_or (set free i (get_or free i 0 - n)) i 0 + n ≡ get_or free i 0
 room_left free i n within fits = omega (arith, get_or-set_at free i i (get_or free i 0 - n) 0 refl within)

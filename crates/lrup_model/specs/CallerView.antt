@@ -15,35 +15,36 @@ pub record Caller : Type 0 where
   pub stream : ℕ
 
 -- The formula and the layout are within the limits and fit each other, and the stream is one of the
--- layout.
+-- layout's.
 pub record IsCaller (caller : Caller) : Type 0 where
   pub formula : IsCnf caller.formula
   pub layout : IsLayout caller.layout
   pub fits : Fits caller.layout caller.formula
   pub stream : IsStream caller.layout caller.stream
 
--- The place of a clause of the formula or of a published one, and its literals in the order in
--- which they are stored.
+-- How a clause of the formula, or a published one, is stored: where it starts, and its literals in
+-- the stored order.
 pub record StoredClause : Type 0 where
   pub start : ℕ
   pub literals : Clause
 
--- What a caller knows: `own`, what the map has at its stream's identities; `room`, how many
--- literals its stream may still publish; and `spelt`, how the clauses that it has seen are stored.
+-- What a caller knows: `own`, what the map has at the identities of the caller's stream; `room`,
+-- how many literals that stream may still publish; and `spelt`, how the clauses that the caller has
+-- seen are stored.
 pub record CallerView : Type 0 where
   pub caller : Caller
   pub own : State
   pub room : ℕ
   pub spelt : ℕ → Option StoredClause
 
--- A clip of a clause of the formula or of a published one: its identity, its number of literals,
--- and its place.
+-- A clip, for a clause of the formula or a published one: the clause's identity, its number of
+-- literals, and where it starts.
 pub record ClipValue : Type 0 where
   pub id : ℕ
   pub len : ℕ
   pub start : ℕ
 
--- the literals of what is stored, or none if nothing is
+-- the literals of the stored clause, or none if nothing is stored
 abbrev pub literals_in : Option StoredClause → Clause
 literals_in None = []
 literals_in (Some stored) = stored.literals
@@ -63,11 +64,11 @@ pub record AllFollow (view : CallerView) : Type 0 where
   pub each : (id : ℕ) (stored : StoredClause) → view.spelt id ≡ Some stored
       → IsDerived view.caller.formula stored.literals
 
--- the caller's own identities above the last that it published are vacant
+-- the caller's own identities above this one, the last that it published, are vacant
 abbrev pub IsVacantAbove : CallerView → ℕ → Type 0
 IsVacantAbove view last = AreVacantAbove view.caller.layout view.caller.stream view.own last
 
--- what is stored for an identity stays
+-- what is stored for an identity stays stored
 abbrev pub KeepsSpelt : (ℕ → Option StoredClause) → (ℕ → Option StoredClause) → Type 0
 KeepsSpelt old new = (id : ℕ) (stored : StoredClause) → old id ≡ Some stored → new id ≡ Some stored
 

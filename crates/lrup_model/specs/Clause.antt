@@ -1,5 +1,5 @@
--- Clauses (textbook). A clause is a finite set of literals. It is kept as a list that has each
--- literal once, and definitions read the list as a set.
+-- Clauses (textbook). A clause is a finite set of literals. It is kept as a list without repeated
+-- literals, and definitions read the list as a set.
 use Rattle.std.specs.Prelude.{◌≡◌, ◌⊎◌, ℕ, ℤ, neg_ℤ, List, [], ◌∷◌}
 use Rattle.std.specs.List.{AllByRecursion}
 use Rattle.lrup_model.specs.Literal.{IsLiteral}
@@ -8,7 +8,7 @@ use Rattle.lrup_model.specs.Literal.{IsLiteral}
 abbrev pub Clause : Type 0
 Clause = List ℤ
 
--- the literal is one of the clause's
+-- the literal is in the clause
 abbrev pub Has : Clause → ℤ → Type 0
 Has [] l = ⊥
 Has (literal ∷ clause) l = (literal ≡ l) ⊎ Has clause l

@@ -23,7 +23,7 @@ pub record IsDesk (map : MutBor Plain) (s : ℕ) (desk : PlainDesk) : Type 0 whe
 abbrev pub plain_desk_caller_view : PlainDesk → CallerView
 plain_desk_caller_view desk = plain_caller_view (map_of desk) (stream_at desk)
 
--- The desk borrows the same map as before, which has moved by these events of the desk's stream.
+-- The desk borrows the same map as before, and these events of the desk's stream have changed it.
 pub record PlainDeskMoves (old new : PlainDesk) (history : History) : Type 0 where
   pub same : new.map.ghost_name ≡ old.map.ghost_name
   pub index : new.index ≡ old.index

@@ -3,7 +3,7 @@ use Rattle.std.specs.Prelude.{ℤ, List, [], ◌∷◌, not}
 use Rattle.std.specs.List.{filter}
 use Rattle.std.specs.Ordering.{int_eq}
 
--- each literal of the list once, in the order of their first occurrences
+-- the list's literals, each once, in the order of their first occurrences
 abbrev pub distinct : List ℤ → List ℤ
 distinct [] = []
 distinct (x ∷ ls) = x ∷ filter (λ y. not (int_eq y x)) (distinct ls)

@@ -1,6 +1,6 @@
 -- Events of the clause map, one for each call of fetch, publish and retire, and histories, which
--- are lists of events (this project's own). An event has a clause as the list in the order in which
--- the map stores it; the list is read as a set.
+-- are lists of events (this project's own). An event has a clause as a list, in the order in which
+-- the map stores the literals; the list is read as a set.
 use Rattle.std.specs.Prelude.{◌==◌, ℕ, List, [], ◌∷◌, length}
 use Rattle.std.specs.List.{filter, sum_by}
 use Rattle.lrup_model.specs.Clause.{Clause}
@@ -35,7 +35,7 @@ stream_of (retire s id reply) = s
 abbrev pub own : History → ℕ → History
 own history s = filter (λ event. stream_of event == s) history
 
--- the identity and the clause of each event that published one, in order
+-- the identity and the clause of each event that published a clause, in order
 abbrev pub published : History → List (ℕ × Clause)
 published [] = []
 published (fetch s id reply ∷ history) = published history
@@ -43,11 +43,11 @@ published (publish s id clause publishing.Done ∷ history) = (id, clause) ∷ p
 published (publish s id clause publishing.Taken ∷ history) = published history
 published (retire s id reply ∷ history) = published history
 
--- how many literals the clauses have that a stream published with `Done`
+-- the number of literals in the clauses that a stream published with `Done`
 abbrev pub spent : ℕ → History → ℕ
 spent s history = sum_by (λ entry. length entry.1) (published (own history s))
 
--- how many literals of its stream's room an event takes
+-- how much of its stream's room an event uses, in literals
 abbrev pub size_of : Event → ℕ
 size_of (fetch s id reply) = 0
 size_of (publish s id clause publishing.Done) = length clause

@@ -31,6 +31,6 @@ pub record IsCnf (formula : Cnf) : Type 0 where
 abbrev pub clause_at : Cnf → ℕ → Clause
 clause_at formula i = slice_index_or formula.clauses (i - 1) []
 
--- how many literals all clauses have, where each clause has a literal once
+-- the number of literals of all clauses together
 abbrev pub formula_literals : Cnf → ℕ
 formula_literals formula = sum_by length formula.clauses

@@ -26,8 +26,7 @@ IsAllowed formula layout (publish s id clause reply) =
     Owns layout s id × IsPublishable formula clause
 IsAllowed formula layout (retire s id reply) = Owns layout s id
 
--- each event is allowed, and has the reply that the map gives in the state after the events before
--- it
+-- each event is allowed, and has the reply that the map gives in the state after the earlier events
 abbrev pub LegalFrom : Cnf → LayoutValue → State → History → Type 0
 LegalFrom formula layout slots [] = Unit {0}
 LegalFrom formula layout slots (event ∷ history) =

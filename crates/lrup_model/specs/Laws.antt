@@ -38,13 +38,14 @@ ClausesFollow = (formula : Cnf) (layout : LayoutValue) (history : History) (id :
     (clause : Clause) → IsCnf formula → LegalFrom formula layout (opening formula) history
     → HasClause (state formula history id) clause → IsDerived formula clause
 
--- what a legal history leaves at a stream's own identity depends only on the calls of this stream
+-- what a legal history leaves at a stream's own identity depends only on the calls of that stream
 abbrev pub OwnCallsDecide : Type 0
 OwnCallsDecide = (formula : Cnf) (layout : LayoutValue) (history : History) (s id : ℕ)
     → LegalFrom formula layout (opening formula) history → Owns layout s id
     → state formula history id ≡ state formula (own history s) id
 
--- the new slot is the old one, or a later one of absent, live and retired, with the same clause
+-- the new slot is the old one, or a later one in the order absent, live, retired, with the same
+-- clause
 abbrev pub Advances : Slot → Slot → Type 0
 Advances absent new = Unit {0}
 Advances (live c) absent = ⊥
@@ -54,7 +55,7 @@ Advances (retired c) absent = ⊥
 Advances (retired c) (live d) = ⊥
 Advances (retired c) (retired d) = d ≡ c
 
--- a legal history moves no entry back, and changes the clause of none
+-- a legal history moves no entry back, and changes no entry's clause
 abbrev pub EntriesAdvance : Type 0
 EntriesAdvance = (f : Cnf) (p : LayoutValue) (m : State) (h : History) (id : ℕ) → LegalFrom f p m h
     → Advances (m id) (run m h id)

@@ -1,5 +1,5 @@
--- The sizes of a run, and who owns an identity. That streams own identities by residue, and the
--- limits, are this project's own.
+-- The sizes of a run, and who owns an identity. Ownership by residue, and the limits, are this
+-- project's own.
 use Rattle.std.specs.Prelude.{◌≡◌, ◌⊎◌, ◌+◌, ◌-◌, ◌*◌, ◌%◌, ◌≤◌, ◌<◌, ℕ, List, length, if◌then◌else◌, nat_eq, nat_le, codes}
 use Rattle.lrup_model.specs.Literal.{max_variable}
 use Rattle.lrup_model.specs.Formula.{Cnf, max_clauses, formula_literals}
@@ -42,7 +42,7 @@ max_row_words = 268435456
 abbrev pub last_identity : LayoutValue → ℕ
 last_identity layout = layout.clauses + layout.streams * layout.lines
 
--- how many words the shared row has: one that stays 0, one for each identity, and one for each
+-- how many words the shared row has: one that is always 0, one for each identity, and one for each
 -- literal of the formula and of the streams' room
 abbrev pub row_words : LayoutValue → ℕ
 row_words layout = 1 + last_identity layout + layout.literals + layout.streams * layout.room
@@ -74,7 +74,7 @@ owner layout id =
     then owners.Stream ((id - layout.clauses - 1) % layout.streams + 1)
     else owners.Outside
 
--- the identity is the stream's own
+-- the stream owns the identity
 abbrev pub Owns : LayoutValue → ℕ → ℕ → Type 0
 Owns layout s id = owner layout id ≡ owners.Stream s
 

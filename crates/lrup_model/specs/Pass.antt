@@ -1,5 +1,5 @@
--- A pass, i.e. one stream's handle at the shared store, and what it means that a pass is fair, that
--- it moves, and that passes meet (this project's own).
+-- A pass, i.e. one stream's handle to the shared store, and what it means for a pass to be fair,
+-- for a pass to move, and for passes to meet (this project's own).
 use Rattle.std.specs.Prelude.{◌≡◌, ◌≢◌, ◌+◌, ◌-◌, ◌==◌, ◌++◌, ℕ, List, [], ◌∷◌, if◌then◌else◌, Option, None, Some}
 use Rattle.std.specs.List.{AllByRecursion}
 use Rattle.lrup_model.specs.Formula.{Cnf}
@@ -25,7 +25,7 @@ IsOncePerIdentity [] = Unit {0}
 IsOncePerIdentity (entry ∷ spellings) =
     (stored_in spellings entry.id ≡ None) × IsOncePerIdentity spellings
 
--- what is stored is the slot's clause, and nothing if the slot is absent
+-- what is stored is the slot's clause, or nothing if the slot is absent
 abbrev pub Spells : Slot → Option StoredClause → Type 0
 Spells absent None = Unit {0}
 Spells absent (Some stored) = ⊥
@@ -41,22 +41,22 @@ pub record IsSpelt (formula : Cnf) (history : History) (spellings : List Spellin
   pub slots : (id : ℕ) → Spells (state formula history id) (stored_in spellings id)
 
 -- What a pass knows: `seen`, the history that it has seen; `mine`, the calls made through it, in
--- order; and `spelt`, the clauses that it has seen and their places, which the store chose.
+-- order; and `spelt`, the clauses that it has seen and where the store put them.
 pub record View : Type 0 where
   pub caller : Caller
   pub seen : History
   pub mine : History
   pub spelt : List Spelling
 
--- What the pass has seen is legal and has exactly the calls of the pass as calls of its stream, in
--- order; and the clauses in it are those stored.
+-- The history that the pass has seen is legal, its calls by the pass's stream are exactly the calls
+-- of the pass, in order, and exactly the clauses in it are stored.
 pub record IsFair (view : View) : Type 0 where
   pub caller : IsCaller view.caller
   pub legal : IsLegal view.caller.formula view.caller.layout view.seen
   pub mine : own view.seen view.caller.stream ≡ view.mine
   pub spelt : IsSpelt view.caller.formula view.seen view.spelt
 
--- what a caller knows by a pass
+-- what a caller knows through a pass
 abbrev pub pass_caller_view : View → CallerView
 pass_caller_view view = record {
   caller = view.caller;
@@ -65,8 +65,8 @@ pass_caller_view view = record {
   spelt = stored_in view.spelt;
 }
 
--- The pass made these calls, and may have seen calls of others. After a call it is fair; after none
--- it is fair if it was before.
+-- The pass made these calls, and may have seen calls of others. If it made a call, it is fair;
+-- otherwise it is fair if it was fair before.
 pub record PassMoves (old new : View) (history : History) : Type 0 where
   pub caller : new.caller ≡ old.caller
   pub callers : AllByRecursion (λ event. stream_of event ≡ old.caller.stream) history
@@ -79,9 +79,9 @@ pub record PassMoves (old new : View) (history : History) : Type 0 where
   pub fair_after : history ≢ [] → IsFair new
   pub follow : AllFollow (pass_caller_view old) → AllFollow (pass_caller_view new)
 
--- Two passes of one store have met: both have seen the same history, which begins with what each
--- had seen. If one had seen all that the other had, it is the history of that one. Neither made a
--- call, and both are fair.
+-- Two passes of one store have met: both have now seen the same history, which begins with what
+-- each had seen before. If one had seen all that the other had, what that one has seen doesn't
+-- change. Neither made a call, and both are fair.
 pub record SyncViews (old old' new new' : View) : Type 0 where
   pub one : new'.seen ≡ new.seen
   pub first : PassMoves old new []
@@ -99,7 +99,7 @@ SyncInTurn old (other ∷ others) new (other' ∷ others') =
 SyncInTurn old [] new (other' ∷ others') = ⊥
 SyncInTurn old (other ∷ others) new [] = ⊥
 
--- The passes of both lists are the same: between the first list and the second they made no call,
+-- Both lists have the same passes. Between the first list and the second, the passes made no call
 -- but may have seen more, and in the second they are fair.
 abbrev pub AreSynced : List View → List View → Type 0
 AreSynced [] [] = Unit {0}

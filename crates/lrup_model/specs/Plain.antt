@@ -17,8 +17,8 @@ pub data PlainSlot : Type 0 where
   live : StoredClause → PlainSlot
   retired : StoredClause → PlainSlot
 
--- `plain_slots` has what each identity has, from identity 0 on, which has nothing; `free` has the
--- room left of each stream, in literals.
+-- `plain_slots` has what is stored under each identity, from identity 0 on, which has nothing;
+-- `free` has the room that each stream has left, in literals.
 pub record Plain : Type 0 where
   pub layout : LayoutValue
   pub plain_slots : List PlainSlot
@@ -52,7 +52,7 @@ formula_of plain = record {
 abbrev pub plain_state : Plain → State
 plain_state plain = λ id. slot_of (plain_slot_at plain id)
 
--- the room left of a stream, counted from 1
+-- the room that a stream, counted from 1, has left
 abbrev pub free_at : Plain → ℕ → ℕ
 free_at plain s = slice_index plain.free (s - 1)
 
@@ -65,8 +65,8 @@ plain_caller_view plain s = record {
   spelt = λ id. stored_of (plain_slot_at plain id);
 }
 
--- These events of the stream lead from the old map to the new one, and each has the reply of the
--- map at its moment. The room of other streams is unchanged.
+-- These events of the stream lead from the old map to the new one, and each has the reply that the
+-- map gave at that moment. The room of other streams is unchanged.
 pub record PlainMoves (old new : Plain) (s : ℕ) (history : History) : Type 0 where
   pub layout : new.layout ≡ old.layout
   pub formula : formula_of new ≡ formula_of old

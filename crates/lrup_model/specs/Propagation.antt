@@ -1,6 +1,6 @@
 -- Hinted unit propagation: the idea of Cruz-Filipe et al., Efficient Certified RAT Verification,
--- CADE 2017, without RAT. That every hint before the last must be unit, and only the last may be a
--- conflict, is this project's own.
+-- CADE 2017, without RAT. The rule that every hint before the last must be unit, and only the last
+-- may be a conflict, is this project's own.
 use Rattle.std.specs.Prelude.{◌≡◌, ◌⊎◌, ℤ, neg_ℤ, List, [], ◌∷◌, ◌++◌}
 use Rattle.lrup_model.specs.Clause.{Clause, Has, IsTautology}
 
@@ -8,7 +8,7 @@ use Rattle.lrup_model.specs.Clause.{Clause, Has, IsTautology}
 abbrev pub IsConflict : List ℤ → Clause → Type 0
 IsConflict falses clause = (literal : ℤ) → Has clause literal → Has falses literal
 
--- All literals of the clause are false but this one, which is neither true nor false.
+-- All other literals of the clause are false, and this one is neither true nor false.
 pub record IsUnit (falses : List ℤ) (clause : Clause) (literal : ℤ) : Type 0 where
   pub here : Has clause literal
   pub not_false : ¬ Has falses literal
@@ -24,6 +24,6 @@ Refutes falses (clause ∷ next ∷ hinted) =
     (literal : ℤ) × IsUnit falses clause literal
     × Refutes (falses ++ neg_ℤ literal ∷ []) (next ∷ hinted)
 
--- the clause is no tautology, and the hinted clauses refute that all its literals are false
+-- the clause is not a tautology, and the hinted clauses refute that all its literals are false
 abbrev pub Accepts : Clause → List Clause → Type 0
 Accepts clause hinted = (¬ IsTautology clause) × Refutes clause hinted

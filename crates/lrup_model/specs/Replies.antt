@@ -21,13 +21,13 @@ IsFetched view id fetched.Vacant = view.spelt id ≡ None
 IsFetched view id (fetched.Live clip) = (clip.id ≡ id) × IsKnown view clip
 IsFetched view id fetched.Retired = (stored : StoredClause) × (view.spelt id ≡ Some stored)
 
--- for an identity of the caller's own the reply is what the caller's calls left there
+-- for an identity that the caller's stream owns, the reply is what the caller's calls left there
 abbrev pub AnswersOwn : CallerView → ℕ → Reply → Type 0
 AnswersOwn view id reply =
     Owns view.caller.layout view.caller.stream id
     → Answers view.own (fetch view.caller.stream id reply)
 
--- for an identity of the formula the reply is its clause, live
+-- for an identity of the formula, the reply is the formula's clause, live
 abbrev pub AnswersFormula : CallerView → ℕ → Reply → Type 0
 AnswersFormula view id reply =
     0 < id → id ≤ view.caller.layout.clauses → reply ≡ live (clause_at view.caller.formula id)

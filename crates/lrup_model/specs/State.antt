@@ -59,7 +59,7 @@ after slots (events.retire s id retiring.Done) =
     λ j. if j == id then retire_slot (slots id) else slots j
 after slots (events.retire s id retiring.NotLive) = slots
 
--- the state after the events, one after the other
+-- the state after all events, in order
 abbrev pub run : State → History → State
 run slots [] = slots
 run slots (event ∷ history) = run (after slots event) history

@@ -11,8 +11,8 @@ use crate::Id;
 use crate::lit::Lit;
 use std::marker::Model;
 
-/// A handle of a clause at one clause map: the clause's identity, its number of literals, and its
-/// place, which only the map uses.
+/// A handle to a clause in one clause map: the clause's identity, its number of literals, and the
+/// start of its literals, which only the map uses.
 #[derive(Clone, Copy, Debug, PartialEq, Eq)]
 pub struct Clip {
     id: Id,
@@ -31,7 +31,7 @@ impl Model for Clip {
 }
 
 impl Clip {
-    /// A clip of this identity, length and start. A map accepts only clips that its caller knows,
+    /// A clip with this identity, length and start. A map accepts only clips that its caller knows,
     /// such as those that a fetch at this map returned.
     pub fn new(id: Id, len: u32, start: u32) -> Clip
         ensures { result ≡ record { id = id; len = len; start = start } }
@@ -69,8 +69,8 @@ impl Clip {
         self.len == 0
     }
 
-    /// Where the literals begin: in the row the index of a word, which holds two literals; in a
-    /// plain map the index of a literal.
+    /// Where the literals begin: in the row, the index of a word, which holds two literals; in a
+    /// plain map, the index of a literal.
     pub fn start(&self) -> u32
         ensures { result ≡ self.now.start }
     {
@@ -83,7 +83,8 @@ impl Clip {
 pub enum Fetched {
     /// Nothing was published under the identity.
     Vacant,
-    /// The clause can be used: it is one of the formula, or was published and hasn't been retired.
+    /// The clause can be used: it is a clause of the formula, or was published and hasn't been
+    /// retired.
     Live(Clip),
     /// The clause was retired.
     Retired,
@@ -92,24 +93,24 @@ pub enum Fetched {
 /// The result of a publish.
 #[derive(Clone, Copy, Debug, PartialEq, Eq)]
 pub enum Published {
-    /// The clause is live under the identity from now on, and the caller's room is smaller by its
+    /// The clause is now live under the identity, and the caller's room has shrunk by the clause's
     /// length.
     Done,
-    /// A clause was published under the identity before. Nothing changed.
+    /// A clause had already been published under the identity. Nothing changed.
     Taken,
 }
 
 /// The result of a retire.
 #[derive(Clone, Copy, Debug, PartialEq, Eq)]
 pub enum Retired {
-    /// The clause was live, and is retired from now on.
+    /// The clause was live and is now retired.
     Done,
     /// No clause is live under the identity. Nothing changed.
     NotLive,
 }
 
-/// A clause map (the clause database) as one stream calls it. Each call of fetch, publish and
-/// retire is one event; the other calls are no events. No call allocates memory.
+/// A clause map (the clause database) as one stream calls it. Each call of fetch, publish or retire
+/// is one event; the other calls are not events. No call allocates memory.
 pub trait ClauseMap {
     /// What the caller knows of the map.
     ghost caller_view: { Self → CallerView };
@@ -130,15 +131,15 @@ pub trait ClauseMap {
         ensures { IsTrue result
             ↔ Owns (caller_view self.now).caller.layout (caller_view self.now).caller.stream id };
 
-    /// The room that the caller has left, in literals. A publish with `Done` takes as much as the
-    /// clause has literals, and no call gives room back.
+    /// The room that the caller has left, in literals. A publish that returns `Done` uses up as
+    /// much room as the clause has literals, and no call gives room back.
     fn room(&self) -> u64
         ensures { result ≡ (caller_view self.now).room };
 
-    /// Looks up what the map has under an identity, 1 to the last one, at this moment. A clause of
-    /// the formula is always live, the caller's own identities have what its calls left there, and
-    /// other streams may change theirs at any time. Each clause that a fetch finds follows from the
-    /// formula.
+    /// Looks up what the map has at this moment under an identity, 1 to the last one. A clause of
+    /// the formula is always live, the caller's own identities have what the caller's calls left
+    /// there, and other streams may change theirs at any time. Each clause that a fetch finds
+    /// follows from the formula.
     fn fetch(&mut self, id: Id) -> Fetched
         requires { IsIdentity (caller_view self.old).caller.layout id }
         ensures event { moves self.old self.new
@@ -162,8 +163,8 @@ pub trait ClauseMap {
         ensures event { moves self.old self.new [] }
         ensures stays { caller_view self.new ≡ caller_view self.old };
 
-    /// Reads pair `i`, counted from 0, of a clause whose clip is known here: its literal `2 * i`
-    /// and, if there is one, literal `2 * i + 1`, as two calls of `literal` return them.
+    /// Reads pair `i`, counted from 0, of a clause whose clip is known here: literal `2 * i` and,
+    /// if there is one, literal `2 * i + 1`, as two calls of `literal` would return them.
     #[inline]
     fn pair(&mut self, clip: &Clip, i: u32) -> (Lit, Option<Lit>)
         requires known { IsKnown (caller_view self.old) clip.now }
@@ -185,8 +186,9 @@ pub trait ClauseMap {
         }
     }
 
-    /// Publishes a clause under an identity that the caller's stream owns. The clause follows from
-    /// the formula, has each literal once and at most 65,535 literals, and fits into the room left.
+    /// Publishes a clause under an identity that the caller's stream owns. The clause must follow
+    /// from the formula, have no literal twice and at most 65,535 literals, and fit into the room
+    /// left.
     fn publish(&mut self, id: Id, clause: &[Lit]) -> Published
         requires owns { Owns (caller_view self.old).caller.layout
             (caller_view self.old).caller.stream id }
@@ -208,7 +210,7 @@ pub trait ClauseMap {
     /// There are no events between a moment and itself.
     ghost moves_none: { (a : Self) → moves a a [] };
 
-    /// The events of two calls, one after the other.
+    /// The events of consecutive calls are appended.
     ghost moves_append: { (a b c : Self) (es fs : History) → moves a b es → moves b c fs → moves a c (es ++ fs) };
 
     /// What the events change in the caller's view.

@@ -12,7 +12,7 @@ use std::marker::Model;
 
 /// A set of assumed literals. It may contain a literal and its complement.
 ///
-/// It stores the codes of the literals that it was made of, sorted: 4 bytes each.
+/// It stores the codes of the literals that it was made from, sorted: 4 bytes each.
 #[derive(Drop)]
 pub struct Cube {
     codes: Vec<u32>,
@@ -40,7 +40,7 @@ impl Cube {
         Ok(Cube { codes })
     }
 
-    /// The cube without literals. It takes no memory.
+    /// The cube without literals. It allocates no memory.
     pub fn empty(alloc: Global) -> Cube
         ensures { result ≡ [] }
     {
@@ -66,9 +66,9 @@ impl Cube {
         self.codes.as_slice().binary_search(&code).is_ok()
     }
 
-    /// Whether the cube makes the clause false, i.e. contains the complement of each of its
-    /// literals. The search ends at the first literal whose complement isn't there. For the empty
-    /// cube it is a single test.
+    /// Whether the cube makes the clause false, i.e. contains the complement of each literal of the
+    /// clause. The search ends at the first literal whose complement is missing. The empty cube
+    /// needs only a single test.
     pub fn refutes(&self, clause: &[Lit]) -> bool
         ensures { IsTrue result ↔ Within clause.now self.now }
     {

@@ -8,8 +8,8 @@ use crate::lit::Lit;
 use std::alloc::{AllocError, Global};
 use std::marker::Model;
 
-/// A number of variables, and clauses in the order of the file, each with every literal once. All
-/// literals are in one list: a clause takes 8 bytes in addition to its literals.
+/// A number of variables, and clauses in the order of the file, none of which has a literal twice.
+/// All literals are in one list: a clause takes 8 bytes in addition to its literals.
 #[derive(Drop)]
 pub struct Formula {
     vars: u32,
@@ -36,7 +36,8 @@ impl Formula {
     /// The largest number of literals of one clause.
     pub const MAX_CLAUSE_LITERALS: u32 = 1_048_575;
 
-    /// A formula of this many variables, at most 16,777,215, without clauses. It takes no memory.
+    /// A formula of this many variables, at most 16,777,215, without clauses. It allocates no
+    /// memory.
     pub fn new(alloc: Global, vars: u32) -> Self
         requires { vars ≤ max_variable }
         ensures { result ≡ record { vars = vars; clauses = [] } }
@@ -48,7 +49,7 @@ impl Formula {
         }
     }
 
-    /// Adds the next clause: at most 1,048,575 literals, each once, over the formula's variables. A
+    /// Adds the next clause: at most 1,048,575 distinct literals over the formula's variables. A
     /// formula has at most 16,777,215 clauses. If the allocation fails, nothing changes.
     pub fn push(&mut self, clause: &[Lit]) -> Result<(), AllocError>
         requires count { length self.old.clauses < max_clauses }
@@ -80,14 +81,14 @@ impl Formula {
         self.ends.as_slice().len()
     }
 
-    /// Whether the formula has no clause.
+    /// Whether the formula has no clauses.
     pub fn is_empty(&self) -> bool
         ensures { IsTrue result ↔ (self.now.clauses ≡ []) }
     {
         self.ends.as_slice().is_empty()
     }
 
-    /// The literals of clause `i`, counted from 1, each once.
+    /// The distinct literals of clause `i`, counted from 1.
     pub fn clause(&self, i: usize) -> &[Lit]
         requires first { 0 < i }
         requires last { i ≤ length self.now.clauses }
@@ -121,7 +122,7 @@ fn part<'a>(literals: &'a [Lit], ends: &[usize], i: usize) -> &'a [Lit]
     between(literals, start(ends, i), ends[i])
 }
 
-/// The literals from the place `from` up to the one before `end`.
+/// The literals from index `from` up to, but not including, index `end`.
 fn between(literals: &[Lit], from: usize, end: usize) -> &[Lit]
     requires ordered { from ≤ end }
     requires within { end ≤ length literals.now }

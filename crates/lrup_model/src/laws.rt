@@ -1,8 +1,7 @@
 //! Laws of the definitions. Each function does nothing: its contract is the law.
 ghost use Rattle.lrup_model.specs.Laws.{PropagationSound, WithinRefutes, ClausesFollow, OwnCallsDecide, EntriesAdvance, KnownStays, PassSteps};
 
-/// If hints derive a clause, and all hinted clauses follow from a formula, then the clause follows
-/// from it.
+/// If hints derive a clause, and all hinted clauses follow from a formula, then so does the clause.
 pub fn propagation_sound()
     ensures { PropagationSound }
 {}
@@ -18,7 +17,7 @@ pub fn clauses_follow()
     ensures { ClausesFollow }
 {}
 
-/// What a legal history leaves at a stream's own identity depends only on the calls of this stream.
+/// What a legal history leaves at a stream's own identity depends only on the calls of that stream.
 pub fn own_calls_decide()
     ensures { OwnCallsDecide }
 {}

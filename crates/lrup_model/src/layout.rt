@@ -20,7 +20,7 @@ pub enum Owner {
     Outside,
 }
 
-/// Why there is no layout of some sizes. If several faults hold, it is the first of these.
+/// Why some sizes have no layout. If several faults hold, the first in this order is reported.
 #[derive(Clone, Copy, Debug, PartialEq, Eq)]
 pub enum LayoutFault {
     /// More than 16,777,215 variables.
@@ -47,7 +47,7 @@ impl fmt::Display for LayoutFault {
 
 impl Error for LayoutFault {}
 
-/// The sizes of a run: those of the formula, the number of streams, and how many identities and how
+/// The sizes of a run: the formula's sizes, the number of streams, and how many identities and how
 /// much room, in literals, each stream has.
 #[derive(Clone, Copy, Debug, PartialEq, Eq)]
 pub struct Layout {
@@ -57,7 +57,7 @@ pub struct Layout {
     streams: u32,
     /// How many identities each stream has, i.e. how many lines of its proof can be additions.
     lines: u32,
-    /// How many literals the clauses of each stream may have in all.
+    /// How many literals the clauses of each stream may have in total.
     room: u32,
 }
 
@@ -80,9 +80,9 @@ impl Layout {
     /// The largest number of words of the shared row, 2^28.
     pub const MAX_ROW_WORDS: u64 = 268_435_456;
 
-    /// The layout of a formula's numbers of variables, clauses and literals, a number of streams,
-    /// and for each stream a number of identities and room for a number of literals. The fault is
-    /// the first that holds, in the order in which `LayoutFault` lists them.
+    /// The layout for a formula with this many variables, clauses and literals, for this many
+    /// streams, and for this many identities (`lines`) and literals (`room`) per stream. The fault
+    /// is the first that holds, in the order in which `LayoutFault` lists them.
     pub fn new(
         vars: u64,
         clauses: u64,
@@ -128,8 +128,8 @@ impl Layout {
             && self.literals as usize == formula.literals()
     }
 
-    /// Who owns the identity: after the formula's identities the streams own one each in turn,
-    /// stream 1 first.
+    /// Who owns the identity: after the formula's identities, the streams own one identity each in
+    /// turn, stream 1 first.
     pub fn owner(&self, id: u64) -> Owner
         ensures { result ≡ owner self.now id }
     {

@@ -17,8 +17,8 @@ use crate::lit::Lit;
 use std::alloc::{AllocError, Global};
 use std::marker::Model;
 
-/// What the map has under an identity: for a clause the place of its first literal and its number
-/// of literals. It takes 12 bytes.
+/// What the map has under an identity: for a clause, the index of its first literal and its number
+/// of literals. An entry takes 12 bytes.
 #[derive(Clone, Copy)]
 enum Entry {
     Vacant,
@@ -51,8 +51,8 @@ impl Model for PlainMap {
 const _: () = prove!(size_of::<Entry>() == 12);
 
 impl PlainMap {
-    /// The result of a fetch of the identity. That each clause follows from the formula is the same
-    /// for all streams, so the contract uses the view of stream 1.
+    /// The result of a fetch of the identity. Each clause follows from the formula, whichever
+    /// stream looks, so the contract uses the view of stream 1.
     fn look(&self, id: Id) -> Fetched
         requires { id ≤ last_identity self.now.layout }
         ensures answer { result ≡ fetched_of id (plain_slot_at self.now id) }
@@ -66,8 +66,8 @@ impl PlainMap {
         }
     }
 
-    /// Literal `k`, counted from 0, of the clause that is stored under the clip's identity. Which
-    /// clips are known is the same for all streams, so the contract uses the view of stream 1.
+    /// Literal `k`, counted from 0, of the clause that is stored under the clip's identity. All
+    /// streams know the same clips, so the contract uses the view of stream 1.
     fn literal_of(&self, clip: &Clip, k: u32) -> Lit
         requires known { IsKnown (plain_caller_view self.now 1) clip.now }
         requires within { k < clip.now.len }
@@ -110,9 +110,9 @@ impl PlainMap {
 }
 
 impl PlainMap {
-    /// The map of a formula's clauses. It allocates all the memory that it will need: 12 bytes for
-    /// each identity and for one entry more, 4 for each literal of the formula and of the streams'
-    /// room, and 8 for each stream. If an allocation fails, everything is freed.
+    /// Opens the map with a formula's clauses. Allocates all the memory that the map will need: 12
+    /// bytes for each identity and for one extra entry, 4 for each literal of the formula and of
+    /// the streams' room, and 8 for each stream. If an allocation fails, everything is freed.
     pub fn open(alloc: Global, formula: &Formula, layout: &Layout) -> Result<PlainMap, AllocError>
         requires { Fits layout.now formula.now }
         ensures layout { IfOk result (λ map. map.layout ≡ layout.now) }
@@ -155,7 +155,7 @@ impl PlainMap {
         self.free.get(index as usize).copied().unwrap_or(0)
     }
 
-    /// The clause map of stream `s`, counted from 1, which borrows this map.
+    /// The `ClauseMap` of stream `s`, counted from 1. It borrows this map.
     pub fn desk(&mut self, s: u64) -> PlainDesk<'_>
         requires { IsStream self.old.layout s }
         ensures { IsDesk self.entry s result }
@@ -211,7 +211,7 @@ fn keep_vacant(count: usize, entries: &mut Vec<Entry>)
     }
 }
 
-/// A stream's `ClauseMap`: it borrows the clause map of one thread until it is dropped.
+/// A stream's `ClauseMap`, which borrows the `PlainMap` until it is dropped.
 pub struct PlainDesk<'a> {
     map: &'a mut PlainMap,
     index: u32,

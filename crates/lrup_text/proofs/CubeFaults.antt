@@ -1,4 +1,4 @@
--- The faults of a cube's text are those of the import line that has it as its list of literals.
+-- The faults of a cube's text are those of the import that has the text as its list of literals.
 use Rattle.std.proofs.Common.{◌≡◌, ℕ, ◌+◌, ◌≤◌, inl, inr, Bool, true, false, List, [], ◌∷◌, ◌++◌, length, sym, ◌∙◌, ap, subst, refl, arith}
 use Rattle.std.proofs.lemmas.Bool.{cases_eq}
 use Rattle.std.proofs.lemmas.List.{append_assoc, append-nil}
@@ -26,7 +26,7 @@ nothing_read =
     let letter = tracks_more (49 ∷ space ∷ []) (BeforeLiteral false 0) AfterImport letter_i body body_import in
     tracks_more (49 ∷ space ∷ letter_i ∷ []) AfterImport (BeforeLiteral true 0) space letter import_space
 
--- A text is that of a cube exactly if the line with it is an import.
+-- A text is that of a cube exactly if it makes a line after `import_front`.
 
 module _ (limits : Limits) (lifted : AreLifted false limits) (bytes : List ℕ) where
   line_of_cube : IsCubeLine limits bytes → IsLine limits (import_front ++ bytes)

@@ -45,7 +45,7 @@ pub no_fault : {state : ReaderState} {fault : Option LineFault} (m : PartialLine
     → Ok (pending m) ≡ state
 no_fault m view none = sym (ap (λ f. reader_state f (pending m)) none) ∙ view
 
--- a piece has as many bytes as are used
+-- a piece has at least as many bytes as are used
 pub fed_bound : (old : ReaderState) (piece : List ℕ) (used : ℕ) (status : ReaderStatus) → Feeds old piece used status → used ≤ length piece
 fed_bound (Err fault) piece used status h = omega (arith, h.0)
 fed_bound (Ok read) piece used (statuses.Line line) h = h.1

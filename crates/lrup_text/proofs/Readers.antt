@@ -1,4 +1,4 @@
--- A line that is read in parts, as a whole: at its beginning, between pieces, and through a piece.
+-- A line that is read in parts: at its beginning, between pieces, and through a piece.
 use Rattle.std.proofs.Common.{◌≡◌, ◌≢◌, ℕ, ℤ, ◌+◌, ◌<◌, ◌≤◌, Bool, true, false, List, [], ◌∷◌, ◌++◌, length, take, drop, get_or, refl, sym}
 use Rattle.std.proofs.Common.{◌∙◌, ap, subst, arith}
 use Rattle.std.specs.Fmt.{decimal}
@@ -43,7 +43,7 @@ start_reads m at room kept number = (
   ap (λ p. pending_at p m) at,
 )
 
--- nothing of a line was read exactly if the state is that of the start
+-- nothing of a line was read exactly if the state is `Start`
 some_byte : (xs : List ℕ) (y : ℕ) (ys : List ℕ) → xs ++ y ∷ ys ≡ [] → ⊥
 some_byte [] y ys e = cc
 some_byte (x ∷ xs) y ys e = cc

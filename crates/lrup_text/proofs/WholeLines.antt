@@ -118,7 +118,7 @@ sign_absent line at digits negative none e = (
   ap (λ k. take k line) e ∙ sym (append-nil (take at line)) ∙ ap (λ b. take at line ++ sign_text b) (sym none),
 )
 
--- a sign or none, and a number, are a literal
+-- a number, with or without a sign before it, is a literal
 pub literal_read : (text : List ℕ) (start : ℕ) (negative : Bool) (digits magnitude end : ℕ) (z : ℤ) → start ≤ digits
     → take digits text ≡ take start text ++ sign_text negative → ReadsNumber text digits magnitude end
     → signed_decimal z ≡ literal_front negative magnitude → unsigned_abs z ≡ magnitude
@@ -132,7 +132,7 @@ literal_read text start negative digits magnitude end z before sign number value
 }
 
 module _ {A : Type 0} (spell : A → List ℕ) (Fits : A → Type 0) (text : List ℕ) where
-  -- words, with a space after each, from one place up to another
+  -- words, with a space after each, from one index up to another
   pub words_start : (start : ℕ) (words : List A) (first : ℕ) → start ≤ length text → first ≤ length words
       → ReadsWords spell Fits text start words first words first start
   unfolding words_text
@@ -168,7 +168,7 @@ module _ {A : Type 0} (spell : A → List ℕ) (Fits : A → Type 0) (text : Lis
             ∙ ap (λ t. take start text ++ t) (sym (text_more (λ w. spell w ++ space ∷ []) so.more word));
       }
 
-  -- the words of the text's beginning are the text's
+  -- words read from a prefix of the text are words of the text
   pub words_ahead : (last : ℕ) (old new : List A) (first count used : ℕ) → last ≤ length text
       → ReadsWords spell Fits (take last text) 0 old first new count used → ReadsWords spell Fits text 0 old first new count used
   words_ahead last old new first count used inside found = record {

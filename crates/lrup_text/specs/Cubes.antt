@@ -25,13 +25,13 @@ pub record IsCubeText (vars : ℕ) (bytes : List ℕ) (cube : CubeValue) : Type 
 
 -- Faults.
 
--- the bytes are such a line within the limits
+-- the bytes are a line of a cube within the limits
 abbrev pub IsCubeLine : Limits → List ℕ → Type 0
 IsCubeLine limits bytes = (words : List (List ℕ))
     × AreFew limits.literals (SpellsLiteral limits.digits) words
     × (bytes ≡ clause_text words (codes "\n"))
 
--- For texts of some kind, within limits: some rest completes the bytes to such a text
+-- some rest completes the bytes to a text of this kind within the limits
 abbrev pub BeginsOne : (Limits → List ℕ → Type 0) → Limits → List ℕ → Type 0
 BeginsOne IsOne limits bytes = (rest : List ℕ) × IsOne limits (bytes ++ rest)
 
@@ -44,7 +44,7 @@ BeginsOneLifted IsOne bytes =
 abbrev pub BreaksOff : (Limits → List ℕ → Type 0) → List ℕ → Type 0
 BreaksOff IsOne bytes = BeginsOne IsOne standard bytes × ¬ IsOne standard bytes
 
--- the bytes begin no text, and this holds for their shortest prefix that begins none
+-- the bytes begin no text, and `Shortest` holds for their shortest prefix that begins none
 pub record BeginsNone (IsOne : Limits → List ℕ → Type 0) (bytes : List ℕ)
     (Shortest : List ℕ → Type 0) : Type 0 where
   pub read : List ℕ
@@ -64,7 +64,7 @@ IsTextFault IsOne bytes Range = ⊥
 IsTextFault IsOne bytes Memory = ⊥
 
 -- the first fault of the bytes, for a cube over the variables 1 to vars; memory runs out only if
--- they have none
+-- they have no other
 abbrev pub IsCubeFault : ℕ → List ℕ → CubeFault → Type 0
 IsCubeFault vars bytes Spelling = IsTextFault IsCubeLine bytes Spelling
 IsCubeFault vars bytes TooLong = IsTextFault IsCubeLine bytes TooLong

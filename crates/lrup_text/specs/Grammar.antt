@@ -23,7 +23,7 @@ pub record Limits : Type 0 where
 abbrev pub standard : Limits
 standard = record { digits = 18; literals = 65535; identities = 65536; signed = false }
 
--- limits at least as wide, with signed hints or without
+-- limits at least as wide as those of a stream, with signed hints or without
 pub record AreLifted (signed : Bool) (limits : Limits) : Type 0 where
   pub digits : 18 ≤ limits.digits
   pub literals : 65535 ≤ limits.literals

@@ -22,7 +22,7 @@ abbrev pub NoTextBegins : Type 0
 NoTextBegins = (line other : StreamLine) (bytes others more : List ℕ) → LineText line bytes
     → LineText other others → others ≡ bytes ++ more → more ≡ []
 
--- bytes begin with the text of at most one line, and the rest after it is the same
+-- bytes begin with the text of at most one line, which also fixes the rest after it
 abbrev pub OneFirstLine : Type 0
 OneFirstLine = (line other : StreamLine) (more after : List ℕ) → IsWithinLimits line
     → IsWithinLimits other
@@ -42,14 +42,14 @@ OneCut = (stream : List ℕ) (lines others : List StreamLine) (rest left : List 
 abbrev pub EveryCut : Type 0
 EveryCut = (stream : List ℕ) → (lines : List StreamLine) × (rest : List ℕ) × Cut stream lines rest
 
--- the lines of a prefix begin those of the whole, and the others are cut from the prefix's rest and
--- the bytes after it
+-- the lines of a prefix of a stream are the stream's first lines, and the others are cut from the
+-- prefix's rest and the bytes that follow
 abbrev pub BeginningCut : Type 0
 BeginningCut = (bytes more : List ℕ) (lines all : List StreamLine) (rest left : List ℕ)
     → Cut bytes lines rest → Cut (bytes ++ more) all left
     → (others : List StreamLine) × (all ≡ lines ++ others) × Cut (rest ++ more) others left
 
--- a text that begins no line contains none, with anything after it
+-- a refused text doesn't begin with a line, even if more bytes follow
 abbrev pub RefusedStays : Type 0
 RefusedStays = (bytes more : List ℕ) (fault : LineFault) → IsRefused bytes fault
     → HasNoLine (bytes ++ more)

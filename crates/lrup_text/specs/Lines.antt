@@ -28,7 +28,7 @@ words_of (Import id lits) = Imports (decimal id) (map signed_decimal lits)
 abbrev pub IsStreamNumber : ℕ → Type 0
 IsStreamNumber number = (0 < number) × (number < 10 ^ 18)
 
--- a literal whose magnitude is such a number
+-- a literal whose magnitude is a stream number
 abbrev pub IsStreamLiteral : ℤ → Type 0
 IsStreamLiteral literal = IsStreamNumber (unsigned_abs literal)
 
@@ -47,12 +47,12 @@ line_text line = text (words_of line)
 abbrev pub LineText : StreamLine → List ℕ → Type 0
 LineText line bytes = IsWithinLimits line × (bytes ≡ line_text line)
 
--- no line's text is a prefix of it
+-- no line's text is a prefix of the bytes
 abbrev pub HasNoLine : List ℕ → Type 0
 HasNoLine bytes =
     (line : StreamLine) (more : List ℕ) → IsWithinLimits line → ¬ (bytes ≡ line_text line ++ more)
 
--- the bytes are the texts of the lines, followed by a rest that contains no whole line
+-- the stream is the texts of the lines, followed by a rest that doesn't begin with a whole line
 pub record Cut (stream : List ℕ) (lines : List StreamLine) (rest : List ℕ) : Type 0 where
   pub bytes : stream ≡ flat_map line_text lines ++ rest
   pub each : AllByRecursion IsWithinLimits lines

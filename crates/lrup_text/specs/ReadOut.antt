@@ -12,7 +12,7 @@ pub record SourceView (S : Type 0) : Type 1 where
   pub has_failed : S → Bool
   pub reads : ReadsOf S
 
--- the record of these
+-- the view with these three parts
 abbrev pub source_view : {S : Type 0} → (S → Option (List ℕ)) → (S → Bool) → ReadsOf S
     → SourceView S
 source_view left has_failed reads =

@@ -16,8 +16,8 @@ GivesLeft before room None after = Keeps before after
 GivesLeft before room (Some piece) after = Consumes before after piece × (length piece ≤ room)
     × (piece ≡ [] → 0 < room → IsAtEnd after)
 
--- Reads, one after another, each of which gave some bytes, with a buffer of any length, led from
--- the source `first` to `last`, and gave these bytes together.
+-- Reads that each gave some bytes, with buffers of any length, led from the source `first` to
+-- `last`. Together they gave these bytes.
 pub record Gave (S : Type 0) (reads : ReadsOf S) (first : S) (bytes : List ℕ)
     (last : S) : Type 0 where
   pub pieces : List (List ℕ)

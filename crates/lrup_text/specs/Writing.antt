@@ -2,13 +2,13 @@
 use Rattle.std.specs.Prelude.{◌≡◌, List, ℕ, ◌++◌, Option, Result, MatchResult}
 use Rattle.std.specs.Io.KnownBytes.{Appends}
 
--- The bytes were written after those held before, and the last of them are held now.
+-- Of the bytes held before and the new ones after them, a prefix was written, and the rest is held.
 pub record Puts (before after : Option (List ℕ)) (held holds bytes : List ℕ) : Type 0 where
   pub went : List ℕ
   pub appends : Appends before after went
   pub is : held ++ bytes ≡ went ++ holds
 
--- A prefix of them was written.
+-- A prefix of the bytes held before and the new ones was written.
 pub record Breaks (before after : Option (List ℕ)) (held bytes : List ℕ) : Type 0 where
   pub went : List ℕ
   pub rest : List ℕ

@@ -17,11 +17,12 @@ use thiserror::Error;
 /// Why a cube's text was refused: the first of these faults that it has.
 #[derive(Clone, Copy, Debug, PartialEq, Eq, Error)]
 pub enum CubeFault {
-    /// The text isn't one line `*( lit SP ) "0" LF`, or it ends inside one, and it isn't too long.
+    /// The text ends inside a line `*( lit SP ) "0" LF`, or its first wrong byte can't be there,
+    /// whatever the limits.
     #[error("spelling")]
     Spelling,
-    /// Only a limit is exceeded: with longer numbers or more literals allowed, the text could still
-    /// become such a line.
+    /// Only a limit is exceeded: with longer numbers or more literals allowed, the text up to its
+    /// first wrong byte could still become such a line.
     #[error("too long")]
     TooLong,
     /// The magnitude of a literal is above the number of variables.
@@ -41,8 +42,8 @@ impl From<AllocError> for CubeFault {
 }
 
 /// Reads the cube of a whole text, over the variables 1 to `vars`, at most 16,777,215. The text is
-/// one line: literals, each with a space after it, then `0` and LF; with repeats at most 65,535
-/// literals, and at most 18 digits in a number.
+/// one line: literals, each with a space after it, then `0` and LF; at most 65,535 literals,
+/// repeats included, and at most 18 digits in a number.
 pub fn read_cube(alloc: Global, bytes: &[u8], vars: u32) -> Result<Cube, CubeFault>
     requires { vars ≤ max_variable }
     ensures cube { IfOk result (IsCubeText vars bytes.now) }
@@ -88,7 +89,7 @@ fn is_end(rest: &[u8]) -> bool
     rest == b"\n".as_slice()
 }
 
-/// The fault of a byte other than `0` after the largest number of literals.
+/// The fault of a byte other than `0` after the maximum number of literals.
 fn after_most(byte: u8) -> CubeFault
     requires { byte ≢ zero_digit }
     ensures { (read after : List ℕ) → EndsAtSpot read (BeforeLiteral true 65535)
@@ -115,7 +116,8 @@ fn is_digit(byte: u8) -> bool
     matches!(byte, b'0'..=b'9')
 }
 
-/// Reads a literal with the given first byte, and the space after it, and returns it and the rest.
+/// Reads a literal with the given first byte, and the space after it. Returns the literal and the
+/// rest.
 fn read_literal(first: u8, after: &[u8]) -> Result<(i64, &[u8]), CubeFault>
     requires { first ≢ zero_digit }
     ensures literal { IfOk result (λ read. ReadsLiteral (first ∷ after.now) read.0 read.1.now) }
@@ -132,7 +134,7 @@ fn read_literal(first: u8, after: &[u8]) -> Result<(i64, &[u8]), CubeFault>
     Ok((literal_of(false, number), rest))
 }
 
-/// Reads a number and the space after it, and returns it and the rest.
+/// Reads a number and the space after it. Returns the number and the rest.
 fn read_number(text: &[u8]) -> Result<(u64, &[u8]), CubeFault>
     ensures number { IfOk result (λ read. BeginsWithNumber text.now read.0 read.1.now) }
     ensures fault { IfErr result (IsRestFault (AfterMinus true) text.now) }
@@ -146,7 +148,8 @@ fn read_number(text: &[u8]) -> Result<(u64, &[u8]), CubeFault>
     read_digits(first, after)
 }
 
-/// Reads a number with the given first digit, and the space after it, and returns it and the rest.
+/// Reads a number with the given first digit, and the space after it. Returns the number and the
+/// rest.
 fn read_digits(first: u8, after: &[u8]) -> Result<(u64, &[u8]), CubeFault>
     requires low { 49 ≤ first }
     requires high { first ≤ 57 }
@@ -173,7 +176,7 @@ fn read_digits(first: u8, after: &[u8]) -> Result<(u64, &[u8]), CubeFault>
     Err(CubeFault::Spelling)
 }
 
-/// The literals kept so far and one more, unless it is out of range or memory ran out.
+/// The literals kept so far and one more, unless that one is out of range or memory ran out.
 fn with_literal(
     kept: Result<Vec<Lit>, CubeFault>,
     literal: i64,

@@ -1,4 +1,4 @@
-//! Devices: sources of bytes, and sinks. Only contracts know the `ghost` items of a trait.
+//! Devices: sources of bytes, and sinks. Only contracts use the `ghost` items of a trait.
 ghost use Rattle.std.specs.Prelude.{◌≡◌, ◌<◌, ◌≤◌, ℕ, List, Bool, false, Option, IfOk, is_err, length, option_map, take};
 ghost use Rattle.std.specs.Io.KnownBytes.{ReadConsumes, WriteAppends};
 ghost use Rattle.std.specs.Result.{result_ok};
@@ -100,7 +100,7 @@ impl<R: io::Read> Reading<R> {
         }
     }
 
-    /// The reader, as far as it was read.
+    /// The inner reader, after the reads so far.
     pub fn into_inner(self) -> R
         ensures { R.remaining result ≡ ⟦<Reading<R> as Source>⟧.left self }
     {

@@ -22,7 +22,7 @@ const LETTER_D: u8 = b'd';
 
 const LETTER_I: u8 = b'i';
 
-/// What a line that was read at once has besides its lists.
+/// What was found in a line that was read at once, besides its lists.
 #[derive(Clone, Copy)]
 pub struct Whole {
     /// The line's first number.
@@ -31,14 +31,15 @@ pub struct Whole {
     pub imports: bool,
     /// Whether the line is a deletion.
     pub deletes: bool,
-    /// How many literals it has.
+    /// The number of literals.
     pub literal_count: usize,
-    /// How many hints or identities to delete it has.
+    /// The number of hints, or of identities to delete.
     pub identity_count: usize,
 }
 
-/// Reads a slice that is a line's text, and puts its lists into the front of the buffers. If the
-/// result is `None`, the slice may still be a line, and the caller reads it byte by byte.
+/// Reads a slice that may be a line's text, and puts the line's lists into the front of the
+/// buffers. If the result is `None`, the slice may still be a line, and the caller reads it byte by
+/// byte.
 #[inline(never)]
 pub fn read_line(line: &[u8], literals: &mut [i64], identities: &mut [u64]) -> Option<Whole>
     requires ends { EndsLine line.now }
@@ -70,7 +71,7 @@ pub fn read_line(line: &[u8], literals: &mut [i64], identities: &mut [u64]) -> O
     })
 }
 
-/// Reads the rest of a line with a letter, after its first number.
+/// Reads the rest of a deletion or an import, after its first number.
 fn read_marked(
     line: &[u8],
     lead: u64,
@@ -128,9 +129,9 @@ fn read_list<T: Word>(line: &[u8], start: usize, out: &mut [T]) -> Option<usize>
     }
 }
 
-/// Reads a number of at most 18 digits, and returns it and the index after it, where any byte may
-/// be. There is such a byte, since the text ends with a space or LF. A number with more digits
-/// wraps around, and is then refused for its count of digits.
+/// Reads a number of at most 18 digits. Returns it and the index of the byte after it, which may be
+/// any byte; there is one, since the text ends with a space or LF. A number with more digits wraps
+/// around, and is then refused for its count of digits.
 #[inline(always)]
 fn read_number(text: &[u8], start: usize) -> Option<(u64, usize)>
     requires ends { EndsWord text.now }
@@ -157,7 +158,7 @@ fn read_number(text: &[u8], start: usize) -> Option<(u64, usize)>
 
 /// A word of a list: a literal, or an identity.
 pub trait Word: Copy {
-    /// How it is spelled.
+    /// How the word is spelled.
     ghost text: { Self → List ℕ };
 
     /// Whether the word may occur in a line.
@@ -169,7 +170,7 @@ pub trait Word: Copy {
         requires inside { start < length bytes.now }
         ensures { IfSome result (λ found. ReadsWord text fits bytes.now start found.0 found.1) };
 
-    /// Whether it has a sign, and its magnitude.
+    /// Whether the word has a sign, and its magnitude.
     fn parts(self) -> (bool, u64)
         ensures { text self ≡ literal_front result.0 result.1 };
 }
@@ -207,9 +208,10 @@ impl Word for u64 {
     }
 }
 
-/// Reads as many words as there are, with the space after each, into the places from `first` on.
+/// Reads words, with the space after each, into `out` from index `first` on, while there are words
+/// and `out` has room.
 ///
-/// Returns how many places are then in use, and how far the text was read.
+/// Returns how many elements of `out` are then in use, and the index up to which the text was read.
 #[inline(always)]
 fn read_words<T: Word>(text: &[u8], start: usize, out: &mut [T], first: usize) -> (usize, usize)
     requires ends { EndsWord text.now }
@@ -234,8 +236,8 @@ fn read_words<T: Word>(text: &[u8], start: usize, out: &mut [T], first: usize) -
     (count, at)
 }
 
-/// Reads words as `read_words` does, from the front of a piece up to its last space: a text of
-/// `read_words` has to end with a byte that isn't a word's.
+/// Reads words as `read_words` does, from the front of a piece up to its last space, since the text
+/// that `read_words` gets has to end with a space or LF.
 pub fn read_words_ahead<T: Word>(piece: &[u8], out: &mut [T], first: usize) -> (usize, usize)
     requires { first ≤ length out.old }
     ensures { ReadsWords T.text T.fits piece.now 0 out.old first out.new result.0 result.1 }

@@ -26,13 +26,13 @@ pub fn a_text_spells_one_line()
     ensures { OneLine }
 {}
 
-/// No line's text begins another line's text, so a written line is read back with anything after
+/// No line's text begins another line's text, so a written line is read back whatever follows
 /// it.
 pub fn no_text_begins_another()
     ensures { NoTextBegins }
 {}
 
-/// Bytes begin with the text of at most one line, and the rest after it is the same.
+/// Bytes begin with the text of at most one line, which also fixes the rest after it.
 pub fn bytes_begin_with_one_line()
     ensures { OneFirstLine }
 {}
@@ -52,13 +52,13 @@ pub fn every_stream_is_cut()
     ensures { EveryCut }
 {}
 
-/// The lines of a prefix of a stream begin those of the stream, and the others are cut from the
-/// prefix's rest and the bytes after it.
+/// The lines of a prefix of a stream are the stream's first lines, and the others are cut from the
+/// prefix's rest and the bytes that follow.
 pub fn a_beginning_is_cut_alike()
     ensures { BeginningCut }
 {}
 
-/// A text that begins no line contains none, with anything after it.
+/// A refused text doesn't begin with a line, even if more bytes follow.
 pub fn a_refused_text_holds_no_line()
     ensures { RefusedStays }
 {}
@@ -89,7 +89,7 @@ pub fn a_cube_has_no_text_fault()
     ensures { TextHasNoFault }
 {}
 
-/// The text of a cube is read as its literals, and is their printed text.
+/// The printed texts of a cube are those that are read as its literals.
 pub fn a_cube_text_is_read()
     ensures { CubeTextIsRead }
 {}

@@ -36,8 +36,7 @@ pub enum Line<'a> {
         lead: u64,
         ids: &'a [u64],
     },
-    /// A clause of another stream or of the formula that the solver imported: its identity and its
-    /// literals.
+    /// An imported clause, of another stream or of the formula: its identity and its literals.
     Import {
         id: u64,
         lits: &'a [i64],
@@ -45,8 +44,8 @@ pub enum Line<'a> {
 }
 
 impl Line<'_> {
-    /// Whether the line has a text: its numbers aren't 0 and have at most 18 digits, and its lists
-    /// have at most 65,535 literals, and 65,536 hints or identities to delete.
+    /// Whether the line has a text: its numbers aren't 0 and have at most 18 digits, and it has at
+    /// most 65,535 literals and at most 65,536 hints or identities to delete.
     pub fn fits(&self) -> bool
         ensures { IsTrue result ↔ IsWithinLimits (line_of self.now) }
     {
@@ -84,7 +83,7 @@ fn are_few_identities(ids: &[u64]) -> bool
 /// Why a text isn't a line within the limits of a stream.
 #[derive(Clone, Copy, Debug, PartialEq, Eq, Error)]
 pub enum LineFault {
-    /// With any limits, no line begins like the text, and a signed hint isn't the reason.
+    /// No line begins like the text, whatever the limits, and a signed hint isn't the reason.
     #[error("spelling")]
     Spelling,
     /// Without limits on digits, literals, hints and identities, the text would begin a line.

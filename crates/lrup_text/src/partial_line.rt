@@ -13,7 +13,7 @@ use std::alloc::{AllocError, Global};
 
 /// The maximum number of digits of a number.
 pub const MAX_DIGITS: usize = 18;
-/// The largest number with that many digits.
+/// The largest number with `MAX_DIGITS` digits.
 pub const MAX_NUMBER: u64 = 999_999_999_999_999_999;
 /// The maximum number of literals of an addition or of an import.
 pub const MAX_LITERALS: usize = 65_535;
@@ -93,7 +93,7 @@ pub struct BytesRead {
 }
 
 impl PartialLine {
-    /// A line of which nothing was read, with all memory that it may need.
+    /// A line of which nothing was read, with all the memory that it may need.
     pub fn new(alloc: Global) -> Result<PartialLine, AllocError>
         ensures { IfOk result (λ line. IsPartialLine line × (pending line ≡ [])) }
     {
@@ -149,8 +149,8 @@ impl PartialLine {
         }
     }
 
-    /// Takes bytes of a piece: through the end of the line, through the byte that decides that it
-    /// isn't a line, or all of them.
+    /// Takes bytes of a piece: through the end of the line, through the byte that shows that there
+    /// is no line, or all of them.
     pub fn read(&mut self, piece: &[u8]) -> BytesRead
         requires { IsPartialLine self.old }
         ensures { StepsThrough self.old piece.now result.used result.step self.new }
@@ -164,8 +164,8 @@ impl PartialLine {
         }
     }
 
-    /// Reads a whole line at the front of the piece at once, and returns how many bytes it has. It
-    /// tries this only if no line was begun.
+    /// If no line was begun, reads a whole line at the front of the piece at once, and returns how
+    /// many bytes it has.
     ///
     /// If the result is `None`, nothing was read, and the piece may still begin with a line.
     fn read_at_once(&mut self, piece: &[u8]) -> Option<usize>
@@ -186,7 +186,7 @@ impl PartialLine {
         }
     }
 
-    /// Reads a line that is the whole slice, and returns whether it did. If not, nothing was read.
+    /// Reads the whole slice as one line, and returns whether it is one. If not, nothing was read.
     fn read_whole(&mut self, line: &[u8]) -> bool
         requires reads { IsPartialLine self.old }
         requires start { self.old.state ≡ ParserState.Start }
@@ -502,14 +502,14 @@ impl PartialLine {
     }
 }
 
-/// `count` places of a buffer.
+/// A buffer of `count` elements.
 fn places<T: Copy>(alloc: Global, filler: T, count: usize) -> Result<Vec<T>, AllocError>
     ensures { IfOk result (λ v. length v.items ≡ count) }
 {
     vec![in alloc; filler; count]
 }
 
-/// The literal with this magnitude.
+/// The literal with this sign and magnitude.
 pub fn literal_of(negative: bool, number: u64) -> i64
     requires low { 0 < number }
     requires high { number < 10 ^ 18 }

@@ -20,7 +20,7 @@ pub struct Fed<'a> {
 /// The result for the bytes that a call of `feed` used.
 #[derive(Clone, Copy, Debug, PartialEq, Eq)]
 pub enum ReaderStatus<'a> {
-    /// They end this line. It is lent until the next call.
+    /// They end this line, which is lent until the next call.
     Line(Line<'a>),
     /// All bytes were used, and no line ended.
     NeedMore,
@@ -63,7 +63,7 @@ impl LineReader {
     ghost use Rattle.std.specs.Borrow.{sem};
     ghost use Rattle.lrup_text.specs.Lending.{FeedEnds};
 
-    /// A reader before the first byte. It makes all its buffers, so that reading allocates nothing.
+    /// A reader before the first byte, with all its buffers, so that reading allocates nothing.
     pub fn new(alloc: Global) -> Result<LineReader, AllocError>
         ensures { IfOk result (λ reader. (reader ≡ Ok []) × IsPending []) }
     {

@@ -17,11 +17,11 @@ const CAPACITY: usize = 4_096;
 /// The largest size of a word, with the space after it.
 const WORD: usize = 22;
 
-/// The size of the places where a word is spelled, of which that many are copied.
+/// The size of the array in which a word is spelled. `WORD` bytes of it are copied.
 const PLACES: usize = 44;
 
-/// Spells a number with its sign, up to the place of the space, and returns where it begins. Signs
-/// are unpredictable, so a minus is always written, and left before the number if it isn't wanted.
+/// Spells a number with its sign, up to the index of the space, and returns the index where it
+/// begins. Signs are unpredictable, so a minus is always written, and skipped if it isn't needed.
 #[inline]
 fn spell(bytes: &mut [u8], negative: bool, magnitude: u64) -> usize
     requires { 21 ≤ length bytes.old }
@@ -100,7 +100,7 @@ impl WriteBuffer {
         self.len += 1;
     }
 
-    /// Appends a byte to what is held, which may be written.
+    /// Appends a byte to what is held. If the buffer is full, what it holds is written first.
     fn put_byte<W: Sink>(&mut self, byte: u8, sink: &mut W) -> Result<(), WriteFault>
         requires { W.has_failed sink.old ≡ false }
         ensures puts { PutsAll result (W.written sink.old) (W.written sink.new)
@@ -115,8 +115,8 @@ impl WriteBuffer {
         Ok(())
     }
 
-    /// Appends bytes to what is held, which may be written. If the sink fails, a prefix of all
-    /// these bytes was written, and nothing is held.
+    /// Appends bytes to what is held, and writes what is held whenever the buffer is full. If the
+    /// sink fails, a prefix of the held and the new bytes was written, and nothing is held.
     pub fn put<W: Sink>(&mut self, bytes: &[u8], sink: &mut W) -> Result<(), WriteFault>
         requires { W.has_failed sink.old ≡ false }
         ensures puts { PutsAll result (W.written sink.old) (W.written sink.new)
@@ -174,8 +174,8 @@ impl WriteBuffer {
         self.len -= count;
     }
 
-    /// Appends a number with its sign, and a space: first 22 bytes, whatever the number is, since
-    /// copies of a fixed size are fast.
+    /// Appends a number with its sign, and a space. It always copies 22 bytes, since copies of a
+    /// fixed size are fast, and then drops those after the space.
     #[inline]
     fn push_word(&mut self, negative: bool, magnitude: u64)
         requires { length self.old + 22 ≤ 4096 }

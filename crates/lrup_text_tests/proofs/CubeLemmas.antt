@@ -32,7 +32,7 @@ cube_begins vars (z ∷ literals) few over e =
 pub zero_in_front : (vars : ℕ) (cube : CubeValue) → vars ≤ max_variable → ¬ IsCubeText vars (codes "01 0\n") cube
 zero_in_front vars cube few h = cube_begins vars h.literals few h.over h.text
 
--- each such text ends with LF
+-- a text of a cube ends with LF
 text_ends : (text : List ℕ) → codes "1 0" ≡ text ++ codes "0\n" → ⊥
 text_ends [] e = omega (arith, ap (λ (x : List ℕ). get_or x 0 0) e)
 text_ends (a ∷ []) e = omega (arith, ap (λ (x : List ℕ). get_or x 1 0) e)

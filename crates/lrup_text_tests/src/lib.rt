@@ -1,4 +1,4 @@
-//! Tests of `lrup_text`, by its public calls alone.
+//! Tests of `lrup_text`, which use only its public calls.
 #![tactic(auto)]
 
 #[cfg(test)]

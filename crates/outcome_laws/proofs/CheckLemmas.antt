@@ -1,4 +1,4 @@
--- A check of streams, as each round of an outcome has one.
+-- A check of streams: each round of an outcome has one.
 use Rattle.std.proofs.Common.{◌≡◌, ◌⊎◌, ◌<◌, ◌≤◌, ◌-◌, ◌++◌, ℕ, eqb, ne_eqb, Bool, true, false, List, [], ◌∷◌, length, map, zero, suc, ◌+◌}
 use Rattle.std.proofs.Common.{Option, Some, refl, inl, inr, sym, ap, ap₂, subst, ◌∙◌, arith}
 use Rattle.std.specs.Prelude.{IsTrue, option_map, slice_get, ◌||◌, if◌then◌else◌}
@@ -69,7 +69,7 @@ check_of {its} {given} {cube} round contents paths left = record {
   checked = round.checked;
 }
 
--- with a report of the empty clause some report says 'empty'
+-- if this report says 'empty', some report does
 one_says : (reports : List Report) (k : ℕ) (report : Report) → slice_get reports k ≡ Some report → report.empty ≡ true
     → list_any (λ r. r.empty) reports ≡ true
 one_says [] k report at is = absurd (cc)
@@ -104,7 +104,7 @@ has_report f run_params observed reports r s is =
           absurd (omega (arith, past.0, is.0, is.1, r.count, judged_count run_params (λ t. true) r.history 1 r.streams reports r.judged))
     ]
 
--- without a cube only the empty clause is within it
+-- only the empty clause is within the empty cube
 within_empty : EmptyCubeReported → (run_params : RunParamsValue) → run_params.cube ≡ [] → (h : History) (s : ℕ) (streams : List Stream)
     (reports : List Report) → AreJudgedIn run_params (λ t. true) h s streams reports
     → list_any (λ r. r.within) reports ≡ list_any (λ r. r.empty) reports
@@ -151,7 +151,7 @@ module _ {R : Type 0} (reading : SourceView R) (c : Check reading) where
       let same = within_empty bare c.run_params none run_of.history 1 run_of.streams c.reports run_of.judged in
       not_under (list_any (λ r. r.empty) c.reports) (list_any (λ r. r.within) c.reports) same (sym c.checked.is_verdict ∙ under)
 
-  -- what a file is known to hold, its reader had left at first
+  -- a file's reader had left at first what the file is known to hold
   pub observation_of_file : (s : ℕ) (path : Text) (whole : List ℕ) → IsOfStream c.paths s path → c.contents path ≡ Some whole
       → (observation : InputObservation) × IsOfStream observed_of s observation × (observation.entry ≡ Some whole)
   observation_of_file s path whole at known =
@@ -170,7 +170,7 @@ module _ {R : Type 0} (reading : SourceView R) (c : Check reading) where
         | inr past ↦ absurd (omega (arith, past.0, within, observed_length))
       ]
 
-  -- its reader had left what its file is known to hold
+  -- the stream's reader had left at first what the file is known to hold
   pub entry_at : (s : ℕ) (observation : InputObservation) (path : Text) (whole : List ℕ) → IsOfStream observed_of s observation
       → IsOfStream c.paths s path → c.contents path ≡ Some whole → observation.entry ≡ Some whole
   entry_at s observation path whole at names contents =
@@ -210,7 +210,7 @@ module _ {R : Type 0} (reading : SourceView R) (c : Check reading) where
       (contents.0, entry_at t observation path.0 (flat_map line_text (lines_by t steps) ++ contents.0) at path.1 contents.1)
 
   -- If a stream adds the empty clause in a valid order, the verdict is 'unsatisfiable', or the
-  -- stream was cut off in its lines, or lacks another's clause.
+  -- stream was cut off in its lines, or lacks another stream's clause.
   pub order_says : TogetherBegins → ValidEmpty → IsCnf c.formula → (s : ℕ) (set : ℕ → Bool) (steps : List Step)
       → IsValidOrder c.formula c.run_params.layout steps → AllByRecursion (λ step. IsTrue (set step.stream)) steps
       → BeginSo set steps → Any AddsEmpty (lines_by s steps)

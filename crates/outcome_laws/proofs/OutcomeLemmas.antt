@@ -44,12 +44,12 @@ is_text files path f after text known at =
 -- Round 1 of a run.
 module _ (files : FilesView) (given : CommandLine) (cube : CubeValue) (round : Round files.its given cube)
     (were : WereRounds files given cube round []) where
-  -- the check in it
+  -- the check in round 1
   abbrev pub first_check : Check files.its.reading
   first_check = check_of round files.contents given.streams
       (were.rounds.opened.left ∙ ap (λ (t : Text → Option (List ℕ)). map t given.streams) were.known)
 
-  -- its formula is the one that FORMULA has a text of
+  -- the round's formula is the one whose text FORMULA holds
   pub first_text : (text : List ℕ) → files.contents given.formula.now ≡ Some text → IsFormulaText text round.formula
   first_text text known = subst (IsFormulaText text) (sym were.rounds.formula_is)
       (is_text files given.formula.now were.formula were.next text known were.is_formula)

@@ -156,7 +156,7 @@ opens_so : (s : ℕ) (report : Report) (rest : List ℕ)
     ≡ codes "c stream " ++ (decimal s ++ (codes ": " ++ (decimal report.added ++ after_added report rest)))
 opens_so s report rest = simp append_assoc
 
--- its ending is the same
+-- the line's ending is the same
 same_ending : (s : ℕ) (report other : Report) (rest more : List ℕ) → stream_line s report ++ rest ≡ stream_line s other ++ more
     → ending_text report.ending ++ (10 ∷ rest) ≡ ending_text other.ending ++ (10 ∷ more)
 same_ending s report other rest more same =
@@ -189,7 +189,7 @@ never_bad report ending line fault rest more cut bad same =
           let no : 114 ≡ 98 = ap first_of (ap (λ (e : Ending). ending_text e ++ (10 ∷ rest)) (sym failed) ∙ blames) in omega (arith, no)
     ]
 
--- After lines of as many streams as come before it, a report has the line of its stream.
+-- After the lines of the streams before it, a report has the line of its own stream.
 same_place : (k s : ℕ) (others reports : List Report) (report : Report) (tail shown : List ℕ) → s ≡ k + length others
     → slice_get reports (length others) ≡ Some report
     → stream_lines k reports ++ tail ≡ stream_lines k others ++ shown
@@ -228,7 +228,7 @@ kept (Some xs) (Some ys) old shown keeps was is =
     let same : old ≡ old ++ shown = cc in
     append_cancel_left old [] shown (append-nil old ∙ same)
 
--- what is seen of it is a prefix of the text
+-- what is seen of the text is a prefix of it
 went_out : (failed : Bool) (before after : Option (List ℕ)) (text old shown : List ℕ)
     → TakesUnlessFailed failed before after text → before ≡ Some old → after ≡ Some (old ++ shown)
     → (rest : List ℕ) × (text ≡ shown ++ rest)
@@ -241,7 +241,7 @@ module _ (s count : ℕ) (out : SinkChange) (shows : ShowsBadLine s out) where
   abbrev Shown : List ℕ
   Shown = stream_lines 1 shows.others ++ (stream_line s shows.blamed ++ shows.more)
 
-  -- this isn't seen of a report of a stream that was cut off
+  -- what is shown isn't part of a report in which stream s was cut off
   none_of_lost : (reports : List Report) (verdict : Verdict) → SinkTook out (report_text reports verdict)
       → (report : Report) → IsOfStream reports s report → ¬ IsExcused CutOff report
   none_of_lost reports verdict took report says cut =
@@ -275,7 +275,7 @@ module _ (s count : ℕ) (out : SinkChange) (shows : ShowsBadLine s out) where
       → SinkTook out (report_text reports verdict)
   printed_so number reports verdict is took = subst (λ (n : ℕ). SinkTook out (last_text n reports verdict)) is took
 
-  -- this isn't seen of the report of a round in which a stream stopped
+  -- what is shown isn't part of the report of a round in which a stream stopped
   none_of_stopped : {its : Effects} {given : CommandLine} {cube : CubeValue} (round : Round its given cube) → 0 < round.number
       → SinkTook out (last_text round.number round.reports round.verdict) → ¬ HasStopped Cut s count 1 round
   none_of_stopped round some took stops = elim stops.place [

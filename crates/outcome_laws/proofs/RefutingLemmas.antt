@@ -20,7 +20,7 @@ is_read : (files : FilesView) (bytes : List ℕ) (status : ℕ) (run : IsRunOn f
     → IsFormulaText bytes run.ends.were.formula
 is_read files bytes status run = subst (λ (b : List ℕ). IsFormulaText b run.ends.were.formula) run.read run.ends.were.is_formula.2
 
--- the formula of its last round follows from that formula
+-- the formula of a run's last round follows from the run's formula
 last_follows : EntailsItself → EntailsOnward → (files : FilesView) (bytes : List ℕ) (status : ℕ) (run : IsRunOn files bytes status)
     → Entails run.ends.were.formula run.ends.last.formula
 last_follows itself onward files bytes status run =

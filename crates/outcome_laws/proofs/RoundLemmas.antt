@@ -46,7 +46,7 @@ use Rattle.outcome_laws.proofs.StreamLemmas.{stopped_is_open}
 
 -- Faults
 
--- what no fault of a later round is about
+-- causes that a fault of a later round doesn't have
 module _ (its : Effects) (given : CommandLine) (cube : CubeValue) (folder : Text) (number : ℕ) (old : Sizes) (formula : Cnf)
     (before after : its.State) where
   abbrev Read : Sizes → its.State → Type 0
@@ -98,8 +98,8 @@ module _ (its : Effects) (given : CommandLine) (cube : CubeValue) (folder : Text
 
 -- Rounds
 
--- What is known of a round whose streams were checked: its formula is a formula, and this was
--- required of its streams.
+-- What is known of a round whose streams were checked: its formula is within the limits, and this
+-- was required of its streams.
 pub record IsAsked (Before Last : RoundAsk) (last : ℕ) {its : Effects} {given : CommandLine} {cube : CubeValue}
     (round : Round its given cube) : Type 0 where
   pub cnf : IsCnf round.formula
@@ -113,7 +113,7 @@ abbrev check_in : (Before Last : RoundAsk) (last : ℕ) {its : Effects} {given :
     → IsAsked Before Last last round → Check its.reading
 check_in Before Last last round is = check_of round is.contents is.paths is.left
 
--- the formula that a round passes on is a formula
+-- the formula that a round passes on is within the limits
 carried_cnf : {its : Effects} {given : CommandLine} {cube : CubeValue} (round : Round its given cube) (next : Cnf) → CarriesOn round next
     → IsCnf next
 carried_cnf round next on =
@@ -121,7 +121,7 @@ carried_cnf round next on =
     subst IsCnf (sym (at.next_is next refl)) (text_cnf at.bytes at.checkpoint.formula at.checkpoint.text)
 
 module _ (files : FilesView) (given : CommandLine) (cube : CubeValue) where
-  -- the rounds before one that follows another
+  -- what holds for a round and those before it also holds for the previous round
   pub before_them : (round b : Round files.its given cube) (more : List (Round files.its given cube))
       → WereRounds files given cube round (b ∷ more) → WereRounds files given cube b more
   before_them round b more were = record {
@@ -150,7 +150,7 @@ module _ (its : Effects) (Saves : Result (Option Cnf) SaveFault → its.Output �
   all_saved Unsatisfiable before None fault next after is leaves = let no : Some fault ≡ None = leaves.0 in cc
   all_saved Unsatisfiable before (Some path) fault next after is leaves = let no : Some fault ≡ None = leaves.0 in cc
 
-  -- if there is something that wasn't saved, the words ask for it
+  -- if something wasn't saved, the words ask for it
   asked_for : (verdict : Verdict) (before : its.State) (path : Option Text) (fault : SaveFault) (next : Option Cnf) (after : its.State)
       → LeavesAtPath its Saves verdict before path (Some fault) next after → (asked : Text) × (path ≡ Some asked)
   asked_for verdict before None fault next after leaves = absurd (let no : Some fault ≡ None = leaves.0 in cc)

@@ -1,4 +1,4 @@
--- What a round saved follows from its formula, and from that of round 1.
+-- What a round saved follows from the round's formula, and from the formula of round 1.
 use Rattle.std.proofs.Common.{◌≡◌, ◌∷◌, ℕ, List, [], Option, None, Some, Result, Ok, Err, sym, subst}
 use Rattle.lrup_model.specs.Cube.{CubeValue}
 use Rattle.lrup_model.specs.Event.{History}
@@ -47,7 +47,7 @@ module _ (its : Effects) (f : Cnf) (layout : LayoutValue) (history : History) (d
 
 module _ (itself : EntailsItself) (onward : EntailsOnward) {its : Effects} {given : CommandLine} {cube : CubeValue} (f : Cnf)
     (first : its.State) where
-  -- each round's formula follows from that of round 1
+  -- each round's formula follows from the formula of round 1
   pub follows : (round : Round its given cube) (before : List (Round its given cube)) → AreRounds f first (round ∷ before)
       → Entails f round.formula
   follows round [] rounds = subst (Entails f) (sym rounds.formula_is) (itself f)

@@ -66,7 +66,7 @@ EndsSo Mode Before Why = (R : Type 0) (reading : SourceView R) (c : Check readin
 abbrev pub Lines : Type 0
 Lines = ℕ × ℕ
 
--- the verdict is 'unsatisfiable', or the stream was stopped that `at` finds in the reports
+-- the verdict is 'unsatisfiable', or the stream that `at` finds in the reports was stopped
 abbrev pub RefutesSo : (Bool → Type 0) → RoundAsk → Reason → (List Report → Lines) → Type 1
 RefutesSo Mode Last Why at = (R : Type 0) (reading : SourceView R) (c : Check reading) → Mode c.serial → IsCnf c.formula
     → Last c.formula c.run_params.layout c.contents c.paths
@@ -99,7 +99,7 @@ all_streams P reports each =
       | inr some ↦ inr (some.0 + 1, some.1, place reports some.0 some.1 some.2, some.3)
     ]
 
--- each of them
+-- each of them ended
 pub ended_at : (reports : List Report) (k : ℕ) (report : Report) → slice_get reports k ≡ Some report → HaveEnded reports
     → report.ending ≡ endings.Ended
 ended_at [] k report at all = absurd (cc)

@@ -15,8 +15,9 @@ use Rattle.command.specs.Commands.{SinkChange}
 use Rattle.run_files.specs.Asked.{Text, assumed_at, created_path, run_params_by}
 use Rattle.command.specs.Rounds.{EndsWithFault, EndsWithReport, HaveEnded, Round}
 
--- Some stream of the round was stopped, for a reason that its parameters excuse: in a round before
--- the last one in any line, and in the last one it is stream s, in one of its first `count` lines.
+-- Some stream of the round was stopped, for a reason that its parameters excuse. In a round before
+-- the last, it is any stream in any line; in the last, it is stream s in one of its first `count`
+-- lines.
 pub record HasStopped {its : Effects} {given : CommandLine} {cube : CubeValue}
     (Why : StreamParams → Excuse) (s count last : ℕ) (round : Round its given cube) : Type 0 where
   pub stream : ℕ
@@ -30,7 +31,7 @@ pub record HasStopped {its : Effects} {given : CommandLine} {cube : CubeValue}
 
 -- Why the report of the round with which the run ended doesn't say 'unsatisfiable', and the status
 -- once the report is written. `last` is the number of the round that refutes; a run may end before
--- it. None of these cases says that a line is wrong.
+-- that round. None of these cases says that a line is wrong.
 pub data FallsShort {its : Effects} {given : CommandLine} {cube : CubeValue}
     (Why : StreamParams → Excuse) (s count last : ℕ) (round : Round its given cube)
     (status : ℕ) : Type 0 where
@@ -57,7 +58,7 @@ pub data FallsShort {its : Effects} {given : CommandLine} {cube : CubeValue}
 
 -- Why the program doesn't say 'unsatisfiable'. `ends` says what it wrote to `out` and `err`: to
 -- `out` the report of the round with which the run ended, or a prefix of it if `out` failed;
--- without a report nothing to `out`, and the fault's message to `err`.
+-- without a report, nothing to `out` and the fault's message to `err`.
 pub data InconclusiveBecause (files : FilesView) (words : List Text)
     (Why : StreamParams → Excuse) (s count last : ℕ) (after : files.its.State)
     (out err : SinkChange) (status : ℕ) : Type 0 where

@@ -24,7 +24,7 @@ use Rattle.dimacs.specs.FormulaText.{IsFormulaText}
 use Rattle.lrup_model.specs.Entailment.{IsUnsatisfiable}
 use Rattle.outcome_laws.specs.Outcomes.{bare_params, bare_report, layout_in, SayTheSame, ReportsOn}
 
--- a judgement of a stream under a cube is one without a cube, too, with a report that says the same
+-- a judgement of a stream under a cube is also one without a cube, with a report that says the same
 -- except about clauses within the cube
 abbrev pub NoCubeJudgesAlike : Type 0
 NoCubeJudgesAlike = (c : StreamParams) (bytes : List ℕ) (end : StreamEnd) (blocks : List History)
@@ -89,8 +89,8 @@ Status0HasACommandLine files = (words : List Text) (after : files.its.State) (ou
     × WasReadIn files files.first given.formula.now bytes next
     × IsFormulaText bytes f × IsUnsatisfiable f
 
--- If the words ask for no rounds, there is just one, and nothing is done to the files after it; or
--- there is no report, and the cause is one of round 1.
+-- If the words ask for no rounds, either there is only one round, and nothing is done to the files
+-- after it; or there is no report, and the cause is in round 1.
 abbrev pub OneRoundAlone : FilesView → Type 0
 OneRoundAlone files = (words : List Text) (after : files.its.State) (out err : SinkChange)
     (status : ℕ) → ((folder : Text) → ¬ AskForRounds words folder)

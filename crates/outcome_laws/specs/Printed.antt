@@ -11,8 +11,8 @@ use Rattle.run_files.specs.Asked.{Text}
 use Rattle.command.specs.Rounds.{EndsWithReport, ProgramEnds}
 use Rattle.outcome_laws.specs.Valid.{AreValidAlone, AskForValidRounds, IsRefutedAlone}
 
--- What was written to the sink begins with lines of the streams before stream s and one of stream
--- s, which says that a line of the stream is bad. Anything may come after it.
+-- What was written to the sink begins with the report lines of streams 1 to s, and the last of
+-- these says that a line of stream s is bad. Anything may come after them.
 pub record ShowsBadLine (s : ℕ) (sink : SinkChange) : Type 0 where
   pub before : List ℕ
   pub was : sink.before ≡ Some before
@@ -25,9 +25,9 @@ pub record ShowsBadLine (s : ℕ) (sink : SinkChange) : Type 0 where
   pub more : List ℕ
   pub is : sink.after ≡ Some (before ++ (stream_lines 1 others ++ (stream_line s blamed ++ more)))
 
--- If the words ask for a valid refutation as stream s in round 1, a bad line of it is shown only
--- with status 0, or with 7 if the report says 'unsatisfiable': a line after the refutation may be
--- bad. With each other status no bad line is shown.
+-- If the words ask for a valid refutation as stream s in round 1, a bad line of stream s is shown
+-- only with status 0, or with 7 if the report says 'unsatisfiable': a line after the refutation may
+-- be bad. With any other status, no bad line of it is shown.
 abbrev pub NoBadLineShown : FilesView → Type 0
 NoBadLineShown files = (words : List Text) (s count : ℕ) (after : files.its.State)
     (out err : SinkChange) (status : ℕ)

@@ -1,4 +1,4 @@
--- Runs of the program in sequence, each on what the one before it saved (this project's own).
+-- Runs of the program in sequence, each on what the previous one saved (this project's own).
 use Rattle.std.specs.Prelude.{◌≡◌, ℕ, List, [], ◌∷◌, Option, None, Some, Result, Ok, Err}
 use Rattle.lrup_model.specs.Cube.{CubeValue}
 use Rattle.lrup_model.specs.Event.{History}
@@ -59,8 +59,8 @@ saved_in {its} {given} round =
     round.checked.ran.run.history round.checked.dropped round.verdict round.opened
     (created_path given.next round.number) round.unsaved round.next round.after round.leaves
 
--- Runs over files as they were before each run: the first run read these bytes, each other one read
--- what the last round of the run before it saved, and `IsLast` holds for the last run.
+-- Runs over files as they were before each run: the first run read these bytes, each later one read
+-- what the last round of the previous run saved, and `IsLast` holds for the last run.
 abbrev pub AreRuns : {F : Type 0} → (F → FilesView) → (F → List ℕ → Type 0) → List ℕ
     → List (List ℕ) → Type 0
 AreRuns {F = F} view IsLast bytes [] = (first : F) × IsLast first bytes
@@ -75,8 +75,8 @@ OutcomesRefute view = (bytes : List ℕ) (more : List (List ℕ))
     → AreRuns view (λ first last. IsRunOn (view first) last 0) bytes more
     → IsUnsatisfiableText bytes
 
--- If it ended with status 8 under these assumed literals, no assignment satisfies that formula
--- together with them.
+-- If the last run ended with status 8 under these assumed literals, no assignment satisfies that
+-- formula together with these literals.
 abbrev pub OutcomesRefuteUnder : {F : Type 0} → (F → FilesView) → Type 0
 OutcomesRefuteUnder view = (cube : CubeValue) (bytes : List ℕ) (more : List (List ℕ))
     → AreRuns view

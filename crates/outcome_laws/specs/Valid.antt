@@ -1,4 +1,4 @@
--- Words that ask for streams which are valid proofs (this project's own).
+-- Words that ask for streams that are valid proofs (this project's own).
 use Rattle.std.specs.Prelude.{◌≡◌, ◌≢◌, ◌++◌, ◌+◌, ◌<◌, ◌≤◌, ◌^◌, ℕ, Bool, IsTrue, IfSome, List, length, map, Option, Some}
 use Rattle.std.specs.List.{AllByRecursion, Any, flat_map}
 use Rattle.lrup_model.specs.Cube.{CubeValue}
@@ -25,9 +25,9 @@ use Rattle.command.specs.Rounds.{CarriesOn, Round, WereRounds}
 use Rattle.run_files.specs.Causes.{HoldsNoSizes}
 use Rattle.outcome_laws.specs.Outcomes.{layout_in}
 
--- The words ask for a formula whose file holds a text of it; for assumed literals, if any, whose
--- file holds bytes without a fault; and for streams that have a layout. Nothing is required of the
--- streams.
+-- The words ask for a formula, whose file holds a text of a formula; for assumed literals, if any,
+-- whose file holds bytes without a fault; and for streams that have a layout. Nothing else is
+-- required of the streams.
 pub record AskWell (files : FilesView) (words : List Text) : Type 0 where
   pub given : CommandLine
   pub command_line : IsCommandLineOf words given
@@ -40,8 +40,8 @@ pub record AskWell (files : FilesView) (words : List Text) : Type 0 where
       × (files.contents path ≡ Some bytes)
       × ((fault : CubeFault) → fault ≢ cubes.Memory → ¬ IsCubeFault formula.vars bytes fault))
 
--- What may be required of the streams of a round: it depends on the round's formula and layout, on
--- what the files are known to hold before the streams are opened, and on the streams' paths.
+-- A requirement on the streams of a round. It depends on the round's formula and layout, on what
+-- the files are known to hold before the streams are opened, and on the streams' paths.
 abbrev pub RoundAsk : Type 1
 RoundAsk = Cnf → LayoutValue → (Text → Option (List ℕ)) → List Text → Type 0
 
@@ -80,9 +80,9 @@ IsRefutedRoundRobin s formula layout contents paths =
     (valid : AreValidRoundRobin formula layout contents paths)
     × Any AddsEmpty (lines_by s valid.0.0)
 
--- lines of a set of streams have a valid order, their files begin with the texts of their lines,
--- and some line of stream s, which has at most this many lines, adds the empty clause; nothing is
--- required of the other streams
+-- lines of a set of streams have a valid order, the streams' files begin with the texts of these
+-- lines, and some line of stream s, which has at most this many lines, adds the empty clause;
+-- nothing is required of the other streams
 abbrev pub IsRefutedInOrder : (s count : ℕ) → RoundAsk
 IsRefutedInOrder s count formula layout contents paths =
     (set : ℕ → Bool) × (steps : List Step) × IsValidOrder formula layout steps
@@ -91,16 +91,16 @@ IsRefutedInOrder s count formula layout contents paths =
     → (more : List ℕ) × (contents path ≡ Some (flat_map line_text (lines_by t steps) ++ more)))
     × Any AddsEmpty (lines_by s steps) × (length (lines_by s steps) ≤ count)
 
--- the round with this number meets the one requirement if it comes before the last round, and the
--- other one if it is the last
+-- the round with this number meets `Before` if it comes before the last round, and `Last` if it is
+-- the last
 pub record IsAskedOf (Before Last : RoundAsk) (last number : ℕ) (formula : Cnf) (sizes : Sizes)
     (contents : Text → Option (List ℕ)) (paths : List Text) : Type 0 where
   pub earlier : number < last → Before formula (layout_in formula sizes) contents paths
   pub at_last : number ≡ last → Last formula (layout_in formula sizes) contents paths
 
 -- A later round, whose sizes aren't known yet, is provided for: its file of sizes, if there is one,
--- holds sizes; and with these, or with the old ones if there is no such file, there is a file for
--- its stream 1, the streams have a layout, and they are as required.
+-- holds sizes; and with these sizes, or with the old ones if there is no such file, there is a file
+-- for its stream 1, the streams have a layout, and they meet the requirement.
 pub record IsProvided (Before Last : RoundAsk) (last : ℕ) (its : Effects) (folder : Text)
     (number : ℕ)
     (old : Sizes) (formula : Cnf) (before : its.State) : Type 0 where
@@ -114,8 +114,8 @@ pub record IsProvided (Before Last : RoundAsk) (last : ℕ) (its : Effects) (fol
 
 -- The words ask well, and for rounds in a folder unless round 1 is the last one. The last round has
 -- a number from 1 to 2 ^ 64 - 2. The streams of round 1 are as required. And each later round up to
--- the last is provided for, for every course that a run of these words may take: with threads, the
--- formula of a round depends on how they ran.
+-- the last is provided for, whatever course a run of these words takes: with threads, the formula
+-- of a round depends on how the threads ran.
 pub record AskForValidRounds (Before Last : RoundAsk) (files : FilesView) (words : List Text)
     (last : ℕ) : Type 0 where
   pub asks : AskWell files words

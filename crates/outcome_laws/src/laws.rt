@@ -17,7 +17,7 @@ use run_laws::turns::{bytes_decide, valid_round_robin};
 use run_laws::valid::{together_begins, valid_begins, valid_empty, valid_reported, valid_together};
 use stream_check::laws::empty_cube_reported;
 
-/// A judgement of a stream under a cube is one without a cube, too, with a report that says the
+/// A judgement of a stream under a cube is also one without a cube, with a report that says the
 /// same except about clauses within the cube.
 pub fn no_cube_judges_alike()
     ensures { NoCubeJudgesAlike }
@@ -39,9 +39,9 @@ pub fn same_words_ask_alike()
     ensures { SameWordsAskAlike }
 {}
 
-/// If the words ask for no rounds, there is just one, and nothing is done to the files after it; or
-/// there is no report, and the cause is one of round 1. This follows from the clause `ends` of
-/// `command`.
+/// If the words ask for no rounds, either there is only one round, and nothing is done to the files
+/// after it; or there is no report, and the cause is in round 1. This follows from the clause
+/// `ends` of `command`.
 pub fn one_round_alone<F: Machine>(files: &F)
     ensures { OneRoundAlone (⟦<F as Viewed>⟧.view files.now) }
 {}
@@ -80,15 +80,15 @@ pub fn serial_outcomes_agree<F: Machine, G: Machine>(files: &F, others: &G)
     bytes_decide();
 }
 
-/// With `--rounds`, or without it, when round 1 is the last one: suppose that in each round before
-/// the last each stream is valid and cites only its own clauses and the formula's, and that in the
-/// last round some stream is a valid refutation. Then the program ends with status 0; or with 7,
-/// because the report couldn't be written; or with 5 or 6, for a fault of the machine; or with 9,
-/// because a checkpoint or the next round's formula couldn't be saved; or with 8, and then there
-/// are assumed literals, and the report says 'unsatisfiable under assumptions'; or with 3. With 3,
-/// and in the last round with 8 and 9 too, the report says that memory ran out or a read failed: in
-/// the refutation's lines, or in some stream of a round before the last. This follows from the
-/// clause `ends` of `command`.
+/// Suppose that each stream of each round before the last is valid and cites only its own clauses
+/// and the formula's, and that some stream of the last round is a valid refutation. (Without
+/// `--rounds`, round 1 is the last.) Then the program ends with status 0; with 7, because the
+/// report couldn't be written; with 5 or 6, for a fault of the machine; with 9, because a
+/// checkpoint or the next round's formula couldn't be saved; with 8, and then there are assumed
+/// literals, and the report says 'unsatisfiable under assumptions'; or with 3. With 3, and in the
+/// last round also with 8 and 9, the report says that memory ran out or a read failed, in the
+/// refutation's lines or in some stream of an earlier round. This follows from the clause `ends` of
+/// `command`.
 pub fn valid_rounds_say<F: Machine>(files: &F)
     ensures { (last : ℕ) → ValidRoundsSay (⟦<F as Viewed>⟧.view files.now) last }
 {
@@ -102,8 +102,9 @@ pub fn valid_rounds_say<F: Machine>(files: &F)
 }
 
 /// If in each round before the last, lines of all streams have a valid order, and in the last round
-/// a stream of such an order adds the empty clause, the program ends in the same way; but such a
-/// line may also cite a clause of another stream that wasn't there yet, or was no longer there.
+/// a stream of such an order adds the empty clause, the program ends in the same way; a stream may
+/// also have stopped because such a line cites another stream's clause that wasn't there yet or was
+/// no longer there.
 pub fn valid_orders_say<F: Machine>(files: &F)
     ensures { (last : ℕ) → ValidOrdersSay (⟦<F as Viewed>⟧.view files.now) last }
 {
@@ -118,8 +119,8 @@ pub fn valid_orders_say<F: Machine>(files: &F)
 
 /// If the words ask for one thread, in each round lines of all streams have a valid order that
 /// takes the streams in turn, and in the last round some stream adds the empty clause, the program
-/// ends in the same way; if a stream was stopped, memory ran out in some stream, or a read of it
-/// failed.
+/// ends in the same way. If a stream was stopped, memory ran out in some stream or a read of some
+/// stream failed.
 pub fn valid_turn_rounds_say<F: Machine>(files: &F)
     ensures { (last : ℕ) → ValidTurnsSay (⟦<F as Viewed>⟧.view files.now) last }
 {
@@ -132,20 +133,19 @@ pub fn valid_turn_rounds_say<F: Machine>(files: &F)
 }
 
 /// If a stream of round 1 (without `--rounds`, of the whole run) is a valid refutation, the program
-/// ends with status 0; or with 7, because the report couldn't be written; or with 5 or 6, for a
-/// fault of the machine; or with 3 or 8, and then memory ran out or a read failed in the
-/// refutation's lines; or with 9 in place of 3 or 8, because a checkpoint or the formula of round 2
-/// couldn't be saved.
+/// ends with status 0; with 7, because the report couldn't be written; with 5 or 6, for a fault of
+/// the machine; with 3 or 8, because memory ran out or a read failed in the refutation's lines; or
+/// with 9 instead of 3 or 8, because a checkpoint or the formula of round 2 couldn't be saved.
 pub fn valid_refutation_says<F: Machine>(files: &F)
     ensures { ValidRoundsSay (⟦<F as Viewed>⟧.view files.now) 1 }
 {
     valid_rounds_say(files);
 }
 
-/// If a stream of round 1 is a valid refutation, no bad line of it is printed, except with status
-/// 0, or with 7 if the report says 'unsatisfiable'. This follows from the law
-/// `valid_refutation_says` alone: with status 5 or 6 nothing is printed, and each other report says
-/// that the machine stopped the stream.
+/// If a stream of round 1 is a valid refutation, no bad line of that stream is printed, except with
+/// status 0, or with 7 if the report says 'unsatisfiable'. This follows from only the law
+/// `valid_refutation_says`: with status 5 or 6 nothing is printed, and each other report says that
+/// the machine stopped the stream.
 pub fn no_bad_line_shown<F: Machine>(files: &F)
     ensures { NoBadLineShown (⟦<F as Viewed>⟧.view files.now) }
 {
@@ -153,8 +153,8 @@ pub fn no_bad_line_shown<F: Machine>(files: &F)
 }
 
 /// If in round 1 lines of streams have a valid order, and one of the lines adds the empty clause,
-/// the program ends in the same way; or with 3 or 8, or 9 in their place, and then a line of that
-/// stream cites a clause of another stream that wasn't there yet, or was no longer there.
+/// the program ends in the same way; or it ends with 3 or 8, or 9 in their place, because a line of
+/// that stream cites another stream's clause that wasn't there yet or was no longer there.
 pub fn valid_order_says<F: Machine>(files: &F)
     ensures { ValidOrdersSay (⟦<F as Viewed>⟧.view files.now) 1 }
 {
@@ -162,9 +162,9 @@ pub fn valid_order_says<F: Machine>(files: &F)
 }
 
 /// If in round 1, on one thread, lines of all streams have a valid order that takes the streams in
-/// turn, and one of the lines adds the empty clause, the program ends with status 0; or with 7,
-/// because the report couldn't be written; or with 5 or 6, for a fault of the machine; or with 3 or
-/// 8, or 9 in their place, and then memory ran out in some stream, or a read of it failed.
+/// turn, and one of the lines adds the empty clause, the program ends with status 0; with 7,
+/// because the report couldn't be written; with 5 or 6, for a fault of the machine; or with 3 or 8,
+/// or 9 in their place, because memory ran out in some stream or a read of some stream failed.
 pub fn valid_turns_say<F: Machine>(files: &F)
     ensures { ValidTurnsSay (⟦<F as Viewed>⟧.view files.now) 1 }
 {
@@ -172,7 +172,7 @@ pub fn valid_turns_say<F: Machine>(files: &F)
 }
 
 /// If several runs of the program, each of one round or more, follow one another, each starting
-/// from the checkpoint that the last round of the run before it saved, and the last run ends with
+/// from the checkpoint that the last round of the previous run saved, and the last run ends with
 /// status 0, then the first run read a text of a formula that no assignment satisfies. This follows
 /// from the clause `ends` of `command`.
 pub fn outcomes_refute<F: Machine>(_files: &F)

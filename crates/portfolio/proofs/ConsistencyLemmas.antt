@@ -54,7 +54,7 @@ opened_from store f s (p ∷ ps) each =
           (λ k q at. let next : s + suc k ≡ s + 1 + k = omega arith in subst (λ (n : ℕ). IsOpened store f n q) next (each (suc k) q at)),
     )
 
--- each stream's pass is at its place
+-- each stream's pass is at the stream's index
 are_opened : (store : StoreValue) (f : Cnf) (p : LayoutValue) (ps : List PassValue) → length ps ≡ p.streams
     → ((s : ℕ) (pass : PassValue) → IsStream p s → slice_get ps (s - 1) ≡ Some pass → IsOpened store f s pass) → AreOpened store f 1 ps
 are_opened store f p ps count each = opened_from store f 1 ps (λ k pass at.
@@ -74,7 +74,7 @@ pub record Ends (f : Cnf) (p : LayoutValue) (s : ℕ) (es : History) (v : View) 
   pub mine : v.mine ≡ es
   pub fair : IsFair v
 
--- the pass has seen a legal history, in which the calls of its stream are those made through it
+-- the pass has seen a legal history, in which its stream's calls are those made through the pass
 ends_own : (f : Cnf) (p : LayoutValue) (s : ℕ) (es h : History) (v : View) → Ends f p s es v → v.seen ≡ h → v.mine ≡ own h s
 ends_own f p s es h v e saw = sym e.fair.mine ∙ ap₂ (λ (g : History) (n : ℕ). own g n) saw (ap (λ (c : Caller). c.stream) e.caller)
 
@@ -127,7 +127,7 @@ HasCalls f p h s v = (v.caller ≡ record { formula = f; layout = p; stream = s 
 abbrev pub HasReadyJobs : {S : Type 0} → StoreValue → Cnf → RunParamsValue → ℕ → S → StreamJobsValue S → Type 0
 HasReadyJobs store f run_params s first jobs = IsJob run_params s first jobs.pass jobs × IsOpened store f s jobs.pass
 
--- those of the streams, counted from s
+-- the ready jobs of the streams, counted from s
 abbrev pub HaveReadyJobs : {S : Type 0} → StoreValue → Cnf → RunParamsValue → ℕ → List S → List (StreamJobsValue S) → Type 0
 HaveReadyJobs store f run_params s firsts all = Each (HasReadyJobs store f run_params) s firsts all
 
@@ -299,7 +299,7 @@ module _ {S : Type 0} (view : SourceView S) where
             (have_calls f run_params store (seen_by vs) same 1 firsts js fs vs ready all synced saw (s - 1) v at.1);
       }
 
-  -- the calls of the pass at each place
+  -- the calls of the pass at each index
   mine_at : (f : Cnf) (p : LayoutValue) (vs : List View) → HaveOneHistory f p (seen_by vs) vs
       → (k : ℕ) (v : View) → slice_get vs k ≡ Some v → v.mine ≡ own (seen_by vs) (1 + k)
   mine_at f p vs one k v at =
@@ -366,7 +366,7 @@ module _ {S : Type 0} (view : SourceView S) where
             );
       }
 
-  -- With a legal history that has their calls, it is a run of the first streams.
+  -- A legal history that has the passes' calls gives a run of the first streams.
   first_run : (f : Cnf) (run_params : RunParamsValue) (h : History) (firsts : List S) (js : List (StreamJobsValue S))
       (results : StreamResultsValue S) (vs : List View)
       → (so : AreResults view js results) → Judged run_params 1 firsts so.found vs → IsLegal f run_params.layout h
@@ -431,7 +431,7 @@ module _ {S : Type 0} (view : SourceView S) where
       × (ran.run.history ≡ seen_by vs)) begun.count
       (first_run f run_params (seen_by vs) firsts js results vs so j one.legal (mine_at f run_params.layout vs one))
 
-  -- For the first streams alone, whose passes have met: by the history that these have.
+  -- If the passes of the first streams have met, there is a run of only these streams.
   run_before : (f : Cnf) (run_params : RunParamsValue) (store : StoreValue) → store.layout ≡ run_params.layout
       → (firsts : List S) (js : List (StreamJobsValue S)) → HaveReadyJobs store f run_params 1 firsts js
       → (results : StreamResultsValue S) (vs : List View) → AreResults view js results → AreSynced (views results.passes) vs
@@ -471,8 +471,8 @@ module _ {S : Type 0} (view : SourceView S) where
         (first_run f run_params one.0 (e ∷ es) (j ∷ js) results vs so judged legal (λ k v at. (calls k v at).2)).0,
       )
 
-  -- the reader was read to its end, or to the read that failed, and a stream matches it; so is each
-  -- reader whose mark was missed
+  -- the reader was read to its end, or to the read that failed, and a stream matches it; this is
+  -- true of each reader whose mark was missed
   abbrev WasReadOut : S → Type 0
   WasReadOut reader = (last : S) × (its : Stream) × IsSome its.end × IsStreamOf view reader last its
 

@@ -1,4 +1,4 @@
--- What the threads of a stream found that it dropped.
+-- What a stream dropped, as its threads found it.
 use Rattle.std.proofs.Common.{◌≡◌, ℕ, List, [], Option, Some, None, refl, sym, subst}
 use Rattle.lrup_model.specs.Event.{History}
 use Rattle.lrup_text.specs.declared.device.StreamEnd.{StreamEnd}

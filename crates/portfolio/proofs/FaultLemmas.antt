@@ -25,15 +25,15 @@ pub no_layout_fault : {T : Type 0} (p : LayoutValue) → IsLayout p → (result 
     → (result ≡ Err (Layout fault)) ↔ IsFault p fault
 no_layout_fault p is result other fault = ((λ e. absurd (other fault e)), (λ bad. absurd (no_fault p fault is bad)))
 
--- `?` returns the fault that there was
+-- `?` returns the fault that occurred
 pub no_other : {T U : Type 0} (result : Result T RunFault) (fault other : RunFault) → IsErrAnd result (λ e. e ≡ fault)
     → (Path (Result U RunFault) (Err fault) (Err other) → ⊥) → result ≡ Err other → ⊥
 no_other (Ok value) fault other is differ same = absurd is
 no_other (Err e) fault other is differ same = let this : fault ≡ other = cc in differ (ap Err this)
 
--- The fault of a run, from that of its threads.
+-- The fault of a run, from the fault of its threads.
 module _ {S : Type 0} (view : SourceView S) where
-  -- it is no layout fault
+  -- the run's fault is no layout fault
   pub not_layout_of : (fault : ThreadFault S) (result : RunFault) (bad : LayoutFault)
       → ((stream : ℕ) → fault ≡ thread_faults.Spawn stream → result ≡ Spawn stream)
       → ((found : StreamResultsValue S) → fault ≡ thread_faults.Ring found → result ≡ Ring (length found.passes + 1))

@@ -13,7 +13,7 @@ use Rattle.stream_turns.specs.Results.{AreCheckedInTurn}
 use Rattle.run_laws.specs.lemmas.OwnLemmas.{ordered_judged, own-blocks}
 use Rattle.run_outcome.specs.Histories.{IsRunOf}
 
--- its history is that of the order of lines
+-- the run's history is that of the order of lines
 pub run_in_turn : {S : Type 0} (view : SourceView S) (f : Cnf) (run_params : RunParamsValue) (firsts lasts : List S)
     (reports : List Report) (dropped : List DroppedIdsValue) (m : Plain)
     → AreCheckedInTurn view f run_params firsts lasts reports dropped m

@@ -22,11 +22,11 @@ use stream_check::{Gate, RunParams};
 use stream_turns::{StreamResults, check_all};
 
 /// Checks all streams of a formula on this thread, round-robin from stream 1 on: in its turn a
-/// stream is read until one line was taken or the stream is finished. The outcome has a report for
-/// each stream, and the verdict: whether a stream added the empty clause, or one that the cube of
-/// assumed literals falsifies. Each reader has a gate. In the code all memory is allocated before
-/// the first read, except for the identities that streams drop. The call blocks while a reader
-/// does. Its only faults are `Layout` and `Memory`.
+/// stream is read until one line has been taken or the stream is finished. The outcome has a report
+/// for each stream, and the verdict: whether a stream added the empty clause, or one that the cube
+/// of assumed literals falsifies. Each reader has a gate. The code allocates all memory before the
+/// first read, except for the identities that streams drop. The call blocks while a reader does.
+/// Its only faults are `Layout` and `Memory`.
 pub fn run_serial<W: Wait, R: Source + Drop, G: Gate + Drop>(
     wait: &W,
     alloc: Global,
@@ -38,14 +38,15 @@ pub fn run_serial<W: Wait, R: Source + Drop, G: Gate + Drop>(
 ) -> Result<SerialOutcome<R>, RunFault>
     requires gates { vec_len gates ≡ vec_len readers }
     requires running { AllByRecursion (λ r. R.has_failed r ≡ false) readers.items }
-    // The result is `Layout` exactly if these numbers have no layout.
+    // The result is `Layout` exactly if there is no layout for the formula, the options and this
+    // number of streams.
     ensures layout { (fault : LayoutFault) → (result ≡ Err (RunFault.Layout fault))
         ↔ IsFault (layout_of options formula.now (length readers.items)) fault }
     ensures no_threads { (stream : ℕ) → (result ≢ Err (RunFault.Spawn stream))
         × (result ≢ Err (RunFault.Ring stream)) }
-    // It is a run on one thread (`true`) of the readers' bytes and of what their reads gave, and
-    // its history is that of an order of lines that takes one of each stream in turn. The map has
-    // what the history leaves. Its groups of streams are isolated.
+    // The outcome is that of a run on one thread (`true`) over the readers' bytes and what their
+    // reads gave. The run's history is that of an order of lines that takes one line of each stream
+    // in turn. The map has what the history leaves. The run's groups of streams are isolated.
     ensures ordered { let run_params = run_params_of options cube.now formula.now
         (length readers.items) in
         IfOk result (λ outcome. (ran : IsRunOf true (readers_view R.Source) formula.now run_params

@@ -39,11 +39,11 @@ use stream_threads::{
 /// the outcome's lists belongs to stream k + 1.
 ///
 /// All lists and buffers are made before the first thread starts. After that, only two things
-/// allocate: starting a thread, which fails without memory (`RunFault::Spawn`), and a checker that
-/// keeps dropped identities, whose report then says so (`Ending::Memory`). No reader is read before
-/// all threads have started. The code does so; no clause says it. `run` returns when all threads
-/// have ended, so it blocks while a reader does. `RunFault` lists the faults; after a fault there
-/// are no reports.
+/// allocate: starting a thread, which fails without memory (`RunFault::Spawn`), and keeping dropped
+/// identities, which without memory ends the stream's check (`Ending::Memory`). No reader is read
+/// before all threads have started. The code does all this; no clause says it. `run` returns when
+/// all threads have ended, so it blocks while a reader does. `RunFault` lists the faults; after a
+/// fault there are no reports.
 pub fn run<T: Threads + Wait + Sync, R: Source + Send + Drop, G: Gate + Send + Drop>(
     threads: &T,
     alloc: Global,
@@ -55,23 +55,25 @@ pub fn run<T: Threads + Wait + Sync, R: Source + Send + Drop, G: Gate + Send + D
 ) -> Result<Outcome<R>, RunFault>
     requires gates { vec_len gates ≡ vec_len readers }
     requires running { AllByRecursion (λ r. R.has_failed r ≡ false) readers.items }
-    // The result is `Layout` exactly if these numbers have no layout.
+    // The result is `Layout` exactly if there is no layout for the formula, the options and this
+    // number of streams.
     ensures layout { (fault : LayoutFault) → (result ≡ Err (RunFault.Layout fault))
         ↔ IsFault (layout_of options formula.now (length readers.items)) fault }
     ensures spawn { (stream : ℕ) → result ≡ Err (RunFault.Spawn stream)
         → IsStream (layout_of options formula.now (length readers.items)) stream }
-    // With `Ring`, there are correct reports for the streams before this one, and its own reader
-    // was read to its end.
+    // With `Ring`, there are correct reports for the streams before this one, and this stream's
+    // reader was read to its end.
     ensures ring { let run_params = run_params_of options cube.now formula.now
         (length readers.items) in
         (stream : ℕ) → result ≡ Err (RunFault.Ring stream)
         → StopsAtRing (readers_view R.Source) formula.now run_params readers.items stream }
-    // One legal history has each stream's calls, once and in its order, with their replies.
+    // One legal history has each stream's calls, each once and in order, with their replies.
     ensures history { IfOk result (λ outcome. let passes = views outcome.passes.items in
         HaveOneHistory formula.now (layout_of options formula.now (length readers.items))
         (seen_by passes) passes) }
-    // It is a run by that history, with threads (`false`), of the readers' bytes and of what their
-    // reads gave. Its groups of streams are isolated, and its lines are serializable.
+    // The outcome is that of a run by that history, with threads (`false`), over the readers' bytes
+    // and what their reads gave. The run's groups of streams are isolated, and its lines are
+    // serializable.
     ensures reports { let run_params = run_params_of options cube.now formula.now
         (length readers.items) in
         IfOk result (λ outcome. (ran : IsRunOf false (readers_view R.Source) formula.now run_params
@@ -135,7 +137,7 @@ fn store_and_jobs<R: Source + Drop, G: Gate + Drop>(
 }
 
 /// The outcome of the streams once their threads have ended. All passes meet, which takes a few
-/// loads: by its contract, all have one history then.
+/// loads; by the contract of `meet_all`, they then share one history.
 fn outcome_of<R: Source + Drop>(store: Store, found: StreamResults<R>) -> Outcome<R>
     requires store { AreOf store found.passes }
     ensures reports { result.reports.items ≡ found.reports }
@@ -166,7 +168,7 @@ fn outcome_of<R: Source + Drop>(store: Store, found: StreamResults<R>) -> Outcom
 }
 
 /// The fault of a run whose threads had this fault. With `Ring`, the passes of the streams before
-/// that one meet.
+/// the ring's stream meet.
 fn fault_of<R: Source + Drop>(store: Store, fault: ThreadFault<R>) -> RunFault
     requires store { (found : StreamResultsValue R) → fault ≡ ThreadFault.Ring found
         → AreOf store found.passes }

@@ -1,4 +1,4 @@
--- One stream of a run, by the contract of the run alone.
+-- One stream of a run, only by the contract of the run.
 use Rattle.std.proofs.Common.{◌≡◌, ◌≤◌, ◌<◌, ◌^◌, ℕ, ℤ, zero, suc, ◌+◌, ◌-◌, Bool, true, false, Option, List, [], ◌∷◌, ◌++◌, length, map}
 use Rattle.std.proofs.Common.{Some, None, pos, negsuc, refl, sym, ap, subst, ◌∙◌, inl, inr, arith}
 use Rattle.std.specs.Fmt.{digits}
@@ -40,7 +40,7 @@ use Rattle.run_laws.specs.GroupLaws.{ReadersClosed, MatchIsReading}
 use Rattle.test_support.specs.Worked.{four}
 use Rattle.portfolio_tests.specs.Alone.{first_bytes, usual, layout_of_two, two_terms, HasOrder, IsOnlyReport}
 
--- Places
+-- The first stream
 
 -- the first stream, and what is known of its reader, which hasn't failed
 record IsFirst (known : List InputObservation) (streams : List Stream) (bytes : List ℕ) : Type 0 where
@@ -94,7 +94,7 @@ pub two_ordered : (known : List InputObservation) (reports : List Report) (h : H
     → HasOrdered known reports h f (run_params_of options cube f count) → HasOrdered known reports h four two_terms
 two_ordered known reports h options cube f count = of_two (HasOrdered known reports h) options cube f count
 
--- By what a run promises, a report of stream 1 is the one that it may have alone.
+-- What a run promises implies that stream 1's report is the one that the stream may have alone.
 pub report_alone : ReadersClosed → MatchIsReading → {S : Type 0} (view : SourceView S) (firsts lasts : List S) (bytes : List ℕ)
     (reports : List Report) (report : Report)
     → IsIsolated view firsts lasts reports four two_terms → CiteWithin layout_of_two (one 1) bytes
@@ -151,14 +151,14 @@ order_says streams reports verdict (order, comes) is = record {
       (list_any (λ p. length p.1 == 0) (published (events_in order.blocks))) comes.empty is;
 }
 
--- By what a run promises, its verdict is that of an order of its lines.
+-- What a run promises implies that its verdict is that of an order of its lines.
 pub has_order : (known : List InputObservation) (reports : List Report) (h : History) (verdict : Verdict)
     → HasOrdered known reports h four two_terms
     → verdict ≡ verdict_of reports → FoundStays four layout_of_two (λ s. true) h → HasOrder verdict
 has_order known reports h verdict (run, same, serializable) is stays =
     order_says run.streams reports verdict (serializable.all (subst (FoundStays four layout_of_two (λ s. true)) (sym same) stays)) is
 
--- What a stream dropped that ran out of memory
+-- What a stream that ran out of memory dropped
 
 full_at : (params : StreamParams) (bytes : List ℕ) (blocks : List History) (report : Report) (dropped : DroppedIdsValue) (line : ℕ)
     → report.ending ≡ endings.Memory line → HasDropped params bytes blocks report dropped → dropped.spare ≡ 0
@@ -181,7 +181,7 @@ full_from run_params AreOwn s _ _ _ have k report dropped says at memory = absur
 
 -- The lines of the first stream, and of one that only imports
 
--- a line has a byte
+-- a line has at least one byte
 longer : (xs ys : List ℕ) (y : ℕ) (more : List ℕ) → ([] ≡ (xs ++ y ∷ ys) ++ more) → ⊥
 longer [] ys y more e = cc
 longer (x ∷ xs) ys y more e = cc
@@ -213,7 +213,7 @@ first_is_cut = record {
   last = none_in_nothing;
 }
 
--- of the identities that the lines cite, 5 alone is a stream's
+-- of the identities that the lines cite, only 5 is a stream's
 formulas : (id : ℕ) → owner layout_of_two id ≡ owners.Formula → IsOwnedWithin layout_of_two (one 1) id
 formulas id is t owns = absurd (let no : owners.Formula ≡ owners.Stream t = sym is ∙ owns in cc)
 

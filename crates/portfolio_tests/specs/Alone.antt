@@ -1,5 +1,4 @@
--- The row 'a neighbour': its first stream, and the stream's report in two runs (this project's
--- own).
+-- A stream beside a neighbour: its bytes, and its report in two runs (this project's own).
 use Rattle.std.specs.Prelude.{◌≡◌, ◌==◌, ◌↔◌, ℕ, Bool, IsTrue, List, [], codes, false, length}
 use Rattle.std.specs.List.{list_any}
 use Rattle.lrup_model.specs.Layout.{LayoutValue}
@@ -32,7 +31,7 @@ layout_of_two = layout_of usual four 2
 abbrev pub two_terms : RunParamsValue
 two_terms = run_params_of usual [] four 2
 
--- with these bytes, and an end after them, stream 1, alone, may have only this report
+-- with these bytes, and an end after them, stream 1 on its own may have only this report
 pub record IsOnlyReport (bytes : List ℕ) (report : Report) : Type 0 where
   pub alone : IsReportAlone four two_terms 1 bytes stream_ends.Ended report
   pub only : (other : Report) → IsReportAlone four two_terms 1 bytes stream_ends.Ended other

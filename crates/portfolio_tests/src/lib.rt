@@ -1,4 +1,4 @@
-//! Tests of `portfolio`, by its public calls alone.
+//! Tests of `portfolio`, through its public calls only.
 #![tactic(auto)]
 
 #[cfg(test)]

@@ -168,7 +168,7 @@ fn readers_of<'a>(
     failing_readers(alloc, streams, most, &[])
 }
 
-/// A stream's report: additions, deletions, the verdict that it alone would give, and the ending.
+/// A stream's report: additions, deletions, the verdict from this report only, and the ending.
 type Said = (u64, u64, Verdict, Ending);
 
 fn report(said: Said) -> Report {

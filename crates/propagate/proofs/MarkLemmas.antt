@@ -46,7 +46,7 @@ AreApart-push (y ∷ ls) x apart new new_neg = (
   AreApart-push ls x apart.2 (λ h. new (inr h)) (λ h. new_neg (inr h)),
 )
 
--- the variable of a new literal is none of those of the list
+-- the variable of a new literal isn't a variable of the list
 differs : (x : ℤ) (ls : List ℤ) → (¬ Has ls x) → (¬ Has ls (neg_ℤ x)) → AllByRecursion (λ v. eqb (nat_abs x) v ≡ false) (map nat_abs ls)
 differs x [] new new_neg = tt
 differs x (y ∷ ls) new new_neg = (
@@ -68,13 +68,13 @@ variable-lt vars (x ∷ ls) q all h =
       | inr t ↦ variable-lt vars ls q all.1 t
     ]
 
--- so there are at most as many literals as variables, and one more
+-- so there is at most one literal more than there are variables
 length-le_variables : (vars : ℕ) (ls : List ℤ) → AreApart ls → AllByRecursion (IsLiteral vars) ls → length ls ≤ vars + 1
 length-le_variables vars ls apart all =
     subst (λ n. n ≤ vars + 1) (length-map ls nat_abs)
     (length-le_from_distinct_below (map nat_abs ls) (vars + 1) (IsDistinct-variables ls apart) (λ q h. variable-lt vars ls q all h))
 
--- there is room for one more literal, which is neither false nor true
+-- there is room for one more literal, if it is neither false nor true
 pub AreMarks-room : (vars : ℕ) (marks : List Bool) (ls : List ℤ) (capacity : ℕ) (x : ℤ) → AreMarks vars marks ls capacity → IsLiteral vars x
     → (¬ Has ls x) → (¬ Has ls (neg_ℤ x)) → length ls < capacity
 AreMarks-room vars marks ls capacity x are literal new new_neg =

@@ -78,7 +78,7 @@ HasStatus-two n d l x unit other not_false = (
       ]),
 )
 
--- the next literal is read, of a clause that has each literal once
+-- the next literal of a clause that has each literal once is read
 pub HasStatus-next : (n : List ℤ) (d : Clause) (k : ℕ) (x : ℤ) (status after : ClauseStatus) → EachOnce d → slice_get d k ≡ Some x
     → HasStatus n (take k d) status → ((e : Clause) → HasStatus n e status → (¬ Has e x) → HasStatus n (e ++ x ∷ []) after)
     → HasStatus n (take (k + 1) d) after
@@ -100,7 +100,7 @@ HasStatus-second n d i x status after once at before step =
     let next : 2 * i + 1 + 1 ≡ 2 * (i + 1) = omega arith in
     subst (λ k. HasStatus n (take k d) after) next (HasStatus-next n d (2 * i + 1) x status after once at before step)
 
--- a list that has nothing at a place is no longer than that
+-- a list that has nothing at an index isn't longer than that
 ends-at : (d : List ℤ) (k : ℕ) → slice_get d k ≡ None → length d ≤ k
 ends-at d k past = elim (slice_get_cases d k).1 [ inl at ↦ absurd (none-some at.0 (sym past ∙ at.2)) | inr short ↦ short.0 ]
 
@@ -136,8 +136,8 @@ HasStatus-pair n d i x (Some y) status at at' false_too before =
     let one = HasStatus-passed n d (2 * i) x status at false_too.0 before in
     subst (λ k. HasStatus n (take k d) status) next (HasStatus-passed n d (2 * i + 1) y status at' (false_too.1 y refl) one)
 
--- if one of the first literals isn't false, and neither is one after them, the clause is neither
--- unit nor a conflict
+-- if one of the first literals isn't false, and a later one isn't false either, the clause is
+-- neither unit nor a conflict
 HasStatus-following : (n : List ℤ) (d : Clause) (i k : ℕ) (x lit : ℤ) → EachOnce d → slice_get d k ≡ Some x → i ≤ k
     → IsUnit n (take i d) lit
     → (¬ Has n x) → HasStatus n d More
@@ -153,8 +153,8 @@ HasStatus-following n d i k x lit once at following unit not_false =
           ]),
     )
 
--- if one literal isn't false, and neither is one of a later pair, the clause is neither unit nor a
--- conflict
+-- if one literal isn't false, and one of a later pair isn't false either, the clause is neither
+-- unit nor a conflict
 pub HasStatus-open_pair : (n : List ℤ) (d : Clause) (i : ℕ) (x : ℤ) (second : Option ℤ) (lit : ℤ) → EachOnce d
     → slice_get d (2 * i) ≡ Some x
     → slice_get d (2 * i + 1) ≡ second → IsUnit n (take (2 * i) d) lit → (¬ Has n x) ⊎ ((l : ℤ) × (second ≡ Some l) × (¬ Has n l))

@@ -105,7 +105,7 @@ AreTaken-single before after d i past are =
     ] in
     subst (AreTaken before after) (take_all (2 * i + 1) d short ∙ sym (take_all (2 * (i + 1)) d (omega (arith, short)))) are
 
--- if the next literal isn't marked, it wasn't before
+-- if the next literal isn't marked, it wasn't marked before, either
 pub unmarked-next : (before marks : List Bool) (d : List ℤ) (k : ℕ) (x : ℤ) → EachOnce d → slice_get d k ≡ Some x
     → AreTaken before marks (take k d) → (¬ IsMarked marks x) → (l : ℤ) × Has d l × (¬ IsMarked before l)
 unmarked-next before marks d k x once at are none =

@@ -1,6 +1,6 @@
 -- One clause at a time, and what each of its hints does: the idea of Cruz-Filipe et al., Efficient
--- Certified RAT Verification, CADE 2017, without RAT. That no hint may follow one that isn't unit
--- is this project's own.
+-- Certified RAT Verification, CADE 2017, without RAT. The rule that no hint may follow a hint that
+-- isn't unit is this project's own.
 use Rattle.std.specs.Prelude.{◌≡◌, ◌++◌, ℕ, ℤ, neg_ℤ, Bool, false, List, [], ◌∷◌}
 use Rattle.lrup_model.specs.Clause.{Clause}
 use Rattle.lrup_model.specs.Propagation.{IsConflict, IsUnit}

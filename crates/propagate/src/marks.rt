@@ -39,7 +39,7 @@ enum ClauseStatus {
 }
 
 /// A clause whose hints are being checked, and the literals that are false: those of the clause,
-/// and those that its hints made false. In the code only `new` allocates memory.
+/// and those that its hints made false. Only the code of `new` allocates memory.
 #[derive(Drop)]
 pub struct Marks {
     trail: Trail,
@@ -124,7 +124,7 @@ impl Marks {
     }
 
     /// Returns what the clause of a hint is. If it is unit, the complement of its last literal
-    /// becomes false. In the code each literal is read at most once.
+    /// becomes false. The code reads each literal at most once.
     pub fn hint<M: ClauseMap>(&mut self, map: &mut M, clip: &Clip) -> Step
         requires ready { IsTrue self.old.ready }
         requires known { IsKnown (M.caller_view map.old) clip.now }
@@ -137,7 +137,7 @@ impl Marks {
         ensures step { Steps self.old (clip_clause (M.caller_view map.old) clip.now)
             result self.new }
 
-        // These reads are no events.
+        // These reads make no events.
         ensures event { M.moves map.old map.new [] }
         ensures stays { M.caller_view map.new ≡ M.caller_view map.old }
     {
@@ -159,7 +159,7 @@ impl Marks {
 
     /// Whether the clip's clause has exactly the literals of the list. In the list a literal may
     /// occur several times, also together with its complement. The clause is read at most once, and
-    /// no clause is begun afterwards.
+    /// after the call no clause counts as begun.
     pub fn same<M: ClauseMap>(&mut self, map: &mut M, clip: &Clip, lits: &[Lit]) -> bool
         requires known { IsKnown (M.caller_view map.old) clip.now }
         requires follow { AllFollow (M.caller_view map.old) }
@@ -170,7 +170,7 @@ impl Marks {
         ensures idle { self.new
             ≡ record { vars = self.old.vars; clause = []; falses = []; ready = false } }
 
-        // These reads are no events.
+        // These reads make no events.
         ensures event { M.moves map.old map.new [] }
         ensures stays { M.caller_view map.new ≡ M.caller_view map.old }
     {

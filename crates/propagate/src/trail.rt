@@ -33,7 +33,7 @@ impl Model for Trail {
 }
 
 impl Trail {
-    /// A trail on which no literal is false. In the code all memory is allocated here.
+    /// A trail on which no literal is false. The code allocates all memory here.
     pub fn new(alloc: Global, vars: u32) -> Result<Trail, AllocError>
         ensures { IfOk result (λ t. t ≡ record { vars = vars; literals = [] }) }
     {
@@ -42,7 +42,8 @@ impl Trail {
             vars,
             // A code is at most 2 * vars + 1.
             marks: vec![in alloc; false; 2 * vars_in_places + 2]?,
-            // One place more than it can need: so `add` needs no proof that a variable is left.
+            // Room for one more literal than the trail can have, so that `add` needs no proof that
+            // a variable is left.
             literals: Vec::with_capacity(alloc, vars_in_places + 1)?,
         })
     }
@@ -88,7 +89,8 @@ impl Trail {
         Ok(())
     }
 
-    /// Makes all literals not false: it clears the marks of the literals that the trail lists.
+    /// Resets the trail, so that no literal is false: it clears the marks of the literals that the
+    /// trail lists.
     pub fn clear(&mut self)
         ensures { self.new ≡ record self.old { literals = [] } }
     {
@@ -132,7 +134,7 @@ impl Trail {
     }
 }
 
-/// Clears the marks of these literals, and changes no other.
+/// Clears the marks of these literals, and changes no other mark.
 fn unmark(marks: &mut [bool], literals: &[Lit])
     requires { HaveMarks marks.old literals.now }
     ensures cleared { (l : ℤ) → Has literals.now l
@@ -146,8 +148,8 @@ fn unmark(marks: &mut [bool], literals: &[Lit])
 }
 
 /// Whether the clip's clause, none of whose literals is marked, has exactly the literals of the
-/// list. It sets the marks of the list's literals, clears those of the clause's, and looks whether
-/// a mark is left. Afterwards no mark is set that wasn't set before.
+/// list. It sets the marks of the list's literals, clears the marks of the clause's literals, and
+/// checks whether a mark is left. Afterwards no mark is set that wasn't set before.
 fn is_same<M: ClauseMap>(marks: &mut [bool], map: &mut M, clip: &Clip, literals: &[Lit]) -> bool
     requires known { IsKnown (M.caller_view map.old) clip.now }
     requires follow { AllFollow (M.caller_view map.old) }
@@ -167,7 +169,7 @@ fn is_same<M: ClauseMap>(marks: &mut [bool], map: &mut M, clip: &Clip, literals:
     same
 }
 
-/// Sets the marks of these literals, and changes no other.
+/// Sets the marks of these literals, and changes no other mark.
 fn mark_all(marks: &mut [bool], literals: &[Lit])
     requires { HaveMarks marks.old literals.now }
     ensures { (l : ℤ) → IsMarked marks.new l ↔ (IsMarked marks.old l ⊎ Has literals.now l) }
@@ -214,8 +216,8 @@ fn take_clause<M: ClauseMap>(marks: &mut [bool], map: &mut M, clip: &Clip) -> bo
     true
 }
 
-/// Clears the mark of a literal and, if there is one, that of the second, and returns whether all
-/// were marked. The clause has each literal once.
+/// Clears the mark of a literal and, if there is a second literal, its mark, too, and returns
+/// whether all were marked. The clause has each literal once.
 #[inline]
 fn take_pair(marks: &mut [bool], first: Lit, second: Option<Lit>) -> bool
     requires first { code_of first < length marks.old }
@@ -237,7 +239,7 @@ fn take_pair(marks: &mut [bool], first: Lit, second: Option<Lit>) -> bool
         }
 }
 
-/// Clears the mark of a literal, changes no other, and returns whether it was marked.
+/// Clears the mark of a literal, changes no other mark, and returns whether it was marked.
 #[inline]
 fn take_mark(marks: &mut [bool], lit: Lit) -> bool
     requires { code_of lit < length marks.old }

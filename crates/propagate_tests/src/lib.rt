@@ -1,4 +1,4 @@
-//! Tests of `propagate`, by its public calls alone.
+//! Tests of `propagate`, through its public calls only.
 #![tactic(auto)]
 
 #[cfg(test)]

@@ -13,7 +13,7 @@ use std::process::Abort;
 use std::test::Fail;
 use test_support::lit;
 
-/// Stops the test if two values differ. As a function the assertion is proved only once.
+/// Stops the test if two values differ. Since it is a function, the assertion is proved only once.
 fn same<T: PartialEq + fmt::Debug + Drop>(rt: &impl Abort, value: T, wanted: T) {
     assert_eq!(rt; value, wanted);
 }
@@ -82,8 +82,7 @@ fn push_pair(rt: &impl Abort, formula: &mut Formula, one: i64, other: i64) -> Re
     formula.push(&[one, other])
 }
 
-/// The formula over three variables of these clauses of two literals, and an empty clause after
-/// them.
+/// The formula, over three variables, of these two-literal clauses and an empty clause after them.
 fn formula_of_pairs(
     rt: &(impl Abort + AllocGlobal),
     pairs: &[(i64, i64)],
@@ -99,7 +98,7 @@ fn formula_of_pairs(
     Ok(formula)
 }
 
-/// Its map.
+/// The map of that formula.
 fn map_of_pairs(rt: &(impl Abort + AllocGlobal), pairs: &[(i64, i64)]) -> Result<PlainMap, Fail>
     ensures formula { IfOk result (λ map. (formula_of map).vars ≡ 3) }
     ensures streams { IfOk result (λ map. map.layout.streams ≡ 1) }
@@ -142,8 +141,8 @@ fn try_hint<M: ClauseMap>(marks: &mut Marks, map: &mut M, id: u64) -> Option<Ste
     Some(marks.hint(map, &clip))
 }
 
-/// Begins the clause of the literal 1 and tries these hints. Returns the last one's step, whether
-/// another may follow, and whether the clause is still the same.
+/// Begins the clause of the literal 1 and tries these hints. Returns the step of the last hint,
+/// whether another hint may follow, and whether the clause is still the same.
 fn try_hints<M: ClauseMap>(
     marks: &mut Marks,
     map: &mut M,

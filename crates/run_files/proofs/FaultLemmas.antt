@@ -1,4 +1,4 @@
--- What is written of a fault.
+-- What is written about a fault.
 use Rattle.std.proofs.Common.{◌++◌, ◌≡◌, ◌≢◌, [], refl, ℕ}
 use Rattle.std.proofs.lemmas.Bool.{eq-eqb, ne_eqb}
 use Rattle.std.specs.Fmt.{decimal}

@@ -47,7 +47,7 @@ was_read files before path reader after items (Ok bytes) opened left gave all =
     record { reader = reader; opened = opened; gave = gave; known = λ whole known. all whole (left ∙ known) }
 was_read files before path reader after items (Err fault) opened left gave all = tt
 
--- the same for the formula's file, and for that of the assumed literals
+-- the same for the formula's file, and for the file of the assumed literals
 pub formula_file_cause : (files : FilesView) (given : CommandLine) (fault : CommandFault) (after : files.its.State)
     → IsFileCause files files.first given.formula.now fault after → IsReadCause files given fault after
 formula_file_cause files given (faults.Refused fault) after cause = absurd cause
@@ -82,7 +82,7 @@ cube_text_cause files vars before path bytes after was cubes.TooLong is = (λ e.
 cube_text_cause files vars before path bytes after was cubes.Range is = (λ e. cc, (bytes, was, is))
 cube_text_cause files vars before path bytes after was cubes.Memory is = inr (inr (was.reader, was.opened))
 
--- A cause of a later file doesn't depend on which files were the first ones.
+-- A cause for a later file doesn't depend on the first state of the files.
 module _ (files : FilesView) (first : files.its.State) where
   abbrev later : FilesView
   later = from_first files first

@@ -39,7 +39,7 @@ path_and_rest folder number (suc count) some =
     let rest : drop 1 (stream_paths folder number (suc count)) ≡ begins.0 = ap (drop 1) begins.1 in
     begins.1 ∙ ap (λ ps. stream_path folder number 1 ∷ ps) (sym rest)
 
--- streams that were opened after stream 1, and stream 1, were opened in order
+-- stream 1, and the streams that were opened after it, were opened in order
 pub opened_from : {F R : Type 0} (opens : F → Text → R → F → Type 0) (before next after : F) (first : R) (readers others : List R)
     (paths rest : List Text) (path : Text) → paths ≡ path ∷ rest → readers ≡ first ∷ others → opens before path first next
     → AreOpened opens next rest others after → AreOpened opens before paths readers after

@@ -26,9 +26,9 @@ use Rattle.run_files.specs.declared.fault.CommandFault.TheVariants as faults
 use Rattle.run_files.specs.declared.files.OpenFault.{OpenFault}
 use Rattle.run_files.specs.declared.files.OpenFault.TheVariants as open_faults
 
--- Causes, and the files at that point: just those openings and creations that came before, in
--- order, were done to them. Nothing shows afterwards that memory ran out or that a thread wasn't
--- started, so these are possible causes for any files.
+-- Causes, and the files at that point: only the earlier openings and creations were done to them,
+-- in order. Nothing shows afterwards that memory ran out or that a thread wasn't started, so these
+-- are possible causes for any files.
 
 -- Reads of a file gave some bytes, and then a read failed. If what was left of the file is known,
 -- it began with these bytes.
@@ -94,7 +94,7 @@ pub record WasRefused (its : Effects) (before : its.State) (paths : List Text) (
   pub opened : AreOpened its.opens before (take place paths) readers next
   pub refused : its.refuses next path fault after
 
--- why opening these streams stopped, after this many earlier streams: one of them was refused; or
+-- why opening these streams, after this many earlier ones, stopped: one opening was refused; or
 -- memory ran out before, during or after one of the openings
 abbrev pub IsOpenCause : (its : Effects) → ℕ → its.State → List Text → CommandFault → its.State
     → Type 0
@@ -107,14 +107,14 @@ IsOpenCause its earlier before paths faults.Memory after =
     × AreOpened its.opens before (take place paths) readers after)
 IsOpenCause its earlier before paths fault after = ⊥
 
--- with a path, a file was created there and nothing was written to it; without one, the files are
--- as before
+-- with a path, a file was created there and nothing was written to it; without a path, the files
+-- are as before
 abbrev pub IsLeftUnused : (its : Effects) → its.State → Option Text → its.State → Type 0
 IsLeftUnused its before None after = after ≡ before
 IsLeftUnused its before (Some path) after =
     IsLeftEmpty its.creates its.written its.discards before path after
 
--- creating the file at the path was refused; without a path, that can't be
+-- creating the file at the path was refused, which can't happen without a path
 abbrev pub IsRefusedNew : (its : Effects) → its.State → Option Text → OpenFault → its.State → Type 0
 IsRefusedNew its before None fault after = ⊥
 IsRefusedNew its before (Some path) fault after = its.refuses_new before path fault after
@@ -124,9 +124,9 @@ abbrev pub HasNoFault : LayoutValue → Type 0
 HasNoFault layout = (fault : LayoutFault) → IsFault layout fault → ⊥
 
 -- why the streams of a formula, opened as these readers, weren't checked: they have no layout; or
--- they have one, and the file at the path, if there is one, wasn't created; or it was, and a thread
--- wasn't started, or a ring lost the end of a stream that was read to its end, after the streams
--- before it were judged; or memory ran out
+-- they have one, but the file at the path, if one is given, wasn't created; or it was, but a thread
+-- wasn't started, or a ring lost the end of a stream that was read to its end, after the earlier
+-- streams were judged; or memory ran out
 abbrev pub IsStartCause : (its : Effects) → Bool → Cnf → RunParamsValue → List its.Reader
     → its.State
     → Option Text → CommandFault → its.State → Type 0
@@ -155,9 +155,9 @@ IsRoundStartCause its given cube number formula sizes readers opened fault after
     IsStartCause its given.serial formula (run_params_by given cube formula sizes) readers opened
     (created_path given.next number) fault after
 
--- the cause is a fault of the formula; or the formula was read, and it is a fault of the assumed
--- literals; or both were read, and it is a fault of opening the streams; or the streams were
--- opened, and it is a fault of checking them
+-- the cause is a fault of the formula; or, once the formula was read, a fault of the assumed
+-- literals; or, once both were read, a fault of opening the streams; or, once the streams were
+-- opened, a fault of checking them
 abbrev pub IsCauseAt : (files : FilesView) → CommandLine → CommandFault → files.its.State → Type 0
 IsCauseAt files given fault after =
     IsReadCause files given fault after
@@ -173,9 +173,9 @@ IsCauseAt files given fault after =
     × IsRoundStartCause files.its given cube 1 formula (sizes_of given) readers last fault
     after)))))
 
--- Why round 1 has no report, for these words and files, and the files at that point. Words with a
--- fault leave the files as they were, and so do words that ask both for a checkpoint and for
--- rounds, and memory that runs out while the words are read.
+-- Why round 1 has no report, for these words and files, and the files at that point. The files stay
+-- as they were if the words have a fault or ask both for a checkpoint and for rounds, or if memory
+-- runs out while the words are read.
 abbrev pub IsCause : (files : FilesView) → List Text → CommandFault → files.its.State → Type 0
 IsCause files words (faults.Usage text) after = HaveFault words × (after ≡ files.first)
 IsCause files words faults.TwoCheckpoints after = AskForBoth words × (after ≡ files.first)
@@ -187,8 +187,8 @@ IsCause files words fault after =
     (given : CommandLine) × IsCommandLineOf words given × IsCauseAt files given fault after
 
 -- The file at the path was opened, and holds no text of sizes: reading it to its end gave at most
--- 64 bytes, which are no such text; or 64 bytes were read, which is longer than any such text. If
--- the file's contents are known, they are these bytes, or begin with them.
+-- 64 bytes, which are no such text; or 64 bytes were read, more than any such text has. If the
+-- file's contents are known, they are these bytes, or begin with them.
 pub record HoldsNoSizes (its : Effects) (before : its.State) (path : Text)
     (after : its.State) : Type 0 where
   pub reader : its.Reader
@@ -217,8 +217,8 @@ IsOutOfMemoryAt its before path after =
     ⊎ (its.fails before path open_faults.Memory after
     ⊎ ((reader : its.Reader) × its.opens before path reader after))
 
--- why the sizes at a path weren't read: their file couldn't be opened or read, or holds none; or
--- memory ran out
+-- why the sizes at a path weren't read: their file couldn't be opened or read, or holds no sizes;
+-- or memory ran out
 abbrev pub IsSizesCause : (its : Effects) → its.State → Text → CommandFault → its.State → Type 0
 IsSizesCause its before path faults.SizesUnread after =
     its.fails before path open_faults.NotOpened after ⊎ BrokeOff its before path after
@@ -227,7 +227,7 @@ IsSizesCause its before path faults.Memory after = IsOutOfMemoryAt its before pa
 IsSizesCause its before path fault after = ⊥
 
 -- why the file of stream 1 at the path wasn't opened: opening it failed, or memory ran out before
--- or during that
+-- or during the opening
 abbrev pub IsFirstCause : (its : Effects) → its.State → Text → CommandFault → its.State → Type 0
 IsFirstCause its before path (faults.NotOpened stream) after =
     (stream ≡ 1) × its.fails before path open_faults.NotOpened after
@@ -235,8 +235,8 @@ IsFirstCause its before path faults.Memory after =
     (after ≡ before) ⊎ its.fails before path open_faults.Memory after
 IsFirstCause its before path fault after = ⊥
 
--- why not all streams of a round were opened: stream 1 wasn't; or it was, and one of the others
--- wasn't, as in round 1
+-- why not all streams of a round were opened: stream 1 wasn't; or it was, but one of the others
+-- wasn't, for the causes of round 1
 abbrev pub IsStreamCause : (its : Effects) → its.State → Text → ℕ → ℕ → CommandFault → its.State
     → Type 0
 IsStreamCause its before folder number streams fault after =

@@ -1,4 +1,4 @@
--- The files of a run: what is done to them, and what was read of them (this project's own).
+-- The files of a run: what is done to them, and what was read from them (this project's own).
 use Rattle.std.specs.Io.KnownBytes.{Appends}
 use Rattle.std.specs.Option.{ForSome}
 use Rattle.std.specs.Prelude.{◌∷◌, ◌≡◌, ◌⊎◌, Bool, List, None, Option, Some, [], map, ℕ}
@@ -22,8 +22,8 @@ use Rattle.run_files.specs.declared.files.Machine as Machine
 use Rattle.run_files.specs.declared.files.OpenFault.{OpenFault}
 use Rattle.run_files.specs.declared.files.OpenFault.TheVariants as opens
 
--- The file at the path was opened, which led from the files `before` to those `after`, and reading
--- it up to its first end gave these bytes. If its contents are known, they are these bytes.
+-- The file at the path was opened, which led from the files `before` to the files `after`, and
+-- reading it up to its first end gave these bytes. If its contents are known, they are these bytes.
 pub record WasRead {F R : Type 0} (opens : F → Text → R → F → Type 0) (reads : ReadsOf R)
     (contents : Text → Option (List ℕ)) (before : F) (path : Text) (bytes : List ℕ)
     (after : F) : Type 0 where
@@ -65,7 +65,7 @@ AreAssumed Read vars before (Some path) cube after =
     (bytes : List ℕ) × Read before path bytes after × IsCubeText vars bytes cube
 
 -- The files at the paths were opened as these readers, one after the other: the first opening
--- starts from the files `before`, each other one from those that the one before it left, and the
+-- starts from the files `before`, each later one from the files that the previous one left, and the
 -- last one leaves the files `after`.
 abbrev pub AreOpened : {F R : Type 0} → (F → Text → R → F → Type 0) → F → List Text → List R → F
     → Type 0
@@ -150,8 +150,8 @@ abbrev pub IsFormulaAt : (files : FilesView) → Text → Cnf → files.its.Stat
 IsFormulaAt files path formula after =
     (bytes : List ℕ) × WasReadIn files files.first path bytes after × IsFormulaText bytes formula
 
--- The files at the paths were opened as these readers, in order. Each reader has all of its file
--- left, if that is known.
+-- The files at the paths were opened as these readers, in order. If a file's contents are known,
+-- its reader has all of them left.
 pub record StreamsOpened (its : Effects) (before : its.State) (paths : List Text)
     (readers : List its.Reader) (after : its.State) : Type 0 where
   pub opened : AreOpened its.opens before paths readers after
@@ -169,8 +169,8 @@ pub record HasBegun (files : FilesView) (given : CommandLine) (formula : Cnf) (c
         ≡ map files.contents given.streams
     pub known : files.its.contents later ≡ files.contents
 
--- the sizes of the next round: the old ones, if new ones have no file; else those whose text was
--- read from the file
+-- the sizes of the next round: the old ones, if there is no file of new ones; otherwise those whose
+-- text was read from the file
 abbrev pub AreSized : (its : Effects) → Text → Sizes → its.State → Sizes → its.State → Type 0
 AreSized its path old before new after =
     (its.lacks before path after × (new ≡ old))

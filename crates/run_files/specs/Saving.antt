@@ -22,9 +22,9 @@ use Rattle.run_files.specs.declared.files.OpenFault.TheVariants as open_faults
 -- An attempt to save a checkpoint to a sink, which was `first` before and `last` after. The streams
 -- of the formula with this layout had been checked, with this history and these dropped identities.
 -- A successful save wrote a text of a formula over the same variables, whose clauses all follow
--- from this formula; that is the next formula, if one is given. Its clauses are exactly those that
--- the history leaves live, except those that all streams dropped. The result is `Unwritten` exactly
--- if the sink has failed.
+-- from `formula`; the saved formula is the next one, if one is given. Its clauses are exactly those
+-- that the history leaves live, except those that all streams dropped. The result is `Unwritten`
+-- exactly if the sink has failed.
 pub record SavesCheckpoint (its : Effects) (formula : Cnf) (layout : LayoutValue)
     (history : History)
     (dropped : List DroppedIdsValue) (result : Result (Option Cnf) SaveFault)
@@ -36,8 +36,8 @@ pub record SavesCheckpoint (its : Effects) (formula : Cnf) (layout : LayoutValue
   pub failed : IsTrue (its.has_failed last) ↔ (result ≡ Err saves.Unwritten)
 
 -- How a file was closed after a save with this result. If the save succeeded, the file was kept, or
--- keeping it failed; if the save failed, the file was discarded. `unsaved` is why nothing was
--- saved, if so, and `next` is the formula that was saved, if the save gives it.
+-- keeping it failed; if the save failed, the file was discarded. `unsaved` says why nothing was
+-- saved, if nothing was, and `next` is the saved formula, if the save gives it.
 abbrev pub ClosesSink : (its : Effects) → Result (Option Cnf) SaveFault → its.State → its.Output
     → Option SaveFault → Option Cnf → its.State → Type 0
 ClosesSink its (Ok made) before last None next after = (next ≡ made) × its.keeps before last after
@@ -46,7 +46,7 @@ ClosesSink its (Ok made) before last (Some fault) next after =
 ClosesSink its (Err fault) before last unsaved next after =
     (unsaved ≡ Some fault) × (next ≡ None) × its.discards before last after
 
--- with a path, an empty file was created there; without one, there is no file
+-- with a path, an empty file was created there; without a path, there is no file
 abbrev pub CreatesCheckpoint : (its : Effects) → its.State → Option Text → Option its.Output
     → its.State → Type 0
 CreatesCheckpoint its before None None after = after ≡ before
@@ -78,8 +78,8 @@ pub record SavesAndCloses (its : Effects)
   pub saving : Saves result first last
   pub closed : ClosesSink its result before last unsaved next after
 
--- What became of the file, if there is one: with the verdict 'unsatisfiable' it was discarded, else
--- it was saved to and closed.
+-- What became of the file, if there is one: with the verdict 'unsatisfiable' it was discarded,
+-- otherwise it was saved to and closed.
 abbrev pub ClosesCheckpoint : (its : Effects)
     → (Result (Option Cnf) SaveFault → its.Output → its.Output → Type 0) → Verdict → its.State
     → Option its.Output → Option SaveFault → Option Cnf → its.State → Type 0

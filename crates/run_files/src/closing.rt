@@ -71,7 +71,7 @@ pub struct Closed {
 }
 
 impl Closed {
-    /// There is no next formula.
+    /// The result without a next formula.
     fn without_next(unsaved: Option<SaveFault>) -> Closed
         ensures unsaved { result.unsaved ≡ unsaved }
         ensures next { result.next ≡ None }

@@ -16,7 +16,7 @@ use lrup_text::{CubeFault, ReadFault, Sink, WriteBuffer, WriteFault, write_all};
 use run_outcome::RunFault;
 use std::alloc::AllocError;
 
-/// Why there is no report, only part of it, or no checkpoint.
+/// Why there is no report, only part of one, or no checkpoint.
 #[derive(Debug, Drop)]
 pub enum CommandFault {
     /// The words have a mistake, or ask for help.
@@ -83,7 +83,7 @@ impl From<OpenFault> for CommandFault {
 
     ghost from_gives = { λ opening fault. fault ≡ of_open opening };
 
-    /// The fault of the formula's file; `of_cube_file` turns it into that of the cube's.
+    /// The fault of the formula's file; `of_cube_file` turns it into the fault of the cube's file.
     fn from(fault: OpenFault) -> CommandFault {
         match fault {
             OpenFault::NotOpened => CommandFault::Unread,
@@ -97,7 +97,7 @@ impl From<ReadFault> for CommandFault {
 
     ghost from_gives = { λ _ fault. fault ≡ Unread };
 
-    /// The fault of the formula's file; `of_cube_file` turns it into that of the cube's.
+    /// The fault of the formula's file; `of_cube_file` turns it into the fault of the cube's file.
     fn from(_fault: ReadFault) -> CommandFault {
         CommandFault::Unread
     }

@@ -33,7 +33,7 @@ impl From<io::Error> for OpenFault {
     }
 }
 
-/// The files that paths name. Each implementation states the effects of its openings, also of the
+/// The files that paths name. Each implementation states the effects of its openings, including the
 /// refused ones: a default would allow everything.
 pub trait Files {
     ghost use Rattle.run_files.specs.declared.files.OpenFault.{OpenFault};
@@ -133,8 +133,8 @@ pub trait Machine: Files {
         ensures { Self.Watcher.Sink.has_failed result ≡ false };
 }
 
-/// What contracts see of a machine's files: the ghost items of both traits, as one value. It has no
-/// code.
+/// What contracts see of a machine's files: the ghost items of both traits, as one value. This
+/// trait has no code.
 pub trait Viewed {
     ghost use Rattle.run_files.specs.Files.{Effects, FilesView};
 

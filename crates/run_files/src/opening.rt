@@ -33,7 +33,8 @@ pub struct Asked<'a> {
     pub formula: Vec<u8>,
 }
 
-/// Parses the words, and reads the formula's file. It blocks while the file does.
+/// Parses the words, and reads the formula's file. It blocks as long as an operation on the file
+/// does.
 pub fn read_asked<'a, T: Threads + Wait + Sync, F: Machine>(
     threads: &T,
     alloc: Global,
@@ -62,7 +63,7 @@ pub struct Beginning<R: Drop> {
 }
 
 /// Parses the formula, reads the assumed literals, and opens the streams of the command line. It
-/// blocks while a file does.
+/// blocks as long as an operation on a file does.
 pub fn begin<T: Threads + Wait + Sync, F: Machine>(
     threads: &T,
     alloc: Global,
@@ -143,7 +144,7 @@ fn read_cube_at<T: Threads + Wait + Sync, F: Machine>(
     }
 }
 
-/// Turns a fault of reading the formula's file into that of a cube's file.
+/// Turns a fault of reading the formula's file into the same fault of a cube's file.
 fn of_cube_file(fault: CommandFault) -> CommandFault
     ensures { result ≡ of_cube_file fault }
 {

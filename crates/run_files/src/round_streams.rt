@@ -14,7 +14,8 @@ use std::alloc::{AllocError, Global};
 use std::sync::Wait;
 use std::thread::Threads;
 
-/// Opens the streams of a round, if there is a file for its stream 1. It blocks while a file does.
+/// Opens the streams of a round, if there is a file for its stream 1. It blocks as long as an
+/// operation on a file does.
 pub fn open_round<T: Threads + Wait + Sync, F: Machine>(
     threads: &T,
     alloc: Global,
@@ -51,7 +52,7 @@ pub fn open_round<T: Threads + Wait + Sync, F: Machine>(
     }
 }
 
-/// Opens the streams after stream 1, in order, and puts them after its reader.
+/// Opens the streams after stream 1, in order, and puts their readers after stream 1's.
 fn open_others<T: Threads + Wait + Sync, F: Machine>(
     threads: &T,
     alloc: Global,

@@ -15,11 +15,11 @@ use std::alloc::{AllocError, Global};
 use std::sync::Wait;
 use std::thread::Threads;
 
-/// Longer than any text of sizes.
+/// More bytes than any text of sizes has.
 const MOST: usize = 64;
 
-/// Reads the sizes of a round, if they have a file; else returns `sizes`. It blocks while the file
-/// does.
+/// Reads the sizes of a round from their file, if there is one; otherwise returns `sizes`. It
+/// blocks as long as an operation on the file does.
 pub fn sizes_of_round<T: Threads + Wait + Sync, F: Machine>(
     threads: &T,
     alloc: Global,

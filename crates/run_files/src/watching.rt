@@ -14,7 +14,7 @@ use std::time::Duration;
 const TENTHS: u64 = 10;
 
 /// Opens the file at a path as `open` of `Files` does. If `watch` is set, the opening is reported
-/// on a watcher once it has taken a second.
+/// to a watcher once it has taken a second.
 pub(crate) fn open_watched<T: Threads + Wait + Sync, F: Machine>(
     threads: &T,
     alloc: Global,
@@ -69,7 +69,7 @@ pub(crate) fn open_watched_if_there<T: Threads + Wait + Sync, F: Machine>(
 }
 
 /// Calls `opening`, which opens the file at `path`. Meanwhile another thread reports the opening, if
-/// it takes a second. Without that thread nothing is reported.
+/// it takes a second. If that thread isn't started, nothing is reported.
 fn while_reporting<T: Threads + Wait + Sync, S: Sink + Send + Drop, O, G: FnMut() -> O>(
     threads: &T,
     alloc: Global,
@@ -94,7 +94,7 @@ fn while_reporting<T: Threads + Wait + Sync, S: Sink + Send + Drop, O, G: FnMut(
     opened
 }
 
-/// Reports an opening that isn't finished after a second. `finished` is 1 once it is.
+/// Reports an opening that isn't finished after a second. `finished` is 1 once the opening is.
 fn report_unopened<W: Wait, S: Sink>(
     wait: &W,
     alloc: Global,

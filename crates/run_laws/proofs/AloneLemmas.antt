@@ -19,12 +19,12 @@ use Rattle.run_laws.specs.Groups.{one, IsGroup, IsReadingOf}
 use Rattle.run_laws.specs.GroupLaws.{AloneHasOneReport, BeginningsWithin}
 use Rattle.run_laws.proofs.Places.{judged_at}
 
--- these bytes are a reading of a stream with these bytes and this end, and the reading has this
--- end, if any
+-- a stream with these bytes, and the end `its`, if any, is a reading of the whole bytes with this
+-- end
 abbrev pub ReadsTo : Option StreamEnd → List ℕ → List ℕ → StreamEnd → Type 0
 ReadsTo its bytes whole end = MatchOption its ((more : List ℕ) × (whole ≡ bytes ++ more)) (λ e. (whole ≡ bytes) × (e ≡ end))
 
--- however much of a stream was read, all of it has this judgement
+-- however much of a stream was read, the whole stream has this judgement
 pub judged_whole : FinishedStays
     → (c : StreamParams) (its : Option StreamEnd) (bytes whole : List ℕ) (end : StreamEnd) (blocks : List History) (report : Report)
     → ReadsTo its bytes whole end → ((other : StreamEnd) → IfSome its (λ e. e ≡ other) → JudgesBlocks c bytes other blocks report)
@@ -44,7 +44,7 @@ pub own-one : (s : ℕ) (h : History) → AllByRecursion (λ e. IsTrue (one s (s
 own-one s [] all = refl
 own-one s (e ∷ h) all = cond-true (eqb (stream_of e) s) (e ∷ own h s) (own h s) all.0 ∙ ap (λ (k : History). e ∷ k) (own-one s h all.1)
 
--- the group of one stream is a judgement of all its bytes
+-- a group of one stream judges all bytes of the stream
 pub alone_judged : FinishedStays → (f : Cnf) (run_params : RunParamsValue) (s : ℕ) (streams : List Stream) (reports : List Report)
     (whole : List ℕ) (end : StreamEnd) (stream : Stream) (report : Report)
     → (g : IsGroup f run_params (one s) streams reports) → IsOfStream streams s stream → IsReadingOf whole end stream

@@ -58,7 +58,7 @@ foreign_by c id owners.Outside is foreign = absurd (let no : ownerships.Outside 
 
 -- What a stream publishes
 
--- what a history has at an identity of the stream's own, the stream published
+-- the stream published what a history has at one of the stream's own identities
 own_has : (f : Cnf) (p : LayoutValue) (h : History) (t id : ℕ) (d : Clause) → Fits p f → IsLegal f p h → Owns p t id
     → HasClause (state f h id) d → IsIn (id, d) (published (own h t))
 own_has f p h t id d fits legal owns has =
@@ -69,7 +69,7 @@ own_has f p h t id d fits legal owns has =
       | inr later ↦ later
     ]
 
--- and what it published stays
+-- and what the stream published stays
 own_stays : (f : Cnf) (p : LayoutValue) (h : History) (t id : ℕ) (d : Clause) → IsLegal f p h → IsIn (id, d) (published (own h t))
     → HasClause (state f h id) d
 own_stays f p h t id d legal is =
@@ -169,7 +169,8 @@ HaveBytesOf set streams observed =
     → IsOfStream observed t observation → (more : List ℕ) × (observation.entry ≡ Some (stream.bytes ++ more))
 
 module _ (first : OneFirstLine) (refused : RefusedStays) (cited : CitedFetched) where
-  -- one history judges a closed set of streams; the readers of the other run begin with their bytes
+  -- one history judges a closed set of streams; the readers of the other run begin with the
+  -- streams' bytes
   module _ (f : Cnf) (run_params : RunParamsValue) (set : ℕ → Bool) (g : History) (streams : List Stream) (reports : List Report)
       (observed : List InputObservation)
       (others : List Report) (fits : Fits run_params.layout f) (count : length streams ≡ run_params.layout.streams)
@@ -205,7 +206,7 @@ module _ (first : OneFirstLine) (refused : RefusedStays) (cited : CitedFetched) 
           judges = way.1;
         }
 
-    -- the same stream in the run, whose reader has this after it
+    -- the same stream in the run, whose reader has these bytes after the stream's bytes
     record Other (s : ℕ) (w : Part s) (more : List ℕ) : Type 0 where
       report : Report
       says : IsOfStream others s report
@@ -302,8 +303,8 @@ module _ (first : OneFirstLine) (refused : RefusedStays) (cited : CitedFetched) 
     found_theirs s (events.publish u id d result ∷ es) there = (tt, found_theirs s es there.1)
     found_theirs s (events.retire u id result ∷ es) there = (tt, found_theirs s es there.1)
 
-    -- the run's good lines begin with those of the stream, or the stream ended in these lines, and
-    -- none of them is to blame
+    -- the run's good lines begin with the stream's lines, or the stream ended in these lines
+    -- without blame
     goes_on : (s : ℕ) (member : IsTrue (inside run_params.layout set s)) (w : Part s) (more : List ℕ) (o : Other s w more)
         → w.judges.rest ≡ []
         → GoesOn w.judges.lines o.read.reads.judges.lines ⊎ IsBlameless (stream_params run_params s) Mine (length w.judges.lines) o.report
@@ -331,7 +332,7 @@ module _ (first : OneFirstLine) (refused : RefusedStays) (cited : CitedFetched) 
         (omega arith) w.judges.good j.good j.ends w.judges.fits j.fits
         o.texts o.read.reads.ended ours also
 
-    -- it says at least as much, or it ended in the stream's lines, and none of them is to blame
+    -- the other report says at least as much, or its stream ended in these lines without blame
     pub record AgreesOn (s : ℕ) (report other : Report) : Type 0 where
       pub stream : Stream
       pub at : IsOfStream streams s stream
@@ -377,7 +378,7 @@ module _ (first : OneFirstLine) (refused : RefusedStays) (cited : CitedFetched) 
         }
 
     module _ (one_fault : OneFault) (empty : EmptyPending) where
-      -- if it has the stream's bytes and no more, it has its report
+      -- if the run's reader has the stream's bytes and no more, the stream has the same report
       pub same_report : (s : ℕ) (stream : Stream) (observation : InputObservation) (report other : Report)
           → IsTrue (set s) → IsOfStream streams s stream → IsOfStream reports s report → report.ending ≡ endings.Ended
           → IsOfStream observed s observation → observation.entry ≡ Some stream.bytes → IsOfStream others s other

@@ -50,13 +50,13 @@ IsFoundIn c Found (events.fetch s id events.retired) = Unit {0}
 IsFoundIn c Found (events.publish s id d r) = Unit {0}
 IsFoundIn c Found (events.retire s id r) = Unit {0}
 
--- from this state on, each event at an identity of the formula or of the stream's own answers as
--- the state after the events before it, and this holds for what is found of other streams
+-- from this state on, each event at an identity of the formula or of the stream has the reply of
+-- the state after the earlier events, and this holds for what is found of other streams
 abbrev pub AreFair : StreamParams → (ℕ → Clause → Type 0) → State → History → Type 0
 AreFair c Found m [] = Unit {0}
 AreFair c Found m (e ∷ es) = (IsNear (ownership_of c (identity_of e)) → Answers m e) × IsFoundIn c Found e × AreFair c Found (after m e) es
 
--- at one identity, the one history and the other find the same clause of another stream
+-- at one identity, both histories find the same clause of another stream
 abbrev pub FindAlike : StreamParams → (ℕ → Clause → Type 0) → (ℕ → Clause → Type 0) → Type 0
 FindAlike c Mine Theirs = (id : ℕ) (d e : Clause) → ownership_of c id ≡ ownerships.Foreign → Mine id d → Theirs id e → d ≡ e
 
@@ -163,7 +163,7 @@ looks_agree c Mine Theirs m is_dropped h fs asked rest es also left d answer ali
 
 -- Hints
 
--- the fault is that of a clause of another stream that was found
+-- the fault is the lack of another stream's clause that was found
 abbrev pub Lacks : StreamParams → (ℕ → Clause → Type 0) → Fault → Type 0
 Lacks c Mine fault = (h : ℕ) × (d : Clause) × (ownership_of c h ≡ ownerships.Foreign) × Mine h d
     × ((fault ≡ faults.Missing h) ⊎ (fault ≡ faults.Retired h))
@@ -235,7 +235,7 @@ import_agrees c Mine Theirs m st id lits fs es deleted fault alike good mine the
 
 -- Deletions
 
--- a deletion that is good in the one is good in the other, with the same events
+-- a deletion that is good in one history is good in the other, with the same events
 at_agrees : (ownership : Ownership) (c : StreamParams) (Mine Theirs : ℕ → Clause → Type 0) (m : State) (is_dropped : ℕ → Bool)
     (earlier : List ℕ) (id : ℕ)
     (fs es : History) (v : LineVerdict) (A B : History → Type 0)

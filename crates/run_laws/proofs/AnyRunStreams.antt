@@ -55,7 +55,7 @@ near_owner c id t near owns = elim (cases_eq t c.stream) [
       (ap (ownership_by c) owns ∙ cond-false (eqb t c.stream) ownerships.Own ownerships.Foreign (ne_eqb t c.stream other)) near)
 ]
 
--- a stream's calls in a legal history are fair if what it finds is
+-- a stream's calls in a legal history are fair if the condition holds for what it finds
 pub near_fair : (f : Cnf) (c : StreamParams) (Found : ℕ → Clause → Type 0) (m n : State) (h : History) → LegalFrom f c.layout m h
     → ((id : ℕ) → IsNear (ownership_of c id) → n id ≡ m id) → AllByRecursion (IsFoundIn c Found) (own h c.stream)
     → AreFair c Found n (own h c.stream)
@@ -135,7 +135,7 @@ in_all P x [] all is = absurd is
 in_all P x (y ∷ xs) all (inl here) = subst P here all.0
 in_all P x (y ∷ xs) all (inr later) = in_all P x xs all.1 later
 
--- what one stream published, the history did
+-- the history published what one stream published
 pub own_published : (h : History) (s : ℕ) (x : ℕ × Clause) → IsIn x (published (own h s)) → IsIn x (published h)
 own_published [] s x is = is
 own_published (e ∷ h) s x is =
@@ -157,7 +157,7 @@ had absent d has = has
 had (live c) d has = has
 had (retired c) d has = has
 
--- a clause that events leave at an identity was there, or the events publish it
+-- a clause that events leave at an identity was there before, or the events publish it
 pub left_published : (m : State) (es : History) (id : ℕ) (d : Clause) → HasClause (run m es id) d
     → HasClause (m id) d ⊎ IsIn (id, d) (published es)
 left_published m [] id d has = inl has
@@ -217,7 +217,7 @@ module _ (c : StreamParams) where
 
 -- A stream that ended
 
--- nothing is left of it
+-- nothing of the stream is left
 pub record HasEnded (c : StreamParams) (lines : List StreamLine) (rest : List ℕ) (report : Report) : Type 0 where
   pub none : rest ≡ []
   pub says : report ≡ report_of c lines 0 endings.Ended
@@ -258,7 +258,7 @@ LacksFound c Mine count report = (d : Clause) × (line h : ℕ) × Mine h d × (
 abbrev pub IsCutIn : ℕ → Report → Type 0
 IsCutIn count report = (line : ℕ) × (line ≤ count) × IsExcusedAt CutOff report line
 
--- the report has an ending in the first `count` lines, and none of them is to blame
+-- the report has an ending in the first `count` lines, without blame
 abbrev pub IsBlameless : StreamParams → (ℕ → Clause → Type 0) → ℕ → Report → Type 0
 IsBlameless c Mine count report = IsCutIn count report ⊎ LacksFound c Mine count report
 
@@ -311,7 +311,7 @@ module _ (first : OneFirstLine) (refused : RefusedStays) (c : StreamParams) (Min
       (omega (arith, below)) limits is none pending says)
 
   -- if a stream's bytes begin with lines that are good in the one history, its good lines in the
-  -- other begin with these, or it ends in them, and none of them is to blame
+  -- other begin with these lines, or it ends in these lines without blame
   pub lines_go_on : (before lines others : List StreamLine) (fs front back : List History) (m : State) (rest left more : List ℕ)
       (end : StreamEnd)
       (count : ℕ) (report : Report) → length before + length lines ≤ count
@@ -358,7 +358,7 @@ module _ (first : OneFirstLine) (refused : RefusedStays) (c : StreamParams) (Min
         | inr worse ↦ inr worse
       ]
 
--- What a stream says that continues after some lines
+-- The report of a stream that continues after some lines
 
 more_observed : (c : StreamParams) (lines later : List StreamLine) (deleted : ℕ) (ending : Ending) (report : Report)
     → report ≡ report_of c (lines ++ later) deleted ending → SaysAtLeast report (report_of c lines 0 endings.Ended)
@@ -375,7 +375,7 @@ more_observed c lines later deleted ending report says =
           ∙ or_left (list_any is_cubes (additions_of lines)) (list_any is_cubes (additions_of later)) test;
     })
 
--- it says at least what the report of these lines does
+-- the report says at least what the report of these lines says
 pub goes_on_says : (c : StreamParams) (lines later : List StreamLine) (rest : List ℕ) (end : StreamEnd) (back : List History)
     (report : Report)
     → EndsAfter c (lines ++ later) rest end back report → SaysAtLeast report (report_of c lines 0 endings.Ended)
@@ -415,7 +415,7 @@ module _ (one_fault : OneFault) (empty : EmptyPending) (c : StreamParams) where
   none_after (line ∷ later) rest left limits is =
       absurd (empty.whole line (flat_map line_text later ++ (rest ++ left)) limits.0 (sym is ∙ split_first line later (rest ++ left)))
 
-  -- it also ended if these lines are all that its bytes have
+  -- the stream also ended if its bytes have only these lines
   pub whole_observed : (lines all : List StreamLine) (rest left : List ℕ) (end : StreamEnd) (back : List History) (report : Report)
       → GoesOn lines all → AllByRecursion IsWithinLimits all → flat_map line_text all ++ (rest ++ left) ≡ flat_map line_text lines
       → ¬ IsExcused OutOfMemory report → ¬ IsExcused ReadFailed report

@@ -19,7 +19,7 @@ use Rattle.run_laws.proofs.SwapLemmas.{Settles, goes-following, comes-before}
 
 -- Blocks
 
--- what is known of a block in an order: whose its events are, and what they say about retired
+-- what is known of a block in an order: whose events it has, and what they say about retired
 -- identities
 pub record IsSettled (p : LayoutValue) (final : State) (block : Block) : Type 0 where
   pub stream : IsStream p block.stream
@@ -45,7 +45,7 @@ join-other : (e : Event) (block : Block) (blocks : List Block) → (block.stream
 join-other e block blocks other = cond-false (eqb block.stream (stream_of e)) (joined_block e block ∷ blocks) (block ∷ join e blocks)
     (ne_eqb block.stream (stream_of e) other)
 
--- its stream's blocks are then the same, except that the first begins with the event
+-- the event's stream then has the same blocks, except that the first begins with the event
 pub join-own : (e : Event) (blocks : List Block) (b : History) (more : List History) → blocks_of (stream_of e) blocks ≡ b ∷ more
     → blocks_of (stream_of e) (join e blocks) ≡ (e ∷ b) ∷ more
 join-own e [] b more is = absurd (cc)
@@ -66,7 +66,7 @@ join-own e (block ∷ blocks) b more is =
           ∙ join-own e blocks b more (sym (blocks-other block blocks s other) ∙ is)
     ]
 
--- and those of other streams stay
+-- and the blocks of other streams stay
 pub join-others : (e : Event) (blocks : List Block) (t : ℕ) → (stream_of e ≡ t → ⊥) → blocks_of t (join e blocks) ≡ blocks_of t blocks
 join-others e [] t apart = refl
 join-others e (block ∷ blocks) t apart =

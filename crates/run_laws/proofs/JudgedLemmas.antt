@@ -1,4 +1,4 @@
--- The blocks by which a stream is judged, and what it retires.
+-- The blocks by which a stream is judged, and what the stream retires.
 use Rattle.std.proofs.Common.{◌≡◌, ℕ, Bool, List, [], ◌∷◌, ◌++◌, refl, sym, ap, subst, ◌∙◌, append-nil}
 use Rattle.std.specs.Prelude.{IsTrue}
 use Rattle.std.specs.List.{AllByRecursion, flat_map}
@@ -55,10 +55,9 @@ judged_blocks early_events vacant_tries_again c bytes end blocks report j =
     (good_blocks early_events vacant_tries_again c [] j.lines j.front j.good)
     (end_blocks early_events vacant_tries_again c j.lines j.rest end j.back report j.ends))
 
--- Which of the lines that the bytes are cut into are judged
+-- The judged lines among those that the bytes are cut into
 
--- the lines found whole at the front of some bytes are the first of those that the bytes are cut
--- into
+-- the whole lines found at the front of some bytes are the first lines that the bytes are cut into
 pub record AreFirst (lines all : List StreamLine) (left rest : List ℕ) : Type 0 where
   pub more : List StreamLine
   pub is : all ≡ lines ++ more

@@ -1,4 +1,4 @@
--- Two orders of the same streams that both take them in turn are one.
+-- Two orders of the same streams are the same if both take the streams in turn.
 use Rattle.std.proofs.Common.{◌≡◌, ◌≢◌, ◌<◌, ◌≤◌, ◌+◌, ℕ, true, List, [], ◌∷◌, ◌++◌, length, Bool, cond, eqb, eq-eqb, ne_eqb, inl, inr}
 use Rattle.std.proofs.Common.{refl, sym, ap, ap₂, subst, ◌∙◌, arith, append_assoc}
 use Rattle.std.specs.List.{AllByRecursion}

@@ -132,7 +132,7 @@ finds_less p set (events.fetch s id r ∷ h) all = (
 finds_less p set (events.publish s id c r ∷ h) all = (tt, finds_less p set h all.1)
 finds_less p set (events.retire s id r ∷ h) all = (tt, finds_less p set h all.1)
 
--- what holds for the own events of each stream of a set holds for the set's events
+-- what holds for each own event of a set's streams holds for the set's events
 pub own_each : (P : Event → Type 0) (set : ℕ → Bool) (h : History)
     → ((s : ℕ) → IsTrue (set s) → AllByRecursion P (own h s))
     → AllByRecursion (λ e. IsTrue (set (stream_of e)) → P e) h

@@ -1,4 +1,4 @@
--- The stream at a place, counted from the first.
+-- The stream at an index of the list.
 use Rattle.std.proofs.Common.{ℕ, ◌-◌, ◌<◌, ◌≤◌, Bool, List, length, inl, inr, arith}
 use Rattle.std.specs.Prelude.{IsTrue}
 use Rattle.std.proofs.lemmas.Option.{slice_get_cases}

@@ -1,4 +1,4 @@
--- The premise on what is retired: by the final state, by events, and by the streams' lines.
+-- The premise about what is retired: by the final state, by events, and by the streams' lines.
 use Rattle.std.proofs.Common.{◌≡◌, ◌⊎◌, ◌-◌, ◌&&◌, ◌||◌, ℕ, Bool, eqb, List, [], ◌∷◌, ◌++◌, length, refl, sym, subst, ◌∙◌, inl, inr, ltb}
 use Rattle.std.proofs.Common.{leb, eq-eqb, arith}
 use Rattle.std.specs.Prelude.{IsTrue}
@@ -31,7 +31,7 @@ use Rattle.run_laws.proofs.SwapLemmas.{gone_stays}
 use Rattle.run_laws.proofs.WalkLemmas.{own-calls}
 use Rattle.run_laws.proofs.StreamLemmas.{IsJudgedStream, judged_stream, is_inside, inside_owner, fetched_inside}
 
--- What a history leaves retired, it retires
+-- A history retires what it leaves retired
 
 gone_back : (m : State) (e : Event) (id : ℕ) → IsRetired (after m e id) → IsRetired (m id) ⊎ IsRetireOf id e
 gone_back m (events.fetch s j r) id is_dropped = inl is_dropped
@@ -75,7 +75,7 @@ opening_retires f h id is_dropped =
       | inr retires ↦ retires
     ]
 
--- What a legal history retires, it leaves retired
+-- A legal history leaves retired what it retires
 
 retired_at : (f : Cnf) (p : LayoutValue) (m : State) (e : Event) (id : ℕ) (h : History)
     → LegalFrom f p m (e ∷ h) → IsRetireOf id e → IsRetired (after m e id)
@@ -102,7 +102,7 @@ kept_by_events f p h legal (events.fetch s id events.retired) = ((λ kept. tt), 
 kept_by_events f p h legal (events.publish s id c r) = ((λ kept. tt), (λ kept. tt))
 kept_by_events f p h legal (events.retire s id r) = ((λ kept. tt), (λ kept. tt))
 
--- The owners alone
+-- Only the owners
 
 less_found : (p : LayoutValue) (h : History) (e : Event) → MeetsUnretired p h e → FindsUnretired p h e
 less_found p h (events.fetch s id events.vacant) meets = tt
@@ -135,7 +135,7 @@ retires_more e h t id retires =
       | inr other ↦ subst (λ (g : History). HistoryRetires g id) (sym (own-other e h t other)) retires
     ]
 
--- the stream that owns it, with a call of its own
+-- the stream that owns the identity, with a call of its own
 retirer : (f : Cnf) (p : LayoutValue) (m : State) (h : History) (id : ℕ) → LegalFrom f p m h → HistoryRetires h id
     → (t : ℕ) × Owns p t id × HistoryRetires (own h t) id
 retirer f p m [] id legal retires = absurd retires

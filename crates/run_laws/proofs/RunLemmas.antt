@@ -94,7 +94,7 @@ failed_is_reading observed streams s observation stream whole left match_inputs 
 
 -- A run
 
--- a closed set of its streams is a group
+-- a closed set of a run's streams is a group
 closed_group : ClosedIsGroup → (f : Cnf) (run_params : RunParamsValue) (observed : List InputObservation) (reports : List Report)
     → Fits run_params.layout f
     → (run : IsRun f run_params observed reports) (set : ℕ → Bool) → IsClosed run_params.layout set run.streams
@@ -104,7 +104,7 @@ closed_group law f run_params observed reports fits run set closed memory =
     law f run_params set run.history run.streams reports fits run.count run.legal
     (judged_fewer run_params (λ s. true) set run.history (λ s member. refl) 1 run.streams reports run.judged) closed memory
 
--- if one stream's report doesn't say that memory ran out, no report of the stream as a set does
+-- if one stream's report doesn't say that memory ran out, no report of the one-stream set does
 alone_fine : (s : ℕ) (reports : List Report) (report : Report) → IsOfStream reports s report → ¬ IsExcused OutOfMemory report
     → NoneExcused (one s) OutOfMemory reports
 alone_fine s reports report says memory t other member there =
@@ -123,7 +123,7 @@ run_isolated law alone f run_params observed reports fits run = record {
 
 -- Two runs
 
--- a stream that cites within itself is alone
+-- a stream that cites within itself is a group of its own
 run_alone : ClosedIsGroup → (f : Cnf) (run_params : RunParamsValue) (s : ℕ) (observed : List InputObservation) (reports : List Report)
     (stream : Stream) (report : Report) → Fits run_params.layout f → (a : IsRun f run_params observed reports)
     → IsOfStream a.streams s stream → IsOfStream reports s report → CiteWithin run_params.layout (one s) stream.bytes
@@ -153,7 +153,7 @@ same_reading_agrees within group alone f run_params s whole end observed other_o
     (reading_within within p (one s) other.end other.bytes whole end also cites) none)
     at there reads also says too
 
--- if a report isn't of a cut off stream, memory didn't run out, and no read failed
+-- if a report isn't that of a cut-off stream, memory didn't run out and no read failed
 pub fine_memory : (report : Report) → ¬ IsExcused CutOff report → ¬ IsExcused OutOfMemory report
 fine_memory report fine memory = fine (memory.0, inl memory.1)
 

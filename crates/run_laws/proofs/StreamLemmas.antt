@@ -76,7 +76,7 @@ module _ (run_params : RunParamsValue) (set : ℕ → Bool) (h : History) where
         ),
       )
 
-  -- a stream of the set, at its place in the list
+  -- a stream of the set, at its index in the list
   record IsJudgedAt (blocks : ℕ → List History) (streams : List Stream) (k s : ℕ) : Type 0 where
     stream : Stream
     report : Report
@@ -252,7 +252,7 @@ all_closed every_cut p streams s stream member at =
 
 -- Runs
 
--- if all streams have these judgements, so have those of a set
+-- if all streams have these judgements, so do the streams of a set
 judged_members : (run_params : RunParamsValue) (set : ℕ → Bool) (h : History) (s : ℕ) (streams : List Stream) (reports : List Report)
     → AreJudgedIn run_params (λ t. true) h s streams reports → AreJudgedIn run_params set h s streams reports
 judged_members run_params set h s streams reports judged = each_more s streams reports judged (λ t stream report j member. j refl)

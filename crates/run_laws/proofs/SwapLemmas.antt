@@ -162,7 +162,7 @@ alive_some absent alive is = absurd alive
 alive_some (live c) alive is = absurd (cc)
 alive_some (retired c) alive is = absurd alive
 
--- a fetch also has its reply after another stream's retire, if what it finds stays
+-- a fetch has the same reply after another stream's retire, if what it finds stays
 fetch-after : (p : LayoutValue) (final m : State) (s id t j : ℕ) (r : Reply)
     → (s ≡ t → ⊥) → Owns p s id → IsRetired (final id) → Settles p final (events.fetch t j r)
     → IsLive (m id) → Answers m (events.fetch t j r) → Answers (after m (events.retire s id retiring.Done)) (events.fetch t j r)

@@ -254,7 +254,7 @@ module _ (taken : GoodLineTaken) (f : Cnf) (run_params : RunParamsValue)
 
 -- What is cited
 
--- each clause of each database is the formula's, or of a stream of the set
+-- each clause of each database belongs to the formula or to a stream of the set
 abbrev AreWithin : LayoutValue → (ℕ → Bool) → (ℕ → Database) → Type 0
 AreWithin p set bases = (t id : ℕ) (d : Clause) → (bases t).clauses id ≡ Some d → IsOwnedWithin p set id
 
@@ -391,7 +391,7 @@ text_stream steps t = record { bytes = flat_map line_text (lines_by t steps); un
 its_report : RunParamsValue → List Step → ℕ → Report
 its_report run_params steps t = valid_report run_params t (lines_by t steps)
 
--- a legal history gives all of them this judgement
+-- a legal history gives all streams this judgement
 record AreJudgedTogether (f : Cnf) (run_params : RunParamsValue) (set : ℕ → Bool) (steps : List Step) : Type 0 where
   history : History
   legal : IsLegal f run_params.layout history

@@ -1,4 +1,4 @@
--- A stream that ended alone is valid.
+-- A stream that ends when alone is valid.
 use Rattle.std.proofs.Common.{◌≡◌, ◌≢◌, ◌⊎◌, ◌++◌, ℕ, ℤ, Bool, true, false, cond, eqb, List, [], ◌∷◌, length, Option, Some, None, inl, inr}
 use Rattle.std.proofs.Common.{refl, sym, ap, subst, ◌∙◌, arith, append_assoc, append-nil, eq-eqb, ne_eqb, ltb, leb}
 use Rattle.std.specs.Prelude.{IsSome, ◌||◌, ◌&&◌, ◌==◌}
@@ -215,7 +215,7 @@ none_same c is_dropped earlier (j ∷ ids) n id cannot can =
     (ne_eqb j id (λ same. cannot (subst (CanGo c is_dropped earlier n) same can.0)))
     (none_same c is_dropped earlier ids n id cannot can.1)
 
--- what holds for the others before this one
+-- the others that can be deleted after this one can be deleted before it
 others_can : (c : StreamParams) (is_dropped : ℕ → Bool) (earlier ids : List ℕ) (id : ℕ) (m n : State) → is_among ids id ≡ false
     → ((j : ℕ) → j ≢ id → n j ≡ m j) → AllByRecursion (CanGo c is_dropped (earlier ++ id ∷ []) n) ids
     → AllByRecursion (CanGo c is_dropped earlier m) ids

@@ -84,8 +84,8 @@ first_agrees f c cnf fits = record {
 
 -- The lines one after the other
 
--- these further blocks are legal here, take no more than the room that is left, and leave the
--- checker unfinished
+-- these further blocks are legal here, use no more room than is left, and leave the checker
+-- unfinished
 record LinesGo (f : Cnf) (c : StreamParams) (base : Database) (m : State) (bytes : List ℕ) (blocks : List History)
     (lines : List StreamLine) : Type 0 where
   more : List History
@@ -148,7 +148,7 @@ pub all_others : (s t : ℕ) (h : History) → s ≢ t → AllByRecursion (λ e.
 all_others s t [] other all = tt
 all_others s t (e ∷ h) other all = (λ same. other (sym all.0 ∙ same), all_others s t h other all.1)
 
--- the room that a history of one stream takes
+-- the room that a history of one stream uses
 all_spent : (p : LayoutValue) (s : ℕ) (h : History) → AllByRecursion (λ e. stream_of e ≡ s) h → sum_by size_of h ≤ p.room
     → (t : ℕ) → spent t h ≤ p.room
 all_spent p s h callers room t = elim (cases_eq s t) [
@@ -158,7 +158,7 @@ all_spent p s h callers room t = elim (cases_eq s t) [
       omega (arith, spent-sizes t h, ap (sum_by size_of) none)
 ]
 
--- A list with one element at its end, after copies of another
+-- A list with one element at its end, after copies of another element
 
 padded : {X : Type 0} → ℕ → X → X → List X
 padded zero x y = y ∷ []
@@ -208,7 +208,7 @@ ended_report ends empty_cut one_cut run_params s lines more going pending limits
 
 module _ (taken : GoodLineTaken) (fresh : FreshLeft) (ends : EndJudged)
     (empty_cut : EmptyCut) (one_cut : OneCut) where
-  -- a legal history of the stream's own calls gives it this judgement
+  -- a legal history of the stream's own calls gives the stream this judgement
   pub valid_judged : (f : Cnf) (run_params : RunParamsValue) (s : ℕ) (bytes : List ℕ) (lines : List StreamLine)
       → IsCnf f → Fits run_params.layout f → IsStream run_params.layout s → IsValidProof f run_params.layout s bytes lines
       → (j : IsJudgedWhole f run_params s bytes (valid_report run_params s lines)) × AllByRecursion (λ e. stream_of e ≡ s) j.history

@@ -42,7 +42,7 @@ use Rattle.run_laws.specs.Valid.{is_own, beside_line}
 use Rattle.run_laws.proofs.SwapLemmas.{mine_or_not}
 use Rattle.run_laws.specs.Valid.{Database, after_line, after_step, AreDistinct, AreValidTogether, IsValidDeletion, IsValidLine, Step}
 
--- A stream alone is an order of one
+-- One stream alone as an order of lines
 
 -- each line is valid after those before it
 abbrev pub AreValid : LayoutValue → ℕ → Database → List StreamLine → Type 0
@@ -123,7 +123,7 @@ pub record Agrees (f : Cnf) (p : LayoutValue) (s : ℕ) (base : Database) (st : 
   pub unseen : (id : ℕ) → m id ≡ absent → st.is_dropped id ≡ false
   pub vacant : AreVacantAbove p s m base.last
 
--- this block judges the line good, is legal here, and takes no more room than the line does
+-- this block judges the line good, is legal here, and uses no more room than the line
 pub record Goes (f : Cnf) (c : StreamParams) (base : Database) (st : StreamContext) (m : State) (line : StreamLine) : Type 0 where
   pub block : History
   pub judged : JudgesLine c st line block Good
@@ -332,7 +332,7 @@ record CanDelete (c : StreamParams) (is_dropped : ℕ → Bool) (earlier : List 
   new : is_among earlier id ≡ false
   alive : IsLive (m id)
 
--- this block judges the deletion of these identities good, is legal here, takes no room, and leaves
+-- this block judges the deletion of these identities good, is legal here, uses no room, and leaves
 -- all other identities unchanged
 record DeletionGoes (f : Cnf) (c : StreamParams) (is_dropped : ℕ → Bool) (earlier ids : List ℕ) (m : State) : Type 0 where
   block : History

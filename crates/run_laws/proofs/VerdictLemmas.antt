@@ -1,5 +1,5 @@
 -- The verdict of an order of lines: some stream says that it added the empty clause, or one within
--- the cube, exactly if the order publishes one.
+-- the cube, exactly if the order publishes such a clause.
 use Rattle.std.proofs.Common.{◌≡◌, ◌||◌, ◌+◌, ◌-◌, ◌<◌, ◌≤◌, ℕ, zero, suc, ℤ, Bool, true, false, List, [], ◌∷◌, ◌++◌, length, refl, sym, ap}
 use Rattle.std.proofs.Common.{subst, ◌∙◌, inl, inr, arith}
 use Rattle.std.specs.Prelude.{◌==◌}
@@ -46,9 +46,9 @@ both_ways false false to back = refl
 
 -- What a test is about
 
--- Tests of events, of additions and of reports that are about the same: no fetch and no retire
--- passes, the publish of an addition passes exactly if the addition does, and a report passes
--- exactly if a good addition does.
+-- Tests of events, additions and reports that agree: no fetch or retire passes, the publish of an
+-- addition passes exactly if the addition does, and a report passes exactly if a good addition
+-- does.
 record CallerStep (c : StreamParams) (passes : Event → Bool) (adds : ℕ × Clause → Bool) (says : Report → Bool) : Type 0 where
   fetches_none : (id : ℕ) (r : Reply) → passes (events.fetch c.stream id r) ≡ false
   retires_none : (id : ℕ) (r : Retired) → passes (events.retire c.stream id r) ≡ false
@@ -121,7 +121,7 @@ module _ (c : StreamParams) (passes : Event → Bool) (adds : ℕ × Clause → 
   good_line st (Deletion lead ids) es judged =
       quiet_none passes es (identities_all c (IsQuiet passes) st.is_dropped [] ids es Good (quiet_retires ids) judged)
 
-  -- a bad line doesn't
+  -- a bad line publishes nothing that passes
   bad_line : (st : StreamContext) (line : StreamLine) (es : History) (deleted : ℕ) (fault : Fault)
       → JudgesLine c st line es (Bad deleted fault) → list_any passes es ≡ false
   bad_line st (Addition id lits hints) es deleted fault judged =
@@ -179,7 +179,7 @@ module _ (c : StreamParams) (passes : Event → Bool) (adds : ℕ × Clause → 
 -- The blocks of an order
 
 module _ (passes : Event → Bool) where
-  -- what a block of a stream publishes, the order publishes
+  -- the order publishes what a block of a stream publishes
   in_order : (s : ℕ) (order : List Block) → list_any passes (joined (blocks_of s order)) ≡ true
       → list_any passes (events_in order) ≡ true
   in_order s [] is = is
@@ -206,7 +206,7 @@ module _ (passes : Event → Bool) where
         | inr other ↦ ap (λ (bs : List History). list_any passes (joined bs)) (blocks-other block order s other) ∙ is
       ]
 
-  -- what an order publishes, a block of one of its streams does
+  -- a block of one of the streams publishes what the order publishes
   by_stream : (p : LayoutValue) (set : ℕ → Bool) (order : List Block) → AllByRecursion (IsBlockWithin p set) order
       → list_any passes (events_in order) ≡ true
       → (s : ℕ) × IsStream p s × (list_any passes (joined (blocks_of s order)) ≡ true)

@@ -210,7 +210,7 @@ module _ (f : Cnf) (p : LayoutValue) (final m : State) where
   goes rest (events.retire s id r) d b more is stream early again apart caller settles answers allowed made =
       retires-on rest s id r d b more is stream (apart.0 tt) settles answers allowed made
 
-  -- a line of this event alone
+  -- a line of only this event
   begins : (rest : Lines) (e : Event) (more : List History)
       → rest (stream_of e) ≡ (e ∷ []) ∷ more → IsStream p (stream_of e) → Settles p final e → Answers m e → IsAllowed f p e
       → HasOrder f p final (after m e) (with rest (stream_of e) more) → HasOrder f p final m rest

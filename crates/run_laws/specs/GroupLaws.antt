@@ -18,7 +18,7 @@ use Rattle.run_laws.specs.Groups.{one, AreClosedReaders, NoneExcused, IsGroup, A
 
 -- Closed sets
 
--- if the lines of some bytes cite within a set, so do those of a prefix of the bytes
+-- if the lines of some bytes cite within a set, so do the lines of a prefix of the bytes
 abbrev pub BeginningsWithin : Type 0
 BeginningsWithin = (p : LayoutValue) (set : ℕ → Bool) (bytes more : List ℕ)
     → CiteWithin p set (bytes ++ more) → CiteWithin p set bytes
@@ -93,8 +93,8 @@ MatchIsReading = (observed : List InputObservation) (streams : List Stream) (s :
     → observation.entry ≡ Some whole → observation.has_failed ≡ false
     → IsReadingOf whole stream_ends.Ended stream
 
--- if a reader failed, its stream is a reading of the bytes before those that the reader then has
--- left, with a failed read
+-- if a reader failed, its stream is a reading of the bytes before those that the reader has left
+-- after the failure, with a failed read as its end
 abbrev pub FailedIsReading : Type 0
 FailedIsReading = (observed : List InputObservation) (streams : List Stream) (s : ℕ)
     (observation : InputObservation)
@@ -105,9 +105,9 @@ FailedIsReading = (observed : List InputObservation) (streams : List Stream) (s 
     → observation.has_failed ≡ true
     → IsReadingOf whole stream_ends.Failed stream
 
--- In two runs of one formula with the same parameters, a stream that cites within itself has one
--- report if both times it is a reading of the same bytes and end, unless memory ran out. The other
--- streams and the use of threads make no difference.
+-- In two runs of one formula with the same parameters, a stream that cites within itself has the
+-- same report if it is a reading of the same bytes and end in both, unless memory ran out. The
+-- other streams and the use of threads make no difference.
 abbrev pub SameReadingAgrees : Type 0
 SameReadingAgrees =
     (f : Cnf) (run_params : RunParamsValue) (s : ℕ) (whole : List ℕ) (end : StreamEnd)
@@ -122,8 +122,8 @@ SameReadingAgrees =
     → IsOfStream reports s report → IsOfStream other_reports s other_report
     → ¬ IsExcused OutOfMemory report → ¬ IsExcused OutOfMemory other_report → report ≡ other_report
 
--- It has one report if both readers have the same bytes left at first, unless memory ran out or a
--- read failed.
+-- Such a stream has the same report if both readers have the same bytes left at first, unless
+-- memory ran out or a read failed.
 abbrev pub SameBytesAgree : Type 0
 SameBytesAgree = (f : Cnf) (run_params : RunParamsValue) (s : ℕ) (whole : List ℕ)
     (observed other_observed : List InputObservation)

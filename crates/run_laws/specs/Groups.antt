@@ -1,5 +1,5 @@
--- What a run is, and its groups of streams: what holds for their reports no matter what the streams
--- outside the group do (this project's own).
+-- What a run is, and its groups of streams: what holds for a group's reports no matter what the
+-- streams outside the group do (this project's own).
 use Rattle.std.specs.Prelude.{◌≡◌, ◌+◌, ◌==◌, ◌++◌, ℕ, Bool, true, false, IsTrue, List, [], ◌∷◌, length, Some, MatchOption, if◌then◌else◌}
 use Rattle.std.specs.List.{AllByRecursion, AllZip}
 use Rattle.lrup_model.specs.Formula.{Cnf}
@@ -29,7 +29,7 @@ pub record IsRunOfFirst (many : ℕ) (formula : Cnf) (run_params : RunParamsValu
   pub legal : IsLegal formula run_params.layout history
   pub judged : AreJudgedIn run_params (λ s. true) history 1 streams reports
 
--- What a run is: the same with all streams of the layout.
+-- What a run is: the same, with all streams of the layout.
 abbrev pub IsRun : Cnf → RunParamsValue → List InputObservation → List Report → Type 0
 IsRun formula run_params observed reports =
     IsRunOfFirst run_params.layout.streams formula run_params observed reports
@@ -48,8 +48,8 @@ AreClosedReaders layout set observed =
 
 -- Readings
 
--- the stream is one reading of these bytes with this end: all of it, or a prefix after which no
--- more was needed
+-- the stream is a reading of these bytes with this end: all of them with the end, or a prefix after
+-- which no more was needed
 abbrev pub IsReadingOf : List ℕ → StreamEnd → Stream → Type 0
 IsReadingOf whole end stream =
     MatchOption stream.end ((more : List ℕ) × (whole ≡ stream.bytes ++ more))
@@ -62,8 +62,9 @@ abbrev pub NoneExcused : (ℕ → Bool) → Excuse → List Report → Type 0
 NoneExcused set excuse reports = (s : ℕ) (report : Report) → IsTrue (set s)
     → IsOfStream reports s report → ¬ IsExcused excuse report
 
--- The reports of a set of streams are those of the set alone: a legal history, with events of its
--- streams and of no others, gives each of them this judgement, and none says that memory ran out.
+-- The reports of a set of streams are those of the set alone: a legal history that has only events
+-- of its streams judges each of these streams as its report says, and no report says that memory
+-- ran out.
 pub record IsGroup (formula : Cnf) (run_params : RunParamsValue) (set : ℕ → Bool)
     (streams : List Stream)
     (reports : List Report) : Type 0 where

@@ -49,7 +49,7 @@ DeletedRetired = (c : StreamParams) (bytes : List ℕ) (end : StreamEnd) (blocks
 -- An order of lines
 
 -- Lines of streams that find no clause of streams outside their set have an order, if what they
--- found live of one another isn't left retired.
+-- found live of one another isn't retired in the end.
 abbrev pub LinesOrdered : Type 0
 LinesOrdered = (f : Cnf) (p : LayoutValue) (set : ℕ → Bool) (h : History) (blocks : ℕ
     → List History)
@@ -60,7 +60,7 @@ LinesOrdered = (f : Cnf) (p : LayoutValue) (set : ℕ → Bool) (h : History) (b
     → (order : List Block) × IsOrder f p set blocks order
 
 -- The reports of a closed set of streams that one legal history judges have an order of lines, if
--- what the streams found live of one another isn't left retired.
+-- what the streams found live of one another isn't retired in the end.
 abbrev pub ClosedOrdered : Type 0
 ClosedOrdered = (f : Cnf) (run_params : RunParamsValue) (set : ℕ → Bool) (h : History)
     (streams : List Stream) (reports : List Report)
@@ -73,9 +73,9 @@ ClosedOrdered = (f : Cnf) (run_params : RunParamsValue) (set : ℕ → Bool) (h 
 abbrev pub AllClosed : Type 0
 AllClosed = (p : LayoutValue) (streams : List Stream) → IsClosed p (λ s. true) streams
 
--- The reports of all streams have an order of lines, with the verdict of the reports: a report says
--- that its stream added the empty clause exactly if the order publishes it, and one within the cube
--- exactly if the order publishes one.
+-- The reports of all streams have an order of lines, with the verdict of the reports: some report
+-- says that its stream added the empty clause exactly if the order publishes the empty clause, and
+-- the same holds for clauses within the cube.
 abbrev pub AllOrdered : Type 0
 AllOrdered = (f : Cnf) (run_params : RunParamsValue) (h : History)
     (streams : List Stream) (reports : List Report)
@@ -92,16 +92,16 @@ abbrev pub KeptByEvents : Type 0
 KeptByEvents = (f : Cnf) (p : LayoutValue) (h : History) → IsLegal f p h
     → (e : Event) → FindsKept p (state f h) e ↔ FindsUnretired p h e
 
--- if no stream of the set except its owner found an identity, live or retired, that the history
--- retires, what was found stays
+-- if the history retires no identity that a stream of the set other than the owner found, live or
+-- retired, then what was found stays
 abbrev pub OwnersAloneSuffices : Type 0
 OwnersAloneSuffices = (f : Cnf) (p : LayoutValue) (set : ℕ → Bool) (h : History)
     → IsLegal f p h
     → ((s : ℕ) → IsStream p s → IsTrue (set s) → AllByRecursion (MeetsUnretired p h) (own h s))
     → FoundStays f p set h
 
--- if the streams of a closed set retire nothing of their own that another one cites, what they
--- found of one another stays
+-- if the streams of a closed set retire nothing of their own that another stream of the set cites,
+-- what they found of one another stays
 abbrev pub SharedStays : Type 0
 SharedStays =
     (f : Cnf) (run_params : RunParamsValue) (set : ℕ → Bool) (h : History) (streams : List Stream)
@@ -111,14 +111,14 @@ SharedStays =
     → IsClosed run_params.layout set streams → KeepShared run_params.layout set streams
     → FoundStays f run_params.layout set h
 
--- if the lines of some bytes cite or delete an identity, so do those of all bytes that begin with
--- them
+-- if the lines of some bytes cite or delete an identity, so do the lines of all bytes that begin
+-- with these
 abbrev pub BeginningsCite : Type 0
 BeginningsCite = (bytes more : List ℕ) (id : ℕ)
     → (Cites bytes id → Cites (bytes ++ more) id)
     × (SomeLineDeletes bytes id → SomeLineDeletes (bytes ++ more) id)
 
--- So if the streams keep what they share, in all bytes that their readers have left at first, they
+-- So if the streams keep what they share in all bytes that their readers have left at first, they
 -- keep it in the bytes that were needed.
 abbrev pub ReadersShare : Type 0
 ReadersShare =

@@ -16,8 +16,8 @@ use Rattle.stream_check.specs.Closed.{IsOfStream}
 
 -- By the last state
 
--- if the event found an identity live that isn't the stream's own, this state doesn't have it
--- retired
+-- if the event found a live identity that isn't the stream's own, the identity isn't retired in
+-- this state
 abbrev pub FindsKept : LayoutValue → State → Event → Type 0
 FindsKept layout final (events.fetch s id (events.live clause)) =
     ¬ Owns layout s id → ¬ IsRetired (final id)

@@ -31,8 +31,8 @@ pub record IsValidOrder (formula : Cnf) (layout : LayoutValue) (steps : List Ste
   pub fits : AllByRecursion (λ step. IsWithinLimits step.line) steps
   pub valid : AreValidTogether layout (λ t. first_database formula layout) steps
 
--- the readers of the set have the texts of its streams' lines left at first, and maybe more after
--- them
+-- the readers of the set's streams have the texts of the streams' lines left at first, and maybe
+-- more after the texts
 abbrev pub HaveTexts : (ℕ → Bool) → List Step → List InputObservation → Type 0
 HaveTexts set steps observed =
     (t : ℕ) (observation : InputObservation) → IsTrue (set t) → IsOfStream observed t observation
@@ -40,8 +40,8 @@ HaveTexts set steps observed =
     × (observation.entry ≡ Some (flat_map line_text (lines_by t steps) ++ more))
 
 -- If lines of a set of streams have a valid order, then in every run of these streams the report of
--- each one says at least what the report of its lines does; or memory ran out or a read failed in
--- these lines; or one of them cites a clause of another stream that wasn't there yet, or was no
+-- each one says at least what the report of its lines says, unless memory ran out or a read failed
+-- in these lines, or one of them cites another stream's clause that wasn't there yet or was no
 -- longer there. The streams outside the set, and what comes after the lines, make no difference.
 abbrev pub TogetherBegins : Type 0
 TogetherBegins = (formula : Cnf) (run_params : RunParamsValue) (set : ℕ → Bool) (steps : List Step)
@@ -54,9 +54,9 @@ TogetherBegins = (formula : Cnf) (run_params : RunParamsValue) (set : ℕ → Bo
     ⊎ ((line : ℕ) × (line ≤ length (lines_by s steps))
     × IsExcusedAt (Lacking (stream_params run_params s)) report line)
 
--- If nothing comes after a stream's lines, it ended with its valid report; or memory ran out, or a
--- read failed; or a line of it cites a clause of another stream that wasn't there yet, or was no
--- longer there.
+-- If nothing comes after a stream's lines, the stream ended with its valid report, unless memory
+-- ran out, or a read failed, or one of its lines cites another stream's clause that wasn't there
+-- yet or was no longer there.
 abbrev pub ValidTogether : Type 0
 ValidTogether = (formula : Cnf) (run_params : RunParamsValue) (set : ℕ → Bool) (steps : List Step)
     (observed : List InputObservation) (reports : List Report) (s : ℕ)

@@ -16,8 +16,8 @@ use Rattle.run_laws.specs.Valid.{valid_report}
 use Rattle.run_laws.specs.Valid.{Step}
 use Rattle.run_laws.specs.Together.{IsValidOrder, lines_by}
 
--- Streams that are readings of the same bytes and ends have one order that takes them in turn, and
--- the same reports, unless memory ran out.
+-- If two lists of streams are readings of the same bytes and ends, their orders that take the
+-- streams in turn are the same, and so are their reports, unless memory ran out.
 abbrev pub TurnsDecide : Type 0
 TurnsDecide = (f : Cnf) (run_params : RunParamsValue) (streams others : List Stream)
     (reports other_reports : List Report)
@@ -31,7 +31,7 @@ TurnsDecide = (f : Cnf) (run_params : RunParamsValue) (streams others : List Str
     → NoneExcused (λ s. true) OutOfMemory other_reports
     → (a.order.blocks ≡ b.order.blocks) × (reports ≡ other_reports)
 
--- Two runs on one thread of one formula, with the same parameters, have the same reports if their
+-- Two runs of one formula on one thread, with the same parameters, have the same reports if their
 -- readers have the same bytes left at first, unless memory ran out or a read failed.
 abbrev pub BytesDecide : Type 0
 BytesDecide =

@@ -1,9 +1,8 @@
 -- Valid proofs: what a stream that cites only its own clauses and the formula's has to write. The
 -- lines are replayed over a database of clauses, as LRAT proofs are (Cruz-Filipe et al., CADE
--- 2017), without RAT. This project's own are identities by residue, each above those before it,
--- room and imports; and the rules that no hint comes after the conflict, and that nothing is
--- deleted that isn't there. All of this depends on the lines alone: there is no history here, and
--- no checker.
+-- 2017), without RAT. Identities by residue, each above the earlier ones, room, imports, and the
+-- rules that no hint comes after the conflict and that only existing clauses are deleted, are this
+-- project's own. All of this depends only on the lines: there is no history here, and no checker.
 use Rattle.std.specs.Prelude.{◌≡◌, ◌≤◌, ◌-◌, ◌==◌, ◌&&◌, ◌++◌, ℕ, nat_lt, nat_le, false, IsTrue, List, [], ◌∷◌, length, Option, None, Some, IsSome, if◌then◌else◌, Bool, map}
 use Rattle.std.specs.List.{AllByRecursion, AllZip, Any, flat_map}
 use Rattle.lrup_model.specs.Clause.{Clause}
@@ -80,7 +79,7 @@ pub record Step : Type 0 where
   pub stream : ℕ
   pub line : StreamLine
 
--- the identity is the stream's own
+-- the stream owns the identity
 abbrev pub is_own : LayoutValue → ℕ → ℕ → Bool
 is_own layout s id =
     elim (owner layout id) [
@@ -89,8 +88,8 @@ is_own layout s id =
       | owners.Outside ↦ false
     ]
 
--- what a line of stream s leaves of another stream's database: an addition puts its clause there
--- too, and a deletion removes the clauses that are stream s's own
+-- another stream's database after a line of stream s: an addition puts its clause there too, and a
+-- deletion removes those clauses that stream s owns
 abbrev pub beside_line : LayoutValue → ℕ → Database → StreamLine → Database
 beside_line layout s base (Addition id lits hints) = record {
   clauses = λ j. if j == id then Some (distinct lits) else base.clauses j;
@@ -118,7 +117,7 @@ AreValidTogether layout bases (step ∷ steps) =
     × AreValidTogether layout (after_step layout step bases) steps
 
 -- The bytes are a valid proof, as stream s, with these lines: the bytes are the lines' texts and
--- nothing else, and each line is valid, in the order that has only these lines.
+-- nothing else, and each line is valid, in the order of only these lines.
 pub record IsValidProof (formula : Cnf) (layout : LayoutValue) (s : ℕ) (bytes : List ℕ)
     (lines : List StreamLine) : Type 0 where
   pub text : bytes ≡ flat_map line_text lines
@@ -132,8 +131,8 @@ AddsEmpty (Addition id lits hints) = lits ≡ []
 AddsEmpty (Deletion lead ids) = ⊥
 AddsEmpty (Import id lits) = ⊥
 
--- The bytes are a valid refutation of the formula, as stream s: they begin with a valid proof, a
--- line of which adds the empty clause. Anything may come after it.
+-- The bytes are a valid refutation of the formula, as stream s: they begin with a valid proof, one
+-- of whose lines adds the empty clause. Anything may come after the proof.
 pub record IsValidRefutation (formula : Cnf) (layout : LayoutValue) (s : ℕ)
     (bytes : List ℕ) : Type 0 where
   pub proof : List ℕ

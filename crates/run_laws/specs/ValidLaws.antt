@@ -51,8 +51,9 @@ ValidReported =
     → IsOfStream reports s report → ¬ IsExcused CutOff report
     → report ≡ valid_report run_params s lines
 
--- If a reader's bytes begin with a valid proof, the report says at least what the report of its
--- lines says, no matter what follows; unless memory ran out or a read failed in these lines.
+-- If a reader's bytes begin with a valid proof, the report says at least what the report of the
+-- proof's lines says, no matter what follows, unless memory ran out or a read failed in these
+-- lines.
 abbrev pub ValidBegins : Type 0
 ValidBegins =
     (f : Cnf) (run_params : RunParamsValue) (s : ℕ) (bytes more : List ℕ) (lines : List StreamLine)
@@ -66,7 +67,7 @@ ValidBegins =
     → SaysAtLeast report (valid_report run_params s lines)
     ⊎ ((line : ℕ) × (line ≤ length lines) × IsExcusedAt CutOff report line)
 
--- A valid proof's count of deletions is that of all identities that its lines delete: 64 bits
+-- A valid proof's count of deletions is the number of all identities that its lines delete: 64 bits
 -- suffice for it.
 abbrev pub ValidCounted : Type 0
 ValidCounted =
@@ -76,8 +77,8 @@ ValidCounted =
     → (valid_report run_params s lines).deleted ≡ sum_by (λ line. length (deleted_by line)) lines
 
 -- Conversely, a stream that cites, imports and deletes only its own clauses and the formula's is
--- valid if it may have, alone, a report that says that it ended. (One that deletes what another
--- stream never had may end, too, and isn't valid.)
+-- valid if, alone, it may have a report that says that it ended. (A stream that deletes what
+-- another stream never had may also end, but isn't valid.)
 abbrev pub EndedIsValid : Type 0
 EndedIsValid = (f : Cnf) (run_params : RunParamsValue) (s : ℕ) (bytes rest : List ℕ)
     (all : List StreamLine) (report : Report)

@@ -7,7 +7,8 @@ use stream_check::laws::{
     alone_decides, cited_fetched, decided_before_failure, end_judged, finished_stays, fresh_left,
 };
 
-/// If the lines of some bytes cite within a set of streams, so do those of a prefix of the bytes.
+/// If the lines of some bytes cite within a set of streams, so do the lines of a prefix of the
+/// bytes.
 pub fn beginnings_within()
     ensures { BeginningsWithin }
 {
@@ -53,25 +54,25 @@ pub fn run_isolated()
     alone_has_one_report();
 }
 
-/// A stream that was stopped early has a bad line, or memory ran out there.
+/// A stream that was stopped early has a bad line or ran out of memory.
 pub fn early_is_decided()
     ensures { EarlyIsDecided }
 {}
 
-/// If a reader hasn't failed, its stream is a reading of the bytes that the reader had left at
-/// first.
+/// If a reader hasn't failed, its stream is a reading of the bytes that the reader had left at the
+/// start.
 pub fn match_is_reading()
     ensures { MatchIsReading }
 {}
 
-/// If a reader failed, its stream is a reading of the bytes before those that the reader then has
-/// left.
+/// If a reader failed, its stream is a reading of the bytes before those that the reader has left
+/// after the failure.
 pub fn failed_is_reading()
     ensures { FailedIsReading }
 {}
 
-/// A stream that cites within itself has one report if the readers delivered the same bytes and
-/// end, unless memory ran out.
+/// In two runs, a stream that cites within itself has the same report if the readers delivered the
+/// same bytes and end, unless memory ran out.
 pub fn same_reading_agrees()
     ensures { SameReadingAgrees }
 {
@@ -80,8 +81,8 @@ pub fn same_reading_agrees()
     alone_has_one_report();
 }
 
-/// A stream that cites within itself has one report if its readers have the same bytes left at
-/// first, unless memory ran out or a read failed.
+/// In two runs, a stream that cites within itself has the same report if its readers have the same
+/// bytes left at the start, unless memory ran out or a read failed.
 pub fn same_bytes_agree()
     ensures { SameBytesAgree }
 {

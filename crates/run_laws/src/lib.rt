@@ -1,8 +1,8 @@
 //! Laws of runs: definitions and laws, no other code. A set of streams is closed if it cites no
-//! identity of a stream outside it. Its reports are then those of the set alone, whichever streams
-//! there are outside it and however the run went. And a legal history, in which the calls of
-//! several streams are interleaved, can be put in an order of whole lines in which each stream is
-//! judged the same.
+//! identity of a stream outside it. Its reports are then the ones that the set has alone, whatever
+//! other streams there are and however the run went. Also, a legal history, in which the calls of
+//! several streams are interleaved, can be reordered into whole lines so that each stream is judged
+//! the same.
 #![tactic(auto)]
 
 pub mod groups;

@@ -42,7 +42,7 @@ pub fn all_closed()
     every_stream_is_cut();
 }
 
-/// The reports of all streams have an order of lines, with the verdict of the reports.
+/// The reports of all streams have an order of lines, and the order has the reports' verdict.
 pub fn all_ordered()
     ensures { AllOrdered }
 {
@@ -50,13 +50,13 @@ pub fn all_ordered()
     all_closed();
 }
 
-/// The premise on what is found live is the same by events and by the last state.
+/// The premise about what is found live can be read off the events or off the final state.
 pub fn kept_by_events()
     ensures { KeptByEvents }
 {}
 
-/// If only its owner found an identity that the history retires, what a stream found live of
-/// another one stays live.
+/// If each identity that the history retires was found only by its owner, what a stream found live
+/// of another stream stays live.
 pub fn owners_alone_suffices()
     ensures { OwnersAloneSuffices }
 {
@@ -64,7 +64,7 @@ pub fn owners_alone_suffices()
 }
 
 /// If no stream deletes an identity of its own that a line of another stream cites, what a stream
-/// found live of another one stays live.
+/// found live of another stream stays live.
 pub fn shared_stays()
     ensures { SharedStays }
 {
@@ -72,8 +72,8 @@ pub fn shared_stays()
     deleted_retired();
 }
 
-/// If the lines of some bytes cite or delete an identity, so do those of all bytes that begin with
-/// them.
+/// If the lines of some bytes cite or delete an identity, so do the lines of all bytes that begin
+/// with these.
 pub fn beginnings_cite()
     ensures { BeginningsCite }
 {
@@ -81,8 +81,8 @@ pub fn beginnings_cite()
     every_stream_is_cut();
 }
 
-/// If streams keep what they share, in all bytes that their readers have left at first, they keep
-/// it in the bytes that were needed.
+/// If streams keep what they share in all bytes that their readers have left at the start, they
+/// keep it in the bytes that were needed.
 pub fn readers_share()
     ensures { ReadersShare }
 {

@@ -8,8 +8,8 @@ use stream_check::laws::{
     good_line_taken, legal_never_fork, one_report,
 };
 
-/// Streams that are readings of the same bytes and ends have one order that takes them in turn, and
-/// the same reports, unless memory ran out.
+/// If two lists of streams are readings of the same bytes and ends, their orders that take the
+/// streams in turn are the same, and so are their reports, unless memory ran out.
 pub fn turns_decide()
     ensures { TurnsDecide }
 {

@@ -58,7 +58,7 @@ pub fn valid_reported()
 }
 
 /// In every run the report of a stream that begins with valid lines says at least what the report
-/// of these lines says, no matter what follows; unless memory ran out or a read failed in these
+/// of these lines says, no matter what follows, unless memory ran out or a read failed in these
 /// lines.
 pub fn valid_begins()
     ensures { ValidBegins }
@@ -85,7 +85,7 @@ pub fn valid_counted()
 }
 
 /// A stream that cites, imports and deletes only its own clauses and the formula's, and that may
-/// end alone, is valid.
+/// end when alone, is valid.
 pub fn ended_is_valid()
     ensures { EndedIsValid }
 {
@@ -99,10 +99,11 @@ pub fn valid_empty()
     ensures { ValidEmpty }
 {}
 
-/// If some legal history judges a closed set of streams, and one of them ended there, it has the
-/// same report in every run in which its reader has the same bytes, and the set's other readers
-/// have at least theirs, unless memory ran out or a read failed; or a line of it cites a clause of
-/// another stream that wasn't there yet, or was no longer there.
+/// If a legal history judges a closed set of streams, and one of them ended there, this stream has
+/// the same report in every run in which its reader has the stream's bytes and the readers of the
+/// set's other streams have at least the bytes of those streams, unless memory ran out, or a read
+/// failed, or a line of the stream cites another stream's clause that wasn't there yet or was no
+/// longer there.
 pub fn valid_in_any_run()
     ensures { ValidInAnyRun }
 {
@@ -114,9 +115,9 @@ pub fn valid_in_any_run()
 }
 
 /// If lines of a set of streams have a valid order, then in every run in which the readers begin
-/// with them the report of each stream says at least what the report of its lines does, unless
-/// memory ran out or a read failed in these lines; or one of them cites a clause of another stream
-/// that wasn't there yet, or was no longer there.
+/// with these lines, the report of each stream says at least what the report of its lines says,
+/// unless memory ran out or a read failed in these lines, or one of them cites another stream's
+/// clause that wasn't there yet or was no longer there.
 pub fn together_begins()
     ensures { TogetherBegins }
 {
@@ -130,9 +131,9 @@ pub fn together_begins()
     cited_fetched();
 }
 
-/// If nothing comes after a stream's lines, it ended with its valid report, unless memory ran out
-/// or a read failed; or a line of it cites a clause of another stream that wasn't there yet, or was
-/// no longer there.
+/// If nothing comes after a stream's lines, the stream ended with its valid report, unless memory
+/// ran out, or a read failed, or one of its lines cites another stream's clause that wasn't there
+/// yet or was no longer there.
 pub fn valid_together()
     ensures { ValidTogether }
 {

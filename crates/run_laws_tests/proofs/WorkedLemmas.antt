@@ -194,7 +194,7 @@ refutation_is_valid = record {
   );
 }
 
--- whatever comes after it
+-- whatever comes after the refutation
 pub begins_and_refutes : (more : List ℕ) → IsValidRefutation four one_stream 1 (codes "5 2 0 1 2 0\n6 0 5 3 4 0\n" ++ more)
 begins_and_refutes more = record {
   proof = codes "5 2 0 1 2 0\n6 0 5 3 4 0\n";
@@ -205,7 +205,7 @@ begins_and_refutes more = record {
   empty = (1, Addition 6 [] (5 ∷ 3 ∷ 4 ∷ []), omega arith, refl, refl);
 }
 
--- bytes that begin with the first line alone begin with no line that adds the empty clause
+-- if the text of the first line begins with whole lines, none of these adds the empty clause
 pub no_empty_begins : OneFirstLine → EmptyPending → (lines : List StreamLine) (more : List ℕ) → AllByRecursion IsWithinLimits lines
     → codes "5 2 0 1 2 0\n" ≡ flat_map line_text lines ++ more → Any AddsEmpty lines → ⊥
 unfolding digits

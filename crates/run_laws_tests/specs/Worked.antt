@@ -124,7 +124,7 @@ BeginningCounted = (cube : CubeValue) (tries : ℕ) (observed : List InputObserv
     → ((2 ≤ report.added) × (report.empty ≡ true))
     ⊎ ((line : ℕ) × (line ≤ 2) × IsExcusedAt CutOff report line)
 
--- If a run's readers begin with the texts of the shared lines, and nothing comes after those of
+-- If a run's readers begin with the texts of the shared lines, and nothing comes after the texts of
 -- stream 2, the run reports one addition and one deletion of that stream, or that the clause of
 -- stream 1 wasn't there, unless memory ran out or a read failed.
 abbrev pub SharedCounted : Type 0

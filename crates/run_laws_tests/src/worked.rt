@@ -1,4 +1,4 @@
-//! Lines that are valid and lines that aren't, proved from the definitions alone.
+//! Lines that are valid and lines that aren't, proved from only the definitions.
 ghost use Rattle.std.specs.Prelude.{◌≡◌, ◌++◌, ℕ, true, List, [], ◌∷◌, pos, negsuc, Some, codes};
 ghost use Rattle.lrup_text.specs.Lines.{Addition, Deletion, Import};
 ghost use Rattle.stream_check.specs.Excuses.{CutOff, OutOfMemory, ReadFailed, IsExcusedAt};
@@ -22,7 +22,8 @@ fn the_stream_is_valid()
         → IsValidRefutation four one_stream 1 (codes "5 2 0 1 2 0\n6 0 5 3 4 0\n" ++ more) }
 {}
 
-/// Its first line alone is no refutation: it doesn't add the empty clause.
+/// By itself, the first line of the worked stream is no refutation: it doesn't add the empty
+/// clause.
 fn the_first_line_is_no_refutation()
     ensures { ¬ IsValidRefutation four one_stream 1 (codes "5 2 0 1 2 0\n") }
 {
@@ -30,7 +31,7 @@ fn the_first_line_is_no_refutation()
     no_bytes_may_become_a_line();
 }
 
-/// A stream isn't valid with bytes after the lines, or with a line beyond the limits of streams.
+/// A stream isn't valid with bytes after the lines, or with a line beyond the limits.
 fn streams_are_not_valid()
     ensures rest { ¬ IsValidProof four one_stream 1 (codes "5 d 0\n5") (Deletion 5 [] ∷ []) }
     ensures limits { ¬ IsValidProof four one_stream 1 (codes "0 d 0\n") (Deletion 0 [] ∷ []) }
@@ -49,7 +50,7 @@ fn lines_are_valid()
         (Import 1 (pos 2 ∷ pos 1 ∷ pos 2 ∷ [])) }
 {}
 
-/// A literal that is written twice occurs once in the clause, and takes room once.
+/// A literal that is written twice occurs once in the clause, and uses room once.
 fn repeats_are_left_out()
     ensures clause { with_repeat.clauses 5 ≡ Some unit }
     ensures room { IsValidLine roomy 1 with_repeat (Addition 6 unit (5 ∷ [])) }
@@ -68,7 +69,7 @@ fn additions_are_not_valid()
         (Addition 5 (pos 1 ∷ negsuc 0 ∷ []) (1 ∷ 2 ∷ [])) }
 {}
 
-/// The same for lines without any other fault; and deleting a clause gives no room back.
+/// The same for lines without any other fault. Deleting a clause gives no room back.
 fn nothing_else_is_wrong()
     ensures again { ¬ IsValidLine one_stream 1 with_five (Addition 5 [] (5 ∷ 3 ∷ 4 ∷ [])) }
     ensures variable { ¬ IsValidLine roomy 1 with_repeat
@@ -79,7 +80,7 @@ fn nothing_else_is_wrong()
 {}
 
 /// Hints aren't valid if there are none, if one is missing or deleted, if there is no conflict, or
-/// if it comes before the last hint.
+/// if the conflict comes before the last hint.
 fn hints_are_not_valid()
     ensures none { ¬ IsValidLine one_stream 1 at_first (Addition 5 unit []) }
     ensures missing { ¬ IsValidLine one_stream 1 at_first (Addition 5 unit (1 ∷ 6 ∷ [])) }
@@ -89,7 +90,7 @@ fn hints_are_not_valid()
 {}
 
 /// A deletion isn't valid if its clause was deleted before, in the same line or an earlier one, or
-/// isn't there; an import isn't if its clause is the stream's own, was deleted, or has other
+/// isn't there; an import isn't valid if its clause is the stream's own, was deleted, or has other
 /// literals.
 fn other_lines_are_not_valid()
     ensures twice { ¬ IsValidLine one_stream 1 with_five (Deletion 5 (5 ∷ 5 ∷ [])) }
@@ -109,14 +110,14 @@ fn streams_are_valid_together()
     ensures { IsValidOrder four two_streams shared }
 {}
 
-/// A stream's additions don't change another's last identity and room, and a clause that one stream
-/// drops may still be cited by another.
+/// A stream's additions don't change another stream's last identity or room, and a clause that one
+/// stream drops may still be cited by another.
 fn streams_leave_one_another_alone()
     ensures { IsValidOrder four two_streams crossed }
 {}
 
 /// An order isn't valid if a stream imports a clause that its owner deleted, if a line is beyond
-/// the limits of streams, or if there is no such stream.
+/// the limits, or if a line's stream doesn't exist.
 fn orders_are_not_valid()
     ensures retired { ¬ IsValidOrder four two_streams retired_first }
     ensures limits { ¬ IsValidOrder four two_streams
@@ -126,7 +127,7 @@ fn orders_are_not_valid()
 {}
 
 /// A report with one addition doesn't say that there were two, or a deletion, or an empty clause,
-/// or one within the cube.
+/// or a clause within the cube.
 fn reports_say_less()
     ensures added { ¬ SaysAtLeast one_added (record one_added { added = 2 }) }
     ensures deleted { ¬ SaysAtLeast one_added (record one_added { deleted = 1 }) }
@@ -134,8 +135,8 @@ fn reports_say_less()
     ensures within { ¬ SaysAtLeast one_added (record one_added { within = true }) }
 {}
 
-/// An excuse in line 3 is none for line 2; running out of memory isn't a failed read, nor the other
-/// way round; and citing a clause that another stream retired is neither.
+/// An excuse in line 3 doesn't excuse line 2; running out of memory isn't a failed read, nor vice
+/// versa; and citing a clause that another stream retired is neither.
 fn no_other_excuse()
     ensures memory { ¬ IsExcusedAt CutOff (record one_added { ending = endings.Memory 3 }) 2 }
     ensures read { ¬ IsExcusedAt CutOff (record one_added { ending = endings.ReadFailed 3 }) 2 }
@@ -146,21 +147,22 @@ fn no_other_excuse()
         (record one_added { ending = endings.Bad 3 (faults.Retired 5) }) 3 }
 {}
 
-/// By the law of valid proofs, every run reports this for the worked stream.
+/// By the law of valid proofs, every run reports the worked stream's two additions.
 fn the_refutation_is_counted()
     ensures { RefutationCounted }
 {
     valid_reported();
 }
 
-/// By the law of valid beginnings, it does so whatever comes after the refutation.
+/// By the law of valid beginnings, every run reports at least two additions, whatever comes after
+/// the refutation.
 fn the_beginning_is_counted()
     ensures { BeginningCounted }
 {
     valid_begins();
 }
 
-/// By the law of valid orders, every run reports this for the second stream.
+/// By the law of valid orders, every run reports the second stream's addition and deletion.
 fn shared_lines_are_counted()
     ensures { SharedCounted }
 {

@@ -48,7 +48,7 @@ own_rest P e h s all =
       | inr other ↦ subst (λ (g : History). AllByRecursion P g) (own-other e h s other) all
     ]
 
--- and for the first, if it is the stream's
+-- and for the first event, if it is the stream's
 own_first : (P : Event → Type 0) (e : Event) (h : History) → AllByRecursion P (own (e ∷ h) (stream_of e)) → P e
 own_first P e h all = (subst (λ (g : History). AllByRecursion P g) (own-mine e h (stream_of e) refl) all).0
 
@@ -63,7 +63,7 @@ all_fetch f p m (events.publish s id c r ∷ h) legal owners =
 all_fetch f p m (events.retire s id r ∷ h) legal owners =
     absurd (own_first IsFetch (events.retire s id r) h (owners s id legal.1))
 
--- the state before them answers legal fetches
+-- the state before legal fetches answers them
 pub all_answer : (f : Cnf) (p : LayoutValue) (m : State) (h : History) → LegalFrom f p m h
     → AllByRecursion IsFetch h → AllByRecursion (Answers m) h
 all_answer f p m [] legal all = tt
@@ -82,7 +82,7 @@ pub answers_any : (m : State) (s t id : ℕ) (replies : List Reply) → AllByRec
 answers_any m s t id [] all = tt
 answers_any m s t id (r ∷ replies) all = (answer_any m s t id r all.0, answers_any m s t (id + 1) replies all.1)
 
--- the state before them answers legal fetches, for each stream
+-- the state before legal fetches answers them, for each stream
 pub fetches_answer : (f : Cnf) (p : LayoutValue) (m : State) (s : ℕ) (replies : List Reply)
     → LegalFrom f p m (fetches s 1 replies) → (t : ℕ) → AllByRecursion (Answers m) (fetches t 1 replies)
 fetches_answer f p m s replies legal t =
@@ -102,7 +102,7 @@ answered_after f p h more s replies legal owners mine t =
 
 -- ---- passes that meet once more
 
--- the pass at this place after all met: it made no call, and is fair with their history
+-- the pass at this index after all met: it made no call, is fair, and has seen this history
 record SyncedAt (h : History) (x : View) : Type 0 where
   after : View
   moves : PassMoves x after []
@@ -118,7 +118,7 @@ synced_at h (w ∷ xs) (y ∷ ys) synced saw zero x at =
     subst (SyncedAt h) this (record { after = y; moves = synced.0; fair = synced.1; saw = saw.0 })
 synced_at h (w ∷ xs) (y ∷ ys) synced saw (suc k) x at = synced_at h xs ys synced.2 saw.1 k x at
 
--- its calls are its stream's events
+-- the pass's calls are its stream's events
 synced_own : (h : History) (x : View) → SyncedAt h x → own h x.caller.stream ≡ x.mine
 synced_own h x at =
     ap₂ (λ (g : History) (c : Caller). own g c.stream) (sym at.saw) (sym at.moves.caller)
@@ -128,7 +128,7 @@ pub last_at : (vs : List View) (v : View) → slice_get (vs ++ v ∷ []) (length
 last_at [] v = refl
 last_at (w ∷ vs) v = last_at vs v
 
--- a list with another last element has the same elements before it
+-- a list whose last element is replaced has the same elements before that one
 front_at : (vs : List View) (v w : View) (k : ℕ) → k < length vs
     → (x : View) × (slice_get (vs ++ v ∷ []) k ≡ Some x) × (slice_get (vs ++ w ∷ []) k ≡ Some x)
 front_at [] v w k within = absurd (omega arith)
@@ -193,7 +193,7 @@ fetched_so f p h vs v w replies us g one moves synced saw =
     ] in
     answered_after f p h more s replies legal owners mine
 
--- the passes are still the store's with another last one
+-- the passes are still the store's if the last one is replaced
 pub other_last : (store : StoreValue) (ps : List PassValue) (p q : PassValue) → AreOf store (ps ++ p ∷ []) → store_of q ≡ store_of p
     → AreOf store (ps ++ q ∷ [])
 other_last store [] p q all same = (same ∙ all.0, tt)

@@ -15,8 +15,8 @@ use Rattle.run_laws.specs.Groups.{IsRunOfFirst}
 use Rattle.stream_check.specs.Dropping.{HaveDropped}
 
 -- What else is known of a run's history, streams and reports. On one thread (`serial`), the history
--- is that of an order of lines that takes one line of each stream in turn. With threads, each
--- stream was read to its end, or to a read that failed.
+-- consists of the events of an order of lines that takes one line of each stream in turn. With
+-- threads, each stream was read to its end, or to a read that failed.
 abbrev pub RanSo : (serial : Bool) → Cnf → RunParamsValue → History → List Stream → List Report
     → Type 0
 RanSo true formula run_params history streams reports =
@@ -25,11 +25,11 @@ RanSo true formula run_params history streams reports =
 RanSo false formula run_params history streams reports =
     AllByRecursion (λ stream. IsSome stream.end) streams
 
--- What a run promises of its first `many` streams, with threads or on one thread. `firsts` are
--- their readers before the first read, and `lasts` those at the end. It is a run of what the
--- readers gave; reads of the readers gave its streams; and each stream dropped just what its lines
--- drop, up to the line that stopped it, if any. These lines are good by the stream's own calls in
--- the run's history.
+-- What a run promises of its first `many` streams, with threads or on one thread. `firsts` are the
+-- streams' readers before the first read, and `lasts` the readers at the end. It is a run of what
+-- the readers gave; the run's streams are what reads of the readers gave; and each stream dropped
+-- exactly what its lines drop, up to the line that stopped the stream, if any. These lines are good
+-- by the stream's own calls in the run's history.
 pub record IsRunOfSome {S : Type 0} (many : ℕ) (serial : Bool) (view : SourceView S) (formula : Cnf)
     (run_params : RunParamsValue) (firsts lasts : List S) (reports : List Report)
     (dropped : List DroppedIdsValue) : Type 0 where

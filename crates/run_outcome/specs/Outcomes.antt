@@ -33,8 +33,8 @@ abbrev pub run_params_of : OptionsValue → CubeValue → Cnf → ℕ → RunPar
 run_params_of options cube formula streams =
     record { layout = layout_of options formula streams; cube = cube; tries = options.tries }
 
--- The verdict: 'unsatisfiable' exactly if some stream added the empty clause; else 'unsatisfiable
--- under assumptions' exactly if some stream added a clause within the cube.
+-- The verdict: 'unsatisfiable' exactly if some stream added the empty clause; otherwise
+-- 'unsatisfiable under assumptions' exactly if some stream added a clause within the cube.
 abbrev pub verdict_of : List Report → Verdict
 verdict_of reports =
     if list_any (λ report. report.empty) reports then Unsatisfiable

@@ -9,8 +9,8 @@ use lrup_model::{Formula, Layout, LayoutFault};
 use std::marker::Model;
 use stream_check::Checker;
 
-/// The options of a run: how often a hint of another stream is fetched again while it is vacant,
-/// and how much each stream may publish.
+/// The options of a run: how often a vacant identity of another stream is fetched again, and how
+/// much each stream may publish.
 #[derive(Clone, Copy, Debug, PartialEq, Eq)]
 pub struct Options {
     tries: u64,
@@ -50,7 +50,7 @@ impl Options {
         Some(Options { tries, lines, room })
     }
 
-    /// How often a hint of another stream is fetched again while it is vacant: at most 1,000,000.
+    /// How often a vacant identity of another stream is fetched again: at most 1,000,000.
     pub fn tries(&self) -> u64
         ensures tries { result ≡ self.now.tries }
         ensures limit { self.now.tries ≤ max_tries }
@@ -58,7 +58,7 @@ impl Options {
         self.tries
     }
 
-    /// The layout of a formula and `streams` streams, or why there is none.
+    /// The layout of a formula and `streams` streams, or why there is no layout.
     pub fn layout(&self, formula: &Formula, streams: usize) -> Result<Layout, LayoutFault>
         ensures layout { IfOk result (λ layout. (layout ≡ layout_of self.now formula.now streams)
             × IsLayout layout × Fits layout formula.now) }

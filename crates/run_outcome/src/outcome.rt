@@ -8,7 +8,7 @@ use std::alloc::AllocError;
 use stream_check::{DroppedIds, Report};
 use thiserror::Error;
 
-/// What a run says of its formula, from the reports of all streams.
+/// What a run says about its formula, from the reports of all streams.
 #[derive(Clone, Copy, Debug, PartialEq, Eq)]
 pub enum Verdict {
     /// No assignment satisfies the formula: a stream added the empty clause.
@@ -42,18 +42,18 @@ pub enum RunFault {
     /// any other.
     #[error("{0}")]
     Layout(LayoutFault),
-    /// Out of memory. In the code this comes before the first read; no clause says so.
+    /// Out of memory. In the code, this happens only before the first read; no contract says so.
     #[error("out of memory")]
     Memory,
-    /// A thread of this stream, counted from 1, couldn't be started. In the code no stream was read
-    /// then: the threads that have started leave without a read, as a test of one stream's two
-    /// threads shows.
+    /// A thread of this stream, counted from 1, couldn't be started. In the code, no stream is read
+    /// in this case: the threads that have started end without a read, as a test of one stream's
+    /// two threads shows.
     #[error("worker {0} not started")]
     Spawn(u64),
     /// The checking thread of this stream, counted from 1, found its ring abandoned without the
     /// mark for the end, although the stream was read to its end. The reading thread pushes the
     /// mark, and its `Producer` is kept until both threads are joined. No contract of `rtrb` says
-    /// that this is enough, so there is this fault. In tests it never occurs.
+    /// that this is enough, so this fault exists. In tests it never occurs.
     #[error("ring of stream {0}")]
     Ring(u64),
 }
@@ -87,7 +87,7 @@ pub struct SerialOutcome<R: Drop> {
     pub verdict: Verdict,
     /// The map of all clauses, as the run left it.
     pub map: PlainMap,
-    /// The readers, in order, each as far as it was read.
+    /// The readers, in order, as the run left them.
     pub readers: Vec<R>,
     /// The identities that each stream dropped, in order.
     pub dropped: Vec<DroppedIds>,
@@ -104,7 +104,7 @@ pub struct Outcome<R: Drop> {
     pub passes: Vec<Pass>,
     /// The store of all clauses, as the run left it.
     pub store: Store,
-    /// The readers, in order, each as far as it was read.
+    /// The readers, in order, as the run left them.
     pub readers: Vec<R>,
     /// The identities that each stream dropped, in order.
     pub dropped: Vec<DroppedIds>,

@@ -4,8 +4,8 @@ use std::thread;
 use std::time::{Clock, Duration};
 use stream_check::Gate;
 
-/// A gate that sleeps one microsecond before each attempt at a hint but the first, on the given
-/// clock.
+/// A gate that sleeps one microsecond, on the given clock, before each attempt at a hint except the
+/// first.
 #[derive(Drop)]
 pub struct Pause<C: Clock + Drop> {
     clock: C,

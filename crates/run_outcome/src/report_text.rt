@@ -62,7 +62,7 @@ fn put_stream<W: Sink>(
     buffer.put(b"\n", sink)
 }
 
-/// Writes the report of a finished stream, with one write if the sink takes all at once.
+/// Writes the report of a finished stream, with one write if the sink accepts everything at once.
 pub fn write_finished<W: Sink>(stream: u64, report: &Report, sink: &mut W) -> Result<(), WriteFault>
     requires { W.has_failed sink.old ≡ false }
     ensures text { WritesText result (W.written sink.old) (W.written sink.new)
@@ -88,7 +88,7 @@ pub fn write_wait<W: Sink>(stream: u64, id: Id, sink: &mut W) -> Result<(), Writ
     buffer.flush(sink)
 }
 
-/// Writes how many clauses a stream has added so far, with one write, too.
+/// Writes how many clauses a stream has added so far, also with one write.
 pub fn write_count<W: Sink>(stream: u64, added: u64, sink: &mut W) -> Result<(), WriteFault>
     requires { W.has_failed sink.old ≡ false }
     ensures text { WritesText result (W.written sink.old) (W.written sink.new)
@@ -145,7 +145,7 @@ fn put_fault<W: Sink>(
     }
 }
 
-/// Puts a text, and a number after it in decimal.
+/// Puts a text, followed by a number in decimal.
 fn put_numbered<W: Sink>(
     buffer: &mut WriteBuffer,
     text: &[u8],

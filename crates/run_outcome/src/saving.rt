@@ -21,15 +21,15 @@ use stream_check::DroppedIds;
 /// The clauses that a run left.
 #[derive(Drop)]
 pub enum Clauses {
-    /// The store of a run with threads has them, and these are the run's passes.
+    /// In the store of a run with threads, together with the run's passes.
     Shared(Store, Vec<Pass>),
-    /// The map of a run on one thread has them.
+    /// In the map of a run on one thread.
     Plain(PlainMap),
 }
 
 impl Clauses {
-    /// Writes a formula of the live clauses, except those that all streams dropped, and returns it
-    /// if the run continues. Each identity is fetched once. It allocates as `checkpoint::save`
+    /// Writes a formula of the live clauses, except those that all streams dropped, and returns the
+    /// formula if the run continues. Each identity is fetched once. Allocates as `checkpoint::save`
     /// does.
     pub fn save<W: Sink>(
         self,
@@ -46,8 +46,8 @@ impl Clauses {
             → IfOk result (WritesCheckpoint f (W.written sink.old) (W.written sink.new)) }
         // The formula is returned exactly if the run continues.
         ensures goes_on { IfOk result (λ next. is_some next ≡ goes_on) }
-        // It has the clauses that are live after the run's history, except those that all streams
-        // dropped.
+        // The formula has the clauses that are live after the run's history, except those that all
+        // streams dropped.
         ensures saves { (f : Cnf) (h : History) → WereLeftBy f h self
             → SavesState W.written result (state f h) (layout_left self) (is_wanted dropped.now)
             sink.old sink.new }
@@ -62,7 +62,7 @@ impl Clauses {
     }
 }
 
-/// Wanted are the clauses that some stream hasn't dropped, or all clauses if there are no streams.
+/// Wants the clauses that some stream hasn't dropped, or all clauses if there are no streams.
 #[derive(Drop)]
 struct NotAllDropped<'a> {
     dropped: &'a [DroppedIds],
@@ -76,7 +76,7 @@ impl Wanted for NotAllDropped<'_> {
     }
 }
 
-/// Saves the clauses of a run with threads. It consumes the passes.
+/// Saves the clauses of a run with threads, and consumes the passes.
 fn save_shared<W: Sink>(
     alloc: Global,
     store: &Store,
@@ -94,8 +94,8 @@ fn save_shared<W: Sink>(
         → IfOk result (WritesCheckpoint f (W.written sink.old) (W.written sink.new)) }
     // The formula is returned exactly if the run continues.
     ensures goes_on { IfOk result (λ next. is_some next ≡ goes_on) }
-    // It has the clauses that are live after the run's history, except those that all streams
-    // dropped.
+    // The formula has the clauses that are live after the run's history, except those that all
+    // streams dropped.
     ensures saves { (f : Cnf) (h : History)
         → HaveOneHistory f store.now.layout h (views passes.items) → SavesState W.written result
         (state f h) store.now.layout (is_wanted dropped.now) sink.old sink.new }
@@ -133,7 +133,7 @@ fn save_plain<W: Sink>(
     ensures checkpoint { IfOk result
         (WritesCheckpoint (formula_of map.old) (W.written sink.old) (W.written sink.new)) }
     ensures goes_on { IfOk result (λ next. is_some next ≡ goes_on) }
-    // It has the clauses that are live in the map, except those that all streams dropped.
+    // The formula has the clauses that are live in the map, except those that all streams dropped.
     ensures saves { SavesState W.written result (plain_state map.old) map.old.layout
         (is_wanted dropped.now) sink.old sink.new }
     // The map answered these fetches, and no other call was made.

@@ -26,9 +26,9 @@ struct Reporter<C: Clock + Drop, S: Sink + Drop> {
     sink: S,
     /// How many clauses were published.
     added: u64,
-    /// When their count was last reported, or else when the clock was first read for it.
+    /// When `added` was last reported or, before the first report, when the clock was first read.
     counted: Option<Instant>,
-    /// When the current hint was fetched for the second time; `None` once its wait was reported.
+    /// When the current hint was fetched for the second time; `None` after the wait was reported.
     asked: Option<Instant>,
 }
 
@@ -79,7 +79,8 @@ impl<C: Clock + Drop, S: Sink + Drop> Reporter<C, S> {
         }
     }
 
-    /// Takes the time at a hint's second attempt, and looks at the clock again at some later ones.
+    /// Notes the time of the second attempt at a hint, and looks at the clock again at some later
+    /// attempts.
     #[cold]
     #[inline(never)]
     fn note_attempt(&mut self, stream: u64, id: Id, attempt: u64) {
@@ -90,7 +91,7 @@ impl<C: Clock + Drop, S: Sink + Drop> Reporter<C, S> {
         }
     }
 
-    /// Reports that the stream waits for an identity, if it has waited for a second.
+    /// Reports that the stream waits for an identity, if it has waited for at least a second.
     fn report_wait(&mut self, stream: u64, id: Id) {
         let (Some(asked), Some(now)) = (self.asked, self.now()) else {
             return;
@@ -116,9 +117,9 @@ impl<C: Clock + Drop, S: Sink + Drop> Reporter<C, S> {
 
 /// A gate that reports progress on a sink while a stream is checked: that a hint has been vacant
 /// for a second; about every ten seconds how many clauses were added; and at the end the stream's
-/// report. It leaves the waiting to the gate within. Without a sink it only passes its calls on to
-/// that gate. So a run has one type of gate, watched or not, and the checker is compiled once, with
-/// its calls inlined.
+/// report. It leaves the waiting to the inner gate. Without a sink it only forwards its calls to
+/// the inner gate. So a run has the same type of gate, watched or not, and the checker is compiled
+/// once, with its calls inlined.
 #[derive(Drop)]
 pub struct Watch<G: Gate + Drop, C: Clock + Drop, S: Sink + Drop> {
     gate: G,
@@ -162,9 +163,9 @@ impl<G: Gate + Drop, C: Clock + Drop, S: Sink + Drop> Gate for Watch<G, C, S> {
     }
 }
 
-/// The gate of a stream of a run on one thread. It never waits, since no other stream publishes
-/// while it would. It reports the same as a `Watch`, except for waits: a call before each fetch
-/// would cost some instructions for each hint.
+/// The gate of a stream in a run on one thread. It never waits, since no other stream would publish
+/// meanwhile. It reports what a `Watch` reports, except for waits: a call before each fetch would
+/// cost some instructions for each hint.
 #[derive(Drop)]
 pub struct TurnWatch<C: Clock + Drop, S: Sink + Drop> {
     reporter: Option<Reporter<C, S>>,

@@ -51,7 +51,7 @@ pub owns_at : (c : StreamParams) (p : CallerView) (id : ℕ) → IsViewOf c p �
 owns_at c p id at owns =
     subst (λ (l : LayoutValue). Owns l p.caller.stream id) (sym at.layout) (subst (λ (s : ℕ). Owns c.layout s id) (sym at.stream) owns)
 
--- the same the other way
+-- the same in the other direction
 pub owned_by : (c : StreamParams) (p : CallerView) (id : ℕ) → IsViewOf c p → Owns p.caller.layout p.caller.stream id
     → Owns c.layout c.stream id
 owned_by c p id at owns =
@@ -118,7 +118,7 @@ published_is c p q es id clause lits r at step is done =
 
 -- The result of the addition
 
--- a condition before those of the hints is violated
+-- a condition tested before the hints is violated
 pub fails_before : (c : StreamParams) (st : StreamContext) (id : ℕ) (lits : List ℤ) (fault : Fault) (A : Type 0)
     → BeforeHints c st id lits [] fault ⊥
     → BeforeHints c st id lits [] fault A

@@ -97,7 +97,7 @@ found_agree c is_dropped (h ∷ hints) (d ∷ ds) (e ∷ es) a b q r one two nev
     one.2 ∙ ap (λ x. x ++ one.1) same.asked
     ∙ ap (λ x. two.0 ++ x) (found_agree c is_dropped hints ds es one.1 two.1 q r one.4 two.4 same.following) ∙ sym two.2
 
--- hints that are found and refute, and fail
+-- hints can't both be found to refute and fail
 never_both : (c : StreamParams) (is_dropped : ℕ → Bool) (n : List ℤ) (hints : List ℕ) (ds : List Clause) (a b q r : History) (fault : Fault)
     → AreFound c is_dropped hints ds a → Refutes n ds → FailsHints c is_dropped n hints b fault → NeverFork (a ++ q) (b ++ r) → ⊥
 never_both c is_dropped n [] [] a b q r fault found refutes fails never = refutes

@@ -1,4 +1,4 @@
--- A hint is fetched, and again while it is vacant.
+-- A hint is fetched, and fetched again while it is vacant.
 use Rattle.std.proofs.Common.{◌≡◌, ◌∙◌, ◌+◌, ◌-◌, ◌%◌, ◌<◌, ◌≤◌, ◌==◌, ℕ, Bool, [], ◌∷◌, ◌++◌, nat_eq, nat_le, inl, inr, refl, sym, ap}
 use Rattle.std.proofs.Common.{subst, arith}
 use Rattle.std.specs.Prelude.{replicate, if◌then◌else◌}
@@ -98,7 +98,7 @@ asks_again c h s most es r is stream tries fetches =
     (subst (λ (t : ℕ). FetchesUpTo (tries_on (ownership_of c h) c.tries) t h es r) stream
     (subst (λ (n : ℕ). FetchesUpTo n s h es r) tries fetches))
 
--- one fetch is, if its reply isn't vacant
+-- so is one fetch, if its reply isn't vacant
 pub asks_once : (c : StreamParams) (h s : ℕ) (r : Reply) → IsIdentity c.layout h → s ≡ c.stream → (r ≡ vacant → ⊥)
     → FetchesHint c h (fetch s h r ∷ []) r
 asks_once c h s r is stream other =

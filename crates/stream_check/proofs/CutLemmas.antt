@@ -15,7 +15,7 @@ use Rattle.stream_check.specs.lemmas.ReportLemmas.{split_first, joined-append}
 use Rattle.stream_check.proofs.EventLemmas.{line_fetches}
 use Rattle.stream_check.proofs.StreamLemmas.{TextLaws, same_first}
 
--- lines at the front of some bytes are the first of those that the bytes are cut into
+-- lines at the start of some bytes are the first of the lines into which the bytes are cut
 lines_begin : TextLaws → (lines all : List StreamLine) (left rest : List ℕ) → AllByRecursion IsWithinLimits lines
     → AllByRecursion IsWithinLimits all → HasNoLine rest
     → flat_map line_text lines ++ left ≡ flat_map line_text all ++ rest
@@ -29,7 +29,7 @@ lines_begin laws (l ∷ lines) (o ∷ all) left rest fit fits none e =
     let later = lines_begin laws lines all left rest fit.1 fits.1 none same.1 in
     (later.0, ap (λ x. x ∷ all) (sym same.0) ∙ ap (λ x. l ∷ x) later.1, later.2)
 
--- a whole line at the front is the first one
+-- a whole line at the start is the first one
 line_begins : TextLaws → (line : StreamLine) (all : List StreamLine) (more left rest : List ℕ) → IsWithinLimits line
     → AllByRecursion IsWithinLimits all → HasNoLine rest
     → left ≡ line_text line ++ more → left ≡ flat_map line_text all ++ rest → (others : List StreamLine) × (all ≡ line ∷ others)

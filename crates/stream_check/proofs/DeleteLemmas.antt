@@ -149,7 +149,7 @@ dropped_until c first earlier old new id es stop before deletes =
 
 -- One after the other
 
--- a judgement of the remaining identities gives one of all
+-- a judgement of the remaining identities gives a judgement of all
 abbrev pub GoesOn : StreamParams → List ℕ → List ℕ → History → Type 0
 GoesOn c first earlier es = (more : List ℕ) (rest : History) (v : LineVerdict)
     → JudgesDeletion c (is_among first) earlier more rest v → JudgesDeletion c (is_among first) [] (earlier ++ more) (es ++ rest) v
@@ -168,14 +168,14 @@ goes_on c first earlier old new id es fs before dropped deletes more rest v judg
 pub among_ids : (ids : List ℕ) (i : ℕ) → i < length ids → ids ≡ take i ids ++ get_or ids i 0 ∷ drop (i + 1) ids
 among_ids ids i lt = sym (take-append-drop i ids) ∙ ap (λ (js : List ℕ). take i ids ++ js) (rw (add-one, drop-cons ids i 0) refl)
 
--- those before it are good
+-- the identities before it are good
 good_front : (c : StreamParams) (first earlier : List ℕ) (es : History) → GoesOn c first earlier es
     → JudgesDeletion c (is_among first) [] earlier es Good
 good_front c first earlier es before =
     subst (λ (ids : List ℕ). JudgesDeletion c (is_among first) [] ids es Good) (append-nil earlier)
     (subst (λ (x : History). JudgesDeletion c (is_among first) [] (earlier ++ []) x Good) (append-nil es) (before [] [] Good (refl, refl)))
 
--- the deletion stops at it: it is bad, or there is no memory for it
+-- the deletion stops at an identity: it is bad, or there is no memory for it
 pub stopped_deletion : (c : StreamParams) (first earlier old new : List ℕ) (id : ℕ) (later ids : List ℕ) (es fs : History) (stop : LineStop)
     → ids ≡ earlier ++ id ∷ later → GoesOn c first earlier es → AreDropped c first earlier old
     → DeletesOne c id old new fs (Err stop) → Deletes c first new ids (es ++ fs) (length earlier) (Err stop)

@@ -167,7 +167,7 @@ took_back c n is_dropped earlier id ids many es Good took =
 took_back c n is_dropped earlier id ids many es (Bad deleted fault) took =
     (took.0, took.1, took.2, took.3, omega (arith, took.4, length-append earlier (id ∷ [])))
 
--- and from before one event
+-- and counted from before one event
 took_later : (c : StreamParams) (n : State) (is_dropped : ℕ → Bool) (earlier ids : List ℕ) (many : ℕ) (e : Event) (es rest : History)
     (v : LineVerdict)
     → es ≡ e ∷ rest → Took c (after n e) is_dropped earlier ids many rest v → Took c n is_dropped earlier ids many es v

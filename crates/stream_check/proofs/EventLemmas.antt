@@ -21,7 +21,7 @@ use Rattle.stream_check.specs.Laws.{EarlyEvents, VacantTriesAgain, cited_by, Fet
 
 -- What holds for the events of a line, from the last one on
 
--- the list is empty; or it is the publish; or a retire comes first, or the events of a hint
+-- the list is empty, or is only the publish, or begins with a retire or with the events of a hint
 pub record Holds (c : StreamParams) (IsHint : ℕ → Type 0) (P : History → Type 0) : Type 0 where
   pub none : P []
   pub published : (id : ℕ) (d : Clause) (r : Published) → P (events.publish c.stream id d r ∷ [])

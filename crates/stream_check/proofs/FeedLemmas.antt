@@ -59,7 +59,7 @@ feeds_line h n read r used blocks free left ending none reads reaches =
     (subst (λ (text : List ℕ). Extends h.params (Going (hold h read free)) used blocks (Going (hold n text left)))
     (sym (ap read_of reads)) reaches)
 
--- the front of a line is taken
+-- the start of a line is taken
 pub feeds_more : (h : StreamStateValue) (read : List ℕ) (r : ReaderState) (piece : List ℕ) (used free : ℕ) (ending : Option Ending)
     → ending ≡ None → r ≡ Ok (read ++ piece) → used ≡ length piece → IsPending (read ++ piece)
     → Extends h.params (checker_state (value_of h read ending) free) (take used piece) []
@@ -113,7 +113,7 @@ ready_inside h read ending v p is ready =
 pub reads_on : (r : ReaderState) (read : List ℕ) → r ≡ Ok read → r ≡ Ok (read_of r)
 reads_on r read e = e ∙ ap (λ (b : List ℕ). Ok b) (sym (ap read_of e))
 
--- the reading ends
+-- the checker is finished
 pub feeds_finished : (h : StreamStateValue) (read used : List ℕ) (blocks : List History) (free : ℕ) (ending : Option Ending)
     (report : Report)
     (is_dropped : ℕ → Bool) → ending ≡ None
@@ -160,7 +160,7 @@ reports_now end old new none tally ending bytes blocks free reaches =
           (end_judged old.params bytes blocks (going_of old free) end going),
     )
 
--- the end of the lines, if a line is open, and if none is
+-- the end of the stream, with a line open or with none
 
 pub ended_clean : (r : ReaderState) (line : ℕ) → r ≡ Ok [] → ending_at stream_ends.Ended (read_of r) line ≡ endings.Ended
 ended_clean r line reads = ap (λ (s : ReaderState). ending_at stream_ends.Ended (read_of s) line) reads

@@ -38,8 +38,8 @@ never_fork_after (d ∷ a) g h never = never_fork_after a g h (never.1 refl)
 abbrev pub fetches : ℕ → ℕ → ℕ → Reply → History
 fetches s id k r = replicate k (fetch s id vacant) ++ fetch s id r ∷ []
 
--- fetches that never fork are equally many, with the same last reply, if there were `done` fetches
--- before
+-- fetches that never fork have the same number and the same last reply, if there were `done`
+-- fetches before
 same_fetches : (s id most done k j : ℕ) (x y : Reply) (q r : History)
     → k + done ≤ most → j + done ≤ most → (x ≡ vacant → k + done ≡ most) → (y ≡ vacant → j + done ≡ most)
     → NeverFork (fetches s id k x ++ q) (fetches s id j y ++ r) → (k ≡ j) × (x ≡ y)

@@ -35,9 +35,9 @@ use Rattle.stream_check.specs.lemmas.AdditionLemmas.{run-fetches}
 use Rattle.stream_check.specs.lemmas.ContextLemmas.{same_tally}
 use Rattle.stream_check.specs.lemmas.StoppingLemmas.{drops_none}
 
--- The view after fetches alone
+-- The view after only fetches
 
--- what the view before had at one of the stream's own identities
+-- what the earlier view had at one of the stream's own identities
 own_before : (p q : CallerView) (es : History) (j : ℕ) → CallerStep p q es → Owns q.caller.layout q.caller.stream j
     → Owns p.caller.layout p.caller.stream j
 own_before p q es j step theirs = subst (λ (r : Caller). Owns r.layout r.stream j) step.caller theirs
@@ -54,7 +54,7 @@ ready_fetches h p q es step quiet ready = record {
   vacant = vacant_on p q es h.last step (λ j none. ap (λ (m : State). m j) (run-fetches p.own es quiet) ∙ none) ready.vacant;
 }
 
--- The view after retires alone
+-- The view after only retires
 
 retired_absent : (slot : Slot) → slot ≡ absent → retire_slot slot ≡ absent
 retired_absent slot none = subst (λ (s : Slot). retire_slot s ≡ absent) (sym none) refl
@@ -141,7 +141,7 @@ or_false : (a : Bool) → a ≡ (a || false)
 or_false true = refl
 or_false false = refl
 
--- the literals of a line are none exactly if its clause is empty
+-- a line has no literals exactly if its clause is empty
 empty_is : (b : Bool) (lits : List ℤ) → b ≡ (length lits == 0) → b ≡ ((length (distinct lits) == 0) || false)
 empty_is b [] is = is
 empty_is b (l ∷ lits) is = is ∙ eqb-suc-zero (length lits) ∙ sym (ap (λ x. x || false) (eqb-suc-zero _))

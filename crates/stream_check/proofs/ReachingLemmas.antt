@@ -103,7 +103,7 @@ pending_grows c bytes piece blocks old before pending = record {
   line = before.line;
 }
 
--- what is judged from what a checker holds is judged from what the lines leave
+-- what holds of the context in a checker holds of the context that the lines leave
 by_lines : (c : StreamParams) (old : GoingState) (lines : List StreamLine) (P : StreamContext → Type 0)
     → SameContext old.context (context_of c lines)
     → P old.context → P (context_of c lines)
@@ -261,7 +261,7 @@ memory_wanted c bytes piece blocks block old lead ids earlier is_dropped before 
 refused_alone : (bytes : List ℕ) (fault : LineFault) → IsRefused bytes fault → HasTextFault bytes fault
 refused_alone bytes fault refused = (bytes, [], sym (append-nil bytes), refused)
 
--- a text that begins no line
+-- a text that no line begins with
 pub bad_text_read : (c : StreamParams) (bytes piece : List ℕ) (blocks : List History) (old : GoingState)
     (fault : LineFault)
     → ReachesState c bytes blocks (Going old) → IsRefused (old.pending ++ piece) fault
@@ -312,8 +312,8 @@ judges_longer c bytes more end other blocks report j ends = record {
   ends = ends;
 }
 
--- what is judged by a line, by a text or by memory that ran out is right for either end and for any
--- further bytes; what remains is judged by its end
+-- a report of a bad line, a bad text or memory that ran out is right for either end and for any
+-- further bytes; any other report depends on the end
 before_end : (c : StreamParams) (bytes more : List ℕ) (end other : StreamEnd) (blocks : List History) (report : Report)
     → (j : JudgesBlocks c bytes end blocks report)
     → (report ≡ report_of c j.lines 0 (ending_at end j.rest (capped (length j.lines + 1)))

@@ -109,7 +109,7 @@ looks_reduced c is_dropped h asked rest answer (inl dropped) ends =
 looks_reduced c is_dropped h asked rest answer (inr found) ends =
     asks_reduced found.1 c is_dropped h asked rest answer found.0 found.2 found.3 ends
 
--- a line without the vacant fetches of the hints that it found is judged alike
+-- a line without the vacant fetches of the hints that it found gets the same verdict
 pub reduced_line : (c : StreamParams) (st : StreamContext) (line : StreamLine) (es : History) (v : LineVerdict)
     → JudgesLine c st line es v → JudgesLine c st line (reduced es) v
 reduced_line c st line es v judged =

@@ -50,14 +50,14 @@ reaches_stopped old new free left read used line es stops.Memory text takes byte
     (memory_wanted old.params bytes used before es (hold old read free) takes.0 takes.1 takes.2 (is_among new.dropped.ids) reaches
     (subst (λ (l : StreamLine). LineText l (read ++ used)) takes.3 text) takes.4 takes.5.dropped)
 
--- the front of a line
+-- the start of a line
 pub reaches_front : (old : StreamStateValue) (free : ℕ) (read piece : List ℕ) → IsPending (read ++ piece)
     → Extends old.params (Going (hold old read free)) piece [] (Going (hold old (read ++ piece) free))
 reaches_front old free read piece pending bytes before reaches =
     subst (λ (blocks : List History). ReachesState old.params (bytes ++ piece) blocks (Going (hold old (read ++ piece) free)))
     (sym (append-nil before)) (pending_grows old.params bytes piece before (hold old read free) reaches pending)
 
--- a text that begins no line
+-- a text that no line begins with
 pub reaches_refused : (old : StreamStateValue) (free : ℕ) (read used : List ℕ) (fault : LineFault) → IsRefused (read ++ used) fault
     → Extends old.params (Going (hold old read free)) used []
     (Over (report_of_tally (tally_at old) (endings.Bad old.line (faults.Text fault))) (is_among old.dropped.ids))

@@ -1,4 +1,4 @@
--- An identity is looked up, and hints one after the other.
+-- An identity is looked up, and then hints, one after the other.
 use Rattle.std.proofs.Common.{◌≡◌, ◌≤◌, ◌+◌, ◌∙◌, ℕ, ℤ, neg_ℤ, Bool, List, [], ◌∷◌, ◌++◌, length, Ok, Err, inl, inr, refl}
 use Rattle.std.proofs.Common.{sym, ap, subst, arith, append_assoc, append-nil}
 use Rattle.std.specs.Prelude.{replicate}
@@ -26,13 +26,13 @@ use Rattle.stream_check.specs.internal.Checking.{Shows, excess_of}
 pub replicate-more : (k : ℕ) (e : Event) → replicate k e ++ e ∷ [] ≡ replicate (k + 1) e
 replicate-more k e = replicate-append-replicate k 1 e
 
--- the clause of a known clip follows, in terms of the view before
+-- the clause of a known clip follows, in terms of the earlier view
 pub derived_before : (p q : CallerView) (es : History) (clip : ClipValue) → CallerStep p q es → IsKnown q clip → AllFollow q
     → IsDerived p.caller.formula (clip_clause q clip)
 derived_before p q es clip step known follow =
     subst (λ (f : Cnf). IsDerived f (clip_clause q clip)) (ap (λ (r : Caller). r.formula) step.caller) (known_follows q clip follow known)
 
--- the formula's variables are those of the stream's layout, in terms of the view before
+-- the formula's variables are those of the stream's layout, in terms of the earlier view
 pub variables_before : (c : StreamParams) (p q : CallerView) (es : History) → IsViewOf c p → CallerStep p q es
     → q.caller.formula.vars ≡ q.caller.layout.vars → p.caller.formula.vars ≡ c.layout.vars
 variables_before c p q es at step there = subst (λ (r : Caller). r.formula.vars ≡ r.layout.vars) step.caller there
@@ -52,7 +52,7 @@ all_derived f [] d h k = (k, tt)
 all_derived f (c ∷ cs) d h k = (h.0, all_derived f cs d h.1 k)
 
 -- The hints so far have these clauses, which are unit, one after the other, and follow; and the
--- result of the remaining hints gives that of all.
+-- result of the remaining hints gives the result of all.
 pub record HasLed (c : StreamParams) (is_dropped : ℕ → Bool) (f : Cnf) (n : List ℤ) (hints : List ℕ) (m : List ℤ) (left : List ℕ)
     (es : History) : Type 0 where
   pub clauses : List Clause

@@ -23,7 +23,7 @@ use Rattle.stream_check.proofs.AskLemmas.{ownership_for}
 use Rattle.stream_check.proofs.CountLemmas.{SameOwn, OwnRun, own_runs, run_on}
 use Rattle.stream_check.proofs.DeletedLemmas.{identity_below, TakenAt, Taken, Apart, are_distinct, AreTaken, identities_took, lines_took}
 
--- There are at most as many distinct identities as there are identities
+-- A list of distinct identities isn't longer than the number of identities
 
 all_below : (xs : List ℕ) (n : ℕ) → AllByRecursion (λ x. x < n) xs → (q : ℕ) → list_any (eqb q) xs ≡ true → q < n
 all_below [] n all q e = absurd (let f : false ≡ true = e in cc)
@@ -111,8 +111,8 @@ ends_delete c n lines rest end back report answers are (at_end pending no_block 
 owns_below : (p : LayoutValue) (s id : ℕ) → Owns p s id → id ≤ last_identity p
 owns_below p s id owns = (identity_below p id (λ e. let f : owners.Outside ≡ owners.Stream s = sym e ∙ owns in cc)).1
 
--- the additions are at most as many as the identities above the formula's last one, up to the last
--- added one
+-- there are at most as many additions as identities above the formula's last one, up to the last
+-- one added
 record AreFewAdded (c : StreamParams) (lines : List StreamLine) : Type 0 where
   few : length (additions_of lines) + c.layout.clauses ≤ (context_of c lines).last
   below : (context_of c lines).last ≤ last_identity c.layout

@@ -1,5 +1,5 @@
--- What makes an addition valid, and how one is judged (this project's own; that hinted clauses
--- derive the clause by propagation is the idea of Cruz-Filipe et al., CADE 2017).
+-- What makes an addition valid, and how additions are judged (this project's own; the idea that
+-- hinted clauses derive the clause by propagation is from Cruz-Filipe et al., CADE 2017).
 use Rattle.std.specs.Prelude.{◌≡◌, ◌≤◌, ◌<◌, ◌⊎◌, ◌++◌, ℕ, ℤ, neg_ℤ, nat_abs, Bool, List, [], ◌∷◌, length, Result, Ok, Err}
 use Rattle.std.specs.List.{AllByRecursion}
 use Rattle.lrup_model.specs.Clause.{Clause, IsTautology}
@@ -17,9 +17,9 @@ use Rattle.stream_check.specs.Verdicts.{LineVerdict, Good, Bad, Violates}
 use Rattle.stream_check.specs.Lookup.{AreFound, LooksUp}
 
 -- An addition is valid: its identity is the stream's own, and above the last one that was added, or
--- the formula's last one; its literals are over the variables; there is room for its clause, in
--- literals; and the clauses that its hints name derive its clause, which isn't a tautology, by
--- propagation.
+-- the formula's last one if none was; its literals are over the variables; there is room for its
+-- clause, in literals; and the clauses that its hints name derive its clause, which isn't a
+-- tautology, by propagation.
 pub record IsValidAddition (layout : LayoutValue) (stream last free : ℕ)
     (Names : List ℕ → List Clause → Type 0) (id : ℕ) (lits : List ℤ)
     (hints : List ℕ) : Type 0 where
@@ -31,7 +31,7 @@ pub record IsValidAddition (layout : LayoutValue) (stream last free : ℕ)
   pub named : Names hints clauses
   pub shown : Accepts (distinct lits) clauses
 
--- the conditions of an addition that come before those of its hints, in their order
+-- the conditions of an addition that are tested before its hints, in order
 abbrev pub BeforeHints : StreamParams → StreamContext → ℕ → List ℤ → History → Fault
     → Type 0 → Type 0
 BeforeHints params context id lits history fault Next =
@@ -76,7 +76,7 @@ published_by params id lits = events.publish params.stream id (distinct lits) pu
 
 -- An addition's events and its verdict, after lines that left this context: the addition is valid
 -- by what its events find, and its last event publishes its clause; or it violates a condition, and
--- the first one that it violates gives the fault.
+-- the first condition that it violates gives the fault.
 abbrev pub JudgesAddition : StreamParams → StreamContext → ℕ → List ℤ → List ℕ → History
     → LineVerdict
     → Type 0

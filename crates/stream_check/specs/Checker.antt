@@ -1,4 +1,4 @@
--- What a checker holds, and what it takes of a piece of its stream (this project's own).
+-- What a checker holds, and what it takes from a piece of its stream (this project's own).
 use Rattle.std.specs.Prelude.{◌≡◌, ◌⊎◌, ◌≤◌, ◌++◌, ℕ, List, [], ◌∷◌, length, Option, Some, None}
 use Rattle.lrup_model.specs.Cube.{CubeValue}
 use Rattle.lrup_model.specs.Event.{History}
@@ -41,8 +41,8 @@ pub record IsViewOf (params : StreamParams) (view : CallerView) : Type 0 where
   pub layout : view.caller.layout ≡ params.layout
   pub stream : view.caller.stream ≡ params.stream
 
--- What a checker requires of a view: it is of the checker's stream, and the stream's own identities
--- above the last one that was added are vacant.
+-- What a checker requires of a view: it belongs to the checker's stream, and the stream's own
+-- identities above the last one that was added are vacant.
 pub record IsReadyAt (checker : CheckerValue) (view : CallerView) : Type 0 where
   pub at : IsViewOf checker.params view
   pub vacant : IsVacantAbove view checker.last
@@ -55,13 +55,13 @@ Extends params old used blocks new = (bytes : List ℕ) (before : List History)
     → ReachesState params (bytes ++ used) (before ++ blocks) new
 
 -- How many blocks of events a call has: one if it ends a good line, none if it ends no line, at
--- most one if it ends the reading.
+-- most one if it finishes the checker.
 abbrev pub AreBlocksOf : CheckStatus → List History → Type 0
 AreBlocksOf statuses.Line blocks = length blocks ≡ 1
 AreBlocksOf statuses.More blocks = blocks ≡ []
 AreBlocksOf statuses.Over blocks = length blocks ≤ 1
 
--- The text at which the reading ended: a whole line, or a text that begins no line, through the
+-- The text that finished the checker: a whole line, or a text that no line begins with, through the
 -- byte that decided this.
 abbrev pub StopsAt : Ending → List ℕ → Type 0
 StopsAt ending text =
@@ -69,8 +69,8 @@ StopsAt ending text =
     ⊎ ((number : ℕ) × (fault : LineFault) × (ending ≡ endings.Bad number (faults.Text fault))
     × IsRefused text fault)
 
--- The result for the bytes that were used: one more line, the front of a line, or the end of the
--- reading.
+-- The result for the bytes that were used: they end a line, they don't end one, or the checker is
+-- finished.
 abbrev pub FeedsChecker : CheckStatus → CheckerValue → CheckerValue → List ℕ → List ℕ → Type 0
 FeedsChecker statuses.Line old new piece used =
     (new.ending ≡ None) × (new.pending ≡ [])

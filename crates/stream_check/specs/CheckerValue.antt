@@ -5,8 +5,8 @@ use Rattle.stream_check.specs.DroppedIdsValue.{DroppedIdsValue}
 use Rattle.stream_check.specs.StreamParams.{StreamParams}
 use Rattle.stream_check.specs.declared.report.Report.{Report}
 
--- how many additions and deleted identities were good, whether an added clause is empty, and
--- whether one is within the cube
+-- how many additions were good, how many identities were deleted, whether an added clause is empty,
+-- and whether one is within the cube
 pub record Tally : Type 0 where
   pub added : ℕ
   pub deleted : ℕ
@@ -24,7 +24,7 @@ report_of_tally tally ending =
       ending = ending;
     }
 
--- The parameters; the counts, the last identity and the dropped ones, and how many were retired;
+-- The parameters; the counts, the last identity, the dropped identities, and how many were retired;
 -- what was read of the next line, and that line's number; and how the stream ended, if it did.
 pub record CheckerValue : Type 0 where
   pub params : StreamParams

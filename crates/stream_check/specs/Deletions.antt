@@ -1,4 +1,4 @@
--- How a deletion is judged: its identities from the left (this project's own).
+-- How a deletion is judged: identity by identity, from the left (this project's own).
 use Rattle.std.specs.Prelude.{◌≡◌, ◌⊎◌, ◌++◌, ◌||◌, ℕ, Bool, true, false, List, [], ◌∷◌, length}
 use Rattle.lrup_model.specs.Event as events
 use Rattle.lrup_model.specs.Event.{History}
@@ -11,7 +11,7 @@ use Rattle.stream_check.specs.StreamParams.{StreamParams, ownership_of, is_share
 use Rattle.stream_check.specs.StreamContext.{is_among}
 use Rattle.stream_check.specs.Verdicts.{LineVerdict, Good, Fails}
 
--- An own identity is retired at the map, with one event, whose reply decides.
+-- One of the stream's own identities is retired at the map, by one event, whose reply decides.
 pub record RetiresThen (params : StreamParams) (earlier : List ℕ) (id : ℕ) (history : History)
     (verdict : LineVerdict) (Next : History → Type 0) : Type 0 where
   pub rest : History
@@ -20,8 +20,8 @@ pub record RetiresThen (params : StreamParams) (earlier : List ℕ) (id : ℕ) (
       ⊎ ((history ≡ events.retire params.stream id retiring.NotLive ∷ rest)
       × Fails (length earlier) (faults.NotLive id) rest verdict)
 
--- An identity of the formula or of another stream is dropped, without an event, unless earlier
--- lines, or this line before it, dropped it.
+-- An identity of the formula or of another stream is dropped, without an event, unless it was
+-- dropped before, by an earlier line or by this one.
 abbrev pub DropsThen : (ℕ → Bool) → List ℕ → ℕ → History → LineVerdict → (History → Type 0) → Type 0
 DropsThen is_dropped earlier id history verdict Next =
     (((is_dropped id || is_among earlier id) ≡ true)
@@ -41,8 +41,8 @@ DeletesAt ownerships.Foreign params is_dropped earlier id history verdict Next =
 DeletesAt ownerships.Outside params is_dropped earlier id history verdict Next =
     Fails (length earlier) (faults.NotLive id) history verdict
 
--- the events and the verdict for the remaining identities of a deletion, if `is_dropped` were
--- dropped by earlier lines, and `earlier` were taken before in this line
+-- the events and the verdict for the remaining identities of a deletion, after earlier lines
+-- dropped `is_dropped`, and this line deleted `earlier`
 abbrev pub JudgesDeletion : StreamParams → (ℕ → Bool) → List ℕ → List ℕ → History
     → LineVerdict → Type 0
 JudgesDeletion params is_dropped earlier [] history verdict = (history ≡ []) × (verdict ≡ Good)
@@ -50,7 +50,7 @@ JudgesDeletion params is_dropped earlier (id ∷ ids) history verdict =
     DeletesAt (ownership_of params id) params is_dropped earlier id history verdict
     (λ rest. JudgesDeletion params is_dropped (earlier ++ id ∷ []) ids rest verdict)
 
--- A deletion runs out of memory at an identity that it would drop, after those before it.
+-- A deletion runs out of memory at an identity that it would drop, after deleting those before it.
 pub record StopsDeletion (params : StreamParams) (is_dropped : ℕ → Bool) (ids : List ℕ)
     (history : History)
     (earlier : List ℕ) : Type 0 where

@@ -36,8 +36,8 @@ HasDroppedBy (endings.Memory line) params bytes blocks report dropped =
     DropsUntilStop params bytes blocks report (is_among dropped.ids) × (dropped.spare ≡ 0)
 
 -- If the stream ended or a read failed, all its lines were good, and these are the identities that
--- they drop. If a line was bad, or memory ran out in a line, these are the identities that the
--- lines before it drop, and those that the line itself dropped before it stopped. If memory ran
+-- they dropped. If a line was bad, or memory ran out in a line, these are the identities that the
+-- lines before it dropped, and those that the line itself dropped before it stopped. If memory ran
 -- out, there is no room for one more identity.
 abbrev pub HasDropped : StreamParams → List ℕ → List History → Report → DroppedIdsValue → Type 0
 HasDropped params bytes blocks report dropped =

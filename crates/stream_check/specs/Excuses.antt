@@ -1,4 +1,4 @@
--- Excuses for a report that isn't the one of the stream's lines (this project's own).
+-- Reasons why a report may differ from what the stream's lines call for (this project's own).
 use Rattle.std.specs.Prelude.{◌≡◌, ◌⊎◌, ℕ}
 use Rattle.stream_check.specs.declared.fault.Fault.TheVariants as faults
 use Rattle.stream_check.specs.declared.params.Ownership.TheVariants as ownerships
@@ -6,7 +6,7 @@ use Rattle.stream_check.specs.declared.report.Ending.TheVariants as endings
 use Rattle.stream_check.specs.declared.report.Report.{Report}
 use Rattle.stream_check.specs.StreamParams.{StreamParams, ownership_of}
 
--- what excuses it
+-- the excuse
 pub data Excuse : Type 0 where
   -- memory ran out
   OutOfMemory : Excuse
@@ -14,8 +14,8 @@ pub data Excuse : Type 0 where
   ReadFailed : Excuse
   -- one of the two
   CutOff : Excuse
-  -- one of the two, or the line cites or imports a clause of another stream, by these parameters,
-  -- that wasn't there yet, or was no longer there
+  -- one of the two, or the line cites or imports another stream's clause, by these parameters, that
+  -- wasn't there yet or was no longer there
   Lacking : (params : StreamParams) → Excuse
 
 -- the report says that this happened in the line with this number

@@ -1,4 +1,4 @@
--- What makes an import valid, and how one is judged (this project's own).
+-- What makes an import valid, and how imports are judged (this project's own).
 use Rattle.std.specs.Prelude.{◌≡◌, ◌≤◌, ◌↔◌, ◌⊎◌, ℕ, ℤ, nat_abs, List, [], ◌∷◌, Ok, Err}
 use Rattle.std.specs.List.{AllByRecursion}
 use Rattle.lrup_model.specs.Clause.{Clause, Has}
@@ -10,7 +10,7 @@ use Rattle.stream_check.specs.StreamContext.{StreamContext}
 use Rattle.stream_check.specs.Verdicts.{LineVerdict, Good, Bad, Violates}
 use Rattle.stream_check.specs.Lookup.{AreFound, LooksUp}
 
--- An import is valid: its identity is an identity, but not the stream's own; its literals are over
+-- An import is valid: its number is an identity, but not the stream's own; its literals are over
 -- the variables; and the clause that its identity names has the same literals, in any order and
 -- each written any number of times.
 pub record IsValidImport (layout : LayoutValue) (stream : ℕ)
@@ -23,8 +23,8 @@ pub record IsValidImport (layout : LayoutValue) (stream : ℕ)
   pub same : (l : ℤ) → Has clause l ↔ Has lits l
 
 -- An import's events and its verdict, after lines that left this context: the import is valid by
--- what its events find; or it violates a condition, and the first one that it violates gives the
--- fault.
+-- what its events find; or it violates a condition, and the first condition that it violates gives
+-- the fault.
 abbrev pub JudgesImport : StreamParams → StreamContext → ℕ → List ℤ → History → LineVerdict → Type 0
 JudgesImport params context id lits history Good =
     IsValidImport params.layout params.stream

@@ -56,13 +56,14 @@ report_of params lines deleted ending =
       ending = ending;
     }
 
--- the ending of a stream whose lines are all good, and whose rest begins a line, with this number
+-- the ending of a stream whose lines are all good, and whose rest may still become the line with
+-- this number
 abbrev pub ending_at : StreamEnd → List ℕ → ℕ → Ending
 ending_at stream_ends.Ended [] number = endings.Ended
 ending_at stream_ends.Ended (byte ∷ bytes) number = endings.Bad number (faults.Text texts.Truncated)
 ending_at stream_ends.Failed rest number = endings.ReadFailed number
 
--- After good lines one of four things ends the stream, with the line number after theirs. If the
+-- After the good lines one of four things ends the stream. Its line number is the next one. If the
 -- rest begins with a deletion, good or bad, memory may run out in it.
 pub data EndsAfter (params : StreamParams) (lines : List StreamLine) (rest : List ℕ)
     (end : StreamEnd)
@@ -76,7 +77,7 @@ pub data EndsAfter (params : StreamParams) (lines : List StreamLine) (rest : Lis
       (says : report
       ≡ report_of params lines deleted (endings.Bad (capped (length lines + 1)) fault))
       → EndsAfter params lines rest end blocks report
-  -- a text that begins no line, with anything after it
+  -- a text that no line begins with, with anything after it
   at_bad_text :
       (fault : LineFault) (text : HasTextFault rest fault) (no_block : blocks ≡ [])
       (says : report
@@ -97,7 +98,7 @@ pub data EndsAfter (params : StreamParams) (lines : List StreamLine) (rest : Lis
       (says : report ≡ report_of params lines 0 (ending_at end rest (capped (length lines + 1))))
       → EndsAfter params lines rest end blocks report
 
--- The judgement of a stream of these bytes and this end, whose lines have these blocks of events:
+-- The judgement of a stream with these bytes and this end, whose lines have these blocks of events:
 -- first come its good lines, and then what ended it.
 pub record JudgesBlocks (params : StreamParams) (bytes : List ℕ) (end : StreamEnd)
     (blocks : List History) (report : Report) : Type 0 where
@@ -111,7 +112,7 @@ pub record JudgesBlocks (params : StreamParams) (bytes : List ℕ) (end : Stream
   pub good : AreGood params [] lines front
   pub ends : EndsAfter params lines rest end back report
 
--- the judgement of a stream of these bytes, this end and these events
+-- the judgement of a stream with these bytes, this end and these events
 pub record Judges (params : StreamParams) (bytes : List ℕ) (end : StreamEnd) (history : History)
     (report : Report) : Type 0 where
   pub blocks : List History

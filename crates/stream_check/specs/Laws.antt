@@ -67,8 +67,8 @@ DecidedBeforeFailure =
     → ¬ IsExcused ReadFailed report → JudgesBlocks c bytes stream_ends.Failed blocks report
     → JudgesBlocks c (bytes ++ more) end blocks report
 
--- if its numbers are below 2^64 - 1, the report of a stream that a line stopped determines what the
--- stream dropped
+-- the report of a stream that a line stopped determines what the stream dropped, if the report's
+-- numbers are below 2^64 - 1
 abbrev pub DroppedOnce : Type 0
 DroppedOnce =
     (c : StreamParams) (bytes : List ℕ) (blocks others : List History) (report : Report)
@@ -98,7 +98,7 @@ ReadyBeside = (v : CheckerValue) (old new : Plain) (t : ℕ) (es : History)
 
 -- One report
 
--- a stream's bytes, end and events have at most one report, and one list of blocks, unless memory
+-- a stream's bytes, end and events allow at most one report and one list of blocks, unless memory
 -- ran out
 abbrev pub OneReport : Type 0
 OneReport = (c : StreamParams) (bytes : List ℕ) (end : StreamEnd) (blocks others : List History)
@@ -117,8 +117,8 @@ RepliesDecide = (c : StreamParams) (bytes : List ℕ) (end : StreamEnd) (blocks 
     → ¬ IsExcused OutOfMemory report → ¬ IsExcused OutOfMemory other
     → (blocks ≡ others) × (report ≡ other)
 
--- the two lists are both empty or neither is, and their first blocks are equal if they never fork,
--- for any events after them
+-- both lists are empty or neither is, and their first blocks are equal if these never fork,
+-- whatever events come after them
 abbrev pub GoAlike : List History → List History → Type 0
 GoAlike [] [] = Unit {0}
 GoAlike [] (other ∷ others) = ⊥
@@ -141,7 +141,7 @@ abbrev pub LegalNeverFork : Type 0
 LegalNeverFork = (f : Cnf) (p : LayoutValue) (m : State) (g h : History) → LegalFrom f p m g
     → LegalFrom f p m h → NeverFork g h
 
--- one stream alone has one report, with any legal history
+-- a stream on its own has only one report, with any legal history
 abbrev pub AloneDecides : Type 0
 AloneDecides = (f : Cnf) (p : LayoutValue) (c : StreamParams) (bytes : List ℕ) (end : StreamEnd)
     (g h : History) (report other : Report)
@@ -162,17 +162,17 @@ GoodFollows =
 
 -- The events of a line
 
--- before a line's last event there are only fetches, and retires with Done
+-- before a line's last event there are only fetches, and retires with the reply Done
 abbrev pub EarlyEvents : Type 0
 EarlyEvents = (c : StreamParams) (st : StreamContext) (line : StreamLine) (es : History)
     (v : LineVerdict) → JudgesLine c st line es v → AreEarly es
 
--- in a line a vacant fetch is the last event, or the same identity is fetched again
+-- in a line a vacant fetch is the last event, or the next event fetches the same identity again
 abbrev pub VacantTriesAgain : Type 0
 VacantTriesAgain = (c : StreamParams) (st : StreamContext) (line : StreamLine) (es : History)
     (v : LineVerdict) → JudgesLine c st line es v → TriesAgain es
 
--- a stream without the vacant fetches of the hints that its lines found is judged alike
+-- the vacant fetches of hints that a stream's lines found can be left out: the report is the same
 abbrev pub ReducedStream : Type 0
 ReducedStream = (c : StreamParams) (bytes : List ℕ) (end : StreamEnd) (blocks : List History)
     (report : Report)
@@ -193,8 +193,8 @@ FetchesOnly p (events.fetch s id r) = IsTrue (p id)
 FetchesOnly p (events.publish s id c r) = Unit {0}
 FetchesOnly p (events.retire s id r) = Unit {0}
 
--- a stream fetches no identity that its lines don't cite: if all that they cite passes a test, so
--- does all that the stream fetches
+-- a stream fetches only identities that its lines cite: if all that they cite pass a test, so do
+-- all that the stream fetches
 abbrev pub CitedFetched : Type 0
 CitedFetched = (c : StreamParams) (bytes : List ℕ) (end : StreamEnd) (blocks : List History)
     (report : Report) (all : List StreamLine) (rest : List ℕ) (p : ℕ → Bool)
@@ -211,7 +211,7 @@ WithinReported = (c : StreamParams) (bytes : List ℕ) (end : StreamEnd) (blocks
     → (j : JudgesBlocks c bytes end blocks report) → IsTrue report.within
     ↔ Any (λ addition. Within addition.1 c.cube) (additions_of j.lines)
 
--- with the empty cube it says 'within' exactly if it says 'empty'
+-- with the empty cube the report says 'within' exactly if it says 'empty'
 abbrev pub EmptyCubeReported : Type 0
 EmptyCubeReported = (c : StreamParams) (bytes : List ℕ) (end : StreamEnd) (blocks : List History)
     (report : Report)
@@ -219,7 +219,8 @@ EmptyCubeReported = (c : StreamParams) (bytes : List ℕ) (end : StreamEnd) (blo
 
 -- Counts
 
--- In a legal history a stream adds and deletes no more than there are identities.
+-- In a legal history a stream neither adds more clauses nor deletes more identities than there are
+-- identities.
 abbrev pub CountsWithin : Type 0
 CountsWithin = (f : Cnf) (c : StreamParams) (h : History) (bytes : List ℕ) (end : StreamEnd)
     (blocks : List History) (report : Report)

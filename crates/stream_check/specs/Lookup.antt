@@ -15,8 +15,8 @@ abbrev pub FetchesUpTo : ℕ → ℕ → ℕ → History → Reply → Type 0
 FetchesUpTo most s id history reply = (k : ℕ) × (k ≤ most) × (reply ≡ vacant → k ≡ most)
     × (history ≡ replicate k (fetch s id vacant) ++ fetch s id reply ∷ [])
 
--- An own identity or one of the formula is fetched once; another stream's until it isn't vacant or
--- the tries are used up; and a number that isn't an identity never.
+-- An identity of the stream or of the formula is fetched once; another stream's, until it isn't
+-- vacant or the tries are used up; and a number that isn't an identity, never.
 abbrev pub FetchesHintAt : Ownership → StreamParams → ℕ → History → Reply → Type 0
 FetchesHintAt ownerships.Formula params id history reply = history ≡ fetch params.stream id reply ∷
     []

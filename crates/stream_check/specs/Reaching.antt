@@ -1,5 +1,5 @@
--- The states of a checker, and which state the bytes so far and the blocks of events of their lines
--- lead to (this project's own).
+-- The states of a checker, and the state to which the bytes so far lead, with the blocks of events
+-- of their lines (this project's own).
 use Rattle.std.specs.Prelude.{◌≡◌, ◌==◌, ◌+◌, ◌-◌, ◌&&◌, ◌||◌, ℕ, Bool, false, List, [], ◌∷◌, length}
 use Rattle.std.specs.List.{list_any, sum_by}
 use Rattle.lrup_model.specs.Event.{History}
@@ -33,8 +33,9 @@ pub record SameContext (context other : StreamContext) : Type 0 where
   pub free : context.free ≡ other.free
   pub is_dropped : (id : ℕ) → context.is_dropped id ≡ other.is_dropped id
 
--- All lines are good, with these blocks of events, the rest may still become a line, and the
--- checker holds what they leave: its counts are those in a report of these lines, with any ending.
+-- All lines are good, with these blocks of events, and the rest may still become a line. The
+-- checker holds what the lines leave: its counts are those in a report of the lines, with any
+-- ending.
 pub record ReachesGoing (params : StreamParams) (bytes : List ℕ) (blocks : List History)
     (now : GoingState) : Type 0 where
   pub lines : List StreamLine
@@ -53,8 +54,8 @@ JudgesBothEnds params bytes blocks report =
     × JudgesBlocks params bytes stream_ends.Failed blocks report
 
 -- The bytes so far, whose lines have these blocks of events, lead to this state of a checker. If
--- the checker is finished, its report is right for both ends of the stream, and it dropped what its
--- lines delete until one stopped it.
+-- the checker is finished, its report is right for both ends of the stream, and it has dropped what
+-- the lines drop until one of them stops the stream.
 abbrev pub ReachesState : StreamParams → List ℕ → List History → CheckerState → Type 0
 ReachesState params bytes blocks (Going now) = ReachesGoing params bytes blocks now
 ReachesState params bytes blocks (Over report is_dropped) =

@@ -10,8 +10,8 @@ abbrev pub readers_view : {R : Type 0} → Source.Ghosts R → SourceView R
 readers_view its = source_view its.left its.has_failed its.reads
 
 -- The stream is what the reads of a reader gave, from the first one on. If the stream has an end,
--- its bytes are all that the reads gave, up to the first end or to the read that failed; else they
--- are all except `unneeded`.
+-- its bytes are all that the reads gave, up to the first end or to the read that failed; otherwise
+-- they are all of them except `unneeded`.
 abbrev pub IsRead : (S : Type 0) → ReadsOf S → S → S → Stream → Type 0
 IsRead S reads first after stream =
     MatchOption stream.end (Gave S reads first (stream.bytes ++ stream.unneeded) after)

@@ -13,15 +13,15 @@ is_vacant (events.fetch s id events.retired) = false
 is_vacant (events.publish s id clause reply) = false
 is_vacant (events.retire s id reply) = false
 
--- A line's events without each vacant fetch that is followed by anything but vacant fetches. The
--- vacant fetches of a hint that stays missing are a line's last events, and stay.
+-- A line's events without the vacant fetches that come before an event of another kind. The vacant
+-- fetches of a hint that stays missing are the line's last events, and stay.
 abbrev pub reduced : History → History
 reduced [] = []
 reduced (event ∷ history) =
     if is_vacant event && not (list_all is_vacant history) then reduced history
     else event ∷ reduced history
 
--- the event may come before another event of its line: a fetch, or a retire with Done
+-- the event may come before another event of its line: a fetch, or a retire with the reply Done
 abbrev pub IsEarly : Event → Type 0
 IsEarly (events.fetch s id reply) = Unit {0}
 IsEarly (events.publish s id clause reply) = ⊥
@@ -34,7 +34,7 @@ AreEarly [] = Unit {0}
 AreEarly (event ∷ []) = Unit {0}
 AreEarly (event ∷ next ∷ later) = IsEarly event × AreEarly (next ∷ later)
 
--- no events, or first a fetch of this identity
+-- there are no events, or the first one fetches this identity
 abbrev pub StartsWithFetchOf : ℕ → History → Type 0
 StartsWithFetchOf id [] = Unit {0}
 StartsWithFetchOf id (events.fetch s j reply ∷ history) = j ≡ id

@@ -15,9 +15,9 @@ abbrev pub seen_by : List View → History
 seen_by [] = []
 seen_by (pass ∷ passes) = pass.seen
 
--- The passes have this one history of the one-thread clause map: it is legal; each stream's pass is
--- at this formula and layout and has seen this history, and the calls made through it are the
--- events of that stream in the history, in order.
+-- The passes have this one history of the one-thread clause map: it is legal; each stream's pass
+-- has this formula and layout and has seen this history, and the calls made through the pass are
+-- the stream's events in the history, in order.
 pub record HaveOneHistory (formula : Cnf) (layout : LayoutValue) (history : History)
     (passes : List View) : Type 0 where
   pub legal : IsLegal formula layout history

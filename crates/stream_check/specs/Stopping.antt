@@ -22,12 +22,13 @@ StopsAtLine (endings.Memory line) number = line ≡ number
 abbrev pub IsFullAtMemory : Ending → DroppedIdsValue → Type 0
 IsFullAtMemory ending dropped = (line : ℕ) → ending ≡ endings.Memory line → dropped.spare ≡ 0
 
--- What a stream dropped whose report says that a line is bad, or that memory ran out in it: the
+-- What a stream dropped if its report says that a line is bad, or that memory ran out in it: the
 -- identities of the formula and of other streams among those that the lines before it delete, and
--- among the first ones that it deletes itself. The report determines both, up to 2^64 - 1: its line
--- number says how many lines come before, and its count says how many of the line's identities come
--- before the one at which it stopped. If no line begins there, or one that deletes nothing, there
--- are none. The lines before are good by the first of these blocks of events.
+-- among the first ones that the line itself deletes. The report determines both, up to 2^64 - 1:
+-- its line number says how many lines come before, and its count says how many of the line's
+-- identities come before the one at which the line stopped. If no line begins there, or a line that
+-- deletes nothing, there are no such identities. The lines before are good by the first of these
+-- blocks of events.
 pub record DropsUntilStop (params : StreamParams) (bytes : List ℕ) (blocks : List History)
     (report : Report) (is_dropped : ℕ → Bool) : Type 0 where
   pub lines : List StreamLine

@@ -34,7 +34,7 @@ abbrev pub is_among : List ℕ → ℕ → Bool
 is_among ids id = list_any (λ j. j == id) ids
 
 -- The context that these lines leave if all are good: the largest identity of the additions, or the
--- formula's last one if there are none; the room less the sizes of their clauses; and the deleted
+-- formula's last one if there are none; the room minus the sizes of their clauses; and the deleted
 -- identities that are the formula's or another stream's.
 abbrev pub context_of : StreamParams → List StreamLine → StreamContext
 context_of params lines = record {
@@ -44,7 +44,7 @@ context_of params lines = record {
       is_shared (ownership_of params id) && list_any (λ line. is_among (deleted_by line) id) lines;
 }
 
--- A count in 64 bits, which stays at 2^64 - 1. Counts of additions never get there, since
+-- A count in 64 bits, which stops at 2^64 - 1. Counts of additions never get there, since
 -- identities don't; counts of deletions don't in a legal history.
 abbrev pub capped : ℕ → ℕ
 capped count = min count (2 ^ 64 - 1)

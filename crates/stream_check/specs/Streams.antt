@@ -15,16 +15,16 @@ use Rattle.stream_check.specs.StreamParams.{StreamParams}
 use Rattle.stream_check.specs.Judging.{JudgesBlocks}
 use Rattle.stream_check.specs.Each.{Each}
 
--- The bytes by which a stream is judged; those that were read after them, by which it isn't; and
--- how the stream ended, at its end or at a read that failed, or `None` if the judgement needs no
--- end, as for a stream that was stopped early.
+-- The bytes by which a stream is judged; the bytes that were read after them, which don't matter;
+-- and how the stream ended, at its end or at a read that failed, or `None` if the judgement needs
+-- no end, as for a stream that was stopped early.
 pub record Stream : Type 0 where
   pub bytes : List ℕ
   pub unneeded : List ℕ
   pub end : Option StreamEnd
 
--- What is observed of a reader: which bytes it has left at first, and which at the end, if they are
--- known; and whether it has failed at the end.
+-- What is observed of a reader: the bytes that it has left at first, and those at the end, if they
+-- are known; and whether it has failed by then.
 pub record InputObservation : Type 0 where
   pub entry : Option (List ℕ)
   pub left : Option (List ℕ)
@@ -47,8 +47,8 @@ observations view (first ∷ firsts) (last ∷ lasts) =
 
 -- The stream matches what is observed of a reader: the bytes read are a prefix of those left at
 -- first. If the stream has an end, the reader is in the state that this end implies, and the stream
--- is judged by all that was read; else the reader hasn't failed. If what the reader has left is
--- unknown, the bytes may be any.
+-- is judged by all that was read; otherwise the reader hasn't failed. If what the reader has left
+-- is unknown, any bytes match.
 pub record MatchesInput (observation : InputObservation) (stream : Stream) : Type 0 where
   pub consumes : Consumes observation.entry observation.left (stream.bytes ++ stream.unneeded)
   pub ends : MatchOption stream.end (observation.has_failed ≡ false)
@@ -111,7 +111,7 @@ AreJudged run_params set AreOwn s streams reports =
     × JudgesStream (stream_params run_params t) stream blocks report) s streams reports
 
 -- The reports of a set of streams have an order of lines: a legal history of whole lines of these
--- streams, those of each stream in its order, that judges each stream as its report says. There are
+-- streams, with each stream's lines in order, that judges each stream as its report says. There are
 -- as many streams as in the layout.
 pub record IsOrdered (formula : Cnf) (run_params : RunParamsValue) (set : ℕ → Bool)
     (streams : List Stream)

@@ -4,13 +4,13 @@ use Rattle.lrup_model.specs.Formula.{Cnf}
 use Rattle.stream_check.specs.declared.report.Report.{Report}
 use Rattle.stream_check.specs.Streams.{Stream, IsOrdered, RunParamsValue}
 
--- An order of lines is given here by the lines' streams, counted from 1; this many of its lines are
--- stream s's.
+-- An order of lines is given here by the lines' streams, counted from 1; this many of its lines
+-- belong to stream s.
 abbrev pub line_count : ℕ → List ℕ → ℕ
 line_count s order = count_by (λ t. t == s) order
 
--- After these lines stream s may have a turn: no stream has had more lines than s, except that one
--- with a lower number may be one ahead.
+-- After these lines stream s may have a turn: no stream has had more lines than s, except that a
+-- stream with a lower number may be one line ahead.
 abbrev pub IsTurnOf : ℕ → List ℕ → Type 0
 IsTurnOf s before = (t : ℕ) → (s ≤ t → line_count t before ≤ line_count s before)
     × (t < s → line_count t before ≤ line_count s before + 1)

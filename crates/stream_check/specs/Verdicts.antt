@@ -1,5 +1,5 @@
 -- The verdict on a line, and its fault (this project's own). A line's events are one block. Each
--- condition covers the events from this condition on, so that nothing can come after a fault.
+-- condition covers all events from its test on, so that nothing can come after a fault.
 use Rattle.std.specs.Prelude.{◌≡◌, ◌⊎◌, ℕ, []}
 use Rattle.lrup_model.specs.Event.{History}
 use Rattle.stream_check.specs.declared.fault.Fault.{Fault}

@@ -56,9 +56,9 @@ impl Checker {
 
     /// Makes a checker of stream `stream`, counted from 1, before its first byte. A hint of another
     /// stream is fetched again while it is vacant, up to `tries` times, at most 1,000,000. The
-    /// report will say whether the cube of assumed literals falsifies an added clause. In the code
-    /// all memory is allocated here, also for a copy of the cube, except for the identities that
-    /// the stream drops.
+    /// report will say whether the cube of assumed literals falsifies an added clause. The code
+    /// allocates all memory here, a copy of the cube included, except for the identities that the
+    /// stream drops.
     pub fn new(
         alloc: Global,
         stream: u64,
@@ -70,7 +70,7 @@ impl Checker {
         requires tries { tries ≤ max_tries }
         ensures { IfOk result (IsNew layout.now cube.now stream tries) }
     {
-        // A law, with no effect at run time: no bytes lead to this state of the checker.
+        // A law, with no effect at run time: before any bytes a checker is in this state.
         fresh_left();
         let params = StreamParams::new(layout, cube.try_clone()?, stream, tries);
         Ok(Checker {
@@ -86,7 +86,7 @@ impl Checker {
     /// hints are fetched and the clause is published; for a deletion, the identities are retired or
     /// dropped; for an import, the identity is fetched and the literals are compared. After a good
     /// line the caller feeds the rest of the piece. After a bad one, or if memory ran out, the
-    /// checker is finished, and the gate gets the report. Later calls use no byte.
+    /// checker is finished, and the gate gets the report. Later calls use no bytes.
     pub fn feed<M: ClauseMap, G: Gate>(
         &mut self,
         map: &mut M,
@@ -148,7 +148,7 @@ impl Checker {
     }
 
     /// Gives the gate the report of the stream, whose checker is finished. `used` bytes of the
-    /// piece were used. It happens once in a stream, so it is marked as cold: the compiler then
+    /// piece were used. It is called once per stream, so it is marked as cold: the compiler then
     /// optimizes for good lines.
     #[cold]
     #[inline(never)]

@@ -40,7 +40,7 @@ impl DroppedIds {
         self.ids.contains(&id)
     }
 
-    /// Adds an identity. If memory is refused, nothing changes, and there was no room.
+    /// Adds an identity. Memory is refused only if there was no room; then nothing changes.
     pub(crate) fn add(&mut self, id: Id) -> Result<(), AllocError>
         requires { is_among self.old.ids id ≡ false }
         ensures members { OnOk result
@@ -57,7 +57,7 @@ impl DroppedIds {
         added
     }
 
-    /// Adds an identity. If memory is refused, no identity is added, and there was no room.
+    /// Adds an identity. Memory is refused only if there was no room; then no identity is added.
     fn insert(&mut self, id: Id) -> Result<(), AllocError>
         requires { is_among self.old.ids id ≡ false }
         ensures members { OnOk result

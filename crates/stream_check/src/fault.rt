@@ -14,7 +14,7 @@ pub enum Fault {
     /// The text isn't a line.
     Text(LineFault),
     /// The identity of an addition isn't the stream's own, or isn't above all that the stream
-    /// published; that of an import is the stream's own, or not an identity.
+    /// published; or the number in an import is the stream's own identity, or not an identity.
     Identity,
     /// A literal's variable isn't one of the formula's.
     Literal,
@@ -36,10 +36,10 @@ pub enum Fault {
     Excess(Id),
     /// The hints ended without a conflict.
     NoConflict,
-    /// An identity to delete: one of the stream's own that isn't live, another's that the stream
-    /// dropped before, or a number that isn't an identity.
+    /// This can't be deleted: it is one of the stream's own identities that isn't live, an identity
+    /// that the stream dropped before, or a number that isn't an identity.
     NotLive(Id),
-    /// The literals of this import aren't those of its identity's clause.
+    /// The import's literals differ from the literals of the clause under this identity.
     Differs(Id),
 }
 

@@ -15,6 +15,6 @@ pub trait Gate {
     /// Called when the checker is finished: by `Checker::feed` after the first bad line, or if
     /// memory ran out in a line; by `Checker::finish` at the end of the stream, or at a failed
     /// read. No fetch and no publish comes after it, and the report is final. It is called once: no
-    /// clause says so, but the code does it, and tests of both calls show it.
+    /// contract says so, but the code ensures it, and tests of both calls show it.
     fn when_finished(&mut self, _stream: u64, _report: &Report) {}
 }

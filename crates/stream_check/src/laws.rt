@@ -7,7 +7,7 @@ use lrup_text::laws::{
     no_bytes_have_no_lines, no_text_begins_another, texts_are_lines,
 };
 
-/// Without bytes and blocks a checker is fresh.
+/// Before any bytes and blocks a checker is fresh.
 pub fn fresh_left()
     ensures { FreshLeft }
 {
@@ -39,8 +39,8 @@ pub fn decided_before_failure()
     ensures { DecidedBeforeFailure }
 {}
 
-/// If its numbers are below 2^64 - 1, the report of a stream that a line stopped determines what
-/// the stream dropped.
+/// The report of a stream that a line stopped determines what the stream dropped, if the report's
+/// numbers are below 2^64 - 1.
 pub fn dropped_once()
     ensures { DroppedOnce }
 {
@@ -58,7 +58,8 @@ pub fn ready_beside()
     ensures { ReadyBeside }
 {}
 
-/// A stream's bytes, end and events have one report and one list of blocks, unless memory ran out.
+/// A stream's bytes, end and events allow only one report and one list of blocks, unless memory ran
+/// out.
 pub fn one_report()
     ensures { OneReport }
 {
@@ -68,7 +69,8 @@ pub fn one_report()
     a_text_has_one_fault();
 }
 
-/// If the same call after the same events always has the same reply, a stream is judged alike.
+/// If the same call after the same events always has the same reply, a stream always gets the same
+/// report.
 pub fn replies_decide()
     ensures { RepliesDecide }
 {
@@ -94,7 +96,7 @@ pub fn legal_never_fork()
     ensures { LegalNeverFork }
 {}
 
-/// A stream that is alone has one report, unless memory ran out.
+/// A stream on its own has only one report, unless memory ran out.
 pub fn alone_decides()
     ensures { AloneDecides }
 {
@@ -109,22 +111,22 @@ pub fn good_follows()
     ensures { GoodFollows }
 {}
 
-/// Before a line's last event there are only fetches, and retires with Done.
+/// Before a line's last event there are only fetches, and retires with the reply Done.
 pub fn early_events()
     ensures { EarlyEvents }
 {}
 
-/// A vacant fetch is a line's last event, or the same identity is fetched again.
+/// A vacant fetch is a line's last event, or the next event fetches the same identity again.
 pub fn vacant_tries_again()
     ensures { VacantTriesAgain }
 {}
 
-/// A stream without the vacant fetches of the hints that its lines found is judged alike.
+/// The vacant fetches of hints that a stream's lines found can be left out: the report is the same.
 pub fn reduced_stream()
     ensures { ReducedStream }
 {}
 
-/// A stream fetches no identity that its lines don't cite.
+/// A stream fetches only identities that its lines cite.
 pub fn cited_fetched()
     ensures { CitedFetched }
 {
@@ -144,7 +146,8 @@ pub fn empty_cube_reported()
     ensures { EmptyCubeReported }
 {}
 
-/// In a legal history a stream adds and deletes no more than there are identities.
+/// In a legal history a stream neither adds more clauses nor deletes more identities than there are
+/// identities.
 pub fn counts_within()
     ensures { CountsWithin }
 {}

@@ -1,7 +1,7 @@
 //! The checker of one proof stream, over any clause map: it cuts the stream's bytes into lines,
-//! checks each line, and reports the result. It also has the definitions of what a run over several
-//! streams has read and judged, for the crates that promise runs and for laws of runs, and the
-//! parameters by which all streams of a run are checked.
+//! checks each line, and reports the result. It also defines what a run over several streams has
+//! read and judged, for crates with contracts or laws about runs, and has the parameters by which
+//! all streams of a run are checked.
 #![tactic(auto)]
 
 mod addition;

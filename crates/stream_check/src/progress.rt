@@ -16,6 +16,6 @@ pub enum CheckStatus {
     Line,
     /// All bytes of the piece were used, and none of them ended a line.
     More,
-    /// The checker is finished, since these bytes or before them. It takes no more bytes.
+    /// These bytes finished the checker, or it was finished before. It takes no more bytes.
     Over,
 }

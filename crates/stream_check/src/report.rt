@@ -1,7 +1,7 @@
 //! The report of a stream.
 use crate::fault::Fault;
 
-/// How a stream ended. Lines are numbered from 1, and the number stays at 2^64 - 1.
+/// How a stream ended. Lines are numbered from 1, and the number stops at 2^64 - 1.
 #[derive(Clone, Copy, Debug, PartialEq, Eq)]
 pub enum Ending {
     /// All lines are good, and the stream ended after the last one.
@@ -20,8 +20,8 @@ pub enum Ending {
 pub struct Report {
     /// How many additions were good.
     pub added: u64,
-    /// How many identities deletions retired or dropped, including those before a bad one in its
-    /// line. The count stays at 2^64 - 1.
+    /// How many identities deletions retired or dropped, including those before a bad one in the
+    /// same line. The count stops at 2^64 - 1.
     pub deleted: u64,
     /// Whether a good addition added the empty clause.
     pub empty: bool,

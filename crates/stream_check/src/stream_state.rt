@@ -22,7 +22,7 @@ pub struct StreamState {
     /// The last identity that was added, or the formula's last one if none was added.
     last: Id,
     dropped: DroppedIds,
-    /// How many of the stream's own identities were retired. The count stays at 2^64 - 1.
+    /// How many of the stream's own identities were retired. The count stops at 2^64 - 1.
     retired: u64,
     /// How many clauses were added.
     added: u64,
@@ -30,7 +30,7 @@ pub struct StreamState {
     empty: bool,
     /// Whether the cube falsifies one of them.
     within: bool,
-    /// The number of the next line, counted from 1. It stays at 2^64 - 1.
+    /// The number of the next line, counted from 1. It stops at 2^64 - 1.
     line: u64,
 }
 
@@ -79,7 +79,7 @@ impl StreamState {
         self.last
     }
 
-    /// The number of the next line, counted from 1. It stays at 2^64 - 1.
+    /// The number of the next line, counted from 1. It stops at 2^64 - 1.
     pub fn line(&self) -> u64
         ensures { result ≡ self.now.line }
     {
@@ -120,7 +120,7 @@ impl StreamState {
         self.line = self.line.saturating_add(1);
     }
 
-    /// Counts one of the stream's own identities that was retired. The count stays at 2^64 - 1.
+    /// Counts one of the stream's own identities that was retired. The count stops at 2^64 - 1.
     pub fn count_retired(&mut self)
         ensures { self.new ≡ record self.old { retired = capped (self.old.retired + 1) } }
     {

@@ -1,4 +1,4 @@
--- What another stream's calls at the map of one thread change of a stream's view.
+-- How another stream's calls at the map of one thread change a stream's view.
 use Rattle.std.proofs.Common.{◌≡◌, ◌≢◌, ◌<◌, [], ◌∷◌, ℕ, sym, ap, ap₂, subst, ◌∙◌, arith}
 use Rattle.lrup_model.specs.Formula.{Cnf}
 use Rattle.lrup_model.specs.Layout.{LayoutValue}
@@ -29,7 +29,7 @@ step_beside old new s t es positive other moves = record {
   follow = λ all. record { each = (moves.follow (record { each = all.each })).each };
 }
 
--- no events, and then these
+-- a step without events, and then one with these
 pub step_then : (p q r : CallerView) (es : History) → CallerStep p q [] → CallerStep q r es → CallerStep p r es
 step_then p q r es none later = step_append p q r [] es none later
 
@@ -44,7 +44,7 @@ desk_known a b m n s es moves before stream following =
     (subst (λ (x : Plain). CallerStep (plain_caller_view (map_of a) (stream_at a)) (plain_caller_view x (stream_at a)) es)
     (sym following) known))
 
--- and its fetch
+-- and the fetch of such a desk
 pub desk_fetched : (a b : PlainDesk) (m n : Plain) (s id : ℕ) (answer : Fetched)
     → PlainDeskMoves a b (fetch (stream_at a) id (reply_of (plain_desk_caller_view b) answer) ∷ [])
     → map_of a ≡ m → stream_at a ≡ s → n ≡ map_of b

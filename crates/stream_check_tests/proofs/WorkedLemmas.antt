@@ -24,7 +24,7 @@ second_looked = inr (refl, live second, refl, refl)
 pub six_looked : LooksUp first_stream at_start.is_dropped 6 (six_vacant ∷ six_vacant ∷ []) (Err (faults.Missing 6))
 six_looked = inr (refl, vacant, (1, omega arith, (λ last. refl), refl), refl)
 
--- the unit clause under 5 violates no condition before those of its hints
+-- the unit clause under 5 violates no condition that is tested before its hints
 pub unit_fails : (hints : List ℕ) (es : History) (fault : Fault) → FailsHints first_stream at_start.is_dropped unit hints es fault
     → JudgesLine first_stream at_start (Addition 5 unit hints) es (Bad 0 fault)
 unit_fails hints es fault fails =

@@ -1,4 +1,4 @@
-//! Tests of `stream_check`, by its public calls alone.
+//! Tests of `stream_check`, through its public calls only.
 #![tactic(auto)]
 
 #[cfg(test)]

@@ -1,5 +1,5 @@
-//! Rows at a map that counts its calls; each stream comes whole, byte by byte, and in pieces of
-//! two.
+//! Rows at a map that counts its calls. Each stream comes whole, byte by byte, and in pieces of two
+//! bytes.
 ghost use Rattle.std.specs.Prelude.{◌≡◌, IsSome};
 ghost use Rattle.lrup_model.specs.Event.{History};
 ghost use Rattle.stream_check.specs.Checker.{IsReadyAt};
@@ -19,7 +19,7 @@ mod late_map;
 mod memory;
 mod two_streams;
 
-/// Stops the test if two values differ. As a function the assertion is proved only once.
+/// Stops the test if two values differ. Since it is a function, the assertion is proved only once.
 fn same<T: PartialEq + fmt::Debug + Drop>(rt: &impl Abort, value: T, wanted: T) {
     assert_eq!(rt; value, wanted);
 }
@@ -96,8 +96,8 @@ impl<'a> Options<'a> {
     }
 }
 
-/// The options, lines and report of a row `WORDS: LINES => REPORT`. Words change the options; there
-/// may be none.
+/// The options, lines and report of a row `WORDS: LINES => REPORT`. The words, which may be
+/// missing, change the options.
 fn parts<'a>(
     mut options: Options<'a>,
     row: &'a str,
@@ -201,7 +201,7 @@ fn has_report(
     Ok(())
 }
 
-/// The same for each row, with pieces of each length.
+/// Checks each row in this way, with pieces of each length.
 fn have_reports(
     rt: &impl Abort,
     alloc: Global,
@@ -230,7 +230,8 @@ fn good_lines_are_counted(rt: HostRuntime) -> Result<(), Fail> {
     have_reports(&rt, rt.alloc(), ONE_STREAM, GOOD_LINES)
 }
 
-/// Each fault of a line, in the order in which they are tested; those of imports are in `imports`.
+/// All faults of a line, in the order in which they are tested; the faults of imports are in
+/// `imports`.
 static FAULTS: &[&str] = &[
     "5  2 0 1 2 0\n6 0 5 3 4 0\n => 0 added, 0 deleted, bad line 1 (spelling); fetches 0",
     "1000000000000000000 2 0 1 2 0\n => 0 added, 0 deleted, bad line 1 (too long); fetches 0",
@@ -277,7 +278,7 @@ fn the_first_test_that_fails_decides(rt: HostRuntime) -> Result<(), Fail> {
     have_reports(&rt, rt.alloc(), ONE_STREAM, TWO_FAULTS)
 }
 
-/// Hints that are no identities, the formula's, and the stream's own: vacant and live.
+/// Hints that aren't identities, the formula's, and the stream's own, vacant and live.
 static HINTS_FETCHED_ONCE: &[&str] = &[
     "5 2 0 9 0\n => 0 added, 0 deleted, bad line 1 (missing 9); fetches 0",
     "5 2 0 9999999 0\n => 0 added, 0 deleted, bad line 1 (missing 9999999); fetches 0",
@@ -337,7 +338,7 @@ fn a_hint_may_come_at_the_last_try(rt: HostRuntime) -> Result<(), Fail> {
 }
 
 /// A deletion makes one retire for each of the stream's own identities that it reaches, and no call
-/// for others.
+/// for other identities.
 static DELETIONS: &[&str] = &[
     "5 d 0\n => 0 added, 0 deleted, ended; fetches 0",
     "5 d 1 6 0\n => 0 added, 2 deleted, ended; fetches 0",

@@ -1,4 +1,4 @@
-//! How lines are judged, proved from the definitions alone.
+//! How lines are judged, proved from nothing but the definitions.
 ghost use Rattle.std.specs.Prelude.{◌≡◌, true, false, [], ◌∷◌, pos, negsuc};
 ghost use Rattle.lrup_text.specs.Lines.{Addition, Deletion, Import};
 ghost use Rattle.stream_check.specs.StreamContext.{is_within};
@@ -42,8 +42,8 @@ fn tests_are_judged()
         [] (Bad 0 Fault.NoRoom) }
 {}
 
-/// Hints that aren't found: another stream's is fetched once more; one that is no identity, or was
-/// dropped, isn't fetched.
+/// Hints that aren't found: another stream's hint is fetched once more; a hint that isn't an
+/// identity, or was dropped, isn't fetched.
 fn missing_hints_are_judged()
     ensures foreign { JudgesLine first_stream at_start (Addition 5 (pos 2 ∷ []) (6 ∷ []))
         (six_vacant ∷ six_vacant ∷ []) (Bad 0 (Fault.Missing 6)) }
@@ -55,7 +55,7 @@ fn missing_hints_are_judged()
         [] (Bad 0 (Fault.Dropped 1)) }
 {}
 
-/// Deletions: the stream's own identity is retired, and one of the formula is dropped, once each.
+/// Deletions: the stream's own identity is retired, and the formula's is dropped, once each.
 fn deletions_are_judged()
     ensures own { JudgesLine first_stream at_start (Deletion 5 (5 ∷ 5 ∷ []))
         (five_retired ∷ five_refused ∷ []) (Bad 1 (Fault.NotLive 5)) }

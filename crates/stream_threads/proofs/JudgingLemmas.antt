@@ -26,7 +26,7 @@ reaches_append c one two three xs ys front back first second bytes before left =
     (subst (λ (bs : List History). ReachesState c ((bytes ++ xs) ++ ys) bs three) (append_assoc before front back)
     (second (bytes ++ xs) (before ++ front) (first bytes before left)))
 
--- a finished checker takes the rest, too
+-- a finished checker has taken the rest, too
 finished_takes : FinishedStays
     → (c : StreamParams) (old : CheckerState) (used rest : List ℕ) (blocks : List History) (v : CheckerValue) (free : ℕ) (ending : Ending)
     → v.ending ≡ Some ending → Extends c old used blocks (checker_state v free)

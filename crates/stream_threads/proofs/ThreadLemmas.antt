@@ -1,4 +1,4 @@
--- What the threads of a stream returned, and lists of this.
+-- What the threads of a stream returned, and lists of such results.
 use Rattle.std.proofs.Common.{◌≡◌, ◌++◌, ◌+◌, ◌∙◌, ℕ, List, [], ◌∷◌, Option, Some, None, IfSome, Result, Ok}
 use Rattle.std.specs.Prelude.{IsSomeAnd, MatchResult, slice_get}
 use Rattle.std.specs.List.{AllByRecursion}
@@ -45,7 +45,7 @@ pub moved_more : {A : Type 0} (done before rest all new : List A) (x : A) → be
 moved_more done before rest all new x taken pushed whole =
     ap (λ xs. xs ++ rest) pushed ∙ append_assoc done (x ∷ []) rest ∙ ap (λ xs. done ++ xs) (sym taken) ∙ whole
 
--- the results with one more stream's
+-- the results, with those of one more stream
 finish_more : {S : Type 0} (view : SourceView S) (jobs : List (StreamJobsValue S)) (found : List (StreamResultValue S))
     (job : StreamJobsValue S) (one : StreamResultValue S)
     → AllFinish view jobs found → Finishes view job one → AllFinish view (jobs ++ job ∷ []) (found ++ one ∷ [])
@@ -78,7 +78,7 @@ none_found view [] room found none is =
     (record { found = []; finish = tt; reports = refl; readers = refl; passes = refl; dropped = refl })
 none_found view (j ∷ jobs) room found none is = cc
 
--- the ring of the stream after these failed
+-- the stream after these has a ring that failed
 following : {A : Type 0} (before after : List A) (x : A) → slice_get (before ++ x ∷ after) (length before) ≡ Some x
 following [] after x = refl
 following (b ∷ before) after x = following before after x
@@ -113,7 +113,7 @@ jobs_more run_params k (e ∷ readers) (q ∷ ps) (i ∷ js) reader p j all here
     let place : k + length (i ∷ js) ≡ k + 1 + length js = omega arith in
     (all.0, jobs_more run_params (k + 1) readers ps js reader p j all.1 (subst (λ s. IsJob run_params s reader p j) place here))
 
--- the jobs with one more stream's
+-- the jobs, with those of one more stream
 pub jobs_pushed : {S X : Type 0} (run_params : RunParamsValue) (s : ℕ) (read : X → S) (pass : X → PassValue) (xs : List X) (x : X)
     (js new : List (StreamJobsValue S)) (j : StreamJobsValue S)
     → new ≡ js ++ j ∷ [] → s ≡ length js + 1 → AreJobs run_params 1 (map read xs) (map pass xs) js → IsJob run_params s (read x) (pass x) j

@@ -25,7 +25,7 @@ no_more x m (_ ∷ _) ys e = cc
 byte_stays : (x : ℕ) → x < 256 → byte_of x ≡ x
 byte_stays x h = omega (arith, h)
 
--- the first mark of a list has just one place
+-- the first mark of a list is at only one index
 pub same_mark : (taken bytes rest : List ℕ) (mark m : ℕ) → All (λ b. b < 256) bytes → 256 ≤ mark → 256 ≤ m
     → taken ++ mark ∷ rest ≡ bytes ++ m ∷ [] → (map byte_of taken ≡ bytes) × (mark ≡ m)
 same_mark [] [] rest mark m b p q e = (refl, (cons_parts mark m rest [] e).0)
@@ -43,7 +43,7 @@ same_mark (x ∷ taken) (y ∷ bytes) rest mark m b p q e =
     let l : byte_of x ≡ y = byte_stays x h ∙ s.0 in
     (cc (l, t.0), t.1)
 
--- the popped items, with the last one apart
+-- the popped items are those before the last one, and the last one
 pub front_and_last : (past items : List ℕ) (n : ℕ) → 0 < n → n ≤ length items
     → past ++ take n items ≡ (past ++ take (n - 1) items) ++ get_or items (n - 1) 0 ∷ []
 front_and_last past items n some fits =

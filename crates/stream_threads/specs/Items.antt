@@ -18,14 +18,14 @@ end_of_mark mark = if nat_eq mark 257 then stream_ends.Failed else stream_ends.E
 abbrev pub byte_of : ℕ → ℕ
 byte_of item = item % 256
 
--- what was sent of these bytes: the bytes, and then one mark
+-- what was sent for these bytes: the bytes, and then one mark
 pub record IsSentOf (bytes : List ℕ) (end : StreamEnd) (items : List ℕ) : Type 0 where
   pub small : All (λ b. b < 256) bytes
   pub items_are : items ≡ bytes ++ mark_of end ∷ []
 
--- What a reading thread sent: the bytes that its reader's reads gave up to the last one, which are
--- those that the reader delivered, if these are known; and then the mark of the end at the last
--- read.
+-- What a reading thread sent: the bytes that its reader's reads gave, through the last read, and
+-- then the mark of the end at that read. If the bytes that the reader delivered are known, they are
+-- the same.
 pub record SendsAll (S : Type 0) (view : SourceView S) (first last : S)
     (items : List ℕ) : Type 0 where
   pub bytes : List ℕ

@@ -90,7 +90,7 @@ pub record AreResults {S : Type 0} (view : SourceView S) (all : List (StreamJobs
   pub dropped : results.dropped ≡ map (λ one. one.dropped) found
 
 -- The reader was read to its end or to a read that failed; all that it delivered was sent, and then
--- the mark; but what was received is a prefix of this that ends with no mark.
+-- the mark; but what was received is a prefix of what was sent, without the mark.
 pub record MissesMark {S : Type 0} (view : SourceView S) (reader : S) : Type 0 where
   pub last : S
   pub stream : Stream

@@ -13,7 +13,7 @@ pub fn widen(bytes: &[u8], items: &mut [u16])
     }
 }
 
-/// Converts items to bytes. For a mark this is its low byte, which no caller reads.
+/// Converts items to bytes. A mark becomes its low byte, which no caller reads.
 pub fn narrow(items: &[u16], bytes: &mut [u8])
     requires { length bytes.old ≡ length items.now }
     ensures { bytes.new ≡ map byte_of items.now }

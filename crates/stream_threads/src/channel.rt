@@ -7,7 +7,7 @@
 //! that was pushed.
 //!
 //! A loop over `wait.forever()` has no end; for any other loop the prover requires a proof that it
-//! ends. The `unreachable!` after it is never reached.
+//! ends. The `unreachable!` after an endless loop is never reached.
 ghost use Rattle.std.specs.Prelude.{◌≡◌, ◌<◌, ◌≤◌, ℕ, List, [], ◌++◌, ◌∷◌, false, length, take, map, All, IfOk};
 ghost use Rattle.rtrb.specs.Ring.{sent, received, producer_capacity, consumer_capacity, SameProducer, SameConsumer, IsPair};
 ghost use Rattle.lrup_text.specs.ReadOut.{EndsSo, source_view};
@@ -27,8 +27,8 @@ const END: u16 = 256;
 /// The mark of a stream whose read failed: the item after its last byte.
 const FAILURE: u16 = 257;
 
-/// Wakes the thread at the other half: at each call, and once more when it is dropped, so that the
-/// other thread doesn't sleep forever.
+/// Wakes the thread at the other half: at each call, and once more when the waker is dropped, so
+/// that the other thread doesn't sleep forever.
 struct Waker(Unparker);
 
 impl Waker {
@@ -73,8 +73,8 @@ pub enum Received {
     Bytes(usize),
     /// This many bytes, and then the mark that says how the stream ended: nothing more comes.
     Mark(usize, StreamEnd),
-    /// The reading thread dropped its half. All that it pushed was received before this, and had no
-    /// mark.
+    /// The reading thread dropped its half. All items that it pushed were received before this, and
+    /// had no mark.
     Abandoned,
 }
 
@@ -163,8 +163,8 @@ impl Sender {
     }
 
     /// Reads a source to its end, or to a read that fails, and sends what was read and then one
-    /// mark. It returns which of the two happened. `piece` is the buffer of a read, `items` that of
-    /// a push. It blocks while the source does, and while the ring is full.
+    /// mark. It returns which of the two happened. `piece` is the buffer of a read, `items` the
+    /// buffer of a push. The call blocks while the source does, and while the ring is full.
     pub fn send_all<W: Wait, R: Source>(
         &mut self,
         wait: &W,
@@ -207,8 +207,8 @@ impl Receiver {
     }
 
     /// Pops at least one item, and blocks while there is none. If a pop finds nothing, and the
-    /// producer then turns out to be dropped, it pops once more, since items may have been pushed
-    /// in between. It returns 0 if that pop finds nothing, either.
+    /// producer then turns out to be dropped, the call pops once more, since items may have been
+    /// pushed in between. It returns 0 if that pop finds nothing, either.
     fn pop_some<W: Wait>(&mut self, wait: &W, items: &mut [u16]) -> usize
         requires { 0 < length items.old }
         ensures ring { SameConsumer self.old.consumer self.new.consumer }
@@ -286,8 +286,8 @@ fn end_of(mark: u16) -> StreamEnd
 }
 
 /// Compares the two halves, once both threads have returned them. It is for the proof only, and
-/// changes nothing: by its contract, what was received is a prefix of what was sent, and all of it
-/// if it ends with a mark.
+/// changes nothing: by its contract, what was received is a prefix of what was sent, and the whole
+/// if the prefix ends with a mark.
 pub fn halves_agree(producer: &mut Producer<u16>, consumer: &mut Consumer<u16>)
     requires { IsPair producer.old consumer.old }
     ensures beginning { (left : List ℕ)

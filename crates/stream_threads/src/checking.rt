@@ -24,7 +24,7 @@ use stream_check::{CheckStatus, Checker, DroppedIds, Gate, Report, RunParams};
 const POP_BATCH: usize = PIECE;
 
 /// What a checking thread starts with: a stream's checker and gate, and the receiving half of the
-/// ring. Nothing was received yet.
+/// ring. Nothing has been received yet.
 #[derive(Drop)]
 pub struct CheckingJob<G: Gate + Drop> {
     /// The stream's checker, before its first byte.
@@ -54,8 +54,8 @@ pub struct Checked {
 }
 
 impl<G: Gate + Drop> CheckingJob<G> {
-    /// The job of stream `stream`, counted from 1. In the code all memory is allocated here, except
-    /// for the identities that the stream drops.
+    /// The job of stream `stream`, counted from 1. The code allocates all memory here, except for
+    /// the identities that the stream drops.
     pub(crate) fn new(
         alloc: Global,
         receiver: Receiver,
@@ -92,7 +92,7 @@ impl<G: Gate + Drop> CheckingJob<G> {
 /// Waits for the start signal, and then checks what is received, through the mark. After a bad line
 /// the rest is received and discarded: otherwise the ring would fill up, and the reading thread
 /// would wait forever. If the signal says to leave, nothing is received, and the signal's token is
-/// returned, which proves that the signal said so. It blocks while the ring is empty.
+/// returned, which proves that the signal said so. The call blocks while the ring is empty.
 pub fn check_on_signal<'a, W: Wait, G: Gate + Drop, M: ClauseMap>(
     wait: &W,
     signal: &'a OnceLock<bool>,

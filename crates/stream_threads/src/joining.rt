@@ -82,7 +82,7 @@ impl<'a, R: Source + Drop, G: Gate + Drop> ThreadLists<'a, R, G> {
     }
 }
 
-/// Makes a stream's result from what its two threads returned. There is none exactly if the
+/// Makes a stream's result from what its two threads returned. There is no result exactly if the
 /// checking thread received no mark.
 fn result_of<R: Source + Drop>(mut sent: Sent<R>, checked: CheckedPass) -> Option<StreamResult<R>>
     requires pair { IsPair sent.producer checked.checked.consumer }
@@ -126,8 +126,8 @@ impl<'a, R: Source + Drop, G: Gate + Drop> Started<'a, R, G> {
 }
 
 /// Joins the threads of all streams, from stream 1 on, and collects their results. The signal was
-/// to start. At the first stream without a result it leaves the other threads to the scope, which
-/// joins them.
+/// set to start. At the first stream without a result, the other threads are left to the scope,
+/// which joins them.
 fn join_all<'a, T: Threads, R: Source + Drop, G: Gate + Drop>(
     threads: &T,
     signalled: &OnceToken<'a, bool>,
@@ -153,7 +153,7 @@ fn join_all<'a, T: Threads, R: Source + Drop, G: Gate + Drop>(
 }
 
 /// Starts all threads, the checking ones first, sets the signal to start, and joins the threads. If
-/// one can't be started, it sets the signal to leave.
+/// a thread can't be started, the signal is set to leave.
 fn start_and_join<
     's,
     'a: 's,
@@ -190,8 +190,8 @@ fn start_and_join<
         return Err(ThreadFault::Spawn(stream));
     }
     // An `Err` means that the signal had been set to leave. The signal is the run's own, so this
-    // can't be, but no contract of `OnceLock` says so. `Spawn` has to name an existing stream, so
-    // without streams the result is the empty lists; a run always has some, by its layout.
+    // can't happen, but no contract of `OnceLock` says so. `Spawn` has to name an existing stream,
+    // so without streams the result is the empty lists; a run always has streams, by its layout.
     let Ok(signalled) = signal_start(threads, signal) else {
         if started.is_empty() {
             return Ok(found);
@@ -201,8 +201,8 @@ fn start_and_join<
     join_all(threads, &signalled, started, found)
 }
 
-/// Sets the signal to start, and returns its token, which proves that. If the signal had been set
-/// to leave, the token that proves this is the error.
+/// Sets the signal to start, and returns the token that proves this. If the signal had been set to
+/// leave, the token that proves that is the error.
 fn signal_start<'a, W: Wait>(
     wait: &W,
     signal: &'a OnceLock<bool>,
@@ -224,10 +224,10 @@ fn signal_start<'a, W: Wait>(
 }
 
 /// Reads and checks all streams, each in two threads of its own, and returns their results, in
-/// order, once all threads have ended. In the code no reader is read before all threads have
-/// started, and if a thread can't be started, those that were leave at once. The call blocks while
-/// a reader does. If a checking thread received no mark, a ring has failed: the fault has the
-/// results of the streams before the first such stream.
+/// order, once all threads have ended. The code reads nothing before all threads have started, and
+/// if a thread can't be started, those that have started leave at once. The call blocks while a
+/// reader does. If a checking thread received no mark, a ring has failed: the fault has the results
+/// of the streams before the first one without a mark.
 pub fn check_all<T: Threads + Wait + Sync, R: Source + Send + Drop, G: Gate + Send + Drop>(
     threads: &T,
     store: &Store,

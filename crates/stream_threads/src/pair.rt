@@ -21,11 +21,11 @@ use lrup_text::{PIECE, Source};
 use std::alloc::{AllocError, Global};
 use stream_check::{Gate, RunParams};
 
-/// How many items a ring has room for, of two bytes each: as many as one read gives bytes.
+/// The capacity of a ring, in items of two bytes each: the number of bytes that a read asks for.
 const CAPACITY: usize = PIECE;
 
-/// Makes the two jobs of stream `stream`, counted from 1, with the two halves of one ring. In the
-/// code all memory is allocated here, except for the identities that the stream drops.
+/// Makes the two jobs of stream `stream`, counted from 1, with the two halves of one ring. The code
+/// allocates all memory here, except for the identities that the stream drops.
 pub fn jobs<R: Source + Drop, G: Gate + Drop>(
     alloc: Global,
     reader: R,

@@ -16,7 +16,7 @@ use std::sync::{OnceLock, OnceToken, Wait};
 const PUSH_BATCH: usize = 4_096;
 
 /// What a reading thread starts with: a reader that hasn't failed, and the sending half of the
-/// ring. Nothing was sent yet.
+/// ring. Nothing has been sent yet.
 #[derive(Drop)]
 pub struct ReadingJob<R: Source + Drop> {
     /// The stream's reader.
@@ -40,7 +40,7 @@ pub struct Sent<R: Source + Drop> {
 }
 
 impl<R: Source + Drop> ReadingJob<R> {
-    /// The job of a reader. In the code all memory is allocated here.
+    /// The job of a reader. The code allocates all memory here.
     pub(crate) fn new(alloc: Global, reader: R, sender: Sender) -> Result<ReadingJob<R>, AllocError>
         requires running { R.has_failed reader ≡ false }
         requires nothing { sent sender.producer ≡ [] }
@@ -60,7 +60,7 @@ impl<R: Source + Drop> ReadingJob<R> {
 
 /// Waits for the start signal, and then sends all bytes that the reader gives, and one mark. If the
 /// signal says to leave, nothing is read, and the signal's token is returned, which proves that the
-/// signal said so. It blocks while the reader does, and while the ring is full.
+/// signal said so. The call blocks while the reader does, and while the ring is full.
 pub fn read_on_signal<'a, W: Wait, R: Source + Drop>(
     wait: &W,
     signal: &'a OnceLock<bool>,
@@ -81,7 +81,7 @@ pub fn read_on_signal<'a, W: Wait, R: Source + Drop>(
         mut piece,
         mut items,
     } = job;
-    // How the reader ended isn't needed here: the mark says so.
+    // How the reader ended isn't needed here, since the mark says it.
     sender.send_all(
         wait,
         &mut reader,

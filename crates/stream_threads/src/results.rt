@@ -30,15 +30,15 @@ impl<R: Source + Drop> Model for StreamResult<R> {
     } };
 }
 
-/// The results of streams, in order, as one list for each part. They have room for those of more
-/// streams, and allocate nothing for them.
+/// The results of streams, in order, as one list for each part. They have room for the results of
+/// more streams, and allocate nothing for these.
 #[derive(Drop)]
 pub struct StreamResults<R: Source + Drop> {
     /// The report of each stream.
     pub reports: Vec<Report>,
     /// The readers, each at its end or after a read that failed.
     pub readers: Vec<R>,
-    /// The streams' passes. For contracts they hold the calls that the streams made.
+    /// The streams' passes. In contracts they hold the calls that the streams made.
     pub passes: Vec<Pass>,
     /// The identities that each stream dropped.
     pub dropped: Vec<DroppedIds>,

@@ -24,7 +24,7 @@ pub enum ThreadFault<R: Source + Drop> {
     /// A thread of this stream, counted from 1, couldn't be started. No reader was read.
     Spawn(u64),
     /// All threads have ended, but a checking thread found its ring abandoned before a mark. These
-    /// are the results of the streams before the first such stream.
+    /// are the results of the streams before the first one with such a ring.
     Ring(StreamResults<R>),
 }
 
@@ -53,8 +53,8 @@ impl<R: Source + Drop, G: Gate + Drop> Model for StreamJobs<R, G> {
 }
 
 impl<R: Source + Drop, G: Gate + Drop> StreamJobs<R, G> {
-    /// Makes the jobs of stream `stream`, counted from 1, whose calls go through this pass. In the
-    /// code all memory is allocated here, except for the identities that the stream drops.
+    /// Makes the jobs of stream `stream`, counted from 1, whose calls go through this pass. The
+    /// code allocates all memory here, except for the identities that the stream drops.
     pub fn new(
         alloc: Global,
         reader: R,
@@ -102,11 +102,11 @@ pub fn jobs_of<R: Source + Drop, G: Gate + Drop>(
     Ok(all)
 }
 
-/// What joining a checking thread returns: its result, or the token that proves that the signal was
-/// to leave.
+/// What joining a checking thread returns: its result, or the token that proves that the signal
+/// said to leave.
 type CheckingResult<'a> = Result<CheckedPass, OnceToken<'a, bool>>;
 
-/// What joining a reading thread returns: its result, or the token that proves that the signal was
+/// What joining a reading thread returns: its result, or the token that proves that the signal said
 /// to leave.
 type ReadingResult<'a, R> = Result<Sent<R>, OnceToken<'a, bool>>;
 

@@ -1,5 +1,5 @@
 //! What the threads of a stream do and return. A task says what a thread was started with, so that
-//! the contract of its join can say what the thread did; it takes no bytes.
+//! the contract of the thread's join can say what the thread did; a task has no bytes at run time.
 ghost use Rattle.std.specs.Prelude.{◌≡◌, true, false, Ok, IfErr, IfNone, IfOk, IfSome, MatchResult};
 ghost use Rattle.clause_store.specs.Passes.{store_of};
 ghost use Rattle.lrup_model.specs.Pass.{pass_caller_view};
@@ -18,7 +18,7 @@ use std::sync::{OnceLock, OnceToken, Wait};
 use std::thread::Promise;
 use stream_check::Gate;
 
-/// What a checking thread returns if the signal was to start: what it checked, and its pass.
+/// What a checking thread returns if the signal said to start: what it checked, and its pass.
 #[derive(Drop)]
 pub(crate) struct CheckedPass {
     pub(crate) checked: Checked,
@@ -57,7 +57,7 @@ impl<'a, G: Gate + Drop> Promise<Result<CheckedPass, OnceToken<'a, bool>>> for C
         (λ token. (token.of ≡ task.signal.value.id) × (token.value ≡ false)) };
 }
 
-/// The result of a thread when the signal was to start: `signalled` proves this, so the thread's
+/// The result of a thread when the signal said to start: `signalled` proves this, so the thread's
 /// own token can't say 'leave'.
 pub(crate) fn result_after_start<'a, T>(
     end: Result<T, OnceToken<'a, bool>>,

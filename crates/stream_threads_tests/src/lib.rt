@@ -1,4 +1,4 @@
-//! Tests of `stream_threads`, by its public calls alone.
+//! Tests of `stream_threads`, through its public calls only.
 #![tactic(auto)]
 
 #[cfg(test)]

@@ -84,7 +84,7 @@ just_one : (ending : Option Ending) (bs : List History) → ending ≡ None → 
 just_one None bs going are = are
 just_one (Some ending) bs going are = cc
 
--- at most one line more of stream s
+-- at most one more line of stream s
 own_lines : (s : ℕ) (blocks : List Block) (bs : List History) → length bs ≤ 1
     → line_count s (streams_of (blocks ++ tagged s bs)) ≡ line_count s (streams_of blocks) + length bs
 unfolding tagged

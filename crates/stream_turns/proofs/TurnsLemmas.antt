@@ -54,7 +54,7 @@ spent-others s t (e ∷ es) calls other =
     ap (λ (h : History). sum_by (λ p. length p.1) (published h)) (cond-false (eqb (stream_of e) t) (e ∷ own es t) (own es t) not_mine)
     ∙ spent-others s t es calls.1 other
 
--- and none from what is no stream of the layout
+-- and a number that isn't a stream's takes no room
 spent-outside : (p : LayoutValue) (t : ℕ) (blocks : List Block) → AllByRecursion (IsBlockWithin p (λ s. true)) blocks → ¬ IsStream p t
     → spent t (events_in blocks) ≡ 0
 spent-outside p t [] within outside = refl
@@ -154,7 +154,7 @@ module _ {S : Type 0} (view : SourceView S) where
               (law w.checker m n s (joined bs) here moves (λ is. other (is ∙ stream)));
         }
 
-    -- the turn of the worker at place i, which is now v
+    -- the turn of the worker at index i, which is now v
     turn_at : (i : ℕ) (firsts : List S) (ws : List (WorkerValue S)) (w v : WorkerValue S) → s ≡ 1 + i → slice_get ws i ≡ Some w
         → WorkerStep view w (free_at m s) bs v (free_at n s) → IsReadyAt v.checker (plain_caller_view n s)
         → v.checker.params ≡ w.checker.params
@@ -171,7 +171,7 @@ module _ {S : Type 0} (view : SourceView S) where
 
   -- ---- what a worker has before its turn
 
-  -- the worker at this place is unfinished
+  -- the worker at this index is unfinished
   pub going_at : (ws : List (WorkerValue S)) (i : ℕ) (d e : WorkerValue S) (finished : Bool) → i < length ws
       → (IsTrue finished ↔ IsSome (get_or ws i d).checker.ending) → finished ≡ false → (get_or ws i e).checker.ending ≡ None
   going_at ws i d e finished within is going =
@@ -188,7 +188,7 @@ module _ {S : Type 0} (view : SourceView S) where
       let place : 1 + i ≡ i + 1 = omega arith in
       subst (λ t. IsReadyAt (get_or ws i d).checker (plain_caller_view m t)) place here.1.ready
 
-  -- a run continues with a turn of the worker at place i
+  -- a run continues with a turn of the worker at index i
   pub serial_more : (law : ReadyBeside) (f : Cnf) (run_params : RunParamsValue) (firsts : List S) (m n : Plain)
       (ws : List (WorkerValue S)) (i : ℕ)
       (d v : WorkerValue S) (bs : List History)
@@ -272,7 +272,7 @@ module _ {S : Type 0} (view : SourceView S) where
   reports_more (v ∷ ws) [] w r have finished is = absurd have
   reports_more (v ∷ ws) (x ∷ rs) w r have finished is = (have.0, reports_more ws rs w r have.1 finished is)
 
-  -- one report more
+  -- one more report
   pub reports_pushed : (ws : List (WorkerValue S)) (rs ts : List Report) (w : WorkerValue S) (r : Report) → ts ≡ rs ++ r ∷ []
       → HaveReports ws rs → IsFinished w
       → IfSome w.checker.ending (λ ending. r ≡ report_of_tally w.checker.tally ending) → HaveReports (ws ++ w ∷ []) ts

@@ -1,4 +1,4 @@
--- What a worker's steps leave: a read, what the checker takes of a piece, and the end.
+-- What a worker's steps leave: a read, what the checker takes from a piece, and the end.
 use Rattle.std.proofs.Common.{◌≡◌, ℕ, ◌+◌, ◌-◌, ◌<◌, ◌≤◌, Bool, true, false, List, [], ◌++◌, length, take, drop, arith, length-take, Option}
 use Rattle.std.proofs.Common.{None, Some, refl, sym, ap, subst, ◌∙◌, append_assoc, append-nil}
 use Rattle.std.specs.Prelude.{◌↔◌, IfSome, IsSome, IsTrue}
@@ -181,7 +181,7 @@ module _ {S : Type 0} (view : SourceView S) where
 
 -- ---- the buffer
 
--- the checker took the front of the bytes between two places
+-- the checker took the first of the bytes between two indices
 pub unread_split : (xs now : List ℕ) (start end used : ℕ) → now ≡ xs → used ≤ length (take (end - start) (drop start now))
     → take (end - start) (drop start xs)
     ≡ take used (take (end - start) (drop start now)) ++ take (end - (start + used)) (drop (start + used) xs)

@@ -13,7 +13,7 @@ use Rattle.stream_check.specs.Readings.{AreRead}
 use Rattle.stream_check.specs.Streams.{Stream, MatchesInput, RunParamsValue, blocks_of, events_in, observations}
 use Rattle.stream_check.specs.Turns.{IsOrderedRoundRobin}
 
--- The map has this layout. It is as it was opened: it has its formula's clauses alone, and each
+-- The map has this layout. It is as it was opened: it has only its formula's clauses, and each
 -- stream has its whole room.
 pub record IsJustOpened (its_layout : LayoutValue) (map : Plain) : Type 0 where
   pub layout : map.layout ≡ its_layout
@@ -21,11 +21,11 @@ pub record IsJustOpened (its_layout : LayoutValue) (map : Plain) : Type 0 where
   pub clauses : plain_state map ≡ opening (formula_of map)
   pub room : map.free ≡ replicate its_layout.streams its_layout.room
 
--- What streams leave that were checked at a map of this formula, a line of each in turn. `firsts`
--- are their readers before the first read, and `lasts` those at the end. Reads of the readers gave
--- the streams; their reports have an order of lines that takes the streams in turn; each stream
--- dropped just what its lines drop, up to the line that stopped it, if any; and the map has what
--- the events of the order leave.
+-- What streams leave if they were checked at a map of this formula, a line of each in turn.
+-- `firsts` are their readers before the first read, and `lasts` the readers at the end. The
+-- readers' reads gave the streams; the streams' reports have an order of lines that takes the
+-- streams in turn; each stream dropped exactly what its lines drop, up to the line that stopped it,
+-- if any; and the map has what the events of the order leave.
 pub record AreCheckedInTurn {S : Type 0} (view : SourceView S) (its_formula : Cnf)
     (run_params : RunParamsValue) (firsts lasts : List S) (reports : List Report)
     (dropped : List DroppedIdsValue) (map : Plain) : Type 0 where

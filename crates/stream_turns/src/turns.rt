@@ -32,7 +32,7 @@ pub struct StreamResults<R: Drop> {
 
 /// Checks all streams on this thread, round-robin from stream 1 on, and returns their results: in
 /// its turn a stream is read until one line was taken or the stream is finished. Each reader has a
-/// gate. In the code all memory is allocated before the first read, except for the identities that
+/// gate. The code allocates all memory before the first read, except for the identities that
 /// streams drop. The call blocks while a reader does.
 pub fn check_all<W: Wait, R: Source + Drop, G: Gate + Drop>(
     wait: &W,
@@ -98,7 +98,8 @@ fn take_turns<W: Wait, R: Source + Drop, G: Gate + Drop>(
     }
 }
 
-/// Takes one turn of each unfinished stream, from stream 1 on, and returns whether there was one.
+/// Takes one turn of each unfinished stream, from stream 1 on, and returns whether a turn was
+/// taken.
 fn take_round<W: Wait, R: Source + Drop, G: Gate + Drop>(
     wait: &W,
     map: &mut PlainMap,
@@ -117,7 +118,7 @@ fn take_round<W: Wait, R: Source + Drop, G: Gate + Drop>(
     going
 }
 
-/// Takes one turn of stream `i + 1` unless it is finished, and returns whether it took it.
+/// Takes one turn of stream `i + 1` unless it is finished, and returns whether it took one.
 fn take_turn<W: Wait, R: Source + Drop, G: Gate + Drop>(
     wait: &W,
     map: &mut PlainMap,
@@ -161,7 +162,8 @@ fn turn_at_desk<W: Wait, R: Source + Drop, G: Gate + Drop>(
     worker.turn(wait, &mut map.desk(s));
 }
 
-/// Collects the results of the finished streams. The lists are empty, and have room for them.
+/// Collects the results of the finished streams. The lists are empty, and have room for the
+/// results.
 fn results_of<R: Source + Drop, G: Gate + Drop>(
     workers: Vec<Worker<R, G>>,
     mut reports: Vec<Report>,

@@ -45,8 +45,8 @@ impl<R: Source + Drop, G: Gate + Drop> Model for Worker<R, G> {
 }
 
 impl<R: Source + Drop, G: Gate + Drop> Worker<R, G> {
-    /// Makes a worker of stream `stream`, counted from 1, before its first byte. In the code all
-    /// memory is allocated here, except for the identities that the stream drops.
+    /// Makes a worker of stream `stream`, counted from 1, before its first byte. The code allocates
+    /// all memory here, except for the identities that the stream drops.
     pub fn new(
         alloc: Global,
         reader: R,
@@ -82,8 +82,8 @@ impl<R: Source + Drop, G: Gate + Drop> Worker<R, G> {
         self.checker.is_over()
     }
 
-    /// Takes one turn: reads until one line was taken, or the checker is finished. It blocks while
-    /// the reader does.
+    /// Takes one turn: reads until one line was taken, or the checker is finished. The call blocks
+    /// while the reader does.
     pub fn turn<W: Wait, M: ClauseMap>(&mut self, wait: &W, map: &mut M)
         requires ready { IsReadyAt self.old.checker (M.caller_view map.old) }
         requires going { self.old.checker.ending ≡ None }

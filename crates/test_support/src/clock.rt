@@ -19,7 +19,7 @@ impl Sleeps {
         }
     }
 
-    /// The number of sleeps of one microsecond, and that of all others.
+    /// The number of sleeps of one microsecond, and the number of all others.
     pub fn counts(&self) -> (u64, u64) {
         let micros = self.micros.load(Ordering::SeqCst);
         (micros, self.others.load(Ordering::SeqCst))

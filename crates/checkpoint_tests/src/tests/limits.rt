@@ -1,4 +1,4 @@
-//! Formulas at the limits, and one clause beyond.
+//! Formulas at the limits, and with one clause too many.
 ghost use Rattle.std.specs.Prelude.{◌≡◌, false};
 ghost use Rattle.lrup_model.specs.Layout.{IsStream};
 
@@ -47,8 +47,8 @@ fn save_copies_at_first(
     save_copies(alloc, &mut map.desk(1), layout, count, paper)
 }
 
-/// The same for a formula of one clause, with a first write that fails. Returns the result, the
-/// number of writes and that of bytes.
+/// The same for a formula of one clause, with a first write that fails. Returns the result, and
+/// the numbers of writes and of bytes.
 fn save_one_clause(
     alloc: Global,
     count: usize,
@@ -65,8 +65,8 @@ fn save_one_clause(
     Ok((saved, paper.writes, paper.bytes.len()))
 }
 
-/// With the largest number of clauses `save` gets to the first write, which fails here; with one
-/// more it doesn't.
+/// With the maximum number of clauses `save_clips` gets to the first write, which fails here; with
+/// one clause more it doesn't.
 #[test]
 fn clauses_have_a_limit(rt: HostRuntime) -> Result<(), Fail> {
     let most = Formula::MAX_CLAUSES as usize;
@@ -77,7 +77,7 @@ fn clauses_have_a_limit(rt: HostRuntime) -> Result<(), Fail> {
     Ok(())
 }
 
-/// A clause with the largest number of literals that a formula allows.
+/// A clause with the maximum number of literals that a formula allows.
 fn longest_clause(alloc: Global) -> Result<String, AllocError> {
     let mut text = String::from_str(alloc, "p cnf 1048575 1\n")?;
     for variable in 1..=Formula::MAX_CLAUSE_LITERALS {

@@ -1,5 +1,5 @@
-//! What `save` writes for the worked formula after stream 1 published a clause, or also retired it,
-//! and if not all clauses are wanted.
+//! What `save` writes for the worked formula after stream 1 has published a clause, and perhaps
+//! retired it, also if not all clauses are wanted.
 ghost use Rattle.std.specs.Prelude.{◌≡◌, ◌||◌, false, nat_lt, IfOk};
 ghost use Rattle.lrup_model.specs.Layout.{Fits, IsStream};
 ghost use Rattle.lrup_model.specs.Plain.{formula_of};
@@ -200,7 +200,7 @@ fn assert_saves(
     Ok(())
 }
 
-/// Each write fails in turn, and finally none.
+/// First no write fails, and then each in turn.
 #[test]
 fn what_is_live_and_wanted_is_written(rt: HostRuntime) -> Result<(), Fail> {
     for row in &ROWS {
@@ -236,7 +236,7 @@ fn assert_made_again(rt: &(impl Abort + AllocGlobal), goes_on: bool) -> Result<(
         paper = Paper::new(rt.alloc(), 1_000, 0);
         saved = save_worked(rt.alloc(), &case_of(&row), goes_on, &mut paper)?;
     }
-    // The paper took no memory.
+    // The paper got no memory.
     if let Err(SaveFault::Unwritten) = saved {
         return Ok(());
     }

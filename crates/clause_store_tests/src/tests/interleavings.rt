@@ -1,5 +1,5 @@
 //! Interleavings that counters force: a thread continues only after the others have got as far, so
-//! each run has them.
+//! each run has these interleavings.
 ghost use Rattle.std.specs.Prelude.{◌≡◌, ◌<◌};
 ghost use Rattle.lrup_model.specs.History.{IsPublishable};
 ghost use Rattle.clause_store.specs.Passes.{store_of};
@@ -33,10 +33,10 @@ impl Counters {
     }
 }
 
-/// How often a thread polls for another one before it gives up.
+/// How often a thread polls for another thread before it gives up.
 const TURNS: u32 = 10_000_000;
 
-/// Waits until the counter has this value; returns whether it got there in time.
+/// Waits until the counter has at least this value; returns whether that happened in time.
 fn waits_for(counter: &AtomicU64, wanted: u64) -> bool {
     for _turn in 0..TURNS {
         if wanted <= counter.load(Ordering::SeqCst) {
@@ -47,7 +47,7 @@ fn waits_for(counter: &AtomicU64, wanted: u64) -> bool {
     false
 }
 
-/// Counts this thread, and waits until all threads were counted.
+/// Counts this thread, and waits until all threads have been counted.
 fn arrives(counter: &AtomicU64, wanted: u64) -> bool {
     counter.fetch_add(1, Ordering::SeqCst);
     waits_for(counter, wanted)
@@ -56,7 +56,7 @@ fn arrives(counter: &AtomicU64, wanted: u64) -> bool {
 /// How many lines each stream has in the races.
 const LINES: u64 = 1_000;
 
-/// Looks up the clause of each stream for a line: it is there, or may be missing if `may_miss`.
+/// Looks up the clause of each stream for a line: the clause must be there, unless `may_miss`.
 fn look_at_line(rt: &impl Abort, store: &Store, pass: &mut Pass, line: u64, may_miss: bool)
     requires at { IsPassAt raced store.now pass.old }
     requires line { line < 1000 }
@@ -71,8 +71,8 @@ fn look_at_line(rt: &impl Abort, store: &Store, pass: &mut Pass, line: u64, may_
     }
 }
 
-/// Publishes the clause of each line at the same time as all others, and looks theirs up twice:
-/// immediately, and after all have published.
+/// Publishes the clause of each line at the same time as all other streams, and looks up their
+/// clauses twice: immediately, and after all have published.
 fn publish_together(rt: &impl Abort, store: &Store, pass: &mut Pass, counters: &Counters)
     requires { IsPassAt raced store.now pass.old }
     ensures { store_of pass.new ≡ store.now }
@@ -91,7 +91,7 @@ fn publish_together(rt: &impl Abort, store: &Store, pass: &mut Pass, counters: &
     }
 }
 
-/// Publishes the clause of each line, and retires it once all others are about to fetch it.
+/// Publishes the clause of each line, and retires it once all other streams are about to fetch it.
 fn retire_together(rt: &impl Abort, store: &Store, pass: &mut Pass, counters: &Counters)
     requires { IsPassAt raced store.now pass.old }
     ensures { store_of pass.new ≡ store.now }
@@ -133,8 +133,8 @@ fn finds_all_retired(rt: &impl Abort, store: &Store, pass: &mut Pass)
     }
 }
 
-/// The clause of an identity that the others hammer, alternately one of two; its literals take
-/// three words.
+/// The clause of an identity that the other threads hammer. Two clauses alternate; the literals
+/// take three words.
 fn six_literals(id: Id) -> [Lit; 6]
     ensures { IsPublishable raced result }
 {
@@ -181,7 +181,7 @@ fn hammers(store: &Store, pass: &mut Pass, id: Id) -> Option<bool>
 /// The maximum number of clauses in the hammering.
 const HAMMERED: u64 = 100_000;
 
-/// Whether more than two seconds have passed since then; false if the clock fails.
+/// Whether more than two seconds have passed since `began`; false if the clock fails.
 fn is_late(clock: &impl Clock, began: Option<Duration>) -> bool {
     match (clock.monotonic(), began) {
         (Ok(now), Some(then)) => now.as_secs() > then.as_secs().saturating_add(2),
@@ -189,9 +189,9 @@ fn is_late(clock: &impl Clock, began: Option<Duration>) -> bool {
     }
 }
 
-/// Publishes the clause of each line once eight others hammer at it. When time is up, it announces
-/// this line as the last one before it publishes its clause, so every thread that finds the clause
-/// also knows that it was the last.
+/// Publishes the clause of each line once eight other threads hammer at it. When time is up, it
+/// announces this line as the last one before it publishes the line's clause, so every thread that
+/// finds the clause also knows that it was the last.
 fn publish_hammered<R: Abort + Clock>(rt: &R, store: &Store, pass: &mut Pass, counters: &Counters)
     requires { IsPassAt raced store.now pass.old }
     ensures { store_of pass.new ≡ store.now }
@@ -312,8 +312,8 @@ fn a_retire_and_a_fetch_at_once(rt: HostRuntime) -> Result<(), Fail> {
 
 /// Eight threads fetch as fast as they can while one publishes, for two to three seconds or until
 /// all is published. No gate can stop a thread between the stores of a clause's literals and the
-/// exchange that makes it live, hence the speed; each thread that finds a clause live reads all of
-/// it.
+/// exchange that makes the clause live, hence the speed; each thread that finds a clause live reads
+/// all of it.
 #[test]
 fn eight_threads_hammer(rt: HostRuntime) -> Result<(), Fail> {
     let counters = Counters::new(HAMMERED);

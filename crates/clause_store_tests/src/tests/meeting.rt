@@ -1,4 +1,4 @@
-//! A pass that meets all others in turn, and then all again, brings them to one history.
+//! A pass that meets all others in turn, and then all again, brings all passes to one history.
 ghost use Rattle.std.specs.Prelude.{◌≡◌, ◌∷◌, []};
 ghost use Rattle.std.specs.List.{AllByRecursion};
 ghost use Rattle.lrup_model.specs.Pass.{IsFair, SyncInTurn};
@@ -23,8 +23,8 @@ fn meet_both(store: &Store, first: &mut Pass, second: &mut Pass, third: &mut Pas
     store.meet(first, third);
 }
 
-/// The first pass does so twice. By the contract of `meet` and the laws, all three have then seen
-/// one history, and the others are fair.
+/// The first pass meets both others twice. By the contract of `meet` and the laws, all three have
+/// then seen the same history, and the others are fair.
 fn meet_both_twice(store: &Store, first: &mut Pass, second: &mut Pass, third: &mut Pass)
     requires { AreOf store.now (first.old ∷ second.old ∷ third.old ∷ []) }
     ensures of { AreOf store.now (first.new ∷ second.new ∷ third.new ∷ []) }

@@ -51,8 +51,8 @@ round_of formula readers opened last next after was = record {
   leaves = was.leaves;
 }
 
--- The round's streams were checked. The run continues with the next formula; or there is none, and
--- the run doesn't continue.
+-- The round's streams were checked. The run continues with the next formula, if there is one;
+-- otherwise it doesn't continue.
 pub record WasFound (its : Effects) (given : CommandLine) (cube : CubeValue) (formula : Cnf)
     (readers : List its.Reader) (opened : its.State) (last : CheckedRound) (next : Option Cnf)
     (after : its.State) : Type 0 where
@@ -61,8 +61,8 @@ pub record WasFound (its : Effects) (given : CommandLine) (cube : CubeValue) (fo
       (CarriesOn (round_of formula readers opened last next after was))
   pub finished : next ≡ None → IsBarred (round_of formula readers opened last next after was)
 
--- The rounds up to this one were checked and left these files. The run continues if there is a next
--- formula, and else it doesn't.
+-- The rounds up to this one were checked and left these files. The run continues exactly if there
+-- is a next formula.
 pub record RoundsSoFar (its : Effects) (given : CommandLine) (cube : CubeValue) (formula : Cnf)
     (first : its.State) (last : CheckedRound) (next : Option Cnf) (after : its.State) : Type 0 where
   pub current : Cnf
@@ -98,7 +98,7 @@ pub record EndsAt (its : Effects) (given : CommandLine) (cube : CubeValue) (form
   pub is : IsOfRound last round
   pub finished : RoundsEnd round after
 
--- The round after these has no report, for this cause, and the files are these.
+-- The round after these has no report, because of this fault, and leaves these files.
 pub record FailsAfter (its : Effects) (given : CommandLine) (cube : CubeValue) (formula : Cnf)
     (first : its.State) (failed : RoundFault) (after : its.State) : Type 0 where
   pub last : Round its given cube

@@ -31,9 +31,9 @@ abbrev pub IsLayoutCause : LayoutValue → CommandFault → Type 0
 IsLayoutCause layout (faults.Layout fault) = IsFault layout fault
 IsLayoutCause layout fault = ⊥
 
--- why the streams of a formula weren't checked: they have no layout; or they have one, and a thread
--- wasn't started, or a ring lost the end of a stream that was read to its end, after the streams
--- before it were judged; or memory ran out
+-- why the streams of a formula weren't checked: they have no layout; or they have one, but a thread
+-- wasn't started, or a ring lost the end of a stream that was read to its end, after the earlier
+-- streams were judged; or memory ran out
 abbrev pub IsRunCause : {R : Type 0} → SourceView R → Bool → Cnf → RunParamsValue → List R
     → CommandFault → Type 0
 IsRunCause view serial formula run_params readers (faults.Layout fault) =

@@ -20,7 +20,7 @@ creates_checkpoint (Rounds folder) path number is =
 
 -- Words that ask for no rounds.
 module _ {given : CommandLine} (once : rounds_of given.next ≡ None) where
-  -- the run continues after no round
+  -- the run doesn't continue after any round
   pub never_on : {its : Effects} {cube : CubeValue} (round : Round its given cube) (next : Cnf)
       → CarriesOn round next → ⊥
   never_on round next on = let no : None ≡ Some on.folder = sym once ∙ on.asked in cc

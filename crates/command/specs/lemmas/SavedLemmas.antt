@@ -22,7 +22,8 @@ use Rattle.run_files.specs.Paths.{formula_path}
 use Rattle.command.specs.Rounds.{CarriesOn, LeavesAtPath, LeavesFile, Round}
 use Rattle.run_files.specs.Saving.{ClosesSink, SavesCheckpoint}
 
--- A checkpoint of the formula was saved at the path; its formula is the next one, if there is one.
+-- A checkpoint of the formula was saved at the path; the next formula, if there is one, is the
+-- checkpoint's.
 pub record KeptAt (its : Effects) (formula : Cnf) (before : its.State) (path : Text)
     (next : Option Cnf) (after : its.State) : Type 0 where
   pub bytes : List ℕ
@@ -82,8 +83,8 @@ created_in (Checkpoint path) folder number asked = absurd (let no : None ≡ Som
 created_in (Rounds other) folder number asked = ap (option_map (λ at. formula_path at (number + 1))) asked
 
 module _ {its : Effects} {given : CommandLine} {cube : CubeValue} (round : Round its given cube) where
-  -- a round whose verdict isn't 'unsatisfiable' and whose checkpoint was saved, saved it at the
-  -- path of the file that it created
+  -- if a round's verdict isn't 'unsatisfiable', and its checkpoint was saved, it was saved at the
+  -- path of the file that the round created
   pub kept : (path : Text) → created_path given.next round.number ≡ Some path
       → (round.verdict ≡ Unsatisfiable → ⊥)
       → round.unsaved ≡ None → KeptAt its round.formula round.opened path round.next round.after
@@ -96,8 +97,8 @@ module _ {its : Effects} {given : CommandLine} {cube : CubeValue} (round : Round
       leaves_kept its round.formula layout h dropped round.verdict round.opened round.after path round.next unrefuted
       (subst (Leaves (Some path)) saved (subst (λ (o : Option Text). Leaves o round.unsaved) at round.leaves))
 
-  -- a round after which the run continues saved its checkpoint, too, whose formula is the next
-  -- round's
+  -- a round after which the run continues saved its checkpoint, too; the checkpoint's formula is
+  -- the next round's
   pub carried : (next : Cnf) (on : CarriesOn round next)
       → KeptAt its round.formula round.opened (formula_path on.folder (round.number + 1))
       (Some next) round.after

@@ -1,5 +1,5 @@
 -- What is found in words that have no fault, and parts of the command (definitions for this crate
--- alone).
+-- only).
 use Rattle.std.specs.Prelude.{◌≡◌, ◌≢◌, ◌⊎◌, ◌<◌, ◌^◌, ⊤, ℕ, true, List, [], ◌∷◌, Some, codes, length, IsSome}
 use Rattle.std.specs.Option.{ForSome}
 use Rattle.std.specs.Str.Parse.{IsNumeral, digits_value, without_leading_plus}
@@ -32,7 +32,7 @@ abbrev pub IsNumber : Text → Type 0
 IsNumber text = IsNumeral 10 (without_leading_plus text)
     × (digits_value 10 (without_leading_plus text) < 2 ^ 64)
 
--- if the words have the option, its text is a number of 64 bits, or one from 0 to `most`
+-- if the words have the option, its text is a number: one of 64 bits, or one from 0 to `most`
 abbrev pub HasNumber : Text → List Row → Type 0
 HasNumber name rows = ForSome (one_of name rows) IsNumber
 
@@ -67,7 +67,8 @@ AreBothIn rows =
     (path folder : Text) × (first_of (codes "checkpoint") rows ≡ Some path)
     × (first_of (codes "rounds") rows ≡ Some folder)
 
--- why the rows of words without a fault give no command line: they have both, or memory ran out
+-- why the rows of words without a fault give no command line: they have both options, or memory ran
+-- out
 abbrev pub IsRowsFault : List Row → WordsFault → Type 0
 IsRowsFault rows (Usage text) = ⊥
 IsRowsFault rows TwoCheckpoints = AreBothIn rows

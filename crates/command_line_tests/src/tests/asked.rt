@@ -1,10 +1,11 @@
-//! What a few words ask for, proved from the definition alone: if the definition were wrong, these
+//! What a few words ask for, proved only from the definition: if the definition were wrong, these
 //! proofs would fail.
 ghost use Rattle.std.specs.Prelude.{[], ◌∷◌, ℕ, List, Option, Some, codes};
 ghost use Rattle.command_line.specs.CommandLine.{AskFor, AskForBoth, AskForRounds, AskToSave};
 
-/// `--assume` has the word after it, and FORMULA is the first word that no option has. Words with a
-/// fault ask for nothing. A checkpoint is asked for by its own option alone, and so are rounds.
+/// `--assume` takes the word after it, and FORMULA is the first word that no option takes. Words
+/// with a fault ask for nothing. Only `--checkpoint` asks for a checkpoint, and only `--rounds` for
+/// rounds.
 pub fn words_ask_for_files()
     ensures assumed { AskFor (codes "--assume" ∷ codes "a" ∷ codes "f" ∷ codes "s" ∷ [])
         (codes "f") (Some (codes "a")) }

@@ -41,8 +41,8 @@ static OUT_OF_RANGE: [&str; 7] = [
     "1 0 18446744073709551617\n",
 ];
 
-/// Texts with another spelling, with too few or too many numbers, or with something before or after
-/// them.
+/// Texts with a wrong spelling, with too few or too many numbers, or with something before or after
+/// the numbers.
 static NO_SIZES: [&str; 34] = [
     "",
     "\n",

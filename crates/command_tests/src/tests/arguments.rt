@@ -1,5 +1,5 @@
-//! Runs with the arguments that the system gives, the program's name first; and why a file wasn't
-//! opened.
+//! Runs with the arguments that the system gives, beginning with the program's name; and the
+//! reasons why the system doesn't open a file.
 use super::*;
 use command::{OpenFault, command_with_arguments};
 use std::env::Args;

@@ -1,4 +1,4 @@
-//! Runs under assumed literals: worked rows, a text for each fault, and when the file is read.
+//! Runs under assumed literals: worked examples, a text for each fault, and when the file is read.
 use super::shelf::Thing::{self, Failing, Text};
 use super::*;
 
@@ -64,7 +64,7 @@ static IN_ORDER: [(Thing, &str, (u8, &str), &str); 4] = [
     ),
 ];
 
-/// The file is read after the formula was parsed, and before a stream is opened.
+/// The file is read after the formula is parsed, and before any stream is opened.
 #[test]
 fn assumptions_are_read_between_formula_and_streams(rt: HostRuntime) -> Result<(), Fail> {
     for &(thing, words, wanted, opened) in &IN_ORDER {

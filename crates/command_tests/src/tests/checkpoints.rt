@@ -10,11 +10,11 @@ const NEW: &str = "d/round-2.cnf";
 const DONE_KEPT: &str = "f 1 +d/round-2.cnf =d/round-2.cnf ";
 
 const DONE_DISCARDED: &str = "f 1 +d/round-2.cnf -d/round-2.cnf ";
-/// And what it does after that, if there is no next round.
+/// What the run does after that, if there is no next round.
 const LOOKED_FOR: &str = "?d/round-2.sizes ?d/round-2.stream-1 ";
 
-/// Checks that a run of these words saves with either option, how it ends, and what it does to the
-/// files. With rounds, it looks for the next round's files if this round continues.
+/// Checks, with either option that saves, how a run of these words ends, and what it does to the
+/// files. If `goes_on`, the run in rounds looks for the next round's files.
 fn assert_saves(
     rt: &impl Host,
     words: &str,
@@ -41,8 +41,8 @@ const DROPPED: &str = "1 added, 1 deleted, ended";
 
 const ONE_DELETED: &str = "0 added, 1 deleted, ended";
 
-/// The words, which name the files in the order of their openings; the streams, their lines in the
-/// report, the status, and the saved text.
+/// The words, which name the files in the order in which they are opened; the streams, their lines
+/// in the report, the status, and the saved text.
 type Saved = (
     &'static str,
     &'static [&'static str],
@@ -57,7 +57,7 @@ fn assert_saved(rt: &impl Host, row: &Saved, goes_on: bool) -> Result<(), Fail> 
     let opened = words.replace(rt.alloc(), "--assume=", "")?;
     let closed = if status == 0 { '-' } else { '=' };
     let done = format!(in rt.alloc(); "{opened} +{NEW} {closed}{NEW} ")?;
-    // Round 2 has a stream exactly if the run must not get there.
+    // Round 2 has a stream exactly if the run must not get that far.
     let next: &[(&str, Thing)] = &[("d/round-2.stream-1", Text(""))];
     let setup = Setup::of(streams).with(if goes_on { &[] } else { next });
     let ends = (status, out.as_str(), "");
@@ -70,7 +70,7 @@ static GOING_ON: [Saved; 3] = [
     ("f 1 2", &[DROPS, DELETES], &[DROPPED, ONE_DELETED], 3, LESS),
 ];
 
-/// Another verdict than 'unknown', or a stream that didn't end.
+/// A verdict other than 'unknown', or a stream that didn't end.
 static LAST: [Saved; 5] = [
     ("f --assume=a 1", &[DROPS], &[DROPPED], 8, LESS),
     ("f 1", &[REFUTES], &[TWO_ADDED], 0, ""),
@@ -108,8 +108,8 @@ fn a_stream_whose_reading_fails_is_not_gone_on_with(rt: HostRuntime) -> Result<(
     assert_saves(&rt, "f 1", setup, (3, out.as_str(), ""), left, false)
 }
 
-/// The same for a stream that drops the first clause, with this at the new file's path, if these
-/// writes of standard output and standard error fail.
+/// `assert_saves` for a stream that drops the first clause, with this thing at the new file's path,
+/// if these writes of standard output and standard error fail.
 fn assert_dropping(
     rt: &impl Host,
     thing: Thing,
@@ -151,8 +151,8 @@ static FAULTS: [(Thing, (usize, usize), Ends, Left); 6] = [
     (Full, (0, 0), NO_MEMORY, CREATING),
     (Lost, (0, 0), UNSAVED, IS_LOST),
     (Breaking(1), (1, 0), (7, "", BOTH), IS_EMPTY),
-    // Standard error fails in the message about the checkpoint: no more is written there, and the
-    // status is the same.
+    // Standard error fails in the message about the checkpoint: nothing more is written there, and
+    // the status is the same.
     (Breaking(1), (0, 2), (9, REPORT, "lrupd: "), IS_EMPTY),
     (Breaking(1), (1, 2), (7, "", "lrupd: "), IS_EMPTY),
 ];
@@ -177,7 +177,7 @@ fn checkpoints_that_are_not_saved(rt: HostRuntime) -> Result<(), Fail> {
     )
 }
 
-/// Each write of the checkpoint fails in turn: what was written until then is discarded.
+/// Each write of the checkpoint fails in turn: what was written before is discarded.
 #[test]
 fn checkpoints_that_break_at_a_write(rt: HostRuntime) -> Result<(), Fail> {
     for write in 1..=LESS.len().div_ceil(7) {

@@ -1,5 +1,5 @@
 //! A source and a sink over a device, as the program makes them from its files and outputs: they
-//! repeat no call.
+//! never repeat a call.
 ghost use Rattle.std.specs.Prelude.{◌≤◌, IfOk};
 
 use super::*;

@@ -1,5 +1,5 @@
 //! Runs over files whose contracts say exactly what each call does to them: what is at the
-//! checkpoint's path in the end.
+//! checkpoint's path at the end.
 use super::*;
 use crate::exact_files::Closing::{self, Discarded, Kept, Lost, Open};
 use crate::exact_files::{ExactFiles, run_exactly};

@@ -94,7 +94,7 @@ fn memory_is_out_at_an_opening(rt: HostRuntime) -> Result<(), Fail> {
     Ok(())
 }
 
-/// Words that `clap` refuses, or that ask for help, and a part of its message.
+/// Words that `clap` refuses, or that ask for help, and a part of `clap`'s message.
 static USAGE: [(&[&str], &str); 5] = [
     (&[], "<FORMULA>"),
     (&["f"], "<STREAM>"),

@@ -2,12 +2,12 @@
 use super::*;
 use std::sync::atomic::{AtomicU64, Ordering};
 
-/// The reads of files.
+/// Counts of the reads of files.
 #[derive(Drop)]
 pub(super) struct Reads {
-    /// Those that asked for a piece of 65,536 bytes.
+    /// The reads that asked for a piece of 65,536 bytes.
     pieces: AtomicU64,
-    /// Those that asked for another number of bytes.
+    /// The reads that asked for another number of bytes.
     others: AtomicU64,
 }
 
@@ -21,7 +21,7 @@ impl Reads {
     }
 }
 
-/// The size of the formula's file, the most bytes that a read gives, and the number of reads.
+/// The size of the formula's file, the maximum number of bytes per read, and the number of reads.
 static READS: [(usize, usize, u64); 6] = [
     (39, 1, 40),
     (39, 2, 21),

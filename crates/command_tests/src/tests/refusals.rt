@@ -32,9 +32,9 @@ fn is_last(done: &str, sign: &str) -> bool {
     }
 }
 
-/// Whether a run whose status would be this may end like this after one allocation or thread was
-/// refused. A file was discarded if the formula was refuted or a checkpoint couldn't be saved; no
-/// file was discarded if a report says 'unknown' and everything was saved.
+/// Whether a run that would have had this status may end in this way after one allocation or thread
+/// was refused. A file was discarded if the formula was refuted or a checkpoint couldn't be saved;
+/// no file was discarded if a report says 'unknown' and everything was saved.
 fn may_end(ran: &Ran, in_rounds: bool, status: u8) -> bool {
     let (found, out, err) = ran.ends();
     let (done, kept, _) = ran.left();

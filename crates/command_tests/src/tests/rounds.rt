@@ -64,19 +64,19 @@ c id 5
 -2 0
 ";
 
-/// Two streams over the five clauses, which are good if each stream has three identities and room
+/// Two streams over the five clauses. They are valid if each stream has three identities and room
 /// for four literals.
 const MANY: &str = "6 1 0 5 3 0\n8 1 0 6 0\n10 0 8 5 4 0\n";
 
 const LONG: &str = "7 1 2 0 1 0\n9 -1 2 0 2 0\n";
 
-/// Their lines in the report if each has two identities and room for three literals.
+/// Their lines in the report if each stream has two identities and room for three literals.
 const LIMITED: &[&str] = &[
     "2 added, 0 deleted, bad line 3 (identity)",
     "1 added, 0 deleted, bad line 2 (no room)",
 ];
 
-/// The five clauses, and those that these streams add within the smaller sizes.
+/// The five clauses, and the clauses that these streams add within the smaller sizes.
 const EIGHT: &str = "p cnf 2 8\n1 2 0\n-1 2 0\n1 -2 0\n-1 -2 0\n2 0\n1 0\n1 2 0\n1 0\n";
 
 static ROWS: [Row; 6] = [
@@ -116,8 +116,8 @@ static ROWS: [Row; 6] = [
         done: &["f a 1 +d/round-2.cnf =d/round-2.cnf ", OPENED, KEPT],
         kept: &[FOUR, ALL],
     },
-    // These are limited by the words; or by the sizes of the round before, which had a file for
-    // them.
+    // The two streams, limited by the words, or by the sizes of the previous round, which came from
+    // a file.
     Row {
         words: "--lines=2 --room=3 f 1 2",
         streams: &[ADDS, ""],

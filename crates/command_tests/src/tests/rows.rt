@@ -1,4 +1,4 @@
-//! Worked rows: the words, the formula and the streams, and the report and the status of their run.
+//! Worked examples: the words, the formula and the streams, and the report and status of their run.
 use super::*;
 use test_support::Sleeps;
 
@@ -48,7 +48,7 @@ fn bad_lines(rt: HostRuntime) -> Result<(), Fail> {
     for &(words, bad) in &SCARCE {
         assert_bad(&rt, words, bad, 3)?;
     }
-    // After the empty clause.
+    // A bad line after the empty clause.
     let after = "5 2 0 1 2 0\n6 0 5 3 4 0\n7 2 0 1 0\n";
     assert_bad(&rt, "f 1", (after, 2, 0, 3, "no conflict"), 0)
 }
@@ -141,8 +141,8 @@ static OPENED: [(&str, &str, &[&str], &str); 3] = [
     ("--assume 1 f 1", "0\n", &[MISSPELLED], "f 1 1 "),
 ];
 
-/// Each word opens its file, and the formula's is opened once. A file that two words name is two
-/// streams, each of which reads all of it.
+/// Each word opens its file, and the formula's file is opened once. A file that two words name
+/// serves as two streams, each of which reads all of it.
 #[test]
 fn each_word_opens_its_file(rt: HostRuntime) -> Result<(), Fail> {
     for &(words, stream, said, opened) in &OPENED {

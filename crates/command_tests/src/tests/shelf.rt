@@ -1,5 +1,5 @@
 //! Files in memory, by path. As with the machine's files, contracts don't know their bytes and
-//! allow them everything.
+//! allow the files to behave in any way.
 ghost use Rattle.std.specs.Prelude.{◌≡◌, None, Some, false, true};
 ghost use Rattle.lrup_text.specs.Reads.{GivesLeft};
 
@@ -146,8 +146,8 @@ impl Source for OpenFile<'_> {
 pub(super) struct Shelf<'a> {
     alloc: Global,
     setup: Setup<'a>,
-    /// The effects in order, as paths: with nothing before it for an opening, `?` if nothing was
-    /// found there, `+` for creating, `=` for keeping, `-` for discarding; each is followed by a
+    /// The effects in order: a path for an opening, with `?` before it if nothing was found there,
+    /// with `+` for creating, `=` for keeping, `-` for discarding; each effect is followed by a
     /// space.
     pub(super) done: String,
     /// The path of the file that was created last.

@@ -17,8 +17,8 @@ use command_line::laws::plain_words;
 use lrup_text::WriteFault;
 use outcome_laws::laws::status_0_has_a_command_line;
 
-/// Whether the program ends with status 0. Then the formula's text is that of a formula that no
-/// assignment satisfies.
+/// Whether the program ends with status 0. If it does, the formula's text is that of a formula that
+/// no assignment satisfies.
 fn refutes<T: Threads + Wait + Sync + Clock>(
     rt: &T,
     alloc: Global,
@@ -47,8 +47,8 @@ fn a_formula_whose_bytes_are_known(rt: HostRuntime) {
     same(&rt, refutes(&rt, rt.alloc(), FOUR, ""), false);
 }
 
-/// Every path has a file: its first opening finds one text, each later one another. Creating files
-/// fails.
+/// Every path has a file: the first opening finds one text, each later opening another. Creating
+/// files fails.
 #[derive(Drop)]
 struct Changing<'a> {
     text: &'a str,
@@ -110,8 +110,8 @@ impl<'a> Machine for Changing<'a> {
     }
 }
 
-/// Whether the program ends with status 0 if one path names formula and stream. By its contract the
-/// text that the first opening found is then that of a formula that no assignment satisfies.
+/// Whether the program ends with status 0 if one path names formula and stream. If it does, the
+/// text that the first opening found is that of a formula that no assignment satisfies.
 fn refutes_the_first<T: Threads + Wait + Sync + Clock>(
     rt: &T,
     alloc: Global,

@@ -13,15 +13,15 @@ use std::time::Duration;
 #[derive(Drop)]
 pub(super) struct WatchLog {
     watchers: AtomicU64,
-    /// The number of writes that were one whole line, and that of all writes.
+    /// The number of writes that were one whole line, and the number of all writes.
     lines: AtomicU64,
     writes: AtomicU64,
     /// The expected lines, in order, each in a write of its own.
     awaited: &'static [&'static str],
-    /// How many of them were written.
+    /// How many of the expected lines were written.
     came: AtomicUsize,
     micros: AtomicU64,
-    /// By how many microseconds the clock then moves; `None` if it fails.
+    /// By how many microseconds the clock moves at a time; `None` if the clock fails.
     delay: Option<u64>,
 }
 
@@ -148,8 +148,8 @@ s UNKNOWN
 const IN_3: &str = "c round 3\nc stream 1: 0 added, 0 deleted, ended\ns UNKNOWN\n";
 
 /// The words, the clock's delay, the expected lines, and the number of lines and of watchers. There
-/// is a line for each stream, and one for each round after the first. Each line has a watcher, and so
-/// has each opening; in rounds these are also of sizes, and of a stream of round 4.
+/// is a line for each stream, and one for each round after the first. Each line has a watcher, and
+/// so has each opening; in rounds, the openings include the sizes and a stream of round 4.
 static HEARD: [(&str, Option<u64>, &[&str], u64, u64); 6] = [
     ("f 1 2", Some(0), &[], 0, 0),
     ("--watch f 1 2", Some(0), &[], 2, 5),

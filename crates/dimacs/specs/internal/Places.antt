@@ -1,4 +1,4 @@
--- The rest of a file from some place on: definitions for this crate's own functions.
+-- The rest of a file from some index on: definitions for this crate's own functions.
 use Rattle.std.specs.Prelude.{◌≡◌, ◌⊎◌, ◌↔◌, ◌+◌, ◌<◌, ◌≤◌, ℕ, ℤ, pos, nat_abs, true, false, Some, None, List, [], ◌∷◌, ◌++◌, length, if◌then◌else◌}
 use Rattle.std.specs.List.{slice_split}
 use Rattle.lrup_model.specs.Literal.{IsLiteral, max_variable}
@@ -12,12 +12,12 @@ use Rattle.dimacs.specs.declared.fault.DimacsFault.{DimacsFault}
 use Rattle.lrup_model.specs.Clause.{Has, EachOnce}
 use Rattle.lrup_model.specs.Formula.{Cnf, max_clauses}
 
--- the lines of the rest at the start of a line with this number
+-- the lines of a rest that begins at the start of the line with this number
 unfoldable pub lines_at_start : ℕ → List ℕ → List Line
 lines_at_start number bytes = lines_from number (slice_split ends_line bytes)
 
--- the lines of the rest inside the line with this number, which isn't a comment, before its first
--- token
+-- the lines of a rest that begins inside the line with this number, before that line's first token;
+-- that line isn't a comment
 abbrev pub lines_inside : ℕ → List (List ℕ) → List Line
 lines_inside number [] = []
 lines_inside number (line ∷ lines) =
@@ -52,7 +52,7 @@ pub record ReadsNumeral (text : List ℕ) (kept : ℕ) (rest : List ℕ) : Type 
   pub positive : 0 < kept
   pub rest_is : rest ≡ after_run text
 
--- the run and those after it; no runs if it is empty
+-- this run, and those after it; no runs if this one is empty
 abbrev pub with_run : List ℕ → List (List ℕ) → List (List ℕ)
 with_run [] later = []
 with_run (byte ∷ bytes) later = (byte ∷ bytes) ∷ later
@@ -68,7 +68,7 @@ pub record IsSmallHeader (tokens : List (List ℕ)) (vars count : ℕ) : Type 0 
   pub few_variables : vars ≤ max_variable
   pub few_clauses : count ≤ max_clauses
 
--- the fault of a line that begins with its first token, for any lines after it
+-- the fault of the header if its line has these tokens, whatever lines follow
 abbrev pub IsLineFault : List (List ℕ) → DimacsFault → Type 0
 IsLineFault tokens fault = (number : ℕ) (lines : List Line)
     → IsHeaderFault fault (record { number = number; tokens = tokens } ∷ lines)
@@ -97,12 +97,12 @@ pub record AddsLiteral (old new : List ℤ) (literal : ℤ) : Type 0 where
 abbrev pub AddsClause : Cnf → Cnf → List ℤ → Type 0
 AddsClause old new clause = (new.vars ≡ old.vars) × (new.clauses ≡ old.clauses ++ clause ∷ [])
 
--- a token begins here, or this is the end
+-- the rest begins with a token, or is empty
 abbrev pub IsAtToken : List ℕ → Type 0
 IsAtToken [] = Unit {0}
 IsAtToken (byte ∷ bytes) = is_separator byte ≡ false
 
--- the token is the first of the old ones
+-- the token is the first of the old tokens
 abbrev pub IsFirstToken : List ℕ → ℕ → List Token → List Token → Type 0
 IsFirstToken text line old new = old ≡ record { line = line; text = text } ∷ new
 

@@ -1,4 +1,4 @@
-//! What a few texts mean, proved from the definition of a text and the laws alone: if these were
+//! What a few texts mean, proved only from the definition of a text and the laws: if these were
 //! wrong, the proofs would fail.
 ghost use Rattle.std.specs.Prelude.{◌≡◌, ◌↔◌, [], ◌∷◌, codes, pos, IfOk};
 ghost use Rattle.lrup_model.specs.Formula.{Cnf};
@@ -8,7 +8,7 @@ use super::*;
 use dimacs::laws::one_formula;
 use lrup_model::Formula;
 
-/// A number may not have a leading zero, neither in a clause nor in the header.
+/// A number may not have a leading zero, in a clause or in the header.
 fn zeros_in_front_are_refused()
     ensures clause { (f : Cnf) → ¬ IsFormulaText (codes "p cnf 1 1\n01 0\n") f }
     ensures header { (f : Cnf) → ¬ IsFormulaText (codes "p cnf 01 0\n") f }
@@ -24,7 +24,7 @@ fn a_clause_ends_at_its_zero()
     one_formula();
 }
 
-/// Reads a clause of two lines. The contract of `parse` alone says which formula this gives.
+/// Reads a clause of two lines. Which formula this gives follows from the contract of `parse`.
 fn clause_of_two_lines(alloc: Global) -> Result<Formula, DimacsFault>
     ensures { let only : Cnf = record { vars = 2; clauses = (pos 1 ∷ pos 2 ∷ []) ∷ [] } in
         IfOk result (λ f. f ≡ only) }

@@ -7,7 +7,7 @@ use Rattle.idwords.specs.internal.RowWords.{identity_word, packed}
 use Rattle.idwords.specs.Words.{words_for}
 
 -- the words of the identities of live clauses, whose literals are stored one clause after the
--- other, from this place on
+-- other, from this index on
 abbrev pub clause_words : ℕ → List Clause → List ℕ
 clause_words start [] = []
 clause_words start (clause ∷ clauses) =

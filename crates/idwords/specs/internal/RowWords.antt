@@ -21,8 +21,8 @@ word_of states.absent kept = 0
 word_of (states.live clause) kept = stored_word 1 kept
 word_of (states.retired clause) kept = stored_word 2 kept
 
--- the word of these literals: the code of the first in the lower half, that of the other in the
--- upper
+-- the word of these literals: the code of the first in the lower half, the code of the second in
+-- the upper
 abbrev pub literal_word : ℤ → Option ℤ → ℕ
 literal_word l None = code_of l
 literal_word l (Some other) = code_of l + 4294967296 * code_of other
@@ -33,12 +33,12 @@ packed [] = []
 packed (l ∷ []) = literal_word l None ∷ []
 packed (l ∷ other ∷ clause) = literal_word l (Some other) ∷ packed clause
 
--- the row has these words from this place on
+-- the row has these words from this index on
 abbrev pub OccurAt : List ℕ → ℕ → List ℕ → Type 0
 OccurAt words place [] = Unit {0}
 OccurAt words place (word ∷ more) =
     (slice_index words place ≡ word) × OccurAt words (place + 1) more
 
--- the row has the clause's literals from this place on, in their order
+-- the row has the clause's literals from this index on, in their order
 abbrev pub LiesAt : List ℕ → ℕ → Clause → Type 0
 LiesAt words place clause = OccurAt words place (packed clause)

@@ -52,7 +52,7 @@ pub record IsPlan (run_formula : Cnf) (run_layout : LayoutValue) : Type 0 where
   pub fits : Fits run_layout run_formula
 
 -- The row fits this history: the words show what the history leaves at each identity, and have the
--- literals of each clause; each thread state agrees with both, and no stream has two.
+-- literals of each clause; each thread state agrees with both, and no stream has two thread states.
 pub record Keeps (formula : Cnf) (layout : LayoutValue) (log : History) (words : List ℕ)
     (views : List (List ThreadState)) : Type 0 where
   pub plan : IsPlan formula layout

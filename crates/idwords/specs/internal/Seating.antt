@@ -43,7 +43,7 @@ others (thread ∷ threads) = threads
 abbrev pub thread_of : SeatValue → ThreadState
 thread_of seat = record { view = seat.view; top = seat.top; draft = seat.draft }
 
--- The token has one thread state, which is fair; the row has as many words as its layout says; the
+-- The token has one thread state, which is fair; the row has as many words as the layout says; the
 -- seat's numbers are its top, the length of its draft, and the room left, into which the draft
 -- fits.
 pub record IsSeated {S : Type 0} (table : TableId) (me : Me S (List ThreadState))

@@ -24,7 +24,7 @@ pub record Looks (id : ℕ) (old : ThreadState) (word : ℕ) (new : ThreadState)
   pub top : new.top ≡ old.top
   pub draft : new.draft ≡ old.draft
 
--- A load that is no event.
+-- A load that is not an event.
 pub record Reads (place : ℕ) (old : ThreadState) (word : ℕ) (new : ThreadState) : Type 0 where
   pub same : new ≡ old
   pub text : IsText old.view.spelt place word
@@ -55,8 +55,8 @@ pub record FindsNone (id : ℕ) (old new : ThreadState) : Type 0 where
   pub top : new.top ≡ old.top
   pub draft : new.draft ≡ old.draft
 
--- The load of a retire: if the word isn't live, the retire ends with it; if it is live, nothing has
--- happened yet.
+-- The load of a retire: if the word isn't live, the retire ends with this load; if it is live,
+-- nothing has happened yet.
 pub record Finds (id : ℕ) (old : ThreadState) (word : ℕ) (new : ThreadState) : Type 0 where
   pub own :
       word ≡ word_of (state old.view.caller.formula old.view.mine id) (stored_in old.view.spelt id)

@@ -9,6 +9,6 @@ pub record AreCubeCodes (codes : List ℕ) : Type 0 where
   pub each : All (IsCode max_variable) codes
   pub sorted : IsNonDecreasingBy (λ code. code) codes
 
--- the literal of this code
+-- the literal with this code
 abbrev pub literal_of : ℕ → ℤ
 literal_of code = (if code % 2 == 0 then pos (code / 2) else neg_ℤ (pos (code / 2)))

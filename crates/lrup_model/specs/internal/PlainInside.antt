@@ -45,14 +45,14 @@ IsFormulaLive plain =
     (id : ℕ) → 0 < id → id ≤ plain.layout.clauses
     → (stored : StoredClause) × (plain_slot_at plain id ≡ live stored)
 
--- the clause that is stored, if any, follows from the formula
+-- the stored clause, if any, follows from the formula
 abbrev pub StoresClause : Cnf → PlainSlot → Type 0
 StoresClause formula vacant = Unit {0}
 StoresClause formula (live stored) = IsDerived formula stored.literals
 StoresClause formula (retired stored) = IsDerived formula stored.literals
 
 -- The invariant of the map. The list of literals has memory for `capacity` literals, which is
--- enough for all that streams may still publish.
+-- enough for all clauses that the streams may still publish.
 pub record IsPlainSound (layout : LayoutValue) (entry_list : List Entry) (literals : List ℤ)
     (free : List ℕ) (capacity : ℕ) : Type 0 where
   pub limits : IsLayout layout
@@ -66,7 +66,7 @@ pub record IsPlainSound (layout : LayoutValue) (entry_list : List Entry) (litera
       (StoresClause (formula_of (plain_of layout entry_list literals free)))
       (map (plain_slot_in literals) entry_list)
 
--- the literals of all clauses, one clause after the other
+-- the literals of all clauses, clause by clause
 abbrev pub flat : List Clause → List ℤ
 flat [] = []
 flat (clause ∷ clauses) = clause ++ flat clauses
@@ -84,8 +84,8 @@ fetched_of id (live stored) =
     fetched.Live (record { id = id; len = length stored.literals; start = stored.start })
 fetched_of id (retired stored) = fetched.Retired
 
--- the map after a publish, by the result; index is the place of the stream's room in the list,
--- counted from 0
+-- the map after a publish, by the result; the stream's room is at `index` in the list, counted from
+-- 0
 abbrev pub AfterPublish : Plain → Plain → ℕ → ℕ → Clause → Published → Type 0
 AfterPublish old new index id clause publishing.Done =
     (index < length old.free) × (id < length old.plain_slots) × (plain_slot_at old id ≡ vacant)

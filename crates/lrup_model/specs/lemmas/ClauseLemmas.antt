@@ -46,13 +46,13 @@ Has-take (suc n) [] l h = absurd h
 Has-take (suc n) (x ∷ xs) l (inl e) = inl e
 Has-take (suc n) (x ∷ xs) l (inr h) = inr (Has-take n xs l h)
 
--- a literal at a place of the list is in the list
+-- a literal at an index of the list is in the list
 pub Has-at : (xs : List ℤ) (k : ℕ) (x : ℤ) → slice_get xs k ≡ Some x → Has xs x
 Has-at [] k x e = cc
 Has-at (y ∷ xs) zero x e = inl (cc)
 Has-at (y ∷ xs) (suc k) x e = inr (Has-at xs k x e)
 
--- if each literal occurs once, it isn't among the literals before its place
+-- if each literal occurs once, the one at this index isn't among those before it
 pub Has-before : (xs : List ℤ) (k : ℕ) (x : ℤ) → EachOnce xs → slice_get xs k ≡ Some x
     → ¬ Has (take k xs) x
 Has-before [] k x once e = cc
@@ -66,7 +66,7 @@ take-next [] k x e = cc
 take-next (y ∷ xs) zero x e = let same : y ≡ x = cc in ap (λ z. z ∷ []) same
 take-next (y ∷ xs) (suc k) x e = ap (λ zs. y ∷ zs) (take-next xs k x e)
 
--- the same, as a loop over the list reads it
+-- the same, for a literal that a loop over the list reads
 pub take-read : (xs : List ℤ) (k : ℕ) (x : ℤ) → k < length xs → x ≡ get_or xs k x
     → take (k + 1) xs ≡ take k xs ++ x ∷ []
 take-read xs k x lt e = ap (λ n. take n xs) (add-one k) ∙ take-next xs k x (slice_get_read xs (length xs) k x refl lt e)
@@ -80,7 +80,7 @@ pub All-from_Has : (P : ℤ → Type 0) (xs : List ℤ) → ((l : ℤ) → Has x
 All-from_Has P [] f = tt
 All-from_Has P (x ∷ xs) f = (f x (inl refl), All-from_Has P xs (λ l h. f l (inr h)))
 
--- what is true of all literals is true of one that a loop reads by index
+-- what is true of all literals is true of each that a loop reads by index
 pub All-read : (P : ℤ → Type 0) (xs : List ℤ) (k : ℕ) (x : ℤ) → AllByRecursion P xs → k < length xs
     → x ≡ get_or xs k x → P x
 All-read P xs k x all lt e = All-Has P xs x all (Has-at xs k x (slice_get_read xs (length xs) k x refl lt e))

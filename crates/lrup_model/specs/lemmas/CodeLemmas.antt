@@ -31,7 +31,7 @@ code_of-neg_ℤ_pos : (v : ℕ) → 0 < v → code_of (neg_ℤ (pos v)) ≡ 2 * 
 code_of-neg_ℤ_pos zero h = absurd (omega (arith, h))
 code_of-neg_ℤ_pos (suc v) h = omega arith
 
--- the literal of a code has that code
+-- the literal with a code has that code
 pub code_of-literal_of : (code : ℕ) → 2 ≤ code → code_of (literal_of code) ≡ code
 code_of-literal_of code h =
     elim (parity code) [

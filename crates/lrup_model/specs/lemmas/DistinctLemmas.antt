@@ -14,7 +14,7 @@ use Rattle.lrup_model.specs.Literal.{IsLiteral}
 use Rattle.lrup_model.specs.Distinct.{distinct}
 use Rattle.lrup_model.specs.lemmas.ClauseLemmas.{int_cases, Has_cases, Has-push_cases, Has-at, Has-take, All-Has, All-from_Has}
 
--- all literals but this one
+-- all literals except this one
 abbrev without : ℤ → List ℤ → List ℤ
 without x ls = filter (λ y. not (int_eq y x)) ls
 
@@ -98,7 +98,7 @@ distinct-push_other (y ∷ ls) x missing =
     let kept : without y (x ∷ []) ≡ x ∷ [] = without-other y x [] (λ e. missing (inl (sym e))) in
     ap (λ m. y ∷ m) (ap (without y) rest ∙ split ∙ ap (λ m. without y (distinct ls) ++ m) kept)
 
--- a literal that is there already changes nothing
+-- adding a literal that is there already changes nothing
 pub distinct-push_same : (ls : List ℤ) (x : ℤ) → Has ls x → distinct (ls ++ x ∷ []) ≡ distinct ls
 distinct-push_same [] x h = absurd h
 distinct-push_same (y ∷ ls) x h =
@@ -114,7 +114,7 @@ distinct-push_same (y ∷ ls) x h =
         let gone : without y (x ∷ []) ≡ [] = without-same y x [] (sym e) in
         ap (λ m. y ∷ m) (ap (without y) rest ∙ split ∙ ap (λ m. without y (distinct ls) ++ m) gone ∙ append-nil (without y (distinct ls)))
 
--- n has the distinct literals of ls, and ls doesn't have a literal and its complement
+-- n has the distinct literals of ls, and ls has no literal together with its complement
 pub record IsTaken (ls n : List ℤ) : Type 0 where
   pub same : n ≡ distinct ls
   pub consistent : ¬ IsTautology ls

@@ -96,7 +96,7 @@ pub all_hold : (f : Cnf) (a : Assignment) (ds : List Clause) → SatisfiesAll a 
 all_hold f a [] sat follow = tt
 all_hold f a (d ∷ ds) sat follow = ((follow.0.0, follow.0.1.holds a sat), all_hold f a ds sat follow.1)
 
--- a clause that propagation derives from clauses that follow, follows too
+-- a clause that propagation derives from clauses that follow also follows
 pub propagation_sound : (f : Cnf) (c : Clause) (ds : List Clause)
     → AllByRecursion (λ d. IsClause f.vars d × Follows f d) ds → Accepts c ds → Follows f c
 propagation_sound f c ds follow accepts = record {

@@ -46,7 +46,7 @@ Advances-retired absent = tt
 Advances-retired (live c) = refl
 Advances-retired (retired c) = refl
 
--- if the slot of one identity is replaced by a later one, every slot stays or becomes a later one
+-- if one identity's slot is replaced by a later one, every slot stays or becomes a later one
 put-advances : (m : State) (j : ℕ) (slot : Slot) (id : ℕ) → Advances (m j) slot
     → Advances (m id) (put m j slot id)
 put-advances m j slot id advances =
@@ -79,7 +79,8 @@ has_stays (retired d) absent c advances has = absurd advances
 has_stays (retired d) (live e) c advances has = absurd advances
 has_stays (retired d) (retired e) c advances has = advances ∙ has
 
--- after a legal history each clause that it published is under its identity, live or retired
+-- after a legal history, each clause that the history published is under its identity, live or
+-- retired
 pub published_stay : (f : Cnf) (p : LayoutValue) (m : State) (h : History) → LegalFrom f p m h
     → AllByRecursion (λ x. HasClause (run m h x.0) x.1) (published h)
 published_stay f p m [] legal = tt

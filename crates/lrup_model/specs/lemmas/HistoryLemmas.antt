@@ -103,14 +103,14 @@ after-foreign f p m (events.retire s j retiring.Done) id allowed foreign =
     put-other m j (retire_slot (m j)) id (λ same. foreign (subst (λ (k : ℕ). Owns p s k) (sym same) allowed))
 after-foreign f p m (events.retire s j retiring.NotLive) id allowed foreign = refl
 
--- an identity that no stream owns keeps what it has
+-- an identity that no stream owns keeps its slot
 pub run-unowned : (f : Cnf) (p : LayoutValue) (m : State) (h : History) (id : ℕ) → LegalFrom f p m h
     → ((s : ℕ) → Owns p s id → ⊥) → run m h id ≡ m id
 run-unowned f p m [] id legal unowned = refl
 run-unowned f p m (e ∷ h) id legal unowned =
     run-unowned f p (after m e) h id legal.2 unowned ∙ after-foreign f p m e id legal.1 (unowned (stream_of e))
 
--- an identity of the formula keeps what it has
+-- an identity of the formula keeps its slot
 pub run-formula : (f : Cnf) (p : LayoutValue) (m : State) (h : History) (id : ℕ) → LegalFrom f p m h
     → id ≤ p.clauses → run m h id ≡ m id
 run-formula f p m h id legal within = run-unowned f p m h id legal (λ s owns. omega (arith, owned_above p s id owns))
@@ -120,7 +120,7 @@ pub opening-formula : (f : Cnf) (id : ℕ) → 0 < id → id ≤ length f.clause
 opening-formula f id positive within =
     cond-true (ltb 0 id && leb id (length f.clauses)) (live (clause_at f id)) absent (and_from (ltb 0 id) (leb id (length f.clauses)) (lt-ltb 0 id positive) (le-leb id (length f.clauses) within))
 
--- clause i + 1 is at place i of the list of clauses
+-- clause i + 1 is at index i of the list of clauses
 pub clause_at-suc : (f : Cnf) (i : ℕ) → clause_at f (i + 1) ≡ get_or f.clauses i []
 clause_at-suc f i =
     let place : i + 1 - 1 ≡ i = omega arith in
@@ -149,7 +149,7 @@ formula_stays f p h id fits legal positive within =
 pub own-mine : (e : Event) (h : History) (s : ℕ) → stream_of e ≡ s → own (e ∷ h) s ≡ e ∷ own h s
 own-mine e h s mine = cond-true (eqb (stream_of e) s) (e ∷ own h s) (own h s) (eq-eqb (stream_of e) s mine)
 
--- a history with events of one stream only is its own part
+-- if all events of a history are of one stream, the stream's part is the whole history
 pub own-all : (s : ℕ) (es : History) → AllByRecursion (λ e. stream_of e ≡ s) es → own es s ≡ es
 own-all s [] all = refl
 own-all s (e ∷ es) all = own-mine e es s all.0 ∙ ap (λ (g : History). e ∷ g) (own-all s es all.1)
@@ -173,8 +173,8 @@ pub own-none : (h : History) (s : ℕ) → AllByRecursion (λ e. stream_of e ≡
 own-none [] s others = refl
 own-none (e ∷ h) s others = own-other e h s others.0 ∙ own-none h s others.1
 
--- states that agree at one of the stream's own identities agree there after a legal history and the
--- stream's part of it
+-- if two states agree at one of a stream's own identities, they agree there after a legal history
+-- and after the stream's part of that history
 pub run-own : (f : Cnf) (p : LayoutValue) (m n : State) (h : History) (s id : ℕ) → LegalFrom f p m h
     → Owns p s id → m id ≡ n id → run m h id ≡ run n (own h s) id
 run-own f p m n [] s id legal owns agree = agree
@@ -194,7 +194,7 @@ run-others f p m h s id legal others owns =
     run-own f p m m h s id legal owns refl ∙ ap (λ (g : History). run m g id) (own-none h s others)
 
 -- if a stream's own identities above some number are vacant, they are still vacant after legal
--- events of others
+-- events of other streams
 pub vacant_above_stays : (f : Cnf) (p : LayoutValue) (m : State) (h : History) (s last : ℕ)
     → LegalFrom f p m h → AllByRecursion (λ e. stream_of e ≡ s → ⊥) h → AreVacantAbove p s m last
     → AreVacantAbove p s (run m h) last
@@ -212,7 +212,7 @@ published-append (events.publish s id c publishing.Done ∷ g) h = ap (λ (ps : 
 published-append (events.publish s id c publishing.Taken ∷ g) h = published-append g h
 published-append (events.retire s id r ∷ g) h = published-append g h
 
--- what a legal history leaves at a stream's own identity depends only on the calls of this stream
+-- what a legal history leaves at a stream's own identity depends only on the calls of that stream
 pub own_calls_decide : (f : Cnf) (p : LayoutValue) (h : History) (s id : ℕ)
     → LegalFrom f p (opening f) h → Owns p s id → state f h id ≡ state f (own h s) id
 own_calls_decide f p h s id legal owns = run-own f p (opening f) (opening f) h s id legal owns refl

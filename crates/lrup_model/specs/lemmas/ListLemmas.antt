@@ -26,9 +26,9 @@ pub All-map : {X : Type 0} (P Q : X → Type 0) → ((x : X) → P x → Q x) �
 All-map P Q gives [] all = tt
 All-map P Q gives (x ∷ xs) all = (gives x all.0, All-map P Q gives xs all.1)
 
--- Loops over a list, one element after the other
+-- Loops over a list, element by element
 
--- the first of the rest is taken next
+-- the first of the remaining elements is taken next
 pub taken_next : {X C : Type 0} (f : X → C) (xs : List X) (x : X) (ys zs : List C) (y : C)
     (all : List C) → ys ≡ y ∷ zs → f x ≡ y
     → map f xs ++ ys ≡ all → map f (xs ++ x ∷ []) ++ zs ≡ all

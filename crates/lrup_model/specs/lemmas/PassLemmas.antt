@@ -33,7 +33,7 @@ moves_none v = record {
   follow = λ all. all;
 }
 
--- a pass is fair after two moves of which at least one has a call
+-- a pass is fair after two moves if at least one has a call
 fair_append : (a b c : View) (es fs : History) → PassMoves a b es → PassMoves b c fs → es ++ fs ≢ []
     → IsFair c
 fair_append a b c es [] ab bc some = bc.fair (ab.fair_after (λ none. some (append-nil es ∙ none)))
@@ -86,7 +86,7 @@ known_stays a b es clip step known =
       text,
     )
 
--- if all stored clauses follow from the formula, the clause of a known clip does
+-- if all stored clauses follow from the formula, so does the clause of a known clip
 pub known_follows : (p : CallerView) (clip : ClipValue) → AllFollow p → IsKnown p clip
     → IsDerived p.caller.formula (clip_clause p clip)
 known_follows p clip all known = all.each clip.id (record { start = clip.start; literals = clip_clause p clip }) known.stored
@@ -114,7 +114,7 @@ fair_follows v fair = record {
 
 -- Moves of a pass
 
--- a fair pass's own calls spent at most the room of its stream
+-- a fair pass's own calls have used at most the room of its stream
 pub spent_within : (v : View) → IsFair v → spent v.caller.stream v.mine ≤ v.caller.layout.room
 spent_within v fair =
     let all : spent v.caller.stream v.mine ≡ spent v.caller.stream v.seen =
@@ -154,7 +154,7 @@ pub own-others : (seen more : History) (s : ℕ) → AllByRecursion (λ d. strea
     → own (seen ++ more) s ≡ own seen s
 own-others seen more s others = own-append seen more s ∙ ap (λ (g : History). own seen s ++ g) (own-none more s others) ∙ append-nil (own seen s)
 
--- the pass after it has seen these events of others, and what is stored then
+-- the pass after it has seen these events of others, with these clauses stored
 abbrev pub learned : View → History → List Spelling → View
 learned v more xs = record v {
   seen = v.seen ++ more;
@@ -178,7 +178,7 @@ moves_learn v more xs fair others legal spelt keeps =
 
 -- One call
 
--- the stream's own events after it saw others' and then made a call
+-- the stream's own events after it saw events of others and then made a call
 pub own_stepped : (v : View) (between : History) (e : Event) → IsFair v
     → AllByRecursion (λ d. stream_of d ≢ v.caller.stream) between → stream_of e ≡ v.caller.stream
     → own (v.seen ++ between ++ e ∷ []) v.caller.stream ≡ v.mine ++ e ∷ []
@@ -186,8 +186,8 @@ own_stepped v between e fair others mine =
     own-append (v.seen ++ between) (e ∷ []) v.caller.stream
     ∙ ap₂ (λ (g h : History). g ++ h) (own-others v.seen between v.caller.stream others ∙ fair.mine) (own-mine e [] v.caller.stream mine)
 
--- the pass after it has seen these events of others and then made this call, and what is stored
--- then
+-- the pass after it has seen these events of others and then made this call, with these clauses
+-- stored
 abbrev pub stepped : View → History → Event → List Spelling → View
 stepped v between e xs = record v {
   seen = v.seen ++ between ++ e ∷ [];
@@ -213,7 +213,7 @@ moves_step v between e xs fair others mine legal spelt keeps =
 
 -- Fetches
 
--- the last event of a legal history has the reply of the state before it
+-- the last event of a legal history has the reply that the state before the event gives
 pub last_answers : (f : Cnf) (p : LayoutValue) (before : History) (e : Event)
     → IsLegal f p (before ++ e ∷ []) → Answers (state f before) e
 last_answers f p before e legal = (legal-back f p (opening f) before (e ∷ []) legal.events).0
@@ -265,8 +265,8 @@ pass_fetches old new before id r moves last =
 
 -- Meetings
 
--- a pass that has met others in turn has seen what it had seen before, and what each of the others
--- has seen so far
+-- a pass that has met others in turn has seen all that it had seen before, and all that each of the
+-- others has now seen
 synced_once : (u v : View) (xs ys : List View) → SyncInTurn u xs v ys
     → ((more : History) × (v.seen ≡ u.seen ++ more))
     × AllByRecursion (λ y. (more : History) × (v.seen ≡ y.seen ++ more)) ys
@@ -281,8 +281,8 @@ synced_once u v (x ∷ xs) (y ∷ ys) meets =
       ((grown, rest.0.1 ∙ ap (λ (h : History). h ++ grown) (sym meets.1.one)), rest.1),
     )
 
--- if a pass has seen all that each of the others has seen, then after meeting it all have seen its
--- history
+-- if a pass has seen all that each of the others has seen, then after they meet it, all have seen
+-- the history of that pass
 synced_again : (h : History) (v w : View) (ys zs : List View) → v.seen ≡ h
     → AllByRecursion (λ y. (more : History) × (h ≡ y.seen ++ more)) ys → SyncInTurn v ys w zs
     → (w.seen ≡ h) × AllSaw h zs

@@ -23,8 +23,8 @@ use Rattle.lrup_model.specs.lemmas.HistoryLemmas.{own-mine, own-other, one_owner
 abbrev pub IsInside : LayoutValue → (ℕ → Bool) → ℕ → Type 0
 IsInside p set id = (t : ℕ) → Owns p t id → IsTrue (set t)
 
--- The restricted state has the same as the whole state at identities that no stream outside the set
--- owns, and nothing at the others.
+-- The restricted state agrees with the whole state at identities that no stream outside the set
+-- owns, and has nothing at the others.
 pub record Restricts (p : LayoutValue) (set : ℕ → Bool) (whole part : State) : Type 0 where
   pub inside : (id : ℕ) → IsInside p set id → part id ≡ whole id
   pub outside : (id t : ℕ) → Owns p t id → set t ≡ false → part id ≡ absent
@@ -36,7 +36,7 @@ Restricts-opening f p set fits = record {
   outside = λ id t owns out. opening-owned f p t id fits owns;
 }
 
--- an event of the set's streams changes both states
+-- an event of a stream in the set changes both states
 Restricts-member : (f : Cnf) (p : LayoutValue) (set : ℕ → Bool) (whole part : State) (e : Event)
     → IsAllowed f p e → set (stream_of e) ≡ true → Restricts p set whole part
     → Restricts p set (after whole e) (after part e)
@@ -47,7 +47,7 @@ Restricts-member f p set whole part e allowed member rel = record {
       after-foreign f p part e id allowed foreign ∙ rel.outside id t owns out;
 }
 
--- an event of another stream changes only the whole state
+-- an event of a stream outside the set changes only the whole state
 Restricts-other : (f : Cnf) (p : LayoutValue) (set : ℕ → Bool) (whole part : State) (e : Event)
     → IsAllowed f p e → set (stream_of e) ≡ false → Restricts p set whole part
     → Restricts p set (after whole e) part
@@ -81,7 +81,7 @@ own_inside : (p : LayoutValue) (set : ℕ → Bool) (s id : ℕ) → set s ≡ t
     → IsInside p set id
 own_inside p set s id member owns t theirs = ap set (one_owner p t s id theirs owns) ∙ member
 
--- an event of the set's streams has the same reply from the restricted state
+-- an event of a stream in the set gets the same reply from the restricted state
 Restricts-answers : (f : Cnf) (p : LayoutValue) (set : ℕ → Bool) (whole part : State) (e : Event)
     → IsAllowed f p e → set (stream_of e) ≡ true → FindsWithin p set e → Restricts p set whole part
     → Answers whole e → Answers part e
@@ -110,7 +110,7 @@ among-other : (set : ℕ → Bool) (e : Event) (h : History) → set (stream_of 
     → among set (e ∷ h) ≡ among set h
 among-other set e h other = cond-false (set (stream_of e)) (e ∷ among set h) (among set h) other
 
--- these events are only of streams in the set
+-- all of these events are of streams in the set
 pub among-members : (set : ℕ → Bool) (h : History)
     → AllByRecursion (λ e. IsTrue (set (stream_of e))) (among set h)
 among-members set [] = tt
@@ -123,7 +123,7 @@ among-members set (e ∷ h) =
 own-cons : (e : Event) (g h : History) (s : ℕ) → own g s ≡ own h s → own (e ∷ g) s ≡ own (e ∷ h) s
 own-cons e g h s same = ap (λ (k : History). cond (eqb (stream_of e) s) (e ∷ k) k) same
 
--- these events are all events of each stream in the set
+-- these events include all events of each stream in the set
 pub own-among : (set : ℕ → Bool) (h : History) (s : ℕ) → IsTrue (set s)
     → own (among set h) s ≡ own h s
 own-among set [] s inside = refl
@@ -185,7 +185,7 @@ spent-among s set (e ∷ h) =
       | inr other ↦ subst (λ (g : History). spent s g ≤ spent s (e ∷ h)) (sym (among-other set e h other)) (omega (arith, spent-among s set h, spent-rest s e h))
     ]
 
--- if the streams of a set find no clause of other streams, the events of the set are a legal
+-- if the streams of a set find no clause of other streams, the events of these streams are a legal
 -- history
 pub restriction_legal : (f : Cnf) (p : LayoutValue) (set : ℕ → Bool) (h : History) → Fits p f
     → IsLegal f p h → AllByRecursion (FindsWithin p set) h → IsLegal f p (among set h)

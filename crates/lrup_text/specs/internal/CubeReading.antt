@@ -10,11 +10,11 @@ use Rattle.lrup_text.specs.Lines.{IsStreamNumber, IsStreamLiteral}
 use Rattle.lrup_text.specs.internal.Rests.{Spot, Tracks}
 use Rattle.lrup_text.specs.Cubes.{IsCubeLine, IsTextFault}
 
--- The bytes before a cube's text if it is the list of an import: the number 1 and the letter.
+-- The bytes that, put before a cube's text, make an import of it: the number 1 and the letter.
 abbrev pub import_front : List ℕ
 import_front = 49 ∷ space ∷ letter_i ∷ space ∷ []
 
--- the part of a cube's text that was read ends at a spot of that line
+-- after `import_front`, the part of a cube's text that was read ends at this spot
 abbrev pub EndsAtSpot : List ℕ → Spot → Type 0
 EndsAtSpot read spot = Tracks (import_front ++ read) spot
 

@@ -16,8 +16,8 @@ EndsLine line = (0 < length line) × (slice_index line (length line - 1) ≡ lin
 abbrev pub EndsWord : List ℕ → Type 0
 EndsWord text = (0 < length text) × (slice_index text (length text - 1) ≤ space)
 
--- The text has a word from one place up to another. A word is spelled in some way, and a line has
--- only some.
+-- The text has a word from index `start` up to `end`. `spell` gives the word's text, and `Fits`
+-- says whether a line may have the word.
 pub record ReadsWord {A : Type 0} (spell : A → List ℕ) (Fits : A → Type 0) (text : List ℕ)
     (start : ℕ) (word : A) (end : ℕ) : Type 0 where
   pub fits : Fits word
@@ -28,8 +28,8 @@ pub record ReadsWord {A : Type 0} (spell : A → List ℕ) (Fits : A → Type 0)
 abbrev pub ReadsNumber : List ℕ → ℕ → ℕ → ℕ → Type 0
 ReadsNumber = ReadsWord decimal IsStreamNumber
 
--- The text has words from one place up to another, with a space after each. The buffer has them,
--- too, after the first ones.
+-- The text has words from index `start` up to `end`, with a space after each. The buffer has them,
+-- too, after its `first` old ones.
 pub record ReadsWords {A : Type 0} (spell : A → List ℕ) (Fits : A → Type 0) (text : List ℕ)
     (start : ℕ) (old : List A) (first : ℕ) (new : List A) (count end : ℕ) : Type 0 where
   pub more : List A
@@ -47,7 +47,7 @@ pub record ReadsList {A : Type 0} (spell : A → List ℕ) (Fits : A → Type 0)
   pub text : line ≡ (take start line ++ space ∷ words_text spell (take count words))
       ++ zero_digit ∷ line_feed ∷ []
 
--- the text is that of the line with this first number and with these lists in front of the buffers
+-- the text spells the line with this first number and with the lists at the front of the buffers
 pub record IsWhole (line : List ℕ) (lits : List ℤ) (ids : List ℕ) (whole : Whole) : Type 0 where
   pub kept : CanOccurInLine whole.lead lits whole.literal_count ids whole.identity_count
   pub text : LineText (line_of_parts whole.imports whole.deletes whole.lead

@@ -92,7 +92,7 @@ pending_at states.LineEnd partial =
 abbrev pub pending : PartialLine → List ℕ
 pending partial = pending_at partial.state partial
 
--- the spot in the line in this state
+-- the spot in the line for this state
 unfoldable pub spot_at : ParserState → PartialLine → Spot
 spot_at states.Start partial = AtStart
 spot_at states.Lead partial = InLead partial.digits
@@ -122,7 +122,7 @@ pub record HasRoom (lits : List ℤ) (ids : List ℕ) : Type 0 where
   pub literals : length lits ≡ 65535
   pub identities : length ids ≡ 65536
 
--- the first number, and the literals and identities in front of the buffers, can be those of a line
+-- a line can have this first number, and the literals and identities at the front of the buffers
 pub record CanOccurInLine (first : ℕ) (lits : List ℤ) (literal_count : ℕ) (ids : List ℕ)
     (identity_count : ℕ) : Type 0 where
   pub lead : IsStreamNumber first
@@ -137,7 +137,7 @@ pub record FitsDigits (number digits : ℕ) : Type 0 where
   pub high : number < 10 ^ digits
   pub few : digits ≤ 18
 
--- what is kept between two bytes
+-- the invariant between two bytes
 pub record IsPartialLine (partial : PartialLine) : Type 0 where
   pub room : HasRoom partial.literals.items partial.identities.items
   pub kept : CanOccurInLine partial.lead partial.literals.items partial.literal_count

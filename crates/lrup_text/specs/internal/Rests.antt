@@ -58,7 +58,7 @@ pub record LiteralsFollow (limits : Limits) (rest : List ℕ) : Type 0 where
   pub is : rest ≡ space ∷ after
   pub clause : ClauseFollows limits true 0 after
 
--- the letter i and those literals
+-- the letter i, a space, and the literals of an import
 pub record ImportFollows (limits : Limits) (rest : List ℕ) : Type 0 where
   pub after : List ℕ
   pub is : rest ≡ letter_i ∷ after
@@ -109,7 +109,8 @@ MayComplete limits (InItem deletes digits items) rest =
     rest
 MayComplete limits AtEnd rest = rest ≡ line_feed ∷ []
 
--- what was read ends at the spot: with any limits, the same rests complete it to a line
+-- what was read ends at the spot: whatever the limits, exactly the rests of `MayComplete` complete
+-- it to a line
 pub record Tracks (read : List ℕ) (spot : Spot) : Type 0 where
   pub completes : (signed : Bool) (limits : Limits) → AreLifted signed limits → (rest : List ℕ)
       → IsLine limits (read ++ rest) → MayComplete limits spot rest

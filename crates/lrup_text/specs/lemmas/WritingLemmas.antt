@@ -60,7 +60,7 @@ breaks_more {a} {b} {h} {x} h' y = record {
   is = sym (append_assoc h x y) ∙ ap (λ t. t ++ y) h'.is ∙ append_assoc h'.went h'.rest y;
 }
 
--- a prefix of all that is held
+-- a prefix of all that is held was written
 pub breaks_held : {a b : Option (List ℕ)} {h : List ℕ} (went rest : List ℕ) → h ≡ went ++ rest
     → Appends a b went → Breaks a b h []
 breaks_held {a} {b} {h} went rest is appends = record { went = went; rest = rest; appends = appends; is = append-nil h ∙ is }
@@ -78,8 +78,8 @@ breaks_from_empty r {a} {b} {h} {z} empty err broken =
     let from : Breaks a b [] z = subst (λ (x : List ℕ). Breaks a b x z) empty broken in
     at_err r _ _ err (from.went, from.rest, from.is, from.appends)
 
--- the same for a text that is equal to it; for one that is two parts; and for one that continues
--- after them
+-- the same for an equal text; for a text of two parts; and for a text that continues after these
+-- parts
 pub breaks_as : {a b : Option (List ℕ)} {h x z : List ℕ} → Breaks a b h x → z ≡ x → Breaks a b h z
 breaks_as {a} {b} {h} broken is = subst (λ t. Breaks a b h t) (sym is) broken
 

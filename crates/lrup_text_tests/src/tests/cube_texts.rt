@@ -1,11 +1,11 @@
-//! What a few texts mean, proved from the definition of a cube's text alone: if it were wrong, the
+//! What a few texts mean, proved only from the definition of a cube's text: if that were wrong, the
 //! proofs would fail.
 ghost use Rattle.std.specs.Prelude.{◌≡◌, ◌≤◌, [], ◌∷◌, ℕ, codes, pos, negsuc};
 ghost use Rattle.lrup_model.specs.Cube.{CubeValue, IsCubeOf};
 ghost use Rattle.lrup_model.specs.Literal.{max_variable};
 ghost use Rattle.lrup_text.specs.Cubes.{IsCubeText};
 
-/// A number may not have a leading zero, and nothing may follow the LF.
+/// A number may not have a leading zero, and the text has to end with LF.
 pub fn cubes_are_refused()
     ensures zero { (vars : ℕ) (cube : CubeValue) → vars ≤ max_variable
         → ¬ IsCubeText vars (codes "01 0\n") cube }

@@ -18,7 +18,7 @@ fn push_if_had(shown: &mut String, cube: &Cube, value: i64) -> Result<(), AllocE
 /// Literals that a cube may have.
 static LITERALS: [i64; 8] = [1, -1, 2, -2, 3, -3, 16_777_215, -16_777_215];
 
-/// Which of these literals the cube has.
+/// Which of `LITERALS` the cube has.
 fn literals_shown(alloc: Global, cube: &Cube) -> Result<String, AllocError> {
     let mut shown = String::from_str(alloc, "cube")?;
     for &value in &LITERALS {
@@ -47,8 +47,8 @@ fn cubes_are(rt: &impl Abort, alloc: Global, rows: &[Row<'_>]) -> Result<(), All
     Ok(())
 }
 
-/// Texts of cubes, and texts with each fault. If several hold, the first counts: spelling, then a
-/// number or list that is too long, then a variable out of range.
+/// Texts of cubes, and texts with each fault. A variable out of range counts only in a text that is
+/// neither misspelled nor too long.
 static CUBES: &[Row] = &[
     ("-2 0\n", 2, "cube -2"),
     ("-2 1 -2 0\n", 2, "cube 1 -2"),

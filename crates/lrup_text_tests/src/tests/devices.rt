@@ -8,7 +8,7 @@ use std::io;
 use std::process::Abort;
 use std::test::Fail;
 
-/// A device that moves all bytes it is offered, and fails at exactly one of its calls.
+/// A device that moves all bytes it is offered, but fails at call number `fails_at`.
 #[derive(Drop)]
 struct FailsOnce {
     calls: usize,
@@ -77,7 +77,7 @@ fn failed_reads_are_not_repeated(rt: HostRuntime) -> Result<(), Fail> {
     Ok(())
 }
 
-/// One read of known bytes. Which bytes it gives follows from the contract of `Reading` alone.
+/// One read of known bytes. Which bytes it gives follows from the contract of `Reading`.
 fn read_once(bytes: &[u8], buffer: &mut [u8]) -> Result<usize, ReadFault>
     ensures { IfOk result (λ count. (rest : List ℕ)
         × (bytes.now ≡ take count buffer.new ++ rest)) }
@@ -94,7 +94,7 @@ fn a_read_gives_the_next_bytes(rt: HostRuntime) {
     }
 }
 
-/// How many bytes a source over these gives, four at a time, and whether it failed.
+/// How many bytes a source of these bytes gives, four at a time, and whether it failed.
 fn read_to_end(bytes: &[u8]) -> (usize, bool) {
     let mut source = Reading::new(bytes);
     let mut count = 0usize;
@@ -181,8 +181,7 @@ fn put_fails<W: Sink>(bytes: &[u8], sink: &mut W) -> bool
 /// More bytes than two buffers hold.
 static MANY: [u8; 10_000] = [b'x'; 10_000];
 
-/// Writes these bytes to a device that fails at call number `fails_at`; if that is 0, it never
-/// does.
+/// Writes `MANY` to a device that fails at call number `fails_at`; if that is 0, it never fails.
 fn put_many(rt: &impl Abort, fails_at: usize, calls: usize) {
     let mut sink = Writing::new(FailsOnce::new(fails_at));
     let fails = put_fails(&MANY, &mut sink);

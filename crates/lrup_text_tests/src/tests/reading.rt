@@ -1,4 +1,4 @@
-//! Texts, cut at every place.
+//! Texts, cut at every index.
 use super::{Given, has_text, repeated, same};
 use lrup_text::{End, LineFault, LineReader};
 use std::alloc::{AllocError, Global};
@@ -14,7 +14,7 @@ fn feed(rt: &impl Abort, reader: &mut LineReader, piece: &[u8], used: usize, giv
     same(rt, (fed.used, fed.status), (used, given.status()));
 }
 
-/// Feeds a text in two pieces, cut at a place.
+/// Feeds a text in two pieces, cut at an index.
 fn feed_pieces(rt: &impl Abort, reader: &mut LineReader, row: Row<'_>, cut: usize) {
     let (text, used, given) = row;
     let bytes = text.as_bytes();
@@ -64,7 +64,7 @@ fn feed_one_way(
     Ok(())
 }
 
-/// Feeds a text cut into two pieces at each place, and byte by byte, and ends the stream each time.
+/// Feeds a text cut into two pieces at each index, and byte by byte, and ends the stream each time.
 pub(super) fn feed_every_way(
     rt: &impl Abort,
     alloc: Global,

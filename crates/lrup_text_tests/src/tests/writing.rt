@@ -97,7 +97,7 @@ fn lines_are_written(rt: HostRuntime) -> Result<(), Fail> {
     Ok(())
 }
 
-/// Numbers around a change in their number of digits, and the largest.
+/// Numbers around changes in the number of digits, and the largest.
 static NUMBERS: [u64; 12] = [
     0,
     9,
@@ -113,8 +113,7 @@ static NUMBERS: [u64; 12] = [
     u64::MAX,
 ];
 
-/// Literals around a change in their number of digits, 0, the largest variable, and the least
-/// number.
+/// Literals around changes in the number of digits, 0, the largest variable, and the least number.
 static LITERALS: [i64; 10] = [
     0,
     1,
@@ -128,7 +127,7 @@ static LITERALS: [i64; 10] = [
     i64::MIN,
 ];
 
-/// Their text, which doesn't depend on what the buffer already holds.
+/// The text of both, which doesn't depend on what the buffer already holds.
 const NUMBERS_AND_LITERALS: &[u8] = b"\
 0 9 10 99 100 999 1000 9999 10000 99999999 100000000 18446744073709551615 \
 0 1 -1 -10 9999 -10000 16777215 -16777215 100000000 -9223372036854775808 ";
@@ -182,7 +181,7 @@ fn written_after(rt: &impl Abort, alloc: Global, front: &[u8]) -> Result<Vec<u8>
 /// Bytes to fill the front of a buffer with.
 static FRONT: [u8; 4_097] = [b'x'; 4_097];
 
-/// Puts numbers and literals at each place near the end of a buffer of 4,096 bytes.
+/// Puts numbers and literals at each index near the end of a buffer of 4,096 bytes.
 #[test]
 fn numbers_are_written(rt: HostRuntime) -> Result<(), Fail> {
     for held in 4_000..4_100usize {

@@ -123,7 +123,7 @@ fn serial_takes_a_line_of_each_stream(rt: HostRuntime) -> Result<(), Fail> {
     Ok(())
 }
 
-/// Runs with these gates: stream 1 fetches a hint that never comes, and three times more.
+/// Runs with these gates: stream 1 fetches a hint that never comes, and retries three times.
 fn pauses_in_vain<T: Machine, G: Gate + Send + Drop>(
     rt: &T,
     mode: Mode,

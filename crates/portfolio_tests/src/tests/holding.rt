@@ -1,4 +1,4 @@
-//! Gates and readers that hold their threads until others have got as far.
+//! Gates and readers that hold their threads until other threads have reached given calls.
 ghost use Rattle.std.specs.Prelude.{◌≡◌, None, false, IfOk};
 ghost use Rattle.std.specs.List.{AllByRecursion};
 
@@ -13,11 +13,11 @@ use std::thread::yield_now;
 use stream_check::{Gate, Report};
 use test_support::Pieces;
 
-/// The stream, identity and attempt of a fetch; with attempt 0, a publish. With identity 0 it is a
-/// read of the stream, and its number; with attempt 0 too, the end of the stream.
+/// The stream, identity and attempt of a fetch; attempt 0 means a publish. With identity 0, the
+/// last number is that of a read of the stream; if it is 0, too, the call is the stream's end.
 type Call = [u64; 3];
 
-/// A thread waits at the first call until the second was made this many times.
+/// A thread waits at the first call until the second has been made this many times.
 pub(super) type Hold = (Call, Call, u64);
 
 /// How often a thread polls before it gives up.
@@ -45,7 +45,7 @@ impl<'a> Holds<'a> {
         self.late.load(Ordering::SeqCst)
     }
 
-    /// How often the call was made that the first hold waits for.
+    /// How often the call that the first hold waits for was made.
     pub(super) fn made(&self) -> u64 {
         let first = self.made.first();
         first.map_or(0, |count| count.load(Ordering::SeqCst))

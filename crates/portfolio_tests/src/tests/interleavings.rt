@@ -1,4 +1,5 @@
-//! Interleavings of threads: gates and readers hold some threads until others have got as far.
+//! Interleavings of threads: gates and readers hold some threads until others have made given
+//! calls.
 use super::holding::{Hold, HoldingGate, Holds, holding_readers, run_held};
 use super::{
     ADDS, BOTH, CITING, Machine, Mode, REFUTES, Said, defaults, options, run_with, same, says,
@@ -36,8 +37,8 @@ const EIGHT: [&str; 8] = [
     "12 2 0 1 2 0\n",
 ];
 
-/// Each stream's first fetch waits for those of all others. A stream has one identity and room for
-/// one literal.
+/// Each stream's first fetch waits for the first fetches of all others. A stream has one identity
+/// and room for one literal.
 #[test]
 fn eight_threads_are_at_work_at_once(rt: HostRuntime) -> Result<(), Fail> {
     let mut holds = Vec::new(rt.alloc());
@@ -102,10 +103,10 @@ fn a_bad_line_is_reported_while_streams_are_open(rt: HostRuntime) -> Result<(), 
 /// Streams, tries, holds, and the streams' reports.
 type Row<'a> = (&'a [&'a str], u64, &'a [Hold], &'a [Said]);
 
-/// The first deletes a clause that the second cites.
+/// The first stream deletes a clause that the second cites.
 const RETIRING: [&str; 2] = ["5 2 0 1 2 0\n5 d 5 0\n7 2 0 1 2 0\n", "6 0 5 3 4 0\n"];
 
-/// Their reports if the second finds the clause live, and if it finds it retired.
+/// Their reports if the second stream finds the clause live, and if it finds the clause retired.
 const FOUND: [Said; 2] = [(2, 1, Unknown, Ended), (1, 0, Unsatisfiable, Ended)];
 
 const RETIRED: [Said; 2] = [
@@ -113,7 +114,7 @@ const RETIRED: [Said; 2] = [
     (0, 0, Unknown, Bad(1, Fault::Retired(5))),
 ];
 
-/// The first two publish at neighbouring identities, and the third reads both clauses.
+/// The first two streams publish at neighbouring identities, and the third reads both clauses.
 const NEIGHBOURS: [&str; 3] = [
     "5 2 0 1 2 0\n",
     "6 -2 0 3 4 0\n",
@@ -168,7 +169,8 @@ fn retired_before_it_was_found(rt: HostRuntime) -> Result<(), Fail> {
     always_says(&rt, RETIRED_FIRST)
 }
 
-/// The first two wait for each other at their last fetch, and the third until both have published.
+/// The first two streams wait for each other at their last fetch, and the third until both have
+/// published.
 static AT_ONCE: Row = (
     &NEIGHBOURS,
     0,
@@ -186,7 +188,7 @@ fn neighbours_publish_at_once(rt: HostRuntime) -> Result<(), Fail> {
     always_says(&rt, AT_ONCE)
 }
 
-/// One stream retires the clause while the other fetches it, and finds it live or retired.
+/// One stream retires the clause while the other fetches it and finds it live or retired.
 #[test]
 fn a_retire_and_a_fetch_at_once(rt: HostRuntime) -> Result<(), Fail> {
     let holds = [([2, 5, 1], [1, 5, 0], 1), ([1, 5, 0], [2, 5, 1], 1)];

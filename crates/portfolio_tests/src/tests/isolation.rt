@@ -27,7 +27,7 @@ use stream_check::Ending::Bad;
 use stream_check::{Fault, Report};
 use test_support::{Pieces, four_clauses};
 
-/// The row's first stream.
+/// The bytes of the first stream.
 const FIRST: &str = "5 2 0 1 2 0\n7 0 5 3 4 0\n";
 
 /// Readers of the two streams, which never fail.
@@ -46,9 +46,9 @@ fn two_readers<'a>(
     Ok(readers)
 }
 
-/// A run with threads. From its contract alone: the first stream has one report; if no stream found
-/// a clause live that is retired in the end, the verdict is that of an order of the lines; and a
-/// stream that ran out of memory had no room left.
+/// A run with threads. Its contract implies three things: the first stream has only one possible
+/// report; if no stream found a clause live that is retired at the end, the verdict is that of an
+/// order of the lines; and a stream that ran out of memory had no room left.
 fn run_in_threads<'a, T: Machine>(
     rt: &T,
     first: &'a str,
@@ -72,7 +72,8 @@ fn run_in_threads<'a, T: Machine>(
     Ok(outcome)
 }
 
-/// A run on one thread, likewise.
+/// A run on one thread. Its contract, too, implies that the first stream has only one possible
+/// report.
 fn run_on_one_thread<'a, T: Machine>(
     rt: &T,
     first: &'a str,
@@ -103,7 +104,7 @@ fn first_report(reports: &[Report], readers: &[Pieces<'_>]) -> Result<Report, Fa
     }
 }
 
-/// The report of the row's first stream beside this neighbour: the one that it may have alone.
+/// The report of the first stream beside this neighbour: the one that it may have alone.
 fn said_beside<T: Machine>(rt: &T, mode: Mode, neighbour: &str) -> Result<Report, Fail>
     ensures { IfOk result (λ report. ¬ IsExcused OutOfMemory report
         → IsOnlyReport first_bytes report) }
@@ -120,8 +121,8 @@ fn said_beside<T: Machine>(rt: &T, mode: Mode, neighbour: &str) -> Result<Report
     }
 }
 
-/// The first stream's report in two runs. That it is the same follows from the contracts of runs
-/// alone.
+/// The first stream's report in two runs. The contracts of runs imply that both reports are the
+/// same.
 fn said_in_two_runs<T: Machine>(
     rt: &T,
     one_run: (Mode, &str),

@@ -1,5 +1,5 @@
 //! Runs with threads have the reports of some order of the lines, checked on one thread. This may
-//! fail if a clause is deleted that another stream has cited.
+//! fail if a clause that another stream has cited is deleted.
 ghost use Rattle.std.specs.Prelude.{◌≡◌, ◌≤◌, length};
 ghost use Rattle.lrup_model.specs.Event.{History};
 ghost use Rattle.lrup_model.specs.Layout.{IsStream};
@@ -76,7 +76,7 @@ impl Two {
         take_at(&mut self.map, 2, &mut self.second, bytes)
     }
 
-    /// The reports of both, if each was read whole or is finished.
+    /// The reports of both streams, if each was read to its end or is finished.
     fn end(&mut self, first_whole: bool, second_whole: bool) -> Option<[Report; 2]> {
         if !first_whole && !self.first.is_over() || !second_whole && !self.second.is_over() {
             return None;
@@ -163,7 +163,7 @@ fn orders_of_citing(rt: HostRuntime) -> Result<(), Fail> {
     runs_have_an_order(&rt, CITING, &ORDERS_OF_CITING)
 }
 
-/// Each imports what the other derives.
+/// Each stream imports what the other derives.
 const IMPORTING: [&str; 2] = [
     "5 2 0 1 2 0\n6 i -2 0\n7 0 5 6 0\n",
     "6 -2 0 3 4 0\n5 i 2 0\n",
@@ -188,7 +188,7 @@ fn orders_of_importing(rt: HostRuntime) -> Result<(), Fail> {
     runs_have_an_order(&rt, IMPORTING, &ORDERS_OF_IMPORTING)
 }
 
-/// The first deletes a clause that the second may have found before.
+/// The first stream deletes a clause that the second may have found before.
 const DELETING: [&str; 2] = ["5 2 0 1 2 0\n5 d 5 0\n7 -2 0 3 4 0\n", "6 0 5 7 0\n"];
 
 /// The same, but the second also imports the clause.
@@ -279,8 +279,8 @@ impl Dice {
     }
 }
 
-/// Three lines with these identities: additions, deletions of clauses of the formula or another
-/// stream, and imports of the latter. They may be bad.
+/// Three lines with these identities: additions, deletions of clauses of the formula or the other
+/// stream, and imports of the other stream's clauses. The lines may be bad.
 fn small_stream(
     alloc: Global,
     dice: &mut Dice,

@@ -24,7 +24,7 @@ static ROWS: [(&[&str], &[Said]); 3] = [
     ),
 ];
 
-/// These fail if a run always reports that memory ran out, or that a ring failed at a stream's end.
+/// Fails if a run always reports that memory ran out, or that a ring failed at a stream's end.
 #[test]
 fn always_a_fault(rt: HostRuntime) -> Result<(), Fail> {
     for mode in BOTH {
@@ -158,8 +158,8 @@ fn many_lines_before_a_failing_read(rt: HostRuntime) -> Result<(), Fail> {
     Ok(())
 }
 
-/// What each stream's reads give, where an empty text is an end; how many of them are made; and the
-/// report. A read after the end would change it.
+/// What each stream's reads give, where an empty text is an end; how many reads are made; and the
+/// report, which a read after the end would change.
 static GROWING: [(&'static [&'static str], usize, Said); 4] = [
     (&["5 2 0 1 2 0\n", "", "9 0 5 3 4 0\n"], 2, ADDS),
     (&["6 -2 0 3 4 0\n", "", "6 6\n"], 2, ADDS),
@@ -220,7 +220,7 @@ fn no_layout_no_read(rt: HostRuntime) -> Result<(), Fail> {
 static TURNS: [(&[&str], &[Said]); 3] = [
     // With two lines per turn, line 2 of the first stream would miss 6.
     (&CITING, &[REFUTES, ADDS]),
-    // In reverse, each stream but the first would miss the clause of the one before it.
+    // In reverse order, each stream but the first would miss the clause of the one before it.
     (
         &["5 2 0 1 2 0\n", "6 2 0 5 0\n", "7 2 0 6 0\n"],
         &[ADDS, ADDS, ADDS],

@@ -18,7 +18,7 @@ use stream_check::{Ending, Fault, Gate};
 #[derive(Drop)]
 pub(super) struct Hand {
     millis: AtomicU64,
-    /// How far each sleep moves it.
+    /// By how many milliseconds each sleep moves the clock.
     step: u64,
     is_broken: AtomicBool,
 }

@@ -15,7 +15,7 @@ AreApart [] = Unit {0}
 AreApart (literal ∷ literals) =
     (¬ Has literals literal) × (¬ Has literals (neg_ℤ literal)) × AreApart literals
 
--- each literal has a mark, at the place of its code
+-- each literal has a mark, at the index of its code
 abbrev pub HaveMarks : List Bool → List ℤ → Type 0
 HaveMarks marks literals = AllByRecursion (λ l. code_of l < length marks) literals
 

@@ -11,7 +11,7 @@ pub unit_is_unique : (n : List ℤ) (d : Clause) (l k : ℤ) → IsUnit n d l �
 unit_is_unique n d l k a b =
     elim (b.others l a.here) [ inl same ↦ same | inr is_false ↦ absurd (a.not_false is_false) ]
 
--- a unit clause is no conflict
+-- a unit clause isn't a conflict
 pub unit_is_no_conflict : (n : List ℤ) (d : Clause) (l : ℤ) → IsUnit n d l → ¬ IsConflict n d
 unit_is_no_conflict n d l unit conflict = unit.not_false (conflict l unit.here)
 

@@ -1,4 +1,4 @@
--- What was read of a file, and how a cause is spelled: definitions for contracts of private
+-- What was read from a file, and how a cause is spelled: definitions for contracts of private
 -- functions (this project's own).
 use Rattle.std.specs.Option.{ForSome}
 use Rattle.std.specs.Prelude.{◌++◌, ◌+◌, ◌≡◌, ◌≤◌, ◌⊎◌, List, Option, length, ℕ}
@@ -39,7 +39,7 @@ IsUnsized {R = R} reading first faults.Sizes =
 IsUnsized reading first faults.Memory = Unit {0}
 IsUnsized reading first fault = ⊥
 
--- the fault of reading a cube's file, made from the one of reading the formula's file
+-- the fault of reading a cube's file, from the same fault of reading the formula's file
 abbrev pub of_cube_file : CommandFault → CommandFault
 of_cube_file faults.Unread = faults.CubeUnread
 of_cube_file fault = fault

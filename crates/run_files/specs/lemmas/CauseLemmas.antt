@@ -12,7 +12,7 @@ use Rattle.run_files.specs.declared.fault.CommandFault.TheVariants as faults
 
 module _ (files : FilesView) (words : List Text) (given : CommandLine)
     (line : IsCommandLineOf words given) where
-  -- The causes are those of the words and the files.
+  -- A cause of each step is a cause of the words and the files.
   pub read_cause : (fault : CommandFault) (after : files.its.State)
       → IsReadCause files given fault after → IsCause files words fault after
   read_cause faults.Unread after cause = (given, line, inl cause)

@@ -3,7 +3,7 @@ use Rattle.std.proofs.Common.{arith, ◌≡◌, List, [], ◌∷◌, length, ref
 use Rattle.run_files.specs.Asked.{Text}
 use Rattle.run_files.specs.Files.{AreOpened}
 
--- as many readers as paths
+-- there are as many readers as paths
 pub opened_count : {F R : Type 0} (opens : F → Text → R → F → Type 0) (first : F)
     (paths : List Text) (readers : List R) (after : F) → AreOpened opens first paths readers after
     → length readers ≡ length paths

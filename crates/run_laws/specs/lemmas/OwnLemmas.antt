@@ -15,7 +15,7 @@ use Rattle.stream_check.specs.SequentialConsistency.{AreJudgedIn}
 use Rattle.stream_check.specs.lemmas.StreamLemmas.{blocks-other, blocks-same}
 use Rattle.stream_check.specs.Streams.{AreJudged, Block, IsBlockWithin, Stream, RunParamsValue, blocks_of, events_in}
 
--- what holds for all events holds for a stream's
+-- what holds for all events holds for a stream's events
 pub own_all : (P : Event → Type 0) (h : History) (s : ℕ) → AllByRecursion P h
     → AllByRecursion P (own h s)
 own_all P [] s all = tt
@@ -24,7 +24,7 @@ own_all P (e ∷ h) s all = elim (cases_eq (stream_of e) s) [
   | inr other ↦ subst (AllByRecursion P) (sym (own-other e h s other)) (own_all P h s all.1)
 ]
 
--- a stream's own events are those of its blocks
+-- a stream's own events are the events of its blocks
 pub own-blocks : (p : LayoutValue) (set : ℕ → Bool) (s : ℕ) (bs : List Block)
     → AllByRecursion (IsBlockWithin p set) bs
     → own (events_in bs) s ≡ joined (blocks_of s bs)

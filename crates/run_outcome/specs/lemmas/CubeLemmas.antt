@@ -126,7 +126,7 @@ some_within true b is = absurd (let no : Unsatisfiable ≡ UnsatisfiableUnder = 
 some_within false true is = refl
 some_within false false is = absurd (let no : Unknown ≡ UnsatisfiableUnder = is in cc)
 
--- with the verdict 'unsatisfiable under assumptions' some report says 'within'
+-- if the verdict is 'unsatisfiable under assumptions', some report says 'within'
 is_within_some : (reports : List Report) (verdict : Verdict) → verdict ≡ verdict_of reports
     → verdict ≡ UnsatisfiableUnder
     → list_any (λ report. report.within) reports ≡ true

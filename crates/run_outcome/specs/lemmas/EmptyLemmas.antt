@@ -127,7 +127,7 @@ from_zero : (c : Clause) → (length c == 0) ≡ true → c ≡ []
 from_zero [] h = refl
 from_zero (l ∷ c) h = absurd (omega (arith, eqb-true (length (l ∷ c)) 0 h))
 
--- either the first event published it, or a later one
+-- either the first event published the empty clause, or a later one did
 follows_either : (f : Cnf) (c : Clause) (later b : Bool) → (length c == 0) ≡ b → Follows f c
     → ((length c == 0) || later) ≡ true
     → (later ≡ true → Follows f []) → Follows f []

@@ -1,5 +1,5 @@
--- What runs with threads and on one thread have in common: their parameters, their faults, and that
--- 'unsatisfiable' is true.
+-- What runs with threads and on one thread have in common: their parameters, their faults, and the
+-- truth of 'unsatisfiable'.
 use Rattle.std.proofs.Common.{◌≡◌, ◌≢◌, inl, inr, ℕ, ◌+◌, Bool, true, false, List, [], ◌∷◌, refl}
 use Rattle.std.proofs.Common.{sym, ap, subst, ◌∙◌, arith}
 use Rattle.std.specs.Result.{IfErr, IsErrAnd}
@@ -52,11 +52,11 @@ none_of_layout options f p n streams same count is fault bad =
     no_fault p fault is (subst (λ (l : LayoutValue). IsFault l fault) (sym (same ∙ ap
     (layout_of options f) count)) bad)
 
--- an `Ok` is no `Err`
+-- an `Ok` isn't an `Err`
 no_error : {T E : Type 0} {value : T} {e : E} → Ok value ≡ Err e → ⊥
 no_error is = cc
 
--- out of memory is no layout fault
+-- out of memory isn't a layout fault
 pub not_layout : {T : Type 0} (result : Result T RunFault) (fault : LayoutFault)
     → IfErr result (λ e. e ≡ Memory)
     → result ≡ Err (Layout fault) → ⊥
@@ -69,7 +69,7 @@ pub no_threads : {T : Type 0} (result : Result T RunFault) → IfErr result (λ 
 no_threads (Ok value) memory stream = (no_error, no_error)
 no_threads (Err e) memory stream = ((λ is. cc), (λ is. cc))
 
--- the fault that `?` returns is out of memory, and so is any fault
+-- if `?` returns only out of memory, every fault is out of memory
 pub is_memory : {T : Type 0} (result : Result T RunFault) → IsErrAnd result (λ e. e ≡ Memory)
     → IfErr result (λ e. e ≡ Memory)
 is_memory (Ok value) is = tt
@@ -99,7 +99,7 @@ some_empty true b is = refl
 some_empty false true is = absurd (let no : UnsatisfiableUnder ≡ Unsatisfiable = is in cc)
 some_empty false false is = absurd (let no : Unknown ≡ Unsatisfiable = is in cc)
 
--- with the verdict 'unsatisfiable' some report says 'empty'
+-- if the verdict is 'unsatisfiable', some report says 'empty'
 some_report_empty : (reports : List Report) (verdict : Verdict) → verdict ≡ verdict_of reports
     → verdict ≡ Unsatisfiable
     → list_any (λ report. report.empty) reports ≡ true

@@ -1,4 +1,4 @@
--- How a checker's value comes from its fields, and their invariants (this project's own).
+-- How a checker's value is made from its fields, and the fields' invariants (this project's own).
 use Rattle.std.specs.Prelude.{◌≡◌, ◌≤◌, ◌<◌, ◌^◌, ◌+◌, ℕ, ℤ, nat_abs, Bool, true, false, List, [], length, Option, None, IfSome, Result, Ok, Err}
 use Rattle.std.specs.List.{AllByRecursion}
 use Rattle.lrup_model.specs.Clause.{IsClause, IsTautology}
@@ -17,9 +17,9 @@ use Rattle.stream_check.specs.CheckerValue.{Tally, CheckerValue}
 use Rattle.stream_check.specs.declared.params.Ownership.{Ownership}
 use Rattle.stream_check.specs.declared.params.Ownership.TheVariants as ownerships
 
--- the parameters; the last identity added, or the formula's last one; the dropped ones, and how
--- many were retired; how many clauses were added, whether one is empty, and whether one is within
--- the cube; and the next line's number
+-- the parameters; the last identity added, or the formula's last one; the dropped identities, and
+-- how many were retired; how many clauses were added, whether one is empty, and whether one is
+-- within the cube; and the next line's number
 pub record StreamStateValue : Type 0 where
   pub params : StreamParams
   pub last : ℕ
@@ -30,7 +30,7 @@ pub record StreamStateValue : Type 0 where
   pub within : Bool
   pub line : ℕ
 
--- the state before the first line, with these identities as dropped
+-- the state before the first line, with these identities dropped
 abbrev pub fresh_state : StreamParams → DroppedIdsValue → StreamStateValue
 fresh_state params dropped = record {
   params = params;
@@ -60,11 +60,11 @@ tally_at state = record {
   within = state.within;
 }
 
--- this changes only for good lines
+-- nothing has changed but the dropped and the retired identities
 abbrev pub KeepsLines : StreamStateValue → StreamStateValue → Type 0
 KeepsLines old new = new ≡ record old { dropped = new.dropped; retired = new.retired }
 
--- The conditions before those of the hints hold, and the marks have taken the addition's clause.
+-- The conditions tested before the hints hold, and the marks have the addition's clause.
 pub record Admits (params : StreamParams) (context : StreamContext) (id : ℕ) (lits : List ℤ)
     (marks : Propagation) : Type 0 where
   pub owns : Owns params.layout params.stream id
@@ -81,7 +81,7 @@ pub record Admits (params : StreamParams) (context : StreamContext) (id : ℕ) (
         ready = true;
       }
 
--- the conditions before those of the hints hold, or the addition violates one
+-- the conditions tested before the hints hold, or the addition violates one of them
 abbrev pub AdmitsBy : StreamParams → StreamContext → ℕ → List ℤ → Propagation
     → Result (Unit {0}) Fault
     → Type 0
@@ -108,7 +108,7 @@ value_of state pending ending = record {
 }
 
 -- An unfinished checker can read on, one that ran out of memory has no room for a dropped identity,
--- and its parts have one stream's parameters.
+-- and the checker's parts have the same stream's parameters.
 pub record IsSound (params : StreamParams) (dropped : DroppedIdsValue) (vars : ℕ)
     (reader : ReaderState) (ending : Option Ending) : Type 0 where
   pub reads : ending ≡ None → reader ≡ Ok (read_of reader)
@@ -116,7 +116,7 @@ pub record IsSound (params : StreamParams) (dropped : DroppedIdsValue) (vars : �
   pub tries : params.tries < 2 ^ 63
   pub full : IfSome ending (λ stopped. IsFullAtMemory stopped dropped)
 
--- how often a hint of this ownership is fetched again at most, with this many tries for another
+-- how often at most a hint of this ownership is fetched again, with this many tries for another
 -- stream's
 abbrev pub tries_on : Ownership → ℕ → ℕ
 tries_on ownerships.Formula tries = 0

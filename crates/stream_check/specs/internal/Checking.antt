@@ -73,8 +73,8 @@ line_verdict (Err fault) = Bad 0 fault
 
 -- Deletions
 
--- Deleting one of the stream's own identities: the reply to one retire decides. Only this has an
--- event.
+-- Deleting one of the stream's own identities: the reply to one retire decides. Only such a
+-- deletion has an event.
 abbrev pub DeletesOwn : StreamParams → ℕ → List ℕ → List ℕ → History → Result (Unit {0}) LineStop
     → Type 0
 DeletesOwn params id old new history (Ok _) =
@@ -84,8 +84,8 @@ DeletesOwn params id old new history (Err (stops.Bad fault)) =
     × (new ≡ old)
 DeletesOwn params id old new history (Err stops.Memory) = ⊥
 
--- deleting one of the formula's or of another stream's: it joins the dropped ones, unless it is one
--- already
+-- deleting an identity of the formula or of another stream: it joins the dropped ones, unless it is
+-- already among them
 abbrev pub DropsShared : ℕ → List ℕ → List ℕ → Result (Unit {0}) LineStop → Type 0
 DropsShared id old new (Ok _) =
     (is_among old id ≡ false) × ((j : ℕ) → is_among new j ≡ (is_among old j || id == j))
@@ -110,22 +110,22 @@ abbrev pub DeletesOne : StreamParams → ℕ → List ℕ → List ℕ → Histo
 DeletesOne params id old new history result =
     DeletesByOwnership (ownership_of params id) params id old new history result
 
--- how many more identities are deleted after this one
+-- by how much this result raises the count of deleted identities
 abbrev pub counted : Result (Unit {0}) LineStop → ℕ
 counted (Ok _) = 1
 counted (Err stop) = 0
 
--- the formula's and other streams' among these identities were dropped, too
+-- the shared ones among these identities were dropped, too
 abbrev pub DropsMore : StreamParams → (ℕ → Bool) → List ℕ → (ℕ → Bool) → Type 0
 DropsMore params old ids new =
     (id : ℕ) → new id ≡ (old id || is_shared (ownership_of params id) && is_among ids id)
 
--- The dropped identities are those from before, and the shared ones among these.
+-- The dropped identities are the old ones and the shared ones among `ids`.
 abbrev pub AreDropped : StreamParams → List ℕ → List ℕ → List ℕ → Type 0
 AreDropped params old ids new = DropsMore params (is_among old) ids (is_among new)
 
--- The result of a deletion: it is good, or bad, or out of memory, after this many identities; the
--- shared ones among these were dropped.
+-- The result of a deletion: it is good, or bad, or runs out of memory, after this many identities;
+-- the shared ones among these were dropped.
 abbrev pub Deletes : StreamParams → List ℕ → List ℕ → List ℕ → History → ℕ
     → Result (Unit {0}) LineStop
     → Type 0

@@ -18,7 +18,7 @@ use Rattle.stream_check.specs.Lookup.{FetchesHint, LooksUp, AreFound}
 use Rattle.stream_check.specs.Additions.{BeforeHints, IsValidAddition, Misleads}
 use Rattle.stream_check.specs.internal.Checking.{IsFetch}
 
--- none of the literals of a line is 0
+-- none of a line's literals is 0, so they are literals over the variables if they are in range
 pub literals_within : (vars : ℕ) (ls : List ℤ) → AllByRecursion IsStreamLiteral ls
     → AllByRecursion (λ l. nat_abs l ≤ vars) ls → AllByRecursion (IsLiteral vars) ls
 literals_within vars [] nonzero all = tt
@@ -31,7 +31,7 @@ run-fetches m (events.fetch s id r ∷ es) h = run-fetches m es h.1
 run-fetches m (events.publish s id c r ∷ es) h = absurd h.0
 run-fetches m (events.retire s id r ∷ es) h = absurd h.0
 
--- a violated condition has no events, so it is also violated with other events if these are none
+-- a violated condition has no events; it stays violated with other events that are then empty, too
 pub violates_maps : (Holds : Type 0) (its : Fault) (es fs : History) (fault : Fault) (A B : Type 0)
     → (es ≡ [] → fs ≡ []) → (A → B) → Violates Holds its es fault A → Violates Holds its fs fault B
 violates_maps Holds its es fs fault A B none next (inl bad) = inl (bad.0, none bad.1, bad.2)
@@ -45,7 +45,7 @@ before_maps c st id lits es fs fault A B none next before =
     violates_maps _ _ es fs fault _ _ none (λ a. violates_maps _ _ es fs fault _ _ none (λ a. violates_maps _ _ es fs fault _ _ none
     (λ a. violates_maps _ _ es fs fault _ _ none next a) a) a) before
 
--- a valid addition violates none of the conditions before those of its hints
+-- a valid addition violates none of the conditions tested before its hints
 pub valid_passes : (c : StreamParams) (st : StreamContext) (fetches : History) (id : ℕ)
     (lits : List ℤ)
     (hints : List ℕ) (es : History) (fault : Fault) (A : Type 0)
@@ -59,7 +59,7 @@ valid_passes c st fetches id lits hints es fault A valid (inr (a, inr (b, inl ba
 valid_passes c st fetches id lits hints es fault A valid (inr (a, inr (b, inr (d, inl bad)))) = absurd (bad.0 valid.room)
 valid_passes c st fetches id lits hints es fault A valid (inr (a, inr (b, inr (d, inr (e, next))))) = next
 
--- a look-up that gave a clause fetched it
+-- a look-up that gave a clause fetched it as live
 pub found_live : (c : StreamParams) (is_dropped : ℕ → Bool) (h : ℕ) (es : History) (d : Clause)
     → LooksUp c is_dropped h es (Ok d) → (is_dropped h ≡ false) × FetchesHint c h es (events.live d)
 found_live c is_dropped h es d (inl dropped) = absurd (let e = dropped.2 in cc)
@@ -72,7 +72,7 @@ found_live c is_dropped h es d (inr (kept, events.live e, asks, is)) =
     )
 found_live c is_dropped h es d (inr (kept, events.retired, asks, is)) = absurd (cc)
 
--- one identity is looked up with all events
+-- a list of one identity is looked up with all events
 pub one_found : (c : StreamParams) (is_dropped : ℕ → Bool) (id : ℕ) (d : Clause) (es : History)
     → LooksUp c is_dropped id es (Ok d) → AreFound c is_dropped (id ∷ []) (d ∷ []) es
 one_found c is_dropped id d es looks = (es, [], sym (append-nil es), looks, refl)
@@ -87,7 +87,7 @@ pub no_hints_left : (c : StreamParams) (is_dropped : ℕ → Bool) (hints : List
 no_hints_left c is_dropped [] es found = refl
 no_hints_left c is_dropped (h ∷ hints) es found = absurd found
 
--- a clause that is needed helps
+-- a clause that is needed to refute helps
 pub no_help : (n : List ℤ) (d : Clause) (ds : List Clause) (c : StreamParams)
     (is_dropped : ℕ → Bool) (h : ℕ)
     (hints : List ℕ) (es : History) (fault : Fault)

@@ -1,4 +1,4 @@
--- What the streams of a run dropped, from what was found of each.
+-- What the streams of a run dropped, from what is known of each.
 use Rattle.std.proofs.Common.{◌≡◌, ◌∙◌, ◌+◌, inl, ℕ, List, [], ◌∷◌, Option, None, refl, sym, ap}
 use Rattle.std.proofs.Common.{subst}
 use Rattle.std.proofs.lemmas.List.{append-nil}
@@ -73,7 +73,7 @@ going_drops c v room bytes blocks end going reaches = ended_by end v.pending c b
     (subst (λ (e : Option Ending). ReachesState c bytes blocks (state_by v room e)) going reaches)
     (λ id. refl)
 
--- what a checker dropped that a line stopped
+-- what a checker has dropped if a line stopped it
 pub stopped_drops : (ending : Ending) (c : StreamParams) (bytes : List ℕ) (blocks : List History)
     (tally : Tally)
     (dropped : DroppedIdsValue)
@@ -87,7 +87,7 @@ stopped_drops (endings.ReadFailed line) c bytes blocks tally dropped drops full 
 stopped_drops (endings.Memory line) c bytes blocks tally dropped drops full =
     (drops, full line refl)
 
--- the same by blocks for which a weaker fact holds
+-- the same for blocks of which a weaker fact holds
 pub dropped_more : (run_params : RunParamsValue) (P Q : ℕ → List History → Type 0)
     → ((t : ℕ) (blocks : List History) → P t blocks → Q t blocks)
     → (s : ℕ) (streams : List Stream) (reports : List Report) (all : List DroppedIdsValue)

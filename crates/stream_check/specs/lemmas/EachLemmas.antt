@@ -14,7 +14,7 @@ module _ {X Y : Type 0} (Holds : ℕ → X → Y → Type 0) where
   each_count s (x ∷ xs) [] each = absurd each
   each_count s (x ∷ xs) (y ∷ ys) each = ap suc (each_count (s + 1) xs ys each.1)
 
-  -- the elements at one place
+  -- the elements at one index
   pub each_from : (s : ℕ) (xs : List X) (ys : List Y) → Each Holds s xs ys
       → (k : ℕ) (x : X) (y : Y) → slice_get xs k ≡ Some x → slice_get ys k ≡ Some y
       → Holds (s + k) x y
@@ -108,8 +108,8 @@ each_within last s (x ∷ xs) (y ∷ ys) within each follows = (
       (λ t a b after. follows t a b (omega (arith, after))),
 )
 
--- if another element is put into the second list at place i, what follows there from the old
--- element, and for each other stream, follows for each
+-- if another element is put into the second list at index i, what follows there from the old
+-- element, and for each other stream, follows for each stream
 pub each_set : {X Y : Type 0} {Holds Also : ℕ → X → Y → Type 0} (s i : ℕ) (xs : List X)
     (ys : List Y) (v : Y) → Each Holds s xs ys
     → ((t : ℕ) (x : X) (y : Y) → s ≤ t → t ≢ s + i → Holds t x y → Also t x y)
@@ -133,7 +133,7 @@ each_set {Holds = Holds} {Also = Also} s (suc i) (x ∷ xs) (y ∷ ys) v each ot
           (here a b at (subst (λ n. Holds n a b) next was))),
     )
 
--- two lists for which this holds at each place have the same length
+-- two lists for whose elements this holds have the same length
 pub zip_count : {X Y : Type 0} (Holds : X → Y → Type 0) (xs : List X) (ys : List Y)
     → AllZip Holds xs ys → length ys ≡ length xs
 zip_count Holds [] [] all = refl

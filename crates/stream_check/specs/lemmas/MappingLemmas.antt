@@ -1,5 +1,5 @@
--- A line whose events are replaced by others, or that is judged under another cube, is judged
--- alike.
+-- A line whose events are replaced by others, or that is judged under another cube, gets the same
+-- verdict.
 use Rattle.std.proofs.Common.{◌≡◌, ◌∙◌, ℕ, ℤ, neg_ℤ, Bool, List, [], ◌∷◌, ◌++◌, Result, Ok, Err, inl, inr, refl, sym, ap, subst}
 use Rattle.std.proofs.Common.{append_assoc, append-nil}
 use Rattle.lrup_model.specs.Clause.{Clause}
@@ -27,7 +27,7 @@ use Rattle.stream_check.specs.Judging.{JudgesLine}
 abbrev pub under : StreamParams → CubeValue → StreamParams
 under c cube = record c { cube = cube }
 
--- the events of a look-up, and those after them, become others with the same result
+-- the events of a look-up, and those after them, are replaced by others with the same result
 pub record LooksOn (c : StreamParams) (f : History → History) (is_dropped : ℕ → Bool) (h : ℕ)
     (asked rest : History) (answer : Result Clause Fault) : Type 0 where
   pub fewer : History

@@ -14,7 +14,7 @@ pub reduced_left_out : (e : Event) (es : History)
     → (is_vacant e && not (list_all is_vacant es)) ≡ true → reduced (e ∷ es) ≡ reduced es
 reduced_left_out e es test = cond-true (is_vacant e && not (list_all is_vacant es)) (reduced es) (e ∷ reduced es) test
 
--- a history of vacant fetches alone is unchanged
+-- a history of nothing but vacant fetches is unchanged
 pub all_vacant_stay : (es : History) → list_all is_vacant es ≡ true → reduced es ≡ es
 all_vacant_stay [] all = refl
 all_vacant_stay (events.fetch s id events.vacant ∷ es) all =

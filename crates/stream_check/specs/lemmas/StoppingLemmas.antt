@@ -1,4 +1,4 @@
--- Lemmas about what a stream dropped that one of its lines stopped.
+-- Lemmas about what a stream dropped if one of its lines stopped it.
 use Rattle.std.proofs.Common.{◌≡◌, ◌⊎◌, ◌||◌, ◌&&◌, ◌∙◌, ℕ, Bool, true, false, List, [], ◌++◌, inl, inr, refl, sym, ap, append_assoc}
 use Rattle.std.specs.List.{flat_map}
 use Rattle.lrup_model.specs.Event.{History}

@@ -1,4 +1,4 @@
--- Lemmas about the streams of a run, about places in lists of them, and about the blocks of one
+-- Lemmas about the streams of a run, about indices in lists of streams, and about the blocks of one
 -- stream.
 use Rattle.std.proofs.Common.{◌≡◌, ◌∙◌, ◌++◌, ℕ, ◌+◌, zero, suc, Bool, List, [], ◌∷◌, Option, Some, None, length, map, eqb, refl, sym, ap, subst, append_assoc, eq-eqb, ne_eqb}
 use Rattle.std.specs.Prelude.{IfSome, slice_get}
@@ -18,7 +18,7 @@ use Rattle.stream_check.specs.SequentialConsistency.{AreJudgedIn}
 use Rattle.stream_check.specs.Readings.{AreRead}
 use Rattle.stream_check.specs.Streams.{RunParamsValue, Stream, InputObservation, observation_of, observations, MatchesInput, JudgesStream, Block, blocks_of}
 
--- there is one element at a place
+-- there is one element at an index
 pub same_at : {X : Type 0} (xs : List X) (s : ℕ) (x y : X)
     → IsOfStream xs s x → IsOfStream xs s y → x ≡ y
 same_at xs s x y a b = let e : Some x ≡ Some y = sym a.1 ∙ b.1 in cc
@@ -28,7 +28,7 @@ pub observed_count : (observed : List InputObservation) (streams : List Stream)
     → length streams ≡ length observed
 observed_count observed streams match_inputs = zip_count MatchesInput observed streams match_inputs
 
--- if reads of readers gave streams, something is observed of each reader
+-- if the readers' reads gave streams, there is one observation for each reader
 pub observed_as_many : {S : Type 0} (view : SourceView S) (firsts lasts : List S)
     (streams : List Stream) → AreRead S view.reads firsts lasts streams
     → length (observations view firsts lasts) ≡ length firsts
@@ -37,7 +37,7 @@ observed_as_many view (first ∷ firsts) (last ∷ lasts) (stream ∷ streams) r
     ap suc (observed_as_many view firsts lasts streams read.1)
 observed_as_many view _ _ _ read = absurd read
 
--- and the bytes observed at first are those known of its reader
+-- and the bytes observed at first are those that the reader was known to hold
 pub observation_at : {S : Type 0} (view : SourceView S) (firsts lasts : List S)
     (streams : List Stream)
     → AreRead S view.reads firsts lasts streams
@@ -52,7 +52,7 @@ observation_at view (first ∷ firsts) (last ∷ lasts) (stream ∷ streams) rea
     observation_at view firsts lasts streams read.1 k entry at
 observation_at view _ _ _ read k entry at = absurd read
 
--- what is observed of the reader at this place in the list
+-- what is observed of the reader at this index in the list
 pub record WasMatched (observed : List InputObservation) (k : ℕ) (stream : Stream) : Type 0 where
   pub observation : InputObservation
   pub at : slice_get observed k ≡ Some observation

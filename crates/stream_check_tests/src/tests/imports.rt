@@ -90,7 +90,7 @@ static FOREIGN: &[&str] = &[
      0 added, 0 deleted, bad line 1 (differs 6); fetches 1 | 1 added, 0 deleted, ended; fetches 2",
     "tries=0: 2 6 -2 0 3 4 0\n|1 8 i -2 0\n => \
      0 added, 0 deleted, bad line 1 (missing 8); fetches 1 | 1 added, 0 deleted, ended; fetches 2",
-    // The importer may cite it, and its owner may retire it.
+    // The importer may cite 6, and the owner of 6 may retire it.
     "2 6 -2 0 3 4 0\n|1 6 i -2 0\n5 2 0 1 2 0\n7 0 5 6 0\n => \
      2 added, 0 deleted, ended, empty, within; fetches 5 | 1 added, 0 deleted, ended; fetches 2",
     "2 6 -2 0 3 4 0\n|1 6 i -2 0\n|2 6 d 6 0\n|1 6 i -2 0\n => \

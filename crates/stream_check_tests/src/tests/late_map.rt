@@ -22,7 +22,7 @@ pub enum Late {
     Never,
     /// Right before this fetch of stream 1, counted from 1.
     Published(u64),
-    /// The same, and stream 2 retires it immediately.
+    /// The same, but stream 2 also retires 6 immediately.
     Retired(u64),
 }
 
@@ -106,7 +106,7 @@ fn call_at_six<M: ClauseMap>(desk: &mut M, retires: bool)
     }
 }
 
-/// The same by stream 2.
+/// The same, with stream 2's desk.
 fn call_second(map: &mut PlainMap, retires: bool)
     requires formula { formula_of map.old ≡ four }
     requires stream { IsStream map.old.layout 2 }
@@ -234,8 +234,8 @@ fn feed_late<G: Gate>(
     Ok((checker.report(), map.events))
 }
 
-/// The same as text. Checks that the gate was called for each fetch and each publish, and that each
-/// publish was counted as an addition.
+/// The report and the calls, as text. Checks that the gate was called for each fetch and each
+/// publish, and that each publish was counted as an addition.
 pub fn judged(
     alloc: Global,
     options: Options<'_>,

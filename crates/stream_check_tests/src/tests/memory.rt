@@ -13,7 +13,7 @@ use std::process::Abort;
 use std::test::Fail;
 use stream_check::{CheckStatus, Checker, Ending, Report};
 
-/// The first line, an addition of three literals, takes no memory. Each later line drops one more
+/// The first line, an addition of three literals, needs no memory. Each later line drops one more
 /// identity, and the second line first retires one of the stream's own. So if line `L` is refused
 /// memory, `L - 1` identities were deleted before.
 const LINES: &str = "5 1 2 1 0 1 0\n5 d 5 1 0\n\
@@ -111,7 +111,7 @@ fn a_refused_growth_ends_the_reading(rt: HostRuntime) -> Result<(), Fail> {
     Ok(())
 }
 
-/// This test fails if a growth is refused, which shows that one was.
+/// This test fails if a growth is refused; so its failure shows that one was.
 #[test]
 fn every_growth_has_memory(rt: HostRuntime) -> Result<(), Fail> {
     let said = said_of_lines(&rt, rt.alloc())?;

@@ -15,7 +15,7 @@ use Rattle.stream_threads.specs.Judged.{JudgesAtMark}
 abbrev pub no_results : {S : Type 0} → ℕ → StreamResultsValue S
 no_results room = record { reports = []; readers = []; passes = []; dropped = []; room = room }
 
--- the results with one more stream's
+-- the results, with those of one more stream
 abbrev pub more_results : {S : Type 0} → StreamResultsValue S → StreamResultValue S
     → StreamResultsValue S
 more_results found one =

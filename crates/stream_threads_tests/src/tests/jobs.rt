@@ -1,4 +1,4 @@
-//! The two jobs of a stream, in two threads. No contract says what these tests show: that they
+//! The two jobs of a stream, in two threads. No contract says what these tests show: that the jobs
 //! reach a report, that no line waits for the next one, and that no thread is left asleep.
 ghost use Rattle.std.specs.Prelude.{◌≡◌, ◌<◌, ◌≤◌, [], None, Some, false, IfOk, IfSome};
 ghost use Rattle.lrup_model.specs.Layout.{IsStream};
@@ -37,7 +37,7 @@ impl Gate for Open {
     fn after_publish(&mut self, _stream: u64, _id: Id) {}
 }
 
-/// What a checking thread gets: its job, and a map of the four clauses for stream 1 alone.
+/// What a checking thread gets: its job, and a map of the four clauses for stream 1 only.
 #[derive(Drop)]
 struct Checking<G: Gate + Drop> {
     map: PlainMap,
@@ -130,8 +130,8 @@ fn report(added: u64, deleted: u64, ending: Ending) -> Report {
     }
 }
 
-/// The report of a text that comes at most `most` bytes a read, and whose read number `fails_at`
-/// fails.
+/// The report of a text that comes with at most `most` bytes per read, and whose read number
+/// `fails_at` fails.
 fn said_of<T: Threads + Wait + Sync>(
     rt: &T,
     alloc: Global,
@@ -522,8 +522,8 @@ fn said_of_one_that_goes<T: Threads + Wait + Clock + Sync>(
     Ok(checked.report)
 }
 
-/// The checking thread sleeps at an empty ring, and the other end wakes it when it is dropped. The
-/// stream has no report.
+/// The checking thread sleeps at an empty ring, and the other end, when it is dropped, wakes that
+/// thread. The stream has no report.
 #[test]
 fn a_reading_job_that_goes(rt: HostRuntime) -> Result<(), Fail> {
     for _ in 0..100 {

@@ -14,19 +14,19 @@ use std::thread::{Threads, join};
 use std::time::Clock;
 use stream_threads::{Received, Receiver, Sender, halves_agree, ring};
 
-/// The byte at a place of a stream; all 256 values occur.
+/// The byte at an index of a stream; all 256 values occur.
 fn byte_at(place: u64) -> u8 {
     (place.wrapping_mul(0x9e37_79b9_7f4a_7c15) >> 56) as u8
 }
 
-/// Fills a piece of the stream that begins at this place.
+/// Fills a piece of the stream that begins at this index.
 fn fill(piece: &mut [u8], place: u64) {
     for i in 0..piece.len() {
         piece[i] = byte_at(place.wrapping_add(i as u64));
     }
 }
 
-/// How many bytes of a piece differ from the stream's from this place on.
+/// How many bytes of a piece differ from the stream's bytes from this index on.
 fn wrong_bytes(piece: &[u8], place: u64) -> u64 {
     let mut wrong = 0u64;
     for i in 0..piece.len() {
@@ -123,7 +123,8 @@ struct Heard {
     wrong: u64,
 }
 
-/// Counts what arrives, also for the other thread. If it is late, it pauses before it receives.
+/// Counts what arrives, and shows the count to the other thread. If `is_late`, the receiver pauses
+/// before it receives.
 #[derive(Drop)]
 struct Ear<'a> {
     heard: Heard,
@@ -177,7 +178,7 @@ fn hear_all<T: Wait + Clock>(
     unreachable!()
 }
 
-/// The same, with pops of at most this many items.
+/// Receives up to the mark, with pops of at most this many items.
 fn hear<T: Wait + Clock>(
     rt: &T,
     alloc: Global,

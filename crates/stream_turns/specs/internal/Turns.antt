@@ -45,8 +45,8 @@ AreWorking view run_params blocks map s firsts workers =
     Each (IsWorking view run_params blocks map) s firsts workers
 
 -- An order of lines after this many whole rounds and the turns of the first `taken` streams. No
--- stream has more lines than turns, an unfinished stream has as many, and the order takes the
--- streams in turn.
+-- stream has more lines than turns, an unfinished stream has a line for each turn, and the order
+-- takes the streams in turn.
 pub record IsInRound {S : Type 0} (rounds taken : ℕ) (order : List ℕ)
     (workers : List (WorkerValue S)) : Type 0 where
   pub before : (s : ℕ) → s ≤ taken → line_count s order ≤ rounds + 1
@@ -57,8 +57,8 @@ pub record IsInRound {S : Type 0} (rounds taken : ℕ) (order : List ℕ)
       → worker.checker.ending ≡ None → taken < s → line_count s order ≡ rounds
   pub turns : IsRoundRobin order
 
--- A run between two turns, when the first `taken` streams have had theirs in this round: its map is
--- what the blocks so far leave, and each worker is where its own blocks led.
+-- A run between two turns, when the first `taken` streams have had their turns in this round: its
+-- map is what the blocks so far leave, and each worker is in the state to which its own blocks led.
 pub record SerialInvariant {S : Type 0} (view : SourceView S) (formula : Cnf)
     (run_params : RunParamsValue)
     (firsts : List S) (taken : ℕ) (clauses : Plain)
@@ -90,7 +90,7 @@ IsFinished worker = IsSome worker.checker.ending
 abbrev pub AreFinished : {S : Type 0} → List (WorkerValue S) → Type 0
 AreFinished workers = AllByRecursion IsFinished workers
 
--- the worker at this place in the list is finished
+-- the worker at this index in the list is finished
 abbrev pub IsFinishedAt : {S : Type 0} → List (WorkerValue S) → ℕ → Type 0
 IsFinishedAt workers place = IfSome (slice_get workers place) IsFinished
 

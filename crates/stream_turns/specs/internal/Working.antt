@@ -32,28 +32,28 @@ WorkerInvariantBy {S} view (Some ending) first worker free blocks =
     × HasDropped worker.checker.params stream.bytes blocks
     (report_of_tally worker.checker.tally ending) worker.checker.dropped
 
--- Invariant of a worker whose reader was `first` before any read and which has this room left. If
--- it is unfinished, the bytes checked so far and their events lead to its checker's state. If it is
--- finished, its checker's report judges the stream, and the stream dropped what the checker did.
+-- The invariant of a worker whose reader was `first` before any read and which has this room left.
+-- If it is unfinished, the bytes checked so far and their events lead to its checker's state. If it
+-- is finished, its checker's report judges the stream, and the stream dropped what the checker
+-- dropped.
 abbrev pub WorkerInvariant : {S : Type 0} → SourceView S → S → WorkerValue S → ℕ
     → List History → Type 0
 WorkerInvariant view first worker free blocks =
     WorkerInvariantBy view worker.checker.ending first worker free blocks
 
--- after any earlier blocks, these further blocks lead from the one worker to the other
+-- after any earlier blocks, these further blocks lead from the old worker to the new one
 abbrev pub WorkerStep : {S : Type 0} → SourceView S → WorkerValue S → ℕ → List History
     → WorkerValue S → ℕ → Type 0
 WorkerStep {S} view old room blocks new left =
     (first : S) (before : List History) → WorkerInvariant view first old room before
     → WorkerInvariant view first new left (before ++ blocks)
 
--- the blocks of a turn: that of one line; if the worker is finished, that of its last line, if
--- there is one
+-- the blocks of a turn: exactly one, or at most one if the worker is then finished
 abbrev pub AreBlocksOfTurn : Option Ending → List History → Type 0
 AreBlocksOfTurn None blocks = length blocks ≡ 1
 AreBlocksOfTurn (Some ending) blocks = length blocks ≤ 1
 
--- a worker has a buffer, with its unread bytes between two places, and its reader hasn't failed
+-- a worker has a buffer, with its unread bytes between two indices, and its reader hasn't failed
 -- while the worker is unfinished
 pub record IsWorker (has_failed : Bool) (size from to : ℕ) (ending : Option Ending) : Type 0 where
   pub some : 0 < size

@@ -7,7 +7,7 @@ use Rattle.lrup_text.specs.internal.ByteNames.{minus}
 use Rattle.lrup_text.specs.internal.Reading.{literal_front}
 use Rattle.lrup_text.proofs.writer.spell.Goals as goal
 
--- there is a place before the digits
+-- there is room for a sign before the digits
 before : (magnitude digits : ℕ) → magnitude < 2 ^ 64 → digits + length (decimal magnitude) ≡ 21 → 1 ≤ digits
 before magnitude digits fits is = omega (arith, is, length-decimal-le 20 magnitude (omega arith) (omega arith) fits)
 

@@ -17,7 +17,7 @@ use Rattle.portfolio.proofs.serial.run_serial.Given as given
 use Rattle.portfolio.proofs.serial.run_serial.Goals as goal
 use Rattle.portfolio.proofs.serial.run_serial.Goals.{In_ok-found, In_ok-layout}
 
--- the streams were checked by the formula and with the parameters of the run
+-- the streams were checked with the formula and the parameters of the run
 checked : (g : given.Over) (c : In_ok-found g) → AreCheckedInTurn (readers_view g.R.Source) c.args.formula.now
     (run_params_of c.args.options c.args.cube.now c.args.formula.now (length c.args.readers.items)) c.args.readers.items
     c.in_ok-found.found.readers.items c.in_ok-found.found.reports.items c.in_ok-found.found.dropped.items c.check_all.new.map

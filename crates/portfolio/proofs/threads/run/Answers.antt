@@ -14,7 +14,7 @@ use Rattle.portfolio.proofs.threads.run.Given as given
 use Rattle.portfolio.proofs.threads.run.Goals as goal
 use Rattle.portfolio.proofs.threads.run.Goals.{In_ok-store}
 
--- the run was begun with their parameters
+-- the run was begun with the parameters that its arguments give
 begun : (g : given.Over) (c : In_ok-store g) → IsBegun c.args.formula.now
     (run_params_of c.args.options c.args.cube.now c.args.formula.now (length c.args.readers.items)) c.in_ok-store.store
     c.args.readers.items c.in_ok-store.jobs.items
@@ -26,7 +26,7 @@ begun g c = record {
   ready = c.in_ok-store.ensures.jobs;
 }
 
--- they have a layout
+-- these parameters have a layout
 right : (g : given.Over) (c : In_ok-store g) {A : Type 0} (result : Result A RunFault)
     → ((fault : LayoutFault) → result ≡ Err (Layout fault) → ⊥) → (fault : LayoutFault)
     → (result ≡ Err (Layout fault)) ↔ IsFault (layout_of c.args.options c.args.formula.now (length c.args.readers.items)) fault

@@ -52,7 +52,7 @@ returns-in-Err-Memory-clause-cause g c =
           c.loop-path-test.true now.invariant.opened (rw c.in-Err-Memory.field-0-is at c.in-Err-Memory.ensures.refuses),
     )
 
--- memory ran out before the first was opened
+-- memory ran out before the first file was opened
 pub returns-in_err-readers-clause-cause : goal.returns-in_err-readers-clause-cause
 returns-in_err-readers-clause-cause g c =
     let before = c.args.files.now in

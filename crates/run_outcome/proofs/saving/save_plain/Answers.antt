@@ -10,7 +10,7 @@ use Rattle.run_outcome.specs.Saving.{is_wanted}
 use Rattle.run_outcome.proofs.SavingLemmas.{SavesFound, fetches_answer}
 use Rattle.run_outcome.proofs.saving.save_plain.Goals as goal
 
--- the map answered the fetches one after the other, and they didn't change it
+-- the map answered the fetches one after the other, and the fetches didn't change it
 pub returns-clause-saves : goal.returns-clause-saves
 returns-clause-saves g c =
     let desk : PlainDesk = c.desk-desk.result in

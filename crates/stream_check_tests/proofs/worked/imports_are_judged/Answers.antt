@@ -15,7 +15,7 @@ returns-clause-good c = record {
   same = same_first;
 }
 
--- 1 isn't there
+-- the import lacks the literal 1
 pub returns-clause-differs : goal.returns-clause-differs
 returns-clause-differs c = (
   refl,
@@ -33,7 +33,7 @@ returns-clause-differs c = (
   ),
 )
 
--- nor is 2
+-- the import lacks the literal 2
 pub returns-clause-tautology : goal.returns-clause-tautology
 returns-clause-tautology c = (
   refl,

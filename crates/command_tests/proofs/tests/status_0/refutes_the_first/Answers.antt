@@ -6,8 +6,8 @@ use Rattle.lrup_text.specs.Reads.{GaveAll, ReadsOf}
 use Rattle.dimacs.specs.FormulaText.{IsFormulaText}
 use Rattle.command_tests.proofs.tests.status_0.refutes_the_first.Goals as goal
 
--- If each read accounts for its bytes by what is left, then together the reads gave everything that
--- was left at first.
+-- If each read takes its bytes from the front of what is left, then together the reads gave
+-- everything that was left at first.
 module _ {S : Type 0} (left : S → List ℕ) (reads : ReadsOf S)
     (account : (before : S) (room : ℕ) (piece : List ℕ) (after : S) → reads before room (Some piece) after
     → (left before ≡ piece ++ left after) × (piece ≡ [] → 0 < room → left after ≡ [])) where
