@@ -20,11 +20,11 @@ WARNINGS := -Wall -Wextra -Wshadow -Wconversion
 # Objects; those of lrup-solve have their own folder, since tests build it in several ways.
 OBJECTS := out/objects
 SOLVE_OBJECTS = $(SOLVE).objects
-# Sources of the filter that lrup-solve, lrup-trim and lrup-explain contain; and those of it that
-# the example solver shares.
+# The filter's sources that lrup-solve, lrup-trim and lrup-explain contain, and those that the
+# example solver shares.
 FILTER := $(filter-out tools/exact/main.c tools/exact/chain.c,$(wildcard tools/exact/*.c))
 SHARED_WITH_SOLVER := $(addprefix tools/exact/,errors.c formula.c lists.c literals.c)
-# lrup-engines without MPI.
+# The sources of lrup-engines without MPI.
 ALONE := $(filter-out $(wildcard tools/solve/mpi*.cpp),$(wildcard tools/solve/*.cpp))
 # Tests of programs build this first; 'make examples BUILT= PROGRAM=path' tests another program.
 BUILT ?= build
@@ -61,7 +61,7 @@ try: toolchain ## try: run the program on an example in about a minute, before a
 
 # With your own files, as with make try:
 #     make run FORMULA=path/to/formula.cnf STREAMS="path/to/stream1 path/to/stream2"
-run: build ## try: the same, proved first; both take FORMULA=path STREAMS="path path" OPTIONS=--serial
+run: build ## try: the same, proved first; try and run take FORMULA=path STREAMS="path path" OPTIONS=--serial
 	@status=0; $(PROGRAM) $(OPTIONS) $(FORMULA) $(STREAMS) || status=$$?; \
 	echo "status $$status"; \
 	case $$status in 0|3|8) ;; *) exit $$status ;; esac
@@ -111,7 +111,7 @@ uninstall: ## use: remove what make install installs below PREFIX
 
 # Compares standard output, standard error and the status; also checks two groups of streams
 # separately.
-examples: $(BUILT) pytest ## check: compare what the program answers on the examples, and on some hundred small runs
+examples: $(BUILT) pytest ## check: compare the program's answers on the examples, and on some hundred small runs, with the right ones
 	@$(call rows_of,program_answers program_groups)
 
 live: $(BUILT) pytest ## check: four recorded solvers, line by line through pipes, checked while they run
@@ -145,7 +145,7 @@ explain: $(EXPLAIN) ## build: lrup-explain, which says why a line is bad, at too
 # Unverified. The front, which starts lrupd and prints the answer, is trusted; lrup-engines isn't.
 solve: $(SOLVE) $(ENGINES) beside-it ## build: lrup-solve and lrup-check, at tools/solve/out; needs CaDiCaL's library
 
-# It isn't installed, since it depends on the MPI of the host that built it.
+# lrup-engines-mpi isn't installed, since it depends on the MPI of the host that built it.
 solve-mpi: $(ENGINES)-mpi $(ENGINES) $(SOLVE) beside-it ## build: lrup-engines-mpi, for lrup-solve --mpi on several hosts; needs MPI, too
 
 # Programs that the front looks for beside itself, and lrup-check, which looks for the front.
@@ -230,7 +230,7 @@ warnings: c-and-python libmd $(HELPS) $(FAULTS) ## check: C compiles without a w
 	for file in $(C_HEADERS); do \
 	$$compiler $(STRICT) -D_POSIX_C_SOURCE=200809L -include $$file /dev/null || exit 1; done; done
 
-quotes-test: pytest ## check: that wrong quotes on the pages are refused
+quotes-test: pytest ## check: see that wrong quotes on the pages are refused
 	@$(call rows_of,quotes)
 
 builds: pytest ## check: C and C++ are compiled with the given flags, and again after a change
@@ -269,7 +269,7 @@ solve-test: $(BUILT) exact pytest ## check: lrup-solve, on 300 random formulas, 
 $(SOLVE_TESTS): $(BUILT) exact pytest
 	@$(call rows_of,$@)
 
-# On larger formulas than the gate's. SEED chooses them, and is printed.
+# Uses larger formulas than the gate does. SEED chooses them, and is printed.
 MINUTES ?= 60
 SEED ?= $(shell date +%s)
 days: $(BUILT) exact pytest ## check: kill processes of lrup-solve for MINUTES=60, and resume from what they saved
@@ -300,13 +300,13 @@ peers: $(BUILT) solve ## measure: ACL2's verified checkers beside lrupd, in abou
 hol: $(BUILT) solve ## check: HOL Light proves 61 tautologies by lrup-solve, in some minutes; needs HOL Light
 	@PATH="$(abspath $(dir $(SOLVE))):$$PATH" examples/hol/taut.sh
 
-# On AUDIT, THEOREMS, STORE_CALLS and PROOFS_AND_ROUNDS; `make pages` names other faults there.
+# Changes AUDIT, THEOREMS, STORE_CALLS and PROOFS_AND_ROUNDS; `make pages` names other faults there.
 quotes: ## check: put changed definitions onto the pages that quote them, and USING's faults into lrupd.1
 	@python3 gate/quotes.py --write
 	@python3 gate/interface.py --write
 
 # docs/PROMISES.md has this list in words.
-promises: ## check: list what each function promises, and the edits of it, of CRATE=name or of all crates
+promises: ## check: list what each function of CRATE=name, or of all crates, promises, and its edits
 	@python3 gate/promises.py $(CRATE)
 
 # Each script says at its top what it checks.

@@ -17,8 +17,8 @@ def copy_without_in(source, target):
 
 def build_proved(work, folder, name, crates, below):
     """Proves and builds the program in a repository of its own, on top of the crates' proofs in
-    out/. `crates` maps each crate that it needs to the crates below; `below` has those that it uses
-    itself."""
+    out/. `crates` maps each crate that the program needs to the crates below that crate; `below`
+    has the crates that the program itself uses."""
     crate = os.path.join(work, "crates", name)
     os.makedirs(os.path.join(crate, "src"))
     for other in crates:

@@ -3,8 +3,8 @@
 
     python3 bench/first_build.py RT
 
-Builds a clone of HEAD from nothing. rt shares proofs among the checkouts of a machine: measure on
-one that hasn't built this repository, with nothing else running.
+Builds a clone of HEAD from nothing. rt shares proofs among the checkouts of a machine: measure on a
+machine that hasn't built this repository, with nothing else running.
 """
 import os
 import platform

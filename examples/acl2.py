@@ -8,9 +8,9 @@ prints 's VERIFIED', with status 0, or 's NOT VERIFIED' and ACL2's message, with
 Debian's packages acl2, acl2-books and acl2-books-certs.
 
 The checkers' theorems don't cover their parsers, which don't read all of DIMACS CNF and LRAT. So
-they get the formula in a simpler form: the header first, no comments, one clause on each line, no
-repeated literal, and a copy of another clause in place of a tautology. The proof's literals are
-sorted by variable, and the incremental checker gets compressed LRAT."""
+the checkers get the formula in a simpler form: the header first, no comments, one clause on each
+line, no repeated literal, and a copy of another clause in place of a tautology. The proof's
+literals are sorted by variable, and the incremental checker gets compressed LRAT."""
 import os
 import re
 import shutil

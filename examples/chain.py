@@ -3,11 +3,11 @@
 
     chain.py ROUNDS FORMULA FOLDER STREAM...
 
-The lines are ordered so that each comes after those that derive what it cites, and before those
-that retire it; this order is cut into ROUNDS pieces, at least 1. A round saves the clauses that are
-live at its end, in the order of their identities, and a clause's place there is its identity in the
-next round: so each piece is renumbered. FOLDER, a new one, gets the streams and the sizes of all
-rounds, and
+The lines are ordered so that each comes after those that derive the clauses that it cites, and
+before those that retire these clauses; this order is cut into ROUNDS pieces, at least 1. A round
+saves the clauses that are live at its end, in the order of their identities, and a clause's place
+there is its identity in the next round: so each piece is renumbered. FOLDER, a new one, gets the
+streams and the sizes of all rounds, and
 
     lrup-chain --tries 1000000 FORMULA FOLDER
 

@@ -20,7 +20,7 @@ def shown(path: Path) -> str:
 
 @functools.lru_cache(maxsize=None)
 def crates() -> Dict[str, List[str]]:
-    """The crates of crates.txt, each with what it uses; that may be a library of the toolchain."""
+    """The crates of crates.txt, each with what it uses, libraries of the toolchain included."""
     lines = re.findall(r"^(\w+):(.*)", (ROOT / "crates.txt").read_text(), re.M)
     return {crate: uses.split() for crate, uses in lines}
 
@@ -35,7 +35,7 @@ class Declaration(NamedTuple):
     name: str
     marks: Sequence[str]  # `abbrev`, `pub`, ..
     comment: List[str]    # the lines above it
-    place: int            # of its first line, from 0 on
+    place: int            # the number of its first line, from 0 on
     lines: List[str]
     indent: int           # more than 0 in a block `module _`
 

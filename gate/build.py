@@ -3,12 +3,12 @@
 
     python3 gate/build.py RT
 
-rt lets one run at a time into a crate and the crates below it, and nearly all use lrup_model. So
+rt allows one run at a time in a crate and the crates below it, and nearly all use lrup_model. So
 each library is proved in a lane: a folder with copies of its sources and of the libraries below,
-into which its out/ is moved for that time. Crates with the longest path to the program come first,
-by SECONDS, and others get less of the cores. A build that is interrupted leaves what was proved to
-the next one. At the end `rt run` proves and runs the program. It tells by checksums which
-libraries are proved, and proves any other again: nothing depends on this script."""
+into which its out/ is moved meanwhile. Crates with the longest path to the program come first, by
+SECONDS, and others get less of the cores. A build that is interrupted leaves what it proved to the
+next one. At the end `rt run` proves and runs the program. It recognizes proved libraries by
+checksums, and proves any other again, so no proof depends on this script."""
 import fcntl
 import os
 import re
@@ -25,7 +25,7 @@ ROOT = Path(__file__).resolve().parent.parent
 CRATES = ROOT / "crates"
 PROGRAM = "lrupd"
 LOG = CRATES / PROGRAM / "out" / "build.log"
-# Not next to the sources, since rt ci would refuse the copies that a killed build leaves there.
+# The lanes aren't next to the sources: rt ci would refuse copies that a killed build leaves there.
 LANES = (ROOT / ".git" if (ROOT / ".git").is_dir() else ROOT / "out") / "lanes"
 PARTS = ("src", "specs", "proofs")
 CORES = len(os.sched_getaffinity(0))
@@ -103,7 +103,7 @@ class Lane:
         self.said = tempfile.TemporaryFile("w+", errors="replace")
 
     def start(self, *words):
-        self.go_home()  # from a build that was killed
+        self.go_home()  # with what a killed build left in the lane
         names = {self.name, *below(self.name)}
         for crate in names:
             to = self.top / "crates" / crate
@@ -165,8 +165,8 @@ def print_proved(done, name, began, used):
 
 
 def prove_libraries(rt, done):
-    """Proves the libraries that aren't done. Returns the status, and the output of one that isn't
-    proved, if there is one."""
+    """Proves the libraries that aren't done. Returns the status, and the output of the one
+    that failed, if any."""
     todo = sorted(ALL - {PROGRAM} - done, key=way, reverse=True)
     if todo:
         print(f"{len(done)} of {len(ALL)} were proved before; {left(done)} % left", flush=True)
@@ -206,7 +206,8 @@ def processor_seconds():
 
 
 def prove_program(rt, were_libraries):
-    """Prints that the program is proved, unless it was before and no library's line was printed."""
+    """Proves and runs the program. Prints that it is proved, unless it was proved before and no
+    library's line was printed."""
     began, before = time.monotonic(), processor_seconds()
     files = [ROOT / "examples" / f"four-clause.{end}" for end in ("cnf", "lrup")]
     words = [rt, "run", "--jobs", str(JOBS), "--", *files]

@@ -1,12 +1,12 @@
 #!/usr/bin/env python3
-"""Checks what pages say of the program's options, faults, causes, limits and defaults: it has to be
-what code and definitions have.
+"""Checks what pages say about the program's options, faults, causes, limits and defaults: it has to
+match the code and the definitions.
 
     python3 gate/interface.py [--write]
 
 With --write it puts USING's faults into the manual page. A part of USING and of the manual page
-lrupd.1 that is compared as a whole begins and ends with a comment that has its name. Each page that
-FIGURES names for a figure has to have it.
+lrupd.1 that is compared as a whole begins and ends with a comment that names the part. Each page
+that FIGURES names for a figure has to have the figure.
 """
 import re
 import sys
@@ -28,7 +28,7 @@ READER, EXPLAINER, FRONT = "tools/exact", "tools/explain/main.c", "tools/solve/f
 READERS = {SOLVE: ["tools/solve/options.cpp", FRONT], EXACT: [f"{READER}/main.c"],
            EXPLAIN: [EXPLAINER], "docs/lrup-trim.1": ["tools/trim/main.c"]}
 NUMBER = r"(UINT64_C\(1\) << \d+|[\d_]+)"
-# What the figure is, as the table of limits calls it; the files that have it in the place of the
+# What the figure is, as the table of limits calls it; the files that have it in place of the
 # question mark; and the pages that give it.
 FIGURES = [
     ("Variables of the formula", [f"{MODEL}/lit.rt MAX_VARIABLE: u32 = ?"], f"README.md {USING}"),
@@ -64,7 +64,7 @@ FIGURES = [
     ("the usual --memory", [f"{READER}/row.c USUAL_MEMORY (?)"], f"{USING} {SOLVE} {EXACT}"),
     ("the most --memory", [f"{READER}/main.c more than ? bytes:"],
      f"{SOLVE} {EXACT} tools/solve/options.cpp"),
-    ("bytes of a formula from a pipe", [f"{FRONT} more than ? bytes, which"], SOLVE),
+    ("bytes of a formula from a pipe", [f"{FRONT} more than lrupd's limit of ? bytes"], SOLVE),
 ]
 
 
@@ -81,7 +81,7 @@ def part(name: str, what: str) -> str:
 
 
 def items_in(what: str, head: str) -> Dict[str, str]:
-    """The items of such a list in a part of the manual page."""
+    """The list items with this head in a part of the manual page."""
     return dict(re.findall(rf"^\.It {head}.*\n((?:(?!\.It).*\n)*)", part(MANUAL, what), re.M))
 
 

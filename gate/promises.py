@@ -30,7 +30,7 @@ class Function(NamedTuple):
     is_public: bool
     first: int          # its lines, from 0 on
     last: int
-    clauses: List[str]  # '' without a name
+    clauses: List[str]  # '' for one without a name
 
 
 def sources(crate: str) -> List[Path]:
@@ -76,7 +76,7 @@ def list_promises(crate: str) -> None:
 
 
 def names_of(crate: str) -> Set[str]:
-    """Its modules, functions and clauses; functions also with their type, trait or module."""
+    """The crate's modules, functions and clauses; functions also with type, trait or module."""
     found: Set[str] = set()
     for path in sources(crate):
         for name, *_, clauses in functions(path):

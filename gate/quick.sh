@@ -3,9 +3,9 @@
 #
 #     sh gate/quick.sh RT CRATE SECONDS
 #
-# It lays out the files, and names them; checks the proofs, and that edits can be applied; runs the
-# tests in CRATE_tests before they are proved, as many as SECONDS allow; and checks the pages. If a
-# step fails, it shows everything except lines on proved parts.
+# It formats the files, and names those that change; checks the proofs, and that edits can be
+# applied; runs the tests in CRATE_tests before they are proved, as many as SECONDS allow; and
+# checks the pages. If a step fails, it shows the step's output except lines on proved parts.
 if [ $# -ne 3 ] || [ ! -d "$(dirname "$0")/../crates/${2%_tests}" ]; then
     echo "usage: make quick CRATE=name, with the name of a folder in crates/" >&2
     exit 2
@@ -78,7 +78,7 @@ tests() {
     all=$(grep -rh '^ *#\[test\]' "crates/${crate}_tests/src" | wc -l)
     printf '%s: ' "${crate}_tests"
     [ "$all" -gt 0 ] || { echo "has only proofs, and nothing to run"; return; }
-    # timeout has a group of its own, which Ctrl-C doesn't reach.
+    # timeout has a process group of its own, which Ctrl-C doesn't reach.
     (cd "crates/${crate}_tests" && exec timeout "$seconds" "$rt" try --test) > "$log" 2>&1 &
     trap 'kill $!; exit 130' INT TERM
     wait $!

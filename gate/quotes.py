@@ -5,8 +5,8 @@
     quotes.py --write    first replaces each definition that differs by the source's text
 
 A block of ```agda or ```rust is a quote; the last link in the paragraph above it leads to its file.
-A definition is quoted once, whole and with its comment. In code `..` is what is left out. A section
-says that the contracts which it quotes 'reach N definitions', and a page that it 'quotes N
+A definition is quoted once, whole and with its comment. In code `..` replaces what is left out. A
+section says that the contracts which it quotes 'reach N definitions', and a page that it 'quotes N
 definitions'. A page, or one before it in PAGES, explains in a list the names that libraries have.
 """
 import re
@@ -89,18 +89,18 @@ def wrong_definitions(quote: Quote) -> Iterator[str]:
             pairs = zip_longest(declared.shown(), own.shown(), fillvalue="")
             here, there = next(pair for pair in pairs if pair[0] != pair[1])
             yield (f"{quote.at(declared.place)}: {name} differs from {file}:{own.place + 1}: "
-                   f"'{here.strip()}' in the place of '{there.strip()}': run make quotes")
+                   f"'{here.strip()}' instead of '{there.strip()}': run make quotes")
 
 
 def of_code(lines: List[str]) -> List[str]:
-    """Lines without empty ones and attributes, and without what a trait brings in."""
+    """The lines except empty ones, attributes and `ghost use`."""
     empty = re.compile(r"\s*(///?|#\[.*\]|ghost use .*;)?\s*")
     return [line.rstrip() for line in lines if not empty.fullmatch(line)]
 
 
 def wrong_code(quote: Quote) -> Iterator[str]:
     """Lines that the file doesn't have in this order, and premises of functions that are left out.
-    The lines that `..` replaces are indented at least as far as it is, so the next line belongs to
+    The lines that `..` replaces are indented at least as far as `..`, so the next line belongs to
     the same item."""
     source, at, indent = of_code(quote.file.read_text().split("\n")), 0, 0
     for line in of_code(quote.lines):
@@ -161,7 +161,7 @@ def wrong_counts(page: Page) -> Iterator[str]:
 
 
 def wrong_text(page: Page) -> Iterator[str]:
-    """Links that don't lead to what they name, and words in `.. in ..` that aren't there."""
+    """Links that don't lead to what they name, and quoted words that the link's target lacks."""
     for number, text in page.paragraphs():
         for words, said, target in re.findall(rf"(?:`([^`]+)` in )?{LINK}", text):
             file, name = file_of(target) if target else page.path, re.sub(r"^\w+::|\..*", "", said)
@@ -176,7 +176,7 @@ def wrong_text(page: Page) -> Iterator[str]:
                 yield (f"{place}: the link of {said} leads to {target}, which doesn't declare it: "
                        f"{places_of(name)}")
             elif words not in " ".join(" ".join(lines).split()):
-                yield f"{place}: {said} doesn't have `{words}`: say it in its own words"
+                yield f"{place}: {said} doesn't have `{words}`: quote the page's words"
 
 
 def unexplained(page: Page, known: Set[str]) -> Iterator[str]:
@@ -210,7 +210,7 @@ def main(words: List[str]) -> None:
         write(Page(name))
     pages, known = [Page(name) for name in PAGES], set()
     quotes = [quote for page in pages for quote in page.quotes]
-    fence = "a fence isn't alone in its line, or a block isn't closed: mend it"
+    fence = "a fence shares its line with other text, or a block isn't closed: fix it"
     wrong = [f"{shown(page.path)}: {fence}" for page in pages if "```" in page.text]
     wrong += [f"{quote.at(quote.first)}: a quote of no file: link to its file above it"
               for quote in quotes if not quote.file.is_file()]

@@ -2,10 +2,10 @@
 """Checks what neither the prover nor the compiler checks. The status is 1 if anything is wrong.
 With --words it shows how many words each page has.
 
-In the pages: names in backticks that are nowhere, links that lead nowhere, quotations that TRUST
+In the pages: names in backticks that nothing has, links that lead nowhere, quotations that TRUST
 and README don't have, pages that are too long, and misspelt words. In the sources: lines that are
 too wide, lemmas that are stated twice, names with two meanings, definitions in the wrong folder,
-and edits that don't fit. Besides, the picture of the crates, and the numbers of versions.
+and edits that don't fit. It also checks the picture of the crates and the version numbers.
 """
 import functools
 import os
@@ -21,8 +21,8 @@ sys.dont_write_bytecode = True
 import antt
 from antt import ROOT, shown
 
-# The most words of each page; code and links' targets don't count, nor parts that gate/interface.py
-# compares. `crates/NAME/` is the page of that crate's specs.
+# The maximum number of words of each page; code and links' targets don't count, nor parts that
+# gate/interface.py compares. `crates/NAME/` is the page of that crate's specs.
 MOST_WORDS = {shown(path): 670 for path in sorted(ROOT.glob("crates/*/specs/*.md"))}
 MOST_WORDS.update({shown(path): 140 for path in sorted(ROOT.glob("bench/*/README.md"))})
 MOST_WORDS.update((re.sub("/$", "/specs/README.md", name), int(most)) for name, most in (
@@ -95,7 +95,7 @@ def long_pages() -> Iterator[str]:
 
 @functools.lru_cache(maxsize=None)
 def anchors(path: Path) -> Set[str]:
-    """The anchors that GitHub gives to headings; of equal ones the later ones get a number."""
+    """The anchors that GitHub gives to headings; of equal headings the later ones get a number."""
     titles = re.findall(r"^#+ (.*)$", prose(path).lower(), re.M)
     slugs = [re.sub(r"[^\w\- ]", "", title).replace(" ", "-") for title in titles]
     counts = [slugs[:at].count(slug) for at, slug in enumerate(slugs)]
@@ -125,7 +125,7 @@ def false_quotations() -> Iterator[str]:
 
 @functools.lru_cache(maxsize=None)
 def known_names() -> Set[str]:
-    """The words of code, definitions and scripts, and of names of files."""
+    """The words of code, definitions and scripts, and of file names."""
     names = FOREIGN.union(re.findall(r"[^\W\d][\w-]*", "\n".join(map(shown, files()))))
     endings = r".*(\.(rt|antt|c|cpp|h|py|sh|awk|in|toml|txt|v|1)|/[^.]*|Makefile)"
     for path in files(rf"(?!gate/style){endings}"):
@@ -155,7 +155,7 @@ def unknown_names() -> Iterator[str]:
                 for part in re.findall(r"[^\W\d][\w'-]*", word):
                     names = {part, part.strip("-'"), re.sub(r"\d+$", "", part)} & known_names()
                     if not names and not re.fullmatch(r"[A-Z_]+(_tests)?|[a-z]|\w+_", part):
-                        yield f"{place}: nothing is called `{part}`, of `{match[1]}`"
+                        yield f"{place}: nothing is called `{part}` (in `{match[1]}`)"
                         break
 
 
@@ -204,7 +204,7 @@ def wide_lines() -> Iterator[str]:
 
 @functools.lru_cache(maxsize=None)
 def all_below(crate: str) -> Set[str]:
-    """The crate, and those of the repository that it uses, directly or by others."""
+    """The crate, and those of the repository that it uses, directly or indirectly."""
     return {crate}.union(*map(all_below, antt.crates().keys() & antt.crates()[crate]))
 
 

@@ -1,4 +1,4 @@
-"""The checkpoint of a run, by the rules, not by the program."""
+"""The checkpoint of a run, computed from the rules, not by the program."""
 import re
 import shutil
 from pathlib import Path
@@ -14,8 +14,8 @@ MOST_CLAUSES = 16_777_215  # of a formula
 
 
 def printed(variables: int, entries: Iterable[Entry]) -> str:
-    """A formula of these clauses, each after a comment with its identity unless that is its
-    place."""
+    """A formula of these clauses. A comment before a clause has its identity, unless the identity
+    is its number in the formula."""
     lines = []
     for place, (identity, literals) in enumerate(entries, 1):
         note = f"c id {identity}\n" if identity != place else ""
@@ -48,7 +48,7 @@ def live(formula: Path, streams: Sequence[Path]) -> List[Entry]:
 
 
 def sorted_literals(text: str) -> List[str]:
-    """The lines, each clause with its literals sorted and without repetitions, since no rule fixes
+    """The lines, with the literals of each clause sorted and without repetitions: no rule fixes
     their order."""
     lines = []
     for line in text.split("\n"):
@@ -60,7 +60,7 @@ def sorted_literals(text: str) -> List[str]:
 
 
 def want_checkpoint(path: Path, wanted: str) -> None:
-    """Compares each byte, except for the order of literals."""
+    """Compares the file with this text byte by byte, except for the order of literals."""
     want(sorted_literals(path.read_text()), sorted_literals(wanted), "the checkpoint")
 
 

@@ -14,16 +14,16 @@ def pytest_addoption(parser: pytest.Parser) -> None:
     program = harness.ROOT / "crates" / "lrupd" / "out" / "lrupd"
     given.addoption("--program", default=str(program), help="the lrupd that is tested")
     given.addoption("--rt", help="Rattle's command, for the crates' tests if they aren't built")
-    given.addoption("--flags", default="-O2", help="for lrup-solve's compilers, such as "
+    given.addoption("--flags", default="-O2", help="flags for lrup-solve's compilers, such as "
                     "--flags='-O1 -g -fsanitize=thread'")
     given.addoption("--count", type=int, help="how many random rows, or mutants, a file has")
     given.addoption("--first", type=int, default=0, help="the first mutant of a proof")
-    given.addoption("--seed", type=int, default=1, help="of the formulas of test_lrup_solve_days")
-    given.addoption("--minutes", type=float, default=0, help="for test_lrup_solve_days")
+    given.addoption("--seed", type=int, default=1, help="the seed of test_lrup_solve_days")
+    given.addoption("--minutes", type=float, default=0, help="how long test_lrup_solve_days lasts")
 
 
 def pytest_configure(config: pytest.Config) -> None:
-    """Modules with rows are imported later, and find the options in harness."""
+    """Puts the options into harness, where modules with rows, imported later, find them."""
     harness.PROGRAM = os.path.abspath(config.getoption("program"))
     for name in ("rt", "flags", "count", "first", "seed", "minutes"):
         setattr(harness, name.upper(), config.getoption(name))
@@ -43,7 +43,7 @@ def pytest_terminal_summary(terminalreporter: Any) -> None:
 
 @pytest.fixture
 def work() -> Iterator[Path]:
-    """A folder for one row, which is removed at once."""
+    """A folder for one row, removed when the row ends."""
     with tempfile.TemporaryDirectory() as folder:
         yield Path(folder)
 

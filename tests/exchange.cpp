@@ -1,4 +1,4 @@
-// Tests which clauses lrup-engines-mpi sends, and places in another process, without MPI and
+// Tests which clauses lrup-engines-mpi sends, and places in another process, without MPI or
 // engines. Failures are shown, and give status 1.
 #include <cstdio>
 #include <memory>

@@ -1,4 +1,4 @@
-"""Runs of the filter, and of the program on what comes out."""
+"""Runs the filter, and the program on its output."""
 import re
 from pathlib import Path
 from typing import List, Sequence, Tuple, Union
@@ -16,15 +16,15 @@ def exact(words: Sequence[object], given: Text = b"") -> Ran:
 
 
 def is_refuting(path: object) -> bool:
-    """Whether the stream's last line is the empty clause, which comes as soon as unit propagation
-    finds it."""
+    """Whether the stream's last line adds the empty clause. The filter writes it as soon as unit
+    propagation finds a conflict."""
     lines = Path(str(path)).read_text().splitlines()
     return bool(lines) and lines[-1].split()[1] == "0"
 
 
 def check(program: str, formula: Path, streams: Sequence[Tuple[object, int]]) -> None:
-    """Each stream ends with the expected additions, or fewer if it ends with the empty clause; the
-    formula is refuted."""
+    """Each stream has the expected number of additions, or fewer if it ends with the empty clause;
+    the formula is refuted."""
     done = run([program, "--tries", "1000000", formula, *(path for path, _ in streams)])
     *lines, verdict = done.out.splitlines() or [""]
     want((len(lines), verdict, done.status), (len(streams), "s UNSATISFIABLE", 0),
@@ -37,7 +37,7 @@ def check(program: str, formula: Path, streams: Sequence[Tuple[object, int]]) ->
 
 
 def at_place(stream: Tuple[object, int], place: int, count: int) -> List[Tuple[object, int]]:
-    """The stream in its place among empty ones."""
+    """This stream as number `place` of `count`, and empty streams as the others."""
     return [stream if number == place else ("/dev/null", 0) for number in range(1, count + 1)]
 
 

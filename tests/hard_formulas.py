@@ -1,5 +1,5 @@
-"""Formulas that take a solver a while, though they are small: parity on a graph, and two
-multipliers beside each other."""
+"""Small formulas that take a solver a while: parity on a graph, and the comparison of two
+multipliers."""
 import random
 from typing import Callable, List, Sequence
 
@@ -9,9 +9,9 @@ Bits = List[int]
 
 
 def parity(numbers: random.Random, vertices: int, is_odd: bool) -> str:
-    """A variable for each edge of a graph in which each vertex has three. At each vertex the sum of
-    its edges is even, except at the first vertex if `is_odd`: each edge counts twice, so no
-    assignment gives these sums."""
+    """A variable for each edge of a graph whose vertices have three edges each. The sum of a
+    vertex's edges has to be even, but odd at the first vertex if `is_odd`. Then no assignment gives
+    these sums, since each edge counts twice."""
     ends = [vertex for vertex in range(vertices) for _ in range(3)]
     pairs = list(zip(ends[::2], ends[1::2]))
     while any(one == other for one, other in pairs):
@@ -47,8 +47,8 @@ class Circuit:
         return out
 
     def product(self, one: Bits, other: Bits, from_the_end: bool) -> Bits:
-        """Column by column, by adders of three bits or two; which bits come first is the
-        caller's choice."""
+        """Adds column by column, by adders of three bits or two; the caller chooses from which end
+        bits are taken."""
         columns: List[Bits] = [[] for _ in range(len(one) + len(other))]
         for place, wire in enumerate(one):
             for more, second in enumerate(other):
@@ -65,7 +65,8 @@ class Circuit:
 
 
 def miter(bits: int, numbers: random.Random, is_faulty: bool) -> str:
-    """Whether two multipliers differ, of which one may have an output that is another gate's."""
+    """Says that two multipliers differ. If `is_faulty`, one output of the second is replaced by the
+    output before it."""
     circuit = Circuit()
     one, other = circuit.inputs(bits), circuit.inputs(bits)
     first, second = circuit.product(one, other, False), circuit.product(other, one, True)

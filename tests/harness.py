@@ -109,7 +109,8 @@ def started(words: Words, **how: Any) -> Iterator["subprocess.Popen[Any]"]:
 
 def by_another(words: Words, work: Path, user: int = 65534,
                before: Callable[[], None] = lambda: None, **how: Any) -> Ran:
-    """Runs it in this folder; root, to whom nothing is forbidden, runs it as another user."""
+    """Runs a program in this folder, as another user if root runs the tests, since root may do
+    anything."""
     work.chmod(0o755)
 
     def become_another() -> None:
@@ -126,7 +127,7 @@ def by_another(words: Words, work: Path, user: int = 65534,
 
 
 def run_by_another(program: str, words: Words, work: Path) -> Ran:
-    """Runs a copy of the program in the same way."""
+    """Runs a copy of the program as `by_another` does."""
     return by_another([shutil.copy(program, work / "lrupd"), *words], work)
 
 
@@ -165,7 +166,8 @@ def piped(path: Path) -> Path:
 
 
 def held(path: Path) -> IO[bytes]:
-    """A pipe's writing end, opened before anybody reads: the pipe is open until it is closed."""
+    """A pipe's writing end, opened before anybody reads. The pipe stays open until this end is
+    closed."""
     return os.fdopen(os.open(piped(path), os.O_RDWR), "wb", buffering=0)
 
 
@@ -184,13 +186,13 @@ def read_from(path: Path) -> IO[bytes]:
 
 
 def waiting(pipe: int) -> int:
-    """How many bytes in a pipe weren't read."""
+    """How many bytes in a pipe haven't been read."""
     count: int = struct.unpack("i", fcntl.ioctl(pipe, termios.FIONREAD, bytes(4)))[0]
     return count
 
 
 def read_line(file: IO[bytes]) -> str:
-    """A line that comes while the pipe is open."""
+    """The next line; it has to come while the pipe is open."""
     ready, _, _ = select.select([file], [], [], LIMIT)
     assert ready, "no line came while the pipe was open"
     return file.readline().decode()
@@ -245,7 +247,7 @@ def compiler(*flags: str) -> List[str]:
 
 
 def compiled(program: Path, sources: Sequence[Path], *flags: str, by: Sequence[str] = ()) -> Path:
-    """Builds the program atomically, since it may run at the same time."""
+    """Replaces the program atomically, since it may be running."""
     new = program.with_name(f"{program.name}-{os.getpid()}")
     subprocess.run([*(by or compiler()), "-o", str(new), *map(str, sources), *flags], check=True)
     new.replace(program)
@@ -330,7 +332,7 @@ def sanitized_explain() -> Path:
 
 
 def report(said: Sequence[str], status: int) -> str:
-    """A report with these lines of streams, and the verdict of the status."""
+    """A report with these lines of streams, and the verdict for this status."""
     return ("".join(f"c stream {number}: {words}\n" for number, words in enumerate(said, 1))
             + VERDICTS[status] + "\n")
 
@@ -348,13 +350,13 @@ def unwatched(err: str) -> str:
 
 
 def added(said: Iterable[str]) -> int:
-    """The additions of all streams with these lines."""
+    """The sum of the additions in these lines of streams."""
     return sum(int(words.split(" added, ")[0]) for words in said)
 
 
 class Wanted(NamedTuple):
-    """Arguments, and the expected status and outputs, in a folder with these files and pipes; and
-    the expected contents of some files at the end. A long text comes from a function."""
+    """A run in a folder with these files and pipes: its arguments, the expected status and outputs,
+    and the expected contents of some files at the end. A long text comes from a function."""
     words: Words
     status: int
     out: str = ""

@@ -13,14 +13,14 @@ from harness import run, want, written
 from proof_forms import read_formula
 from solving import PROGRAM, SOLVE, Answer, end_all, marked, none_left
 
-# Satisfied by 1 2, and 3 or -3.
+# Satisfied by 1 2 3 and by 1 2 -3.
 SATISFIABLE = "p cnf 3 4\nc a comment\n1 2 0\n-1\n2 0 1 -3 0\nc 3 0\n3 -2 1 0\n"
 LONG = 30       # seconds after which a run should have ended
 PROOF = "5 2 0 1 2 0\n6 0 5 3 4 0\n"                         # of FOUR
 
-# The id of an lrupd that is the front's child, and an orphan that gets the same id, and ends with a
-# status. If the program may choose ids, that takes a moment; otherwise it forks for some seconds,
-# until a process has the id.
+# Finds the id of an lrupd that is the front's child, and starts an orphan that gets the same id and
+# ends with a status. If the program may choose ids, that takes a moment; otherwise it forks for
+# some seconds, until a process has the id.
 AGAIN = """
 import ctypes, os, signal, time
 
@@ -120,8 +120,8 @@ def program(body: str, work: Path) -> Path:
 
 def run_with(body: str, words: Sequence[object], text: str, work: Path, lrupd: object = PROGRAM,
              front: object = SOLVE, may_leave: bool = False, **how: Any) -> Answer:
-    """A run that leaves nothing in its own temporary folder, and no process; if it may leave
-    processes, they are ended here. `lines` are answers, values or comments."""
+    """A run, which must leave nothing in its own temporary folder, and no process. If it may leave
+    processes, they are ended here. Each output line has to be an answer, a value or a comment."""
     formula, files, mark = written(text, work), work / "temporary", marked(work)
     files.mkdir()
     word = "-" if "given" in how else formula

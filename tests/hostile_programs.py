@@ -1,4 +1,4 @@
-"""Harmful programs in place of lrup-engines, for tests/lrup_solve_hostile.py.
+"""Harmful programs in place of lrup-engines, for tests/test_lrup_solve_hostile.py.
 
 Each is a comment with its name, and a body. A name may end with `slow`: reading the formula takes a
 moment; with `copied`: lrupd is a copy; or with `leaves`: the supervisor is killed, so processes may
@@ -153,6 +153,6 @@ os.truncate(OUTPUT, 1 << 40); proves()
 
 
 def programs(text: str) -> List[Tuple[str, str]]:
-    """Their names and bodies."""
+    """The names and bodies of the programs in a text."""
     found = re.findall(r"^# (.*)\n((?:[^#].*\n)+)", text, re.M)
     return [(name, COMMON + body) for name, body in found]

@@ -1,5 +1,5 @@
-"""A checker of LRAT text without RAT steps, by the paper on LRAT (docs/RELATED.md), not by this
-repository.
+"""A checker of LRAT text without RAT steps, written from the paper on LRAT (docs/RELATED.md), not
+from this repository.
 
     id literals 0 hints 0       derives a clause by reverse unit propagation
     id d ids 0                  deletes clauses

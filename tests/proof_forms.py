@@ -7,7 +7,7 @@ Clause = List[int]
 
 
 class Step(NamedTuple):
-    """For a deletion the hints are the identities; an import has none."""
+    """The hints of a deletion are the deleted identities; an import has no hints."""
     kind: str
     identity: int
     literals: Clause
@@ -107,8 +107,8 @@ def binary_drat(formula: List[Clause], steps: List[Step]) -> List[bytes]:
 
 
 class Frat:
-    """Identities of its own, unordered and with gaps; the formula's clauses, and their literals,
-    come in another order."""
+    """A FRAT proof with identities of its own, unordered and with gaps. The formula's clauses, and
+    their literals, come in another order."""
 
     def __init__(self, formula: List[Clause], steps: List[Step], seed: int, hinted: float,
                  gap: int = 3) -> None:
@@ -144,7 +144,7 @@ class Frat:
 
 def frat(formula: List[Clause], steps: List[Step], seed: int, hinted: float,
          gap: int = 3) -> List[bytes]:
-    """`hinted` is the share of additions with hints; one number in `gap` is a name."""
+    """`hinted` is the share of additions with hints; about one number in `gap` is an identity."""
     return Frat(formula, steps, seed, hinted, gap).lines
 
 

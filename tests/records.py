@@ -19,7 +19,7 @@ TRIES = 20
 
 
 def saved_rounds(kept: Path) -> int:
-    """The round with which a resumed run would begin, or 1."""
+    """The round with which a resumed run would begin; 1 if nothing is saved."""
     found = (re.search(r"  checkpoint-(\d+)\.cnf\n$", (kept / "rounds.sha256").read_text())
              if (kept / "rounds.sha256").exists() else None)
     return int(found[1]) if found else 1
@@ -27,8 +27,8 @@ def saved_rounds(kept: Path) -> int:
 
 def recorded(words: Sequence[object], kept: Path, least: int,
              tested: Optional[Mapping[str, object]]) -> None:
-    """Makes the record of a run that is killed once it has saved this many rounds. If the run ends
-    before that, it is tried again."""
+    """Makes the record of a run that is killed once it has saved this many rounds. A run that ends
+    before that is tried again."""
     for _ in range(TRIES):
         with started(command(["--proofs", kept, "--replace", *words], tested),
                      env=in_environment(tested), stdout=subprocess.DEVNULL) as running:
@@ -38,7 +38,7 @@ def recorded(words: Sequence[object], kept: Path, least: int,
         none_left(f"LRUP_MARK={os.environ['LRUP_MARK']}")
         if running.returncode == -signal.SIGKILL and saved_rounds(kept) > least:
             return
-    raise AssertionError(f"it has ended {TRIES} times before it had saved {least} rounds")
+    raise AssertionError(f"the run ended {TRIES} times before {least} rounds were saved")
 
 
 def checkpoints(kept: Path) -> List[str]:
@@ -47,7 +47,7 @@ def checkpoints(kept: Path) -> List[str]:
 
 
 def whole(kept: Path, formula: Path, work: Path) -> None:
-    """Checks the record of a run that has the proof."""
+    """Checks a record that has the whole proof."""
     check_again(kept)
     lrat = work / "lrat"
     want(run([TRIM, "--lrat", lrat, formula, kept]).status, 0, "the status of lrup-trim")
@@ -55,7 +55,7 @@ def whole(kept: Path, formula: Path, work: Path) -> None:
     lrat.unlink()
 
 
-# Changes. Each names the files, one of which a message has to name.
+# Changes. Each returns the names of files, one of which a message has to name.
 
 Change = Callable[[Path, random.Random], str]
 
@@ -151,8 +151,7 @@ CHANGES: Dict[str, Change] = {
 
 
 def want_no_other(answer: Answer, status: int, formula: Path, kept: Path, names: str) -> None:
-    """There is the right answer, none, or a message; without an answer, a message names one of
-    these files."""
+    """There is the right answer; or there is none, and a message names one of these files."""
     if answer.status == status:
         answer.said = ""
         return want_answer(answer, status, formula)
@@ -164,7 +163,7 @@ def want_no_other(answer: Answer, status: int, formula: Path, kept: Path, names:
 
 
 def with_digests(kept: Path) -> None:
-    """The list has the digests of the files as they are."""
+    """Writes the list with the digests of the files as they are now."""
     lines = (kept / "rounds.sha256").read_text().splitlines()
     names = [line[66:] for line in lines if (kept / line[66:]).exists()]
     (kept / "rounds.sha256").write_text("".join(

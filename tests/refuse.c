@@ -1,6 +1,6 @@
-/* Loaded before a program's libraries (LD_PRELOAD), this refuses one of its calls, and then creates
-   the file MARK.
-   REFUSE is KIND:N or KIND:N:HOW: the N-th call of that kind, counted from 1.
+/* Loaded before a program's libraries (LD_PRELOAD), this refuses one of the program's calls, and
+   then creates the file MARK. REFUSE is KIND:N or KIND:N:HOW: the N-th call of that kind, counted
+   from 1.
      allocate:N     malloc, calloc, realloc and the like return NULL
      thread:N       pthread_create returns EAGAIN. Each started thread begins LATE milliseconds
                     later, so a program that doesn't wait for it continues before that. At the next
@@ -161,7 +161,7 @@ ssize_t write(int file, const void *bytes, size_t size) {
     return most < 0 ? -1 : __write(file, bytes, (size_t)most);
 }
 
-/* True while only /dev/null was opened. */
+/* True while only /dev/null has been opened. */
 static int is_before_all(const char *path) {
     static atomic_int others;
     return strcmp(path, "/dev/null") == 0 && atomic_load(&others) == 0

@@ -13,7 +13,7 @@
 #include <string.h>
 #include <sys/mman.h>
 
-// Each argument and result is an integer or a pointer, and on Linux in one register.
+// Each argument and result is an integer or a pointer, and fits one register on Linux.
 #define SIX(type) type a, type b, type c, type d, type e, type f
 #define GIVEN a, b, c, d, e, f
 #define REAL(name) __real_##name(GIVEN)

@@ -1,5 +1,5 @@
-"""The permitted answers of the program when a call of the system is refused, and a machine that
-refuses one."""
+"""The permitted answers of the program when a system call is refused, and a machine that refuses
+one."""
 import itertools
 import os
 import re
@@ -38,15 +38,16 @@ ERRORS_OF_READS = ["EIO", "EINTR"]
 SHORT = ["short", "half"]
 EACH = ["thread", "open", "create", "hold", "sync"]  # kinds in which each call has its own answer
 HELD = 3  # opens of /dev/null, for closed standard streams
-# A run has to end within them if a thread isn't started; tries of other threads take a minute.
+# A run has to end within this time if a thread isn't started; other threads would retry for a
+# minute.
 SECONDS = 20
 HANGS = 300  # seconds after which a run counts as hanging
 LATE = 50  # milliseconds that threads take to begin, if one isn't started
 
 
 class Input:
-    """Arguments, which end with the streams, and the permitted answers besides the normal one when
-    something is refused."""
+    """Arguments, which end with the streams, and answers that are also permitted when something is
+    refused."""
 
     def __init__(self, name: str, words: Words, streams: int = 0, dropped: Sequence[Answer] = (),
                  waits: bool = False, out: Optional[str] = None) -> None:
@@ -56,7 +57,7 @@ class Input:
         self.assumes = "--assume" in self.words
         self.checkpoint = (Path(self.words[self.words.index("--checkpoint") + 1])
                            if "--checkpoint" in self.words else None)
-        self.created = "" if self.checkpoint else None  # the checkpoint before something is saved
+        self.created = "" if self.checkpoint else None  # the checkpoint before anything is saved
 
 
 class InRounds(Input):
@@ -76,14 +77,14 @@ class InRounds(Input):
         self.status = 3 if proof.saved[-1] else 0
         self.reports = [last(number, said, 3) for number, said in enumerate(proof.said[:-1], 1)]
         self.reports.append(last(self.count, proof.said[-1], self.status))
-        self.reached = self.count + (self.status == 3)  # the last round with a file that is opened
+        self.reached = self.count + (self.status == 3)  # the last round that opens a file
         self.singles = work / "saved"
         self.watch_lines = 0
         if "--watch" in options:
             self.watch_lines = sum(map(len, proof.texts)) + self.count - 1
 
     def before(self, number: int, *more: str) -> Saved:
-        """What was saved before a round, and the file that it created itself."""
+        """What was saved before a round, and `more`, the file that this round created."""
         found = [*self.proof.saved[:number - 1], *more]
         return tuple(found + [None] * (MOST_SAVED - len(found)))
 
@@ -104,7 +105,7 @@ class InRounds(Input):
         return [number for number, text in enumerate(self.proof.saved, 1) if text]
 
 
-MOST_SAVED = 4  # checkpoints of a run in rounds that are looked for
+MOST_SAVED = 4  # the number of checkpoints to look for after a run in rounds
 
 
 def places_of(words: Sequence[str]) -> List[Path]:
@@ -127,8 +128,8 @@ class Machine:
 
     def run(self, words: Sequence[str], refuse: str = "", out: Optional[str] = None,
             limit: float = HANGS) -> Tuple[Answer, bool, float]:
-        """The answer, whether a call was refused, and how many seconds it took. Right lines of
-        `--watch` are compared with the report, and left out of the answer."""
+        """The answer, whether a call was refused, and how many seconds the run took. Lines of
+        `--watch` are compared with the report, and left out of the answer if they agree."""
         checkpoints = places_of(words)
         for path in [self.mark, *checkpoints]:
             if path.is_file():
@@ -154,20 +155,20 @@ class Machine:
         return answer, self.mark.exists(), time.monotonic() - began
 
     def threads(self) -> str:
-        """How many threads that were started before the refused one had begun, and had ended, in
-        words."""
+        """Says how many threads were started before the refused one, and how many of them had begun
+        and ended."""
         counts = self.mark.read_text().split() if self.mark.exists() else []
         return "; of {} threads {} had begun, and {} ended".format(*counts) if counts else ""
 
     def has_waited_for(self, count: int) -> bool:
-        """Whether that many threads were started before the refused one, and had all begun, and
-        ended, when it was reported."""
+        """Whether that many threads were started before the refused one, and all had begun and
+        ended when the refusal was reported."""
         return self.mark.read_text().split() == [str(count)] * 3
 
     def answer_without(self, given: Input, number: int, line: int,
                        cause: str = "read failed") -> Answer:
-        """The answer if a stream fails in a line, as if unread: that for a stream that ends before
-        the line."""
+        """The answer if reading a stream fails in a line: as if the stream ended before that
+        line."""
         if (given.name, number, line, cause) not in self.ends:
             words, place = list(given.words), number - 1 - given.streams
             before = Path(words[place]).read_bytes().splitlines(keepends=True)[:line - 1]
@@ -181,8 +182,8 @@ class Machine:
 
 
 def mixtures(lines: Sequence[str], how: str) -> Iterator[str]:
-    """Lines of threads, one of which was written in part at first, so that others came before its
-    rest."""
+    """The lines of threads in each order that is possible if one line is written in part at first,
+    and others come before its rest."""
     for cut, line in enumerate(lines):
         length = 1 if how == "short" else len(line) // 2
         for last in range(cut + 1, len(lines)):
@@ -199,9 +200,9 @@ def unmixed(err: str, watched: Set[str], how: str) -> str:
 
 
 def without_watched_ends(answer: Answer, refuse: str, mixes: bool) -> Answer:
-    """Removes the lines of --watch on how each stream ended, if they agree with the report;
-    otherwise no answer. A truncated report may say less, and so may these lines if a write fails.
-    Lines of several threads may mix only if the system writes a part."""
+    """Removes the lines of --watch on how each stream ended. If they don't agree with the report,
+    the answer has no status. A truncated report may say less, and so may these lines if a write
+    fails. Lines of several threads may mix only if a write is short."""
     kind, _, how = (refuse.split(":") + ["", ""])[:3]
     is_short, fails = kind == "write" and how in SHORT, kind == "write" and how not in SHORT
     reported = {re.sub("^c", "lrupd:", line) for line in answer.out.splitlines(keepends=True)
@@ -216,20 +217,19 @@ def without_watched_ends(answer: Answer, refuse: str, mixes: bool) -> Answer:
 
 
 def without_lines(answer: Answer) -> Answer:
-    """Without the lines of --watch on streams and rounds, each of them whole."""
+    """Removes the lines of --watch on streams and rounds; an incomplete line stays."""
     lines = r"^lrupd: (stream \d+: .*|round \d+: \d+ clauses, \d+ literals, paused for \d+ ms)\n"
     return answer._replace(err=re.sub(lines, "", answer.err, flags=re.M))
 
 
 def is_cut(answer: Answer, ample: Answer) -> bool:
-    """The report couldn't be written: a prefix of it is there. The checkpoint was written
-    before."""
+    """Whether only a prefix of the report could be written, after the checkpoint."""
     return (answer.status == 7 and answer.err == "lrupd: cannot write report\n"
             and ample.out.startswith(answer.out) and answer.saved == ample.saved)
 
 
 def is_unsaved(answer: Answer, ample: Answer, cause: str) -> bool:
-    """The checkpoint couldn't be written: a prefix of it is there, and the report is as usual."""
+    """Whether only a prefix of the checkpoint could be written, with the usual report."""
     wanted = ample._replace(err=cause + ample.err, status=7 if ample.status == 7 else 9,
                             saved=answer.saved)
     return (ample.status in [3, 7, 8] and answer == wanted and isinstance(answer.saved, str)
@@ -237,7 +237,7 @@ def is_unsaved(answer: Answer, ample: Answer, cause: str) -> bool:
 
 
 def openings(given: Input) -> List[Answer]:
-    """The answers to each refused open, in order."""
+    """The answers for each refused open, in order."""
     streams = [stopped(5, f"cannot open stream {number}") for number in range(1, given.streams + 1)]
     return [NO_FORMULA, *[NO_ASSUMPTIONS] * given.assumes, *streams]
 
@@ -255,9 +255,9 @@ def is_unstarted(answer: Answer, given: Input) -> bool:
 
 
 def calls(kind: str, ample: Answer, given: Input) -> int:
-    """How many threads a run starts: those that watch openings, each stream's checking thread in
-    turn, then the reading threads; how many files it opens; how often it opens /dev/null before;
-    how many checkpoints it creates; and how often it flushes one."""
+    """How many calls of this kind a run makes. It starts threads that watch openings, then the
+    streams' checking threads, then their reading threads; before it opens files, it opens
+    /dev/null; and it creates and flushes a checkpoint."""
     goes_on = ample.status in [0, 3, 7, 8]
     if kind == "hold":
         return HELD
@@ -275,7 +275,7 @@ def calls(kind: str, ample: Answer, given: Input) -> int:
 
 
 def watching(ample: Answer, given: Input) -> int:
-    """How many threads watch openings: with --watch one for each."""
+    """How many threads watch openings: with --watch, one per opening."""
     return calls("open", ample, given) if "--watch" in given.words else 0
 
 
@@ -286,8 +286,8 @@ def is_refused_allocation(answer: Answer, ample: Answer, given: Input) -> bool:
 
 
 def is_failed_read(answer: Answer, given: Input, machine: Machine) -> bool:
-    """The formula or the assumptions weren't read; or one stream fails, and the others are as if
-    its rest were missing."""
+    """Whether the formula or the assumptions weren't read; or one stream failed, and the other
+    streams' results are as if its rest were missing."""
     if answer == NO_FORMULA or answer == NO_ASSUMPTIONS and given.assumes:
         return True
     failed = re.findall(r"^c stream (\d+): .*, read failed at line (\d+)$", answer.out, re.M)
@@ -296,16 +296,16 @@ def is_failed_read(answer: Answer, given: Input, machine: Machine) -> bool:
 
 
 def is_failed_write(answer: Answer, ample: Answer) -> bool:
-    """The checkpoint, standard output, or standard error fails; a failing standard error changes no
-    status."""
+    """Whether a write to the checkpoint, standard output or standard error failed; a failing
+    standard error changes no status."""
     return (is_cut(answer, ample)
             or is_unsaved(answer, ample, NOT_WRITTEN) and answer.saved != ample.saved
             or (answer == ample._replace(err=answer.err) and ample.err.startswith(answer.err)))
 
 
 def may_be_ample(kind: str, how: str, ample: Answer, given: Input) -> bool:
-    """Whether the answer may be as if nothing had been refused. A failed call is reported, except a
-    read of what follows a bad line, or if the report goes to a full device anyway."""
+    """Whether the answer may be as if nothing had been refused. A failed call is reported, unless
+    it reads what follows a bad line, or the report goes to a full device anyway."""
     if how in SHORT or kind == "allocate":
         return True
     return (kind == "read" and "bad line" in ample.out or kind in ["read", "write"]
@@ -313,8 +313,8 @@ def may_be_ample(kind: str, how: str, ample: Answer, given: Input) -> bool:
 
 
 def are_due(kind: str, ample: Answer, given: Input) -> bool:
-    """Whether there must be such calls. Each run that gets to the formula reads, and each that
-    reports something writes."""
+    """Whether the run must make calls of this kind. Each run that gets to the formula reads, and
+    each run that reports something writes."""
     return (kind in ["allocate", "write"] or kind == "read" and given.streams > 0
             and ample != NO_ASSUMPTIONS)
 
@@ -359,7 +359,7 @@ def failed_opening(number: int, stream: int, how: str, given: InRounds) -> Answe
 
 
 def in_turn(kind: str, how: str, given: InRounds) -> List[Answer]:
-    """The answers to each refused call of such a kind."""
+    """The answers for each refused call of this kind, in order."""
     numbers, streams = range(1, given.count + 1), range(1, given.streams + 1)
     if kind == "thread":
         return [answer for number in range(1, given.reached + 1)
@@ -374,7 +374,7 @@ def in_turn(kind: str, how: str, given: InRounds) -> List[Answer]:
     found = [given.stopped(1, "cannot read formula", 5)]
     for number in range(1, given.reached + 1):
         if number > 1:
-            # Without sizes those of the round before hold, which are the same.
+            # Without a file of sizes those of the round before apply, which are the same.
             found.append(given.ended(given.count) if how == "ENOENT"
                          else given.stopped(number, "cannot read sizes", 5))
         found += [failed_opening(number, stream, how, given) for stream in streams
@@ -383,8 +383,9 @@ def in_turn(kind: str, how: str, given: InRounds) -> List[Answer]:
 
 
 def threads_of_round(number: int, given: InRounds) -> Iterator[Answer]:
-    """With --watch first a thread for each opening, of the formula or of sizes, and of streams: the
-    run ends as usual without it. Then the threads of the streams."""
+    """The answers for each thread of a round that isn't started. With --watch, first come the
+    threads that watch openings, of the formula or of sizes, and of streams: without them the run
+    ends as usual. Then come the threads of the streams."""
     streams = range(1, given.streams + 1) if number <= given.count else []
     if "--watch" in given.words:
         yield from [given.ended(given.count)] * (1 + max(1, len(streams)))
@@ -394,7 +395,7 @@ def threads_of_round(number: int, given: InRounds) -> Iterator[Answer]:
 
 
 def parts(given: InRounds, cause: str) -> Iterator[Answer]:
-    """Saving fails: a prefix is there."""
+    """The answers if saving fails: a prefix is saved."""
     for number in given.saving():
         text = given.proof.saved[number - 1]
         yield from (given.unsaved(number, cause, text[:length]) for length in range(len(text)))
@@ -414,8 +415,8 @@ def without_memory(given: InRounds) -> Iterator[Answer]:
 
 
 def is_failed_stream(answer: Answer, cause: str, given: InRounds, machine: Machine) -> bool:
-    """One stream ends with this cause in a line: the answer and the checkpoint are those of a run
-    of this round, with the stream up to that line; and no round follows."""
+    """Whether one stream ended with this cause in a line: answer and checkpoint are those of a run
+    of only this round, with the stream up to that line; and no round follows."""
     failed = re.findall(rf"^c stream (\d+): .*, {cause} at line (\d+)$", answer.out, re.M)
     number = int((re.findall(r"^c round (\d+)$", answer.out, re.M) or [1])[0])
     if len(failed) != 1 or number > given.count:
@@ -490,8 +491,8 @@ def complaints_in_rounds(kind: str, how: str, ample: Answer, answers: List[Answe
 
 
 def are_in_order(causes: List[str], ample: Answer, given: Input) -> bool:
-    """The files that standard error names for the first reads: the formula, then the assumptions,
-    then none."""
+    """Whether standard error names the right files for the first reads: the formula, then the
+    assumptions, then none."""
     wanted = [NO_FORMULA.err] + [NO_ASSUMPTIONS.err] * given.assumes + [ample.err]
     found = [cause for cause, _ in itertools.groupby(causes)]
     reads_assumptions = given.assumes and ample != NO_ASSUMPTIONS
@@ -500,7 +501,7 @@ def are_in_order(causes: List[str], ample: Answer, given: Input) -> bool:
 
 def complaints(kind: str, how: str, ample: Answer, answers: List[Answer],
                given: Input) -> Iterator[str]:
-    """A complaint if too few or too many calls were refused, or not all that exist."""
+    """Complaints if too few or too many calls were refused, or an expected message never came."""
     causes = [answer.err for answer in answers]
     if not answers and are_due(kind, ample, given):
         yield "nothing of this kind is ever refused"

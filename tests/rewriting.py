@@ -26,7 +26,7 @@ CUT = "a file was truncated while it was read\n"
 
 
 def changed(text: bytes, numbers: random.Random) -> bytes:
-    """Replaces numbers; makes all lines, or all numbers, the same; writes one byte everywhere, or
+    """Replaces digits, joins all lines, all numbers or both, writes one byte everywhere, or writes
     random bytes."""
     digits = bytes(numbers.sample(b"123456789", 9))
     kinds: List[Callable[[], bytes]] = [
@@ -59,7 +59,7 @@ def rewrite(paths: Sequence[str], numbers: random.Random) -> None:
 
 @contextlib.contextmanager
 def rewritten(seed: int, paths: Sequence[Path]) -> Iterator[None]:
-    """Rewrites them while the block runs."""
+    """Rewrites the files while the block runs."""
     words = [sys.executable, __file__, seed, *paths]
     with started(words, stdout=subprocess.PIPE, text=True) as process:
         want(process.stdout and process.stdout.readline(), "begins\n", "the first line")
@@ -67,8 +67,9 @@ def rewritten(seed: int, paths: Sequence[Path]) -> Iterator[None]:
 
 
 def chained(streams: int, lines: int, work: Path) -> List[Path]:
-    """Streams over the four clauses: each line cites the one before it, which is in the stream
-    before. A stream uses every second of its identities. The last line is the empty clause."""
+    """Streams over the four clauses, which have the lines of one chain in turn: each line cites the
+    line before it. A stream uses every second of its identities. The last line is the empty
+    clause."""
     identities = [5 + 2 * (place - place % streams) + place % streams for place in range(lines)]
     texts = ["5 1 2 0 1 0\n"]
     texts += [f"{now} 1 2 0 {before} 0\n" for before, now in zip(identities, identities[1:-2])]
@@ -80,8 +81,8 @@ def chained(streams: int, lines: int, work: Path) -> List[Path]:
 
 def withstands(command: Callable[[int, Path], Words], statuses: Sequence[int], runs: int, seed: int,
                work: Path) -> List[Tuple[int, Path]]:
-    """Runs a program over streams that are rewritten, with a folder for each run. Its output
-    doesn't matter, but it has to end with one of these statuses. Returns the statuses and the
+    """Runs a program over streams that are rewritten, with a folder for each run. The output
+    doesn't matter, but each run has to end with one of these statuses. Returns the statuses and the
     folders."""
     paths, formula, ended = chained(1 + seed % 2, LINES, work), written(FOUR, work), []
     with rewritten(seed, paths):
@@ -96,7 +97,8 @@ def withstands(command: Callable[[int, Path], Words], statuses: Sequence[int], r
 
 
 def cut_while_read(command: Words, name: str, work: Path) -> None:
-    """Nothing is left. A run that ends before its stream is truncated is tried again."""
+    """Truncates a stream while the program reads it: no file is left. A run that ends before that
+    is tried again."""
     formula, found = written(FOUR, work), []
     for number in range(20):
         stream, = chained(1, 10 * LINES, work)

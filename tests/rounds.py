@@ -1,5 +1,5 @@
-"""Two proofs in three rounds over the four clauses, by one stream and by two, with lrupd's report
-and checkpoints: by hand. And rows of runs with --rounds."""
+"""Two proofs in three rounds over the four clauses, with one stream and with two, and lrupd's
+reports and checkpoints, all by hand. Also rows of runs with --rounds."""
 from typing import Dict, Iterator, List, Mapping, NamedTuple, Optional, Sequence, Tuple
 
 from harness import FOUR, Pieces, Wanted, report
@@ -77,11 +77,10 @@ def rounds(name: str, status: int, texts: Texts, out: str = "", err: str = "",
            saved: Sequence[str] = (), options: str = "", others: Mapping[str, str] = {},
            gone: Sequence[str] = (), do: str = "", how: str = "",
            pipes: Mapping[str, Pieces] = {}) -> Iterator[Named]:
-    """Streams of these texts, and what was saved after each round; no other formula of a round is
-    there, and no file has changed.
+    """Runs with streams of these texts, and what has to be saved after each round; there must be no
+    other formula of a round, and no file may have changed.
 
-    The shell first executes `do`; streams that are gone, or that are pipes, aren't files at the
-    end."""
+    The shell first executes `do`; streams in `gone` or `pipes` aren't files at the end."""
     given = {name: text for name, text in {**round_files(texts), **others}.items()
              if name not in pipes}
     formulas: Dict[str, Optional[str]] = {saved_name(number): None for number in LEFT}

@@ -45,15 +45,15 @@ class Answer:
 
 
 def command(words: Sequence[object], tested: Optional[Mapping[str, object]] = None) -> List[str]:
-    """lrup-solve's command. With `tested` it is a build for tests, whose hooks are in
-    `in_environment`."""
+    """lrup-solve's command. With `tested` it names a build for tests, whose hooks `in_environment`
+    sets."""
     return [str(word)
             for word in (TESTED if tested is not None else SOLVE, "--lrupd", PROGRAM, *words)]
 
 
 def hooks(tested: Mapping[str, object]) -> str:
-    """The value of LRUP_SOLVE_HOOKS, by `tools/solve/test_hooks.h`; WITHOUT and LATE are followed
-    by a part of the name."""
+    """The value of LRUP_SOLVE_HOOKS, with names from `tools/solve/test_hooks.h`; the values of
+    WITHOUT and LATE are parts of such names."""
     named = {
         f"{name}_{word}" if name in ("WITHOUT",
                                      "LATE") else name: 1 if name in ("WITHOUT", "LATE") else word
@@ -75,8 +75,8 @@ def solve(words: Sequence[object], tested: Optional[Mapping[str, object]] = None
 
 def want_answer(answer: Answer, status: Optional[int], formula: Optional[Path] = None,
                 verdict: Optional[str] = None) -> None:
-    """The status and its line; for a satisfiable formula, an assignment that makes each clause
-    true."""
+    """Checks the status and its line and, for a satisfiable formula, that the assignment makes each
+    clause true."""
     assert status is not None
     wanted = ([verdict or ANSWERS[status]], status, "")
     want((answer.answers, answer.status, answer.said), wanted,
@@ -113,7 +113,7 @@ def check_again(kept: Path, env_more: Optional[Mapping[str, str]] = None) -> Non
 
 
 def listed(kept: Path) -> List[str]:
-    """The files of a record, by its list."""
+    """The files of a record, from its list."""
     return sorted(set((kept / "files").read_text().splitlines()))
 
 
@@ -134,7 +134,7 @@ def before_lrupd(what: str, work: Path) -> Path:
 
 
 def of_process(pid: int, name: str) -> str:
-    """What /proc has about a process; empty if it doesn't exist."""
+    """What /proc has about a process; empty if the process doesn't exist."""
     try:
         return Path(f"/proc/{pid}/{name}").read_text()
     except OSError:
@@ -155,7 +155,7 @@ def children_of(pid: int) -> Dict[str, int]:
 
 
 def processes_of_run(pid: int) -> Dict[str, int]:
-    """The names and ids of a run's processes, with the front and the probe."""
+    """The names and ids of a run's processes, including the front and the probe."""
     found = {**children_of(pid), FRONT: pid}
     for child in map(int, of_process(pid, f"task/{pid}/children").split()):
         title, words = of_process(child, "comm").strip(), of_process(child, "cmdline")
@@ -178,8 +178,8 @@ def waits_of(pid: int) -> int:
 
 
 def sleep(pids: Sequence[int]) -> None:
-    """None of the processes wakes up for a second, once nothing is left to do. The system counts
-    their waits."""
+    """Waits until none of the processes has woken up for a second, by the system's count of their
+    waits."""
     def all_slept() -> bool:
         before = [waits_of(pid) for pid in pids]
         time.sleep(1)
@@ -188,7 +188,7 @@ def sleep(pids: Sequence[int]) -> None:
 
 
 def goes_on(process: "subprocess.Popen[Any]") -> None:
-    """Waits until the run has passed its loop several times, each with a wait, or has ended."""
+    """Waits until the run's loop has waited several more times, or the run has ended."""
     looping = children_of(process.pid).get("lrup-engines", 0)
     before = waits_of(looping)
     until("the program continues",
@@ -222,8 +222,7 @@ def none_left(mark: str) -> None:
 
 
 def end_all(mark: str) -> None:
-    """Ends the processes of a run that may leave some, once its front has ended. Some may be
-    stopped."""
+    """Ends the processes that a run may leave once its front has ended, even stopped ones."""
     for number in (signal.SIGCONT, signal.SIGKILL):
         for pid in processes_of(mark):
             with contextlib.suppress(ProcessLookupError):
@@ -232,7 +231,7 @@ def end_all(mark: str) -> None:
 
 def kill_children(children: Mapping[str, int], names: Sequence[str],
                   number: int = signal.SIGKILL) -> None:
-    """Raises ProcessLookupError if a process has already ended."""
+    """Kills these processes; raises ProcessLookupError if one has already ended."""
     for name in names:
         pid = children.get(name, 0)
         if not is_alive(pid):

@@ -1,6 +1,6 @@
 """Tests how make compiles C and C++: with the given flags, and again after a change.
 
-For the filter, lrup-trim, lrup-solve, lrup-solve-mpi and the example solver, checks the commands
+For the filter, lrup-trim, lrup-solve, lrup-engines-mpi and the example solver, checks the commands
 that make prints, with flags from the command line and from the environment. Compiles the filter in
 a copy, and again after a change of a source, a header or flags. Installs everything in a folder,
 and uninstalls it."""
@@ -29,7 +29,7 @@ def clean(more: Dict[str, str]) -> Dict[str, str]:
 
 
 def commands(target: str, words: Sequence[str], env: Dict[str, str]) -> List[List[str]]:
-    """The compilers' commands that make would run; nothing is built so far."""
+    """The compilers' commands that make would run if nothing were built."""
     places = ["OBJECTS=out/none", "SOLVER=out/none/solver", "EXACT=out/none/exact",
               "TRIM=out/none/trim", "SOLVE=out/none/solve"]
     done = run(["make", "-n", "-C", ROOT, target, *places, *words], env=clean(env))
@@ -109,8 +109,9 @@ def again(work: Path) -> None:
 
 
 def installed(work: Path) -> None:
-    """Installs built programs without the toolchain: with -n nothing, then each program with a
-    manual page and a completion. Uninstalling leaves nothing. A missing program is reported."""
+    """Installs built programs without the toolchain: with -n make installs nothing, then each
+    program with a manual page and a completion. Uninstalling leaves nothing. A missing program is
+    reported."""
     program = written("#!/bin/sh\necho 'usage: lrupd [--lines N] [--help]'\n", work, "lrupd")
     program.chmod(0o755)
     words = ["RT=none", f"DESTDIR={work}/a place", "PREFIX=/usr"]

@@ -1,10 +1,10 @@
-"""Runs examples/chain.py, which cuts streams into rounds, and lrup-chain over the rounds, beside
-one run.
+"""Runs examples/chain.py, which cuts streams into rounds, and lrup-chain on the rounds, beside a
+single run.
 
 Streams that were recorded, and streams of the example solver with imports and deletions, are cut
 into one to nine rounds. The last round has to end with status 0, and the rounds' additions have to
-be those of one run. With the sizes of the largest round, one run can't hold all additions. If a
-hint is left out, the round with that line has to be the last, with a bad line."""
+be those of a single run. With the sizes of the largest round, a single run can't hold all
+additions. If an addition loses its hints, its round has to be the last, with a bad line."""
 import re
 import sys
 from pathlib import Path
@@ -29,8 +29,8 @@ SOLVED = [("random 170 4", 3, 100, 4), ("pigeons 7", 2, 100, 5), ("order 15", 5,
 
 
 class Chained(NamedTuple):
-    """The number of rounds, the last round's report, the additions of all streams, and those of
-    one run; the status."""
+    """The number of rounds, the last round's report, how each stream of each round ended, the rest
+    of standard error, and the status."""
     rounds: int
     report: List[str]
     ends: List[str]
@@ -74,8 +74,8 @@ def solved(program: str, solver: str, words: str, streams: int, share: int, coun
 
 
 def too_much_for_one_run(program: str, place: int, fault: str, count: int, work: Path) -> None:
-    """With the rounds' sizes the streams refute the formula; one run with the largest of these
-    sizes stops. It is --serial, so that no stream gives up before another stream is full."""
+    """In rounds the streams refute the formula; a single run with the rounds' largest size stops.
+    That run is --serial, so that no stream gives up before another stream is full."""
     formula, streams = example("bmc.cnf"), list(map(example, FOUR_SOLVERS))
     want_refuted(chain(program, count, formula, streams, TRIES, work), count)
     sizes = [path.read_text().split()[1 + place] for path in (work / "rounds").glob("*.sizes")]

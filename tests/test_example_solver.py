@@ -3,9 +3,9 @@ streams.
 
 Each report has to say that each stream ended, with the additions and deletions that the solver
 printed; if the formula is unsatisfiable, the status has to be 0. If nothing is shared, the streams
-also go to files, whose report has to be the same with --serial. Imports change none of this; all
-imports of a run also make a stream of their own, and a garbled import is added to another one. Then
-solvers are killed midway: each stream ends, or is truncated."""
+also go to files, for which --serial has to give the same report. Imports change none of this. All
+imports of a run also form a stream of their own, once as they are and once followed by a garbled
+import. Then solvers are killed midway: each stream ends, or is truncated."""
 import re
 import select
 import subprocess
@@ -102,7 +102,7 @@ def recorded(program: str, solver: List[str], words: str, answer: int, streams: 
 
 
 def garbled(line: str) -> str:
-    """An import without its first literal, or of a unit clause with the complement."""
+    """An import without its first literal; if that is the only one, with its complement."""
     identity, kind, literal, *rest = line.split()
     if rest == ["0"]:
         rest = [str(-int(literal)), "0"]
@@ -111,8 +111,9 @@ def garbled(line: str) -> str:
 
 def imported(program: str, solver: List[str], words: str, answer: int, streams: int,
              work: Path) -> None:
-    """The files, a stream with all their imports, and one with a garbled import. If one thread had
-    the answer before the others began, there are no imports, and another seed is taken."""
+    """Checks the files with a stream of all their imports, which then also gets a garbled import.
+    If one thread had the answer before the others began, there are no imports, and another seed is
+    taken."""
     for seed in [*solver[-1:], *range(101, 120)]:
         command = [*solver[:-1], str(seed), "--streams", str(streams + 1)]
         path, files, said, (ended, status) = record(command, words, answer, streams, work)

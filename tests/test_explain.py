@@ -1,12 +1,12 @@
 """Runs lrup-explain, and compares what it says with what lrupd says about the same streams.
 
-Faulty streams (2,000, or --count) of one to five solvers. Hints are left out, doubled and
-reordered, literals get wrong signs, deletions and imports are inserted; or bytes are garbled. Then
-1,000 mutants, or --count, of test_filter_mutants.py, most of which are no proofs in this form. For
-each stream, fault and line have to be those of lrupd --serial; with threads, too, if no stream
-deletes what others cite. Each chain that is offered has to be right: with it instead of the line's
-hints, lrupd accepts the line. If only hints are wrong, a chain has to be offered. While streams are
-rewritten and truncated, lrup-explain still ends. It is built for tests, with
+There are 2,000 (or --count) faulty runs of one to five solvers: hints are left out, doubled and
+reordered, literals get wrong signs, deletions and imports are inserted, or bytes are garbled. Then
+come 1,000 (or --count) mutants of test_filter_mutants.py, most of which aren't proofs in this form.
+For each stream, fault and line have to be those of lrupd --serial; with threads, too, if no stream
+deletes what others cite. Each chain that is offered has to be right: lrupd accepts the line with
+this chain as its hints. If only hints are wrong, a chain has to be offered. lrup-explain also has
+to end while streams are rewritten and truncated. It is built for tests, with
 -fsanitize=address,undefined if the compiler can; three of four runs on faulty streams use the
 normal build."""
 import functools
@@ -32,7 +32,7 @@ BAD = 3         # the status if a line is bad
 LIBRARY = [ROOT / "tools" / "exact" / name
            for name in ("errors.c", "formula.c", "lists.c", "literals.c")]
 QUICK = 4       # one run in four uses the build for tests
-TRIES = 20000   # so that a clause that never comes takes a second
+TRIES = 20000   # so that waiting for a clause that never comes takes a second
 
 Faults = Dict[int, Tuple[int, str]]     # by stream: the line, and the fault's words
 
@@ -150,7 +150,7 @@ def import_of(lines: List[List[str]], numbers: random.Random) -> List[str]:
 
 
 def with_a_fault(streams: List[str], numbers: random.Random, hints_only: bool = False) -> List[str]:
-    """Usually one fault, in a line of one stream."""
+    """The streams with one change in one line, usually a fault."""
     everywhere = [[line.split() for line in text.splitlines()] for text in streams]
     number = numbers.choice([place for place, lines in enumerate(everywhere)
                              if any(map(is_addition, lines))])
@@ -172,7 +172,7 @@ def with_a_fault(streams: List[str], numbers: random.Random, hints_only: bool = 
 
 
 def sizes_for(found: Base, numbers: random.Random) -> List[str]:
-    """Usually large enough, otherwise a bit too small."""
+    """Sizes that are usually large enough, otherwise a bit too small."""
     additions = [line.split() for text in found.streams for line in text.splitlines()
                  if is_addition(line.split())]
     lines = max(
@@ -189,7 +189,7 @@ def sizes_for(found: Base, numbers: random.Random) -> List[str]:
 
 
 def without_identity(text: str, identity: str) -> str:
-    """The stream without lines that delete this identity."""
+    """The stream with deletions that don't name this identity."""
     lines = [line.split(" ") for line in text.split("\n")]
     for words in lines:
         if words[1:2] == ["d"]:
@@ -255,7 +255,8 @@ def faulty(seed: int, work: Path) -> None:
 
 
 def other_hints_alone(seed: int, work: Path) -> None:
-    """One solver, without deletions: a chain is offered for each line until all lines are right."""
+    """One solver, without deletions: a chain is offered for each bad line until all lines are
+    right."""
     numbers = random.Random(f"{seed} hints")
     found = base(5 * numbers.randrange(BASES // 5))
     text = "".join(line + "\n" for line in found.streams[0].splitlines() if line.split()[1] == "a"
@@ -278,7 +279,7 @@ def other_hints_alone(seed: int, work: Path) -> None:
 
 
 def cited_by(text: str) -> Set[int]:
-    """Identities in hints and imports, as far as lines are numbers."""
+    """The identities in hints and imports, as far as they are numbers."""
     found: Set[int] = set()
     for line in text.splitlines():
         words = line.split()
@@ -295,7 +296,8 @@ def deleted_by(text: str) -> Set[int]:
 
 
 def with_threads(seed: int, work: Path) -> None:
-    """No stream deletes a clause of its own that others cite, so threads have one report."""
+    """No stream deletes a clause of its own that others cite, so threads can give only one
+    report."""
     numbers = random.Random(f"{seed} threads")
     found = base(1 + seed % (BASES - 1))
     texts = with_a_fault(found.streams, numbers)
@@ -439,7 +441,7 @@ FAULTS = [
      "stream 2 (f2), line 1: no conflict\n" + ONE_FALSE + UNENDED + "       all literals are false "
      "in 2 (clause 2 of the formula), which isn't a hint of the line\n" + RIGHT
      + "stream 1 (f1), line 1: missing 6, of stream 2, whose line 1 is bad\n"
-     "stream 3 (f3), line 1: spelling, by itself: --all says why\n"),
+     "stream 3 (f3), line 1: spelling, for a reason of its own: --all says why\n"),
     ("a stream that is cut", ["5 0 6 0\n", "6 2 0 1"], "",
      "stream 2 (f2), line 1: truncated\n"
      "  why: the stream ends within this line, after 7 bytes: expected a digit or a space\n"
@@ -454,26 +456,26 @@ FAULTS = [
      + "stream 1 (f1), line 1: missing 6, of stream 2, whose line 1 is bad\n"),
     ("identity of the formula", ["4 2 0 1 2 0\n"], "",
      "stream 1 (f1), line 1: identity\n  derives  2\n"
-     "  why: 4 is of the formula, whose clauses are 1 to 4\n"
-     "       right here: 5, or after a gap 6, 7 and so on\n"),
+     "  why: 4 belongs to the formula, whose clauses are 1 to 4\n"
+     "       valid here: 5, or after a gap 6, 7 and so on\n"),
     ("identity of another stream", [FIRST + "8 2 0 1 2 0\n", ""], "",
      "stream 1 (f1), line 2: identity\n  derives  2\n"
      "  why: 8 belongs to stream 2: 2 streams take turns above 4\n"
-     "       right here: 7, or after a gap 9, 11 and so on\n"),
+     "       valid here: 7, or after a gap 9, 11 and so on\n"),
     ("swapped streams", ["6 2 0 1 2 0\n8 1 0 1 3 0\n", FIRST], "",
      "stream 1 (f1), line 1: identity\n  derives  2\n"
      "  why: 6 belongs to stream 2: 2 streams take turns above 4\n"
      "       all its identities belong to stream 2: are the streams in the solvers' order?\n"
-     "       right here: 5, or after a gap 7, 9 and so on\n"
-     "stream 2 (f2), line 1: identity, by itself: --all says why\n"),
+     "       valid here: 5, or after a gap 7, 9 and so on\n"
+     "stream 2 (f2), line 1: identity, for a reason of its own: --all says why\n"),
     ("swapped, but not all", ["6 2 0 1 2 0\n7 1 0 1 3 0\n", ""], "",
      "stream 1 (f1), line 1: identity\n  derives  2\n"
      "  why: 6 belongs to stream 2: 2 streams take turns above 4\n"
-     "       right here: 5, or after a gap 7, 9 and so on\n"),
+     "       valid here: 5, or after a gap 7, 9 and so on\n"),
     ("identity below the last", ["9 2 0 1 2 0\n7 2 0 1 2 0\n", ""], "",
      "stream 1 (f1), line 2: identity\n  derives  2\n"
      "  why: 7 isn't above 9, the identity of line 1\n"
-     "       right here: 11, or after a gap 13, 15 and so on\n"),
+     "       valid here: 11, or after a gap 13, 15 and so on\n"),
     ("identity beyond the last", ["5 2 0 1 2 0\n7 2 0 1 2 0\n", ""], "--lines 1",
      "stream 1 (f1), line 2: identity\n  derives  2\n"
      "  why: 7 is above 6, the last identity with --lines 1\n       --lines 2 would be enough\n"),
@@ -495,7 +497,8 @@ FAULTS = [
      "stream 1 (f1), line 1: identity\n  states   2\n"
      "  why: 9 is above 7, the last identity\n       --lines 5 would be enough\n"),
     ("literal", ["5 3 -4 0 1 0\n"], "", "stream 1 (f1), line 1: literal\n  derives  3 -4\n"
-     "  why: 2 literals are above 2, the variables of the formula's header: the first is 3\n"),
+     "  why: 2 literals are above 2, the number of variables in the formula's header: "
+     "the first is 3\n"),
     ("tautology", ["5 1 2 -1 0 1 0\n"], "", "stream 1 (f1), line 1: tautology\n  derives  1 2 -1\n"
      "  why: the clause has 1 and -1, so it is always true: leave the line out\n"),
     ("no room", [FIRST + "6 1 2 1 0 1 0\n7 1 0 3 5 0\n"], "--room 2",
@@ -538,7 +541,7 @@ FAULTS = [
      "  why: 7 belongs to stream 1: 2 streams take turns above 4\n"
      "       the identities of stream 2 go up by 3, as with 3 streams, but 2 are given: was one "
      "left out?\n"
-     "       right here: 6, or after a gap 8, 10 and so on\n"),
+     "       valid here: 6, or after a gap 8, 10 and so on\n"),
     ("an import that was dropped", ["1 d 2 0\n2 i -1 2 0\n"], "",
      "stream 1 (f1), line 2: dropped 2\n  states   -1 2\n"
      "  why: this stream deleted 2 in its line 1, for this stream only\n"),
@@ -557,7 +560,8 @@ def form(text: str, words: str, why: str, shown: str, place: int, work: Path) ->
 
 
 PLACE = "expected {1}, found {0}"
-# The line, the fault, the explanation, the bytes with ^ before the one that decides, its place.
+# The line, the fault, the explanation, the line's bytes with ^ before the deciding one, and the
+# place of that byte.
 FORMS = [
     ("5  2 0 1 2 0\n", "spelling", PLACE.format("a space", "a literal, 0, d or i"),
      "5 ^ 2 0 1 2 0", 3),
@@ -583,7 +587,7 @@ FORMS = [
     ("a\x0c\x04\0\n", "spelling", PLACE.format("'a'", "an identity"), "^a\\x0c\\x04\\x00", 1),
     ("5 \xff\n", "spelling", PLACE.format("byte 0xff", "a literal, 0, d or i"), "5 ^\\xff", 3),
     ("5 2 0 -2 3 0\n", "rat hint",
-     "a negative hint, of a RAT step, which lrupd doesn't check: switch off what makes such steps",
+     "a negative hint: a RAT step, which lrupd doesn't check; switch off what makes such steps",
      "5 2 0 ^-2 3 0", 7),
     ("5 2 0 1 2", "truncated",
      "the stream ends within this line, after 9 bytes: expected a digit or a space",
@@ -605,8 +609,8 @@ FORMS = [
 
 
 def fault(streams: Sequence[str], options: str, said: str, work: Path) -> None:
-    """Explains a fault; lrupd reports the same, with threads or --serial. It waits a moment for a
-    clause that never comes."""
+    """Explains a fault; lrupd reports the same, with threads or --serial, and waits only a moment
+    for a clause that never comes."""
     names = [written(text, work, f"f{number}").name for number, text in enumerate(streams, 1)]
     words = [*options.split(), written(FOUR, work), *names]
     done = explain(words, work)
@@ -624,8 +628,8 @@ def good(words: Sequence[object], work: Path) -> None:
 
 
 def in_rounds(number: int, work: Path) -> None:
-    """Two solvers in three rounds, with a fault in the last one, or in an earlier one, after which
-    no round comes."""
+    """Two solvers in three rounds, with a fault in the last round, or in an earlier round that no
+    round follows."""
     numbers = random.Random(f"{number} rounds")
     formula, streams = (example("pigeonhole.cnf"),
                         [example("pigeonhole-two.1"), example("pigeonhole-two.2")])
@@ -658,11 +662,12 @@ SAID_OF_CARRIED = (
     + row(2, "-> -1", "-1! -2F", of_formula(4)) + UNENDED + "       all literals are false in 1 "
     "(clause 3 of the formula), which isn't a hint of the line\n"
     "  a right chain: 3 2 1\n"
-    "round 2, stream 1 (d/round-2.stream-1), line 2: no conflict, by itself: --all says why\n")
+    "round 2, stream 1 (d/round-2.stream-1), line 2: no conflict, for a reason of its own: "
+    "--all says why\n")
 
 
 def carried(work: Path) -> None:
-    """A clause of the last round is described by its origin."""
+    """A clause that is carried over from the previous round is described by its origin."""
     for name, text in CARRIED.items():
         written(text, work, f"d/{name}")
     want(explain([written(FOUR, work), "d"], work), Ran(SAID_OF_CARRIED, "", BAD), "the messages")
@@ -677,7 +682,7 @@ WRONG_LINE = "for (size_t k = 1; k < level_zero.length; k++) PUSH(hints, level_z
 
 
 def emitter(work: Path) -> None:
-    """With its explanation applied each bad line becomes good, and nothing else changes."""
+    """Applying what is offered for each bad line leads to a good stream."""
     learn = (EXAMPLES / "solver" / "learn.c").read_text()
     want(learn.count(RIGHT_LINE), 1, f"how often learn.c has '{RIGHT_LINE}'")
     sources = shutil.copytree(EXAMPLES / "solver", work / "solver",
@@ -729,7 +734,7 @@ def while_rewritten(seed: int, work: Path) -> None:
 
 
 def refuses(words: str, status: int, said: str, work: Path) -> None:
-    """In a folder with a formula f, a stream s, a pipe p, a folder d without rounds, and a
+    """Runs in a folder with a formula f, a stream s, a pipe p, a folder d without rounds, and a
     compressed formula z."""
     for name, text in {"f": FOUR.encode(), "s": FIRST.encode(), "z": COMPRESSED["zcat"]}.items():
         written(text, work, name)
@@ -751,7 +756,7 @@ REFUSED = [
     ("f" + " s" * 65, 2, "error: more than 64 streams, from s"),
     ("f d s", 1, "d: a folder has to be the only input"),
     ("f d", 1, "d has no record: lrup-solve --proofs makes one"),
-    ("f p", 1, "p: not a regular file, but it is read more than once"),
+    ("f p", 1, "p: has to be a regular file, since it is read more than once"),
     ("f none", 1, "none: No such file or directory"),
     ("none s", 1, "none: No such file or directory"),
     ("z s", 1, "z: compressed: unpack it with zcat"),

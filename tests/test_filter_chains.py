@@ -1,12 +1,12 @@
 """Runs the filter, and lrup-solve, on formulas with long chains, and lrupd on the output.
 
-Chains of 10 to 1,000,000 steps, of units and of one failed literal, and the other formulas of
-bench/solve/easy.py: lrupd has to accept each stream to its end, with 'unsatisfiable', and its bytes
-and lines have to be linear in the formula. Proofs are written by hand, or by CaDiCaL if it is on
-the PATH; some have more hints than a line may have, clauses with as many literals, root units that
-chains need in the worst order, and streams without identities to spare. A build that allows six
-hints in a line, with -fsanitize=address,undefined if the compiler can, splits nearly all chains of
-recorded proofs and of random formulas, also in rounds."""
+There are chains of 10 to 1,000,000 steps, of units and of one failed literal, and the other
+formulas of bench/solve/easy.py. lrupd has to accept each stream to its end, with 'unsatisfiable',
+and the stream's bytes and lines have to be linear in the formula. Proofs are written by hand, or by
+CaDiCaL if it is on the PATH. Some have chains of more hints than a line may have, clauses with that
+many literals, root units that chains need in the worst order, or streams without identities to
+spare. A build that allows six hints in a line, with -fsanitize=address,undefined if the compiler
+can, splits nearly all chains of recorded proofs and of random formulas, also in rounds."""
 import functools
 import os
 import random
@@ -40,7 +40,7 @@ def longest_line(text: str) -> int:
 
 
 def check(formula: Path, text: str, work: Path, stream: int = 1, streams: int = 1) -> None:
-    """lrupd accepts each line of the stream, in its place among empty streams, and the formula is
+    """lrupd accepts each line of this stream, the others being empty, and the formula is
     refuted."""
     added = sum(" d " not in line for line in text.splitlines())
     paths = [written(text, work, "stream") if number == stream else "/dev/null"
@@ -60,7 +60,7 @@ def filtered(words: Sequence[object], given: Text, program: Path = FILTER) -> st
 
 
 def want_linear(text: str, formula: Path, proof_lines: int, steps: int) -> None:
-    """No more bytes than the formula has, and few lines that the proof doesn't have."""
+    """The stream has few bytes more than the formula, and few lines more than the proof."""
     most = (formula.stat().st_size + 4096, proof_lines + 2 + steps // 16384)
     found = (len(text), len(text.splitlines()))
     want([one <= other for one, other in zip(found, most)], [True, True],
@@ -124,7 +124,7 @@ AFTER = "{0} 1 2 0\n{0} 1 -2 0\n{0} -1 2 0\n{0} -1 -2 0\n"
 
 def units_needed(steps: int, order: str, work: Path) -> None:
     """Units from variable 3 on, each implying the next, without a contradiction. The proof needs
-    the last one first, or one in between."""
+    the last unit first, or a unit in between."""
     last = steps + 2
     chain = "".join(f"-{variable} {variable + 1} 0\n" for variable in range(3, last))
     formula = written(f"p cnf {last} {steps + 4}\n3 0\n{chain}{AFTER.format(-last)}", work)
@@ -138,8 +138,8 @@ def units_needed(steps: int, order: str, work: Path) -> None:
 
 
 def circuit(gates: Iterable[Tuple[int, int]], given: Sequence[int], first: int) -> List[List[int]]:
-    """Exclusive ors, whose variables count from `first` on. If the given variables are true, the
-    value of the last gate leads to a conflict."""
+    """Exclusive ors, whose variables are numbered from `first` on. If the given variables are true,
+    the value of the last gate leads to a conflict."""
     clauses, value, variable = [], dict.fromkeys(given, True), first
     for variable, (one, other) in enumerate(gates, first):
         value[variable] = value[one] != value[other]
@@ -166,8 +166,8 @@ def clause_of_many(count: int, gates: int, work: Path) -> None:
 
 
 def many_at_once(count: int, work: Path) -> None:
-    """One literal implies many others, and a tree of gates each derives one from two: more are
-    needed at once than a line may have."""
+    """One literal implies many others, and each gate of a tree derives one literal from two: more
+    literals are needed at once than a line may have hints."""
     inputs = range(2, count + 2)
     first, leaves = count + 2, 2 * count + 1
     gates = [(variable, variable + 1) for variable in inputs[:-1]] + [(inputs[-1], inputs[0])]
@@ -238,14 +238,14 @@ def in_rounds(formula: Path, proof: Text, form: str, memory: str, least: int, wo
 
 
 def of_stream(name: str, stream: str, form: str, check: Callable[..., None], *more: Any) -> None:
-    """This check of a recorded stream as a proof in another form."""
+    """Runs this check on a recorded stream, as a proof in another form."""
     word, make_proof = FORMS[form]
     proof = b"".join(make_proof(read_formula(example(name)), read_steps(example(stream))))
     check(example(name), proof, word, *more)
 
 
 def random_formula(seed: int) -> str:
-    """A formula with units, and with clauses that are long for a line."""
+    """A formula with units, and with clauses too long for a line of so few hints."""
     numbers = random.Random(seed)
     variables = numbers.randrange(8, 50)
     clauses = random_clauses(numbers, variables, round(numbers.uniform(3, 5.5) * variables),

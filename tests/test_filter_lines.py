@@ -1,5 +1,5 @@
-"""Runs the filter on proofs of a few lines: what comes out, which the program accepts, and what is
-refused, with its line or byte."""
+"""Runs the filter on proofs of a few lines: what it writes, which the program accepts, and what it
+refuses, with the line or byte."""
 import random
 from pathlib import Path
 from typing import List
@@ -54,8 +54,8 @@ def clause_twice(work: Path) -> None:
 
 
 def far_names(program: str, count: int, work: Path) -> None:
-    """Names of FRAT that are large for their number, given and deleted in any order: each clause is
-    found by its name."""
+    """Few but large identities of FRAT, added and deleted in any order: each clause is found by its
+    identity."""
     formula, numbers, names, proof = written(FOUR, work), random.Random(count), [], TOLD
     for name in numbers.sample(range(10 ** 9, 10 ** 12), count):
         proof += f"a {name} 1 2 0 l 20 0\n"

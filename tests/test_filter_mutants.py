@@ -1,14 +1,15 @@
 """Runs a sanitized build of the filter on mutated proofs, and the program on the output.
 
-10,000 mutants, or --count, from number --first on; a number always gives the same mutant. In small
-proofs of each form, bytes are flipped, cut off, inserted and removed, steps doubled, swapped and
-left out, numbers made huge and words made letters. So are some formulas, and other streams; the
-filter refuses exactly the formulas that the program refuses. The filter is built with
--fsanitize=address,undefined, by clang, $CC or cc, and checks its invariants. It has to end soon
-with status 0 and no message, or with status 1 and one line on standard error. Its output has to be
-lines of a stream, by the grammar here; and the program, which reads each stream that isn't empty,
-has to accept it to its end, except for identities beyond --lines and clauses of streams that aren't
-there. A mutant that fails is kept in tools/exact/out/mutants."""
+There are 10,000 (or --count) mutants, from number --first on; a number always gives the same
+mutant. In small proofs of each form, bytes are flipped, cut off, inserted and removed, steps
+doubled, swapped and left out, numbers made huge and words replaced by letters. Some formulas, and
+other streams, are mutated as well; the filter refuses exactly the formulas that the program
+refuses. The filter is built with -fsanitize=address,undefined, by clang, $CC or cc, and checks its
+invariants. It has to end soon with status 0 and no message, or with status 1 and one line on
+standard error. Its output has to be lines of a stream, by the grammar here; and the program, which
+reads each stream that isn't empty, has to accept it to its end, except for identities beyond
+--lines and clauses of streams that aren't there. A mutant that fails is kept in
+tools/exact/out/mutants."""
 import functools
 import os
 import random
@@ -66,7 +67,7 @@ def copies(formula: List[Clause]) -> List[Step]:
 
 
 def backwards(step: Step) -> Step:
-    """The proof with hints in the wrong order."""
+    """The step with its hints in the wrong order."""
     return step._replace(hints=step.hints[::-1])
 
 
@@ -142,7 +143,7 @@ def mutated_bytes(proof: bytes, binary: bool, numbers: random.Random) -> bytes:
 
 
 class Mutant:
-    """The arguments of its command, with the files that they name."""
+    """The arguments of the filter's command, and the files that they name."""
 
     def __init__(self, number: int, proofs: Tuple[List[Base], List[Base]], work: Path) -> None:
         numbers = random.Random(number)

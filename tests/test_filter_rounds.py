@@ -1,12 +1,12 @@
 """Runs the filter with --rounds beside lrupd --rounds, with rows so small that proofs take many
 rounds.
 
-Recorded proofs in each form, and those of CaDiCaL and CryptoMiniSat if they are on the PATH: each
-run has to end with status 0, with as many additions as the proof has, and leave only an empty file.
-Then proofs that are truncated, have a wrong line, or continue after the empty clause; formulas
-without clauses, or with no room in a row; folders that aren't empty; and either side killed at any
-time. Neither may wait for the other forever. The filter is also built for tests, with
--fsanitize=address,undefined if the compiler can."""
+There are recorded proofs in each form, and proofs of CaDiCaL and CryptoMiniSat if these are on the
+PATH. Each run has to end with status 0, with as many additions as the proof has, and leave only an
+empty file. Then come proofs that are truncated, have a wrong line, or continue after the empty
+clause; formulas without clauses, or with no room in a row; folders that aren't empty; and either
+side killed at any time. Neither may wait for the other forever. The filter is also built for tests,
+with -fsanitize=address,undefined if the compiler can."""
 import contextlib
 import functools
 import os
@@ -30,13 +30,13 @@ from rounds import last
 from solving import in_place_of_lrupd, of_process
 
 Text = Union[str, bytes]
-WORDS = 4000    # of lrupd's largest row, in a build
+WORDS = 4000    # words of lrupd's largest row, as one build assumes
 GONE = "the reader of standard output, which runs lrupd, ended before it read "
 
 
 class Checked(NamedTuple):
-    """The report of each round's stream, lrupd's report, its messages and status; the filter's
-    messages and status."""
+    """How each round's stream ended; lrupd's report, messages and status; the filter's messages and
+    status."""
     rounds: List[str]
     out: str
     said: str
@@ -101,7 +101,8 @@ def left(work: Path) -> List[str]:
 
 
 def want_refuted(checked: Checked, least: int, most: int, work: Path) -> None:
-    """The formula is refuted, in that many rounds. The last file is what lrupd would have saved."""
+    """The formula is refuted, in `least` to `most` rounds. The last file is what lrupd would have
+    saved."""
     count = len(checked.rounds)
     want((checked.ends(), checked[2:]), ({"ended"}, ("", 0, "", 0)), "the ends, and what is said")
     want((least <= count <= most, left(work)), (True, [f"round-{count + 1}.cnf"]),
@@ -142,8 +143,8 @@ def proof_of(formula: str, stream: str, form: str) -> Tuple[bytes, str, int]:
 
 
 def want_added(checked: Checked, count: int, form: str) -> None:
-    """As many additions as the proof has; without hints the empty clause comes as soon as unit
-    propagation finds it."""
+    """There are as many additions as in the proof, or fewer without hints, since the filter adds
+    the empty clause as soon as unit propagation finds a conflict."""
     is_whole = "LRAT" in form or form == "FRAT with hints"
     assert (count if is_whole else 1) <= checked.added() <= count, (
         f"{checked.added()} additions of all rounds, and the proof has {count}")
@@ -214,9 +215,9 @@ def behind(work: Path) -> None:
 
 
 def rows_grow(work: Path) -> None:
-    """The first row has 2^20 words, for clauses of 16 literals; each later one is twice as large,
-    for clauses as long as those before, 200 at most. Its lines would suffice for clauses of half
-    the length."""
+    """The first row has 2^20 words, for clauses of 16 literals; the next is twice as large, for
+    clauses as long as the earlier ones, but at most 200. A row has enough lines for clauses of half
+    that length."""
     literals = list(range(3, 1003))
     formula = written(dimacs(1002, [[1, 2], [-1, 2], [1, -2], [-1, -2], literals]), work)
     text = " ".join(map(str, literals))
@@ -241,7 +242,7 @@ def few_lines(formula: str, proof: str, status: int, said: str, work: Path) -> N
 
 
 def cut(parts: int, form: str, work: Path) -> None:
-    """Everything whole is checked; the last round has status 3."""
+    """All whole steps are checked; the last round has status 3."""
     proof, word, count = proof_of("bmc.cnf", "bmc.lrup", form)
     whole = proof[:len(proof) * parts // 10]
     checked = check(example("bmc.cnf"), whole, ["--memory", "48K", "--format", word], work)
@@ -256,7 +257,7 @@ def cut(parts: int, form: str, work: Path) -> None:
 
 
 def wrong(form: str, at: int, work: Path) -> None:
-    """A step in the middle doesn't follow: the message has its place in the whole proof."""
+    """A step in the middle doesn't follow: the message has that step's place in the whole proof."""
     word, make = FORMS[form]
     formula, steps = read_formula(example("bmc.cnf")), tidied(read_steps(example("bmc.lrup")))
     before = make(formula, steps[:at])
@@ -280,7 +281,8 @@ def largest_row() -> Path:
 
 
 def no_room(work: Path) -> None:
-    """There is no room at the start, or for carried clauses, only if lrupd makes no larger row."""
+    """If lrupd can't make a larger row, there may be no room for the formula or for carried
+    clauses."""
     said = "leave{} no room in a row of " + f"{8 * WORDS} bytes\n"
     checked = check(generated("random 400 1", work), "", [], work, largest_row())
     want((checked, left(work)),
@@ -327,7 +329,7 @@ def in_the_way(name: str, work: Path) -> None:
 
 
 def beside_others(work: Path) -> None:
-    """A folder that exists, with other files, one of which is the formula."""
+    """The folder exists and has other files, one of which is the formula."""
     (work / "d").mkdir()
     formula = written(FOUR, work / "d", "formula of round-1")
     checked = check(formula, "2 0\n0\n", [], work)
@@ -400,8 +402,8 @@ def without_errors(closing: str, work: Path) -> None:
 
 
 def locked(work: Path) -> None:
-    """Another run locks the folder until it ends, however it ends; between rounds, too, and by
-    another name."""
+    """A run locks its folder until it ends, in whatever way, also between rounds, and against runs
+    that use another name for the folder."""
     os.symlink("d", work / "link")
     with in_a_round(work) as sides:
         for name in ("d", "link"):
@@ -456,8 +458,8 @@ def gone(number: int) -> str:
 
 
 def lrupd_ends(body: str, status: int, awaited: int, work: Path) -> None:
-    """lrupd ends in round 1, for its own reason. The filter notices at the FIFO of that round or
-    the next one."""
+    """lrupd ends in round 1, for a reason of its own. The filter notices at the FIFO of that round
+    or the next one."""
     proof, word, _ = proof_of("bmc.cnf", "bmc.lrup", "binary DRAT")
     lrupd = in_place_of_lrupd(f"for stream; do :; done; {body}", work)
     checked = check(example("bmc.cnf"), proof, ["--memory", "48K", "--format", word],
@@ -531,7 +533,7 @@ def filter_killed(by: int, work: Path) -> None:
 
 
 def ended_before_it_begins(by: int, work: Path) -> None:
-    """A signal while the filter waits for lrupd to start."""
+    """A signal ends the filter while it waits for lrupd to start."""
     with filtering([example("bmc.cnf"), "/dev/null"], work) as running:
         assert running.stdout
         running.stdout.readline()

@@ -1,10 +1,11 @@
 """Runs the filter on proofs without exact hints, and the program on the output.
 
 The recorded streams of examples/, with their hints shuffled, doubled and missing, with comments and
-extra spaces, have to become good streams with as many additions. So have streams of several solvers
-with an import for each clause of another stream that they cite, the recorded streams in each other
-form, and CaDiCaL's DRAT text in tests/proofs. Then limits from both sides, truncated proofs, pipes
-that stay open, and outputs that fail. Proofs of a few lines are in test_filter_lines.py."""
+extra spaces, have to become good streams with as many additions. The same goes for streams of
+several solvers with an import of each clause that they cite from another stream, for the recorded
+streams in each other form, and for CaDiCaL's DRAT text in tests/proofs. Then come limits from both
+sides, truncated proofs, pipes that stay open, and outputs that fail. Proofs of a few lines are in
+test_filter_lines.py."""
 import os
 import random
 import resource
@@ -52,8 +53,8 @@ def with_imports(path: Path, others: Iterable[Path], seed: str, out: Path) -> No
 
 
 def mangle(path: Path, seed: str, keep: Callable[[int], bool], out: Path) -> None:
-    """Hints shuffled and some doubled, a third of the lines without one hint or without all that
-    need not be kept; and extra spaces."""
+    """Shuffles hints, doubles some, and adds spaces. A third of the lines lose one hint, or all,
+    except for those to be kept."""
     numbers = random.Random(seed)
     with open(path) as stream, open(out, "w") as file:
         file.write("c a comment\n\n")
@@ -265,7 +266,8 @@ def parts_of(form: str) -> Tuple[List[bytes], bytes]:
 
 
 def is_whole(form: str, proof: bytes, length: int) -> bool:
-    """Whether a step of text ends there, perhaps without LF; FRAT's hints may be missing."""
+    """Whether a step of a text form ends at this length, perhaps without LF; FRAT's hints may be
+    missing."""
     line = proof[:length].rsplit(b"\n", 1)[-1]
     without_hints = form.startswith("FRAT") and line.startswith(b"a ") and line.split()[-1] == b"0"
     return not line or proof[length:length + 1] == b"\n" or without_hints

@@ -2,8 +2,8 @@
 
 lrupd decides the verdict; the tests check which arguments lrupd gets, that its report and
 status are passed on, and which files are left. A file that replaces a round's formula changes
-nothing. Then wrong scripts, each an edit of the right one: a row has to notice. Expected results
-follow from the clauses, by the rules of rounds."""
+nothing. Then come wrong scripts, each an edit of the right one: for each, some row has to fail.
+Expected results follow from the clauses, by the rules of rounds."""
 import os
 import re
 import shutil
@@ -21,7 +21,7 @@ SHELLS = [shell for shell in ("dash", "bash", "busybox") if shutil.which(shell)]
 ROUNDS, FOUND, SAVED = [streams for streams, in ONE.texts], ONE.said[0][0], ONE.saved
 REFUTED = last(3, ONE.said[2], 0)
 BAD, BAD_SAID = "5 1 0 0\n", "0 added, 0 deleted, bad line 1 (no conflict)"
-OTHER = "p cnf 1 2\n1 0\n-1 0\n"        # streams after another formula refute it
+OTHER = "p cnf 1 2\n1 0\n-1 0\n"        # another formula, which other streams refute
 REFUTING = "5 2 0 1 2 0\n7 0 5 3 4 0\n"
 USAGE = ("usage: lrup-chain [--keep] [--lrupd PATH] [--tries N] [--lines N] [--room N] [--assume "
          "FILE] [--serial] [--watch] FORMULA DIR\n       lrup-chain --help | --version\n")
@@ -120,7 +120,7 @@ def sizes() -> Iterator[Named]:
 
 
 def refused(text: str, shell: str, script: Path, work: Path) -> None:
-    """If anything but two numbers follows the first, lrupd refuses it."""
+    """If anything but two numbers follows the number of streams, lrupd refuses the sizes."""
     lay(work, others={"d/round-1.sizes": text, "d/round-1.stream-2": "", "x": ""})
     done = run([shell, script, "--lrupd", PROGRAM, "formula", "d"], cwd=work)
     want((done.out, done.status, (work / "d/round-2.cnf").exists()), ("", 2, False),
@@ -174,7 +174,8 @@ PACKERS = {"xz": "xz", "gz": "gzip", "zst": "zstd"}
 
 
 def lay_packed(forms: Sequence[str], work: Path) -> List[str]:
-    """Three rounds, whose streams are compressed in different forms; the names in the folder."""
+    """Writes three rounds, with streams compressed in different forms; returns the names in the
+    folder."""
     lay(work)
     for number, form in enumerate(forms, 1):
         needs(PACKERS[form])
@@ -212,7 +213,7 @@ def not_unpacked(shell: str, script: Path, work: Path) -> None:
 
 
 def packed_and_ended(shell: str, script: Path, work: Path) -> None:
-    """A signal while lrupd waits: no pipe and no process is left."""
+    """A signal ends the run while lrupd waits: no pipe and no process is left."""
     names = lay_packed(["xz", "gz"], work)
     slow = written("#!/bin/sh\ntouch begun\nexec sleep 1000\n", work, "slow")
     slow.chmod(0o755)
@@ -349,9 +350,9 @@ def make_pipes(folder: Path, number: int) -> List[Path]:
 
 
 def live(shell: str, script: Path, work: Path) -> None:
-    """Before a round's pipes are closed, there is one for the sizes of the next round. When this
-    pipe is opened, the round's formula is whole; it is removed, and the round's pipes are made,
-    before the sizes are written."""
+    """Before a round's pipes are closed, the pipe for the next round's sizes is made. Once lrupd
+    has opened that pipe, the next round's formula is whole. That formula is removed, and the next
+    round's pipes are made, before the sizes are written."""
     folder, seen = work / "d", {}
     folder.mkdir()
     pipes = make_pipes(folder, 1)

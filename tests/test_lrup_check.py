@@ -90,7 +90,7 @@ def by_hand(text: str, proof: str, work: Path) -> None:
 
 
 def streams(order: Sequence[int], work: Path) -> None:
-    """Streams of four solvers, which cite each other, in the solvers' order."""
+    """The streams of four solvers, which cite each other, given in this order."""
     want_proved(check([example("bmc.cnf"), *(EXAMPLES / BMC[number - 1] for number in order)]))
 
 
@@ -178,7 +178,7 @@ def misused(words: Sequence[str], said: str, work: Path) -> None:
 
 
 def no_writer(work: Path) -> None:
-    """A pipe without a writer takes no longer than --time says."""
+    """With a pipe that has no writer, the run ends after --time."""
     formula, pipe = written(FOUR, work), work / "pipe"
     os.mkfifo(pipe)
     begun = time.monotonic()
@@ -226,8 +226,8 @@ FORMS = ["cadical -q formula proof", "cadical -q --no-binary formula proof",
 NONE = "no conflict by unit propagation: the clause "
 RAT, NOT_RAT = (" is a RAT step, which lrupd doesn't check",
                 " doesn't follow from those that weren't deleted, and it isn't RAT")
-DELETED, NOT_DELETED = (". It follows with clauses that were deleted before it",
-                        ". Nor does it follow with those that were deleted")
+DELETED, NOT_DELETED = (". It would follow if no clause had been deleted before it",
+                        ". Nor would it follow if none had been deleted")
 ROWS: List[Row] = [
     *((f"{command}, {name}", of_solver, command, name, "file") for command in FORMS
       for name in ("bmc.cnf", "random 150 1")),

@@ -1,9 +1,10 @@
 """Runs lrup-solve with the program, and under failures.
 
-Known formulas with each status, 300 random ones with early inprocessing, one to eight engines; each
-child killed in turn, signals, a full disk, closed outputs. In a build for tests the rules of
-sharing are left out one by one: each omission has to be noticed. `make` builds both programs, with
---flags for the compilers; if it doesn't find CaDiCaL's library, everything is skipped."""
+One to eight engines solve known formulas with each status, and 300 random ones with early
+inprocessing. Each child is killed in turn; there are signals, a full disk and closed outputs. In a
+build for tests the rules of sharing are left out one by one: each omission has to be noticed.
+`make` builds both programs, with --flags for the compilers; if it doesn't find CaDiCaL's library,
+everything is skipped."""
 import fcntl
 import os
 import pty
@@ -56,7 +57,7 @@ def without_a_clause(work: Path) -> None:
 
 
 def randomly(seed: int, work: Path) -> None:
-    """Any answer but 'unknown': an assignment is evaluated here, and a kept proof is checked
+    """The answer isn't 'unknown': an assignment is evaluated here, and a kept proof is checked
     again."""
     numbers = random.Random(f"{seed} engines")
     formula = written(random_formula(seed), work)
@@ -84,8 +85,8 @@ def solved_alone(words: Sequence[object], **how: Any) -> int:
 
 
 def unordered(text: str, seed: int) -> str:
-    """The clauses, and each one's literals, in another order, some doubled, and some clauses that
-    are always true."""
+    """The clauses, and the literals of each clause, in another order, some of them doubled, and
+    some clauses that are always true."""
     numbers, (header, *lines) = random.Random(seed), text.splitlines()
     clauses = [[int(word) for word in line.split()[:-1]] for line in lines]
     clauses += [[1, *numbers.choice(clauses), -1] for _ in range(5)] + numbers.sample(clauses, 5)
@@ -108,8 +109,8 @@ def as_alone(words: str, seed: int, work: Path) -> None:
 
 
 def holes(work: Path) -> None:
-    """As many pigeonholes as pigeons, which a lucky assignment satisfies. CaDiCaL looks for it only
-    once."""
+    """As many pigeonholes as pigeons, which a lucky assignment satisfies. CaDiCaL tries lucky
+    assignments only once."""
     names = [[pigeon * 40 + hole + 1 for pigeon in range(40)] for hole in range(40)]
     clauses = [list(pigeon) for pigeon in zip(*names)] + [
         [-one, -other] for hole in names for one in hole for other in hole if one < other]
@@ -202,8 +203,8 @@ def dealt(answer: Answer) -> List[int]:
 
 
 def cubes(words: str, status: int, engines: int, work: Path) -> None:
-    """Engines divide the formula, and one that satisfies its part satisfies the formula. If they
-    answer before any has a cube, the run is tried again."""
+    """Engines divide the formula, and an engine that satisfies its part satisfies the formula. If
+    there is an answer before any engine has a cube, the run is tried again."""
     formula = generated(words, work)
     for _ in range(TRIES):
         answer = solve(["-v", "-j", engines, formula], tested={"SLICE": 20})
@@ -215,7 +216,7 @@ def cubes(words: str, status: int, engines: int, work: Path) -> None:
 
 
 def randomly_cubed(seed: int, work: Path) -> None:
-    """Any answer but 'unknown', as in `randomly`, in rounds and with assumptions."""
+    """The answer isn't 'unknown', as in `randomly`, in rounds and with assumptions."""
     numbers = random.Random(f"{seed} cubes")
     size = numbers.randrange(60, 150)
     formula = written(
@@ -312,8 +313,8 @@ def front_killed(work: Path) -> None:
 
 
 def gives_way(work: Path) -> None:
-    """If memory is short, the system kills engines and filters first, by this number: 1000 is the
-    most, and nobody lowers it."""
+    """If memory is short, the system kills engines and filters first: their oom_score_adj is 1000,
+    the most there is, and nobody lowers it."""
     own = of_process(os.getpid(), "oom_score_adj")
     with Running(generated("pigeons 11", work), work) as running:
         until("engines and filters give way",
@@ -335,7 +336,7 @@ def time_is_up(work: Path) -> None:
 
 
 def full(words: List[str], out: str, most: int, cause: str, work: Path) -> None:
-    """A full disk for the answer; for the streams, a limit on the size of files."""
+    """The disk is full for the answer; the streams meet a limit on the size of files."""
     if not os.path.exists("/dev/full"):
         pytest.skip("there is no /dev/full")
     limit = lambda: resource.setrlimit(resource.RLIMIT_FSIZE, (most, most)) if most else None
@@ -436,7 +437,8 @@ def large_formula(words: List[str], work: Path) -> None:
             running.terminate()
         out = running.communicate(timeout=LIMIT)[0]
         lasts = time.monotonic() - begun
-    why = "time is up, but the formula isn't read yet" if words else "ended by a signal: Terminated"
+    why = ("time is up, but the formula hasn't been read yet" if words
+           else "ended by a signal: Terminated")
     want((out, running.returncode),
          (f"c {why}\ns UNKNOWN\n", 0 if words else -signal.SIGTERM), "the end")
     want(lasts < 4, True, f"whether it ended soon, after {lasts} seconds")
@@ -485,7 +487,7 @@ def miter(name: str, change: Optional[Tuple[str, str]], status: int, work: Path)
 
 
 def undefined(one: str, other: str, status: int, work: Path) -> None:
-    """A bit that is x, or has no driver, differs from any other."""
+    """A bit that is x, or has no driver, differs from any other bit."""
     needs("yosys")
     ports = "(input a, output [1:0] z); wire w; assign z ="
     text = f"module one{ports} {one}; endmodule\nmodule other{ports} {other}; endmodule\n"
@@ -501,7 +503,7 @@ def undefined(one: str, other: str, status: int, work: Path) -> None:
 
 
 def by_model_checking(work: Path) -> None:
-    """Names with spaces; the queue's seventh step is bad if it is never full."""
+    """Names have spaces; the queue's seventh step is bad if the queue is never full."""
     needs("yosys")
     fifo = (EXAMPLES / "fifo" / "fifo.v").read_text()
     file = written(fifo.replace("push && !full", "push"), work, "a fifo.v")
@@ -531,8 +533,9 @@ def options_listed(work: Path) -> None:
 
 def rests_on(what: str, count: int, found: str, variables: Tuple[int, int], early: str,
              work: Path) -> None:
-    """Runs that many formulas, with the rule and without; more if none of them broke, which depends
-    on timing. Without it a stream waits a second, not a minute, for a clause that never comes."""
+    """Runs that many formulas, with the rule and without, and more if no run without it broke,
+    which depends on timing. Without the rule a stream waits a second, not a minute, for a clause
+    that never comes."""
     seen = {True: 0, False: 0}
     for seed in range(10 * count):
         numbers = random.Random(seed)
@@ -555,8 +558,8 @@ def rests_on(what: str, count: int, found: str, variables: Tuple[int, int], earl
 
 
 def published_late(work: Path) -> None:
-    """The filter of engine 1 dies with a clause in its buffer that it has given away: no one may
-    have seen it."""
+    """The filter of engine 1 dies after giving away a clause that is still in its buffer: nobody
+    may have seen that clause."""
     broke = 0
     for seed in range(120):
         formula = generated(f"random 150 {seed}", work)

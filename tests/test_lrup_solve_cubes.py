@@ -1,8 +1,8 @@
 """Runs lrup-solve --cubes FILE: cubes that cover a formula or don't, that overlap or contradict,
 and wrong files.
 
-One to four engines, rounds, assumptions, an engine killed; random formulas with random cubes; and
-the example. Cubes aren't trusted: each answer is the formula's."""
+There are one to four engines, rounds, assumptions and a killed engine; random formulas with random
+cubes; and the example. Cubes aren't trusted: each answer has to be right for the formula."""
 import itertools
 import random
 import re
@@ -37,7 +37,7 @@ def refuted(answer: Answer) -> List[int]:
 
 
 def taken(answer: Answer) -> List[int]:
-    """Cubes that were dealt out, and handed on."""
+    """How many cubes were dealt out, and how many handed on."""
     found = [re.fullmatch(r"cubes: ([\d,]+) dealt out, [\d,]+ refuted, ([\d,]+) of lost "
                           r"engines handed on", line) for line in answer.comments]
     return [int(number.replace(",", "")) for one in found if one for number in one.groups()]
@@ -74,7 +74,7 @@ def assuming(engines: int, work: Path) -> None:
 
 
 def randomly(seed: int, work: Path) -> None:
-    """Any answer but 'unknown', with cubes of any kind: an assignment is evaluated here, and a
+    """The answer isn't 'unknown', with cubes of any kind: an assignment is evaluated here, and a
     record is checked again."""
     numbers = random.Random(f"{seed} cubes of a file")
     size = numbers.randrange(60, 150)

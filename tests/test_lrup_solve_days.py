@@ -10,7 +10,7 @@ the record's command and by the LRAT text that lrup-trim makes.
 
 --seed, 1 by default, determines the formulas and the options; much of the rest depends on timing.
 With --minutes larger formulas are solved, from this seed and those after it, until that time has
-passed; otherwise one row of each kind, in less than a minute."""
+passed; otherwise there is one row of each kind, which takes less than a minute."""
 import contextlib
 import os
 import random
@@ -110,8 +110,8 @@ class Chain:
             yield running
 
     def killed(self, pause: Optional[float], before: Callable[[], None] = lambda: None) -> Answer:
-        """A run in which a process is killed after each pause, or none if there is no `pause`. No
-        saved round may be lost."""
+        """A run in which a process is killed after each pause; without `pause` none is. No saved
+        round may be lost."""
         saved, names = saved_rounds(self.kept), []
         with self.begun(before) as running:
             while running.poll() is None:
@@ -165,7 +165,7 @@ class Chain:
                  f"the status {answer.status} of\n{answer.out}{answer.said}")
             return False
         status = {line: number for number, line in ANSWERS.items()}[answer.answers[0]]
-        if answer.status == -signal.SIGKILL:        # the front had said it by then
+        if answer.status == -signal.SIGKILL:        # the front had printed the answer by then
             return False
         answer.said = ""        # an engine's last words
         want_answer(answer, status, self.formula)
@@ -247,7 +247,8 @@ def of_another(chain: Chain) -> None:
 
 @contextlib.contextmanager
 def disk(place: Path) -> Iterator[Callable[[int], None]]:
-    """Mounts a file system of its own there; the result sets its size in kilobytes."""
+    """Mounts a separate file system there; the function that it yields sets the size in
+    kilobytes."""
     def sized(kilobytes: int, how: str = "remount,") -> bool:
         return run(["mount", "-t", "tmpfs", "-o", f"{how}size={kilobytes}k", "none",
                     place]).status == 0

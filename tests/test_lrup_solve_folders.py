@@ -15,7 +15,7 @@ from solving import (FOR_TESTS, PROGRAM, SOLVE, Answer, before_lrupd, children_o
 
 
 def open_to_others(mode: int, taken: bool, work: Path) -> None:
-    """TMPDIR, by the rule for --proofs."""
+    """The rule for the folder of --proofs holds for TMPDIR, too."""
     files = work / "files"
     files.mkdir()
     files.chmod(mode)
@@ -29,8 +29,8 @@ def open_to_others(mode: int, taken: bool, work: Path) -> None:
 
 
 def another_in_place(ends: int, work: Path) -> None:
-    """If another folder has the name at the end, it isn't removed, nor the target of a link in the
-    folder; the run's own files are."""
+    """If another folder has the temporary folder's name at the end, it isn't removed, nor is the
+    target of a link in the temporary folder; the run's own files are."""
     files, mine = work / "files", written("mine", work / "mine", "mine")
     files.mkdir()
     with started(command(["-j", "1", generated("pigeons 11", work)]),

@@ -22,7 +22,7 @@ from solving import (LRUP_SOLVE, PROGRAM, SOLVE, Answer, before_lrupd, in_place_
 
 FRONT = ROOT / "tools" / "solve" / "front" / "front.c"
 def hostile(body: str, wanted: str, words: List[str], text: str, work: Path) -> None:
-    """The answer is this one; if it is a status, there is no answer."""
+    """The answer is `wanted`; if that is a status, there is no answer."""
     answer = run_with(body, words, text, work)
     if wanted.isdigit():
         return want((answer.answers, answer.status), ([], int(wanted)),
@@ -85,7 +85,8 @@ def dies_at_each_moment(number: int, work: Path) -> None:
 
 
 def expects(body: str, expected: str, line: str, status: int, text: str, work: Path) -> None:
-    """Only the printed line decides: 0 if it is the expected one, otherwise 1, with a message."""
+    """Only the printed line decides: the status is 0 if it is the expected line, otherwise 1, with
+    a message."""
     words = (["--assume", str(written("-2 0\n", work, "cube"))]
              if line.endswith("ASSUMPTIONS") else [])
     answer = run_with(body, ["--expect", expected, *words], text, work)
@@ -123,8 +124,8 @@ def never_began(words: List[str], work: Path) -> None:
 
 
 def without_lines(work: Path) -> None:
-    """Comments are printed one by one, without control bytes, and cut at a block's end; not with
-    -q."""
+    """Comments are printed one by one, without control bytes, and cut at a block's end; with -q
+    none is printed."""
     body = r"""say("c one\x1b[2J\ns UNSATISFIABLE\r\x07\x00two")
 say("c s UNSATISFIABLE")
 say("s UNSATISFIABLE\nv +++\nmodel")
@@ -142,7 +143,7 @@ write(b"c " + 10000 * b"x")"""
 
 
 def impostor(status: int, words: List[str], wanted: str, work: Path) -> None:
-    """An lrupd with another status, in a requested run. 8 counts only under assumptions."""
+    """In a requested run, lrupd ends with this other status. 8 counts only under assumptions."""
     path = before_lrupd(
         f"echo s UNSATISFIABLE{' UNDER ASSUMPTIONS' * (status == 8)}; exit {status}", work)
     cube = written("2 0\n", work, "cube")
@@ -159,7 +160,7 @@ def refused_formula(work: Path) -> None:
         folder.mkdir()
         answer = run_with(f"model('{values}')\ntime.sleep(1)", [], text, folder)
         want((answer.answers, answer.status, answer.said),
-             ([], 1, "lrup-solve: lrupd accepted no formula\n"), "the answer")
+             ([], 1, "lrup-solve: lrupd didn't accept FORMULA\n"), "the answer")
 
 
 def signalled(number: int, body: str, whole_group: bool, work: Path) -> None:
@@ -227,12 +228,12 @@ hears('probe')
 again(pid, 3, here + '/again')
 model('+')""", [], "p cnf 1 1\n1 -2 0\n", work, lrupd)
     want((answer.answers, answer.status, answer.said),
-         ([], 1, "lrup-solve: lrupd accepted no formula\n"), "the answer")
+         ([], 1, "lrup-solve: lrupd didn't accept FORMULA\n"), "the answer")
     came_again(work)
 
 
 def solvers_id_again(work: Path) -> None:
-    """A solver stops lrup-engines and kills lrupd, and a process with its id ends with 0."""
+    """A solver stops lrup-engines and kills lrupd, and a process with lrupd's id ends with 0."""
     attack = written(AGAIN + f"""
 def parent_of(pid):
     return int(open(f"/proc/{{pid}}/stat").read().rsplit(")", 1)[1].split()[1])
@@ -268,7 +269,7 @@ with open(sys.argv[1], "w") as proof:
 
 
 def asked_again(body: str, wanted: str, text: str, how: str, work: Path) -> None:
-    """lrupd waits for its stream, and is killed; then the program asks for another one, which
+    """lrupd waits for its stream, and is killed; then the program asks for another lrupd, which
     begins with the formula. The formula is named, or comes by a pipe."""
     begin = AGAIN + """
 def killed():
@@ -294,8 +295,8 @@ hears('probe')
 
 
 def asked_for_more(body: str, starts: int, wanted: str, work: Path) -> None:
-    """A program in lrupd's place counts its starts while it is requested three times. It is started
-    again only after a signal, and nothing that the killed one wrote counts."""
+    """A program in lrupd's place counts its starts while it is requested three times. That program
+    is started again only after a signal, and nothing that the killed one wrote counts."""
     lrupd = in_place_of_lrupd(f"case \"$*\" in *' /dev/null') exit 3;; esac\n"
                               f"echo x >> {work}/starts; count=$(wc -l < {work}/starts)\n{body}",
                               work)
@@ -328,7 +329,7 @@ def empty_checker(work: Path) -> None:
         answer = run_with("stream(1, '')\ncheck()\nhears('lrupd')", [], SATISFIABLE, folder, word)
         os.environ["PATH"] = before
         want((answer.answers, answer.status, answer.said),
-             ([], 1, "lrup-solve: lrupd accepted no formula\n"), "the answer")
+             ([], 1, "lrup-solve: lrupd didn't accept FORMULA\n"), "the answer")
 
 
 def signals_of_the_end(work: Path) -> None:
@@ -369,12 +370,12 @@ def endless(work: Path) -> None:
     free = re.search(r"MemAvailable:\s+(\d+)", Path("/proc/meminfo").read_text())
     if not free or int(free[1]) < 5000000:
         pytest.skip("less than 5 GB of memory are free")
-    said = "lrup-solve: /dev/zero: more than 2684354560 bytes, which lrupd doesn't take\n"
+    said = "lrup-solve: /dev/zero: more than lrupd's limit of 2684354560 bytes\n"
     want(run([SOLVE, "--lrupd", PROGRAM, "/dev/zero"]), Ran("", said, 1), "the answer")
 
 
 def length(work: Path) -> None:
-    """The length of the trusted code, and that only the supervisor is compiled with it."""
+    """Checks the length of the trusted code, and that only the supervisor is compiled with it."""
     lines = FRONT.read_text().splitlines()
     want((len(lines) <= 470, max(map(len, lines)) <= 100), (True, True),
          f"lines of the front, {len(lines)}, and their columns")

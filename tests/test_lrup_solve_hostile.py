@@ -2,7 +2,7 @@
 
 Whatever fails or dies, the answer is right, or 's UNKNOWN', or a message with status 1, or none if
 a signal ended the front. Each run ends, and leaves no process and no file, unless its row says so.
-About 60 signals are sent, or --count; with 600 each kind of run has each call refused, too."""
+About 60 (or --count) signals are sent; with 600, each call is also refused in each kind of run."""
 import contextlib
 import errno
 import functools
@@ -35,7 +35,7 @@ STATUSES = {UNKNOWN: 0, FOUND: 10, PROVED: 20, UNDER: 20}
 
 
 def want_no_other(answer: Answer, right: str, formula: Path) -> None:
-    """No other verdict than this one. 's UNKNOWN' may come at any time, or a reason for no
+    """There is no verdict other than this one. 's UNKNOWN' may come at any time, or a reason for no
     answer."""
     found, has_message = answer.answers, answer.status in (1, 127) and answer.said != ""
     is_answer, is_killed = found in ([right], [UNKNOWN]), (answer.status or 0) < 0
@@ -125,7 +125,7 @@ def run_of(kind: Kind, front: Path, work: Path) -> Answer:
 
 
 def refused(function: str, how: str, kind: Kind, work: Path) -> None:
-    """Refuses each call in turn, until a run makes no more."""
+    """Refuses each call in turn, until a run makes no further call."""
     front = refusing_front()
     for number in range(1, MOST + 1):
         folder = Path(tempfile.mkdtemp(dir=work))       # its name marks the processes
@@ -166,7 +166,8 @@ def refusing_front() -> Path:
 
 
 def refusals() -> List[Row]:
-    """With both names of a function that depend on the C library; the front calls one of them."""
+    """If a function's name depends on the C library, each of its two names has rows; the front
+    calls one of them."""
     return [(f"{function}, {how}, {name}", refused, function, how, kind)
             for function in sorted(WRAPPED) for how in ERRORS.get(function, ("ENOMEM",))
             for name, kind in KINDS.items()
@@ -198,20 +199,21 @@ def sent(numbers: random.Random, pid: int) -> Tuple[str, str]:
 
 
 def may_leave_files(history: Sequence[Tuple[str, str]]) -> bool:
-    """All processes that remove files may have been killed."""
+    """Whether all processes that remove files may have been killed."""
     killed = {name for number, name in history if number in [deadly.name for deadly in DEADLY]}
     return "cleaner" in killed and not killed.isdisjoint(("lrup-engines", "supervisor", FRONT))
 
 
 def is_over(running: "subprocess.Popen[str]") -> bool:
-    """A front that was stopped for good is continued."""
+    """Whether the front has ended. A front that was stopped for good is continued."""
     if of_process(running.pid, "stat").rsplit(")", 1)[-1].split()[:1] == ["T"]:
         running.send_signal(signal.SIGCONT)
     return running.poll() is not None
 
 
 def are_gone(mark: str, front_was_killed: bool) -> bool:
-    """Processes that were stopped for good are continued here if the front can't do it."""
+    """Whether all processes have ended. If the front can't continue those that were stopped for
+    good, this function does."""
     left = processes_of(mark)
     for pid in left if front_was_killed else []:
         with contextlib.suppress(ProcessLookupError):
@@ -228,7 +230,7 @@ class Given(NamedTuple):
 
 
 def signalled(numbers: random.Random, most: int, given: Given, work: Path) -> int:
-    """A run that gets at most that many signals: how many it got before its end."""
+    """Sends at most that many signals to a run; returns how many the run got before its end."""
     files, mark, limit = work / "temporary", marked(work), numbers.choice((2, 3, 4))
     history: List[Tuple[str, str]] = []
     files.mkdir()

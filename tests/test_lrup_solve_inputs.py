@@ -1,4 +1,4 @@
-"""What lrup-solve reads and keeps, by its arguments: inputs by path and by pipe, records,
+"""What lrup-solve reads and keeps, depending on its arguments: inputs by path and by pipe, records,
 assumptions, refusals."""
 import os
 import re
@@ -49,8 +49,8 @@ def keeps_standard_input(work: Path) -> None:
 
 
 def keeps_not_utf8(words: List[str], tested: Dict[str, object], work: Path) -> None:
-    """Names that aren't UTF-8, which lrupd refuses: the formula's, the assumptions' and the
-    record's, from such a folder."""
+    """Names that aren't UTF-8, which lrupd would refuse: those of the formula, the assumptions, the
+    record and the current folder."""
     folder = work / os.fsdecode(b"\xff \xed\xa0\x80")
     formula = written(example("bmc.cnf").read_text(), folder, os.fsdecode(b"formula\xc0\x80"))
     written("0\n", folder, CUBE)
@@ -164,8 +164,8 @@ def made_where_all_may_write(work: Path) -> None:
 
 
 def locked(name: str, ends: int, work: Path) -> None:
-    """Another run locks the folder until it ends, however it ends. The second run is refused at
-    once, and touches nothing."""
+    """A run locks its folder until it ends, however it ends. A second run is refused at once, and
+    touches nothing."""
     kept, words, mark = (work / "kept",
                          ["--proofs", work / name, "-j", "1", example("bmc.cnf")], marked(work))
     os.symlink("kept", work / "link")
@@ -182,7 +182,7 @@ def locked(name: str, ends: int, work: Path) -> None:
         running.wait(LIMIT)
         none_left(mark)
         want(set(before) <= set(listed(kept)), True, f"whether all of {before} is listed")
-        want_answer(solve(["--replace", *words]), 20)   # it may have saved a round
+        want_answer(solve(["--replace", *words]), 20)   # the first run may have saved a round
     check_again(kept)
 
 
@@ -289,7 +289,8 @@ def unkept(work: Path) -> None:
 
 
 def another_name(words: List[str], work: Path) -> None:
-    """Standard input, and other files of the process, by names that lrupd couldn't open."""
+    """Standard input, and other files of the process, are given by names that lrupd couldn't
+    open."""
     formula = example("bmc.cnf")
     os.symlink("/dev/stdin", work / "link")
     for how in ('"$@" < "$formula"', 'cat "$formula" | "$@"', '"$@" 5< "$formula" < "$formula"'):
@@ -507,7 +508,8 @@ int pthread_create(pthread_t *thread, const pthread_attr_t *how, void *(*work)(v
 
 def refused_early(work: Path) -> None:
     """The reading thread refuses the formula before the main thread has that thread's id, and lrupd
-    refuses it later: only one thread waits for that, since what the front says is read once."""
+    refuses it later: only one thread waits for lrupd's answer, since what the front says is read
+    once."""
     source = written(LATE_THREAD, work, "late.c")
     late = compiled(work / "late.so", [source], "-shared", "-fPIC", "-ldl")
     formula = written("p cnf 2 1\n1000000000000000000 2 0\n", work)
@@ -703,7 +705,8 @@ def refusals() -> List[Row]:
              for text, *rest in refused_texts()]
     beyond = "the literal {}, but the formula has the variables 1 to 2"
     for name, known in (("bad", ": not a number: x"), ("beyond", ": " + beyond.format(-7)),
-                        ("spaces", SPACED), ("crlf", ": it has a CR, but lines end with LF alone"),
+                        ("spaces", SPACED),
+                        ("crlf", ": it has a CR, but lines must end with LF only"),
                         ("noend", ": no LF at its end"), ("two", ": a second line"),
                         ("blank", SPACED), ("tab", SPACED),
                         ("open", ": no line of literals that ends with 0"),

@@ -157,7 +157,7 @@ echo "c $stream: 1 bytes of 1: lrupd --lines 1 --room 0 $core $stream"
 echo "c $lrat: 1 bytes of 1: lrupd --lines 1 --room 0 $2 $lrat"
 """
 ANOTHERS = [
-    ("wrong outputs", {"lrup-trim": WRONG_TRIM}, "lrupd rejects lrat, which is removed"),
+    ("wrong outputs", {"lrup-trim": WRONG_TRIM}, "lrupd rejects lrat, which was removed"),
     ("no outputs", {"lrup-trim": "echo lrup-trim: no line derives the empty clause >&2; exit 1"},
      "no core and no LRAT text: lrup-trim: no line derives the empty clause"),
     ("lrup-trim killed", {"lrup-trim": "kill -9 $$"},
@@ -188,8 +188,8 @@ def another_formula(piped: bool, work: Path) -> None:
 
 
 def moved(words: str, piped: bool, tested: Optional[Dict[str, object]], work: Path) -> None:
-    """A record's names are relative to its folder: it can be checked anywhere, from any folder,
-    also by its script's name alone."""
+    """A record's names are relative to its folder, so the record can be checked anywhere, from any
+    folder, even by just the name of its script."""
     formula, options = generated(words, work), ["-j", 2, "--proofs", "d"]
     given = {"given": formula.read_text()} if piped else {}
     want(solve([*options, *([] if piped else [formula])], tested=tested, cwd=work, **given).status,
@@ -236,7 +236,7 @@ def first_line(formula: Path) -> str:
 
 
 def checked_by(words: Sequence[object], work: Path, formula: Path, **how: object) -> None:
-    """The first line names the formula that it checks."""
+    """The command's first line names the formula that is checked."""
     done = run(words, cwd=work, **how)
     lines = done.out.splitlines()
     want((lines[:1], lines[-1:], done.err, done.status), ([first_line(formula)], [PROVED], "", 0),
@@ -256,7 +256,7 @@ def names_a_formula(work: Path) -> None:
         checked_by(["sh", *words], cwd, copy)
     other = written("p cnf 1 1\n1 0\n", work, "other")
     refused = [([], f"{formula} isn't there, or can't be read"),
-               ([""], f"{work}/ is no regular file"),
+               ([""], f"{work}/ isn't a regular file"),
                (["none"], f"{work}/none isn't there, or can't be read"),
                ([other], f"{other} isn't the formula of this record, or was changed since"),
                ([copy, copy], "usage: sh command [FORMULA]"),
@@ -305,7 +305,8 @@ def only_with(tools: Sequence[str], work: Path) -> Dict[str, str]:
 
 
 def digests_by(tool: str, work: Path) -> None:
-    """Whichever tool computes SHA-256s, the formula is checked; without one nothing is."""
+    """Whichever tool computes SHA-256s, the formula is checked; without such a tool nothing is
+    checked."""
     if tool:
         needs(tool)
     formula, path = generated("pigeons 5", work), only_with([tool] if tool else [], work)
@@ -377,7 +378,7 @@ def read_by_tools(formula: Path, work: Path) -> None:
 
 
 def packed_and_interrupted(number: int, work: Path) -> None:
-    """The unpacking programs end, too, also before lrupd has opened their pipes."""
+    """The unpacking programs end with the check, even before lrupd has opened their pipes."""
     files, slow, mark = work / "temporary", work / "slow", marked(work)
     files.mkdir()
     needs("xz")
@@ -397,7 +398,7 @@ def packed_and_interrupted(number: int, work: Path) -> None:
 
 
 def lrupd_moved(work: Path) -> None:
-    """If lrupd has moved, the one on the PATH is used."""
+    """If lrupd has moved, the lrupd on the PATH is used."""
     lrupd = work / "bin" / "lrupd"
     lrupd.parent.mkdir()
     shutil.copy(PROGRAM, lrupd)
@@ -536,13 +537,13 @@ def pipe_in_a_record(name: str, work: Path) -> None:
     path = work / (name or formula.name)
     path.unlink()
     os.mkfifo(path)
-    want(run(["sh", "d/command"], cwd=work, limit=20), Ran("", f"{path} is no regular file\n", 1),
+    want(run(["sh", "d/command"], cwd=work, limit=20), Ran("", f"{path} isn't a regular file\n", 1),
          "the output of the record's check")
     for tool in ([TRIM, "--core", "core"], [EXPLAIN]) if name == "d/formula.sha256" else ():
         done = run([*tool, formula, "d"], cwd=work, limit=20)
         want((done.status,
               done.err.endswith(
-                  "d/formula.sha256: not a regular file, but it is read more than once\n")),
+                  "d/formula.sha256: has to be a regular file, since it is read more than once\n")),
              (1, True), f"the output of {tool[0].name}: {done.err}")
 
 
@@ -616,7 +617,7 @@ def unwritable(words: List[str], said: str, work: Path) -> None:
 
 
 def written_into_a_record(work: Path) -> None:
-    """The folder doesn't exist before."""
+    """The outputs go into the record's folder, which doesn't exist yet."""
     formula = generated("pigeons 5", work)
     kept(["-j", 1, "--proofs", "d", formula], formula, work, names=("d/core.cnf", "d/proof.lrat"))
 
@@ -638,7 +639,7 @@ def on_a_disk(kilobytes: int, words: List[object], tested: Optional[Dict[str, ob
 
 def on_a_full_disk(kilobytes: int, words: List[object], tested: Optional[Dict[str, object]],
                    said: str, work: Path) -> None:
-    """The record is lost, which is reported, but not the verdict."""
+    """The record is lost, and that is reported; the verdict isn't lost."""
     answer = on_a_disk(kilobytes, words, tested, work)
     want((answer.answers, answer.status), ([PROVED], 1),
          f"the answer of\n{answer.out[-3000:]}{answer.said}")

@@ -3,9 +3,9 @@
 Each of 10 formulas, or --count, is solved in an undisturbed run, and then once for each name of a
 process, which is killed some time after its start. The answer has to be right, or 's UNKNOWN'; if
 the front is killed, right or none. No process and no file may be left. If a run keeps a record,
-lrupd is killed up to five times: the answer is right, and the record is checked again. A program in
-lrupd's place that ends with a status isn't started again, and one that always dies by a signal
-starts three times."""
+lrupd is killed up to five times: the answer has to be right, and the record is checked again. A
+program in lrupd's place that ends with a status isn't started again, and one that always dies by a
+signal starts three times."""
 import os
 import random
 import re
@@ -62,7 +62,7 @@ def kills(seed: int, work: Path) -> None:
     lasts = time.monotonic() - begun
     want_answer(whole, whole.status if whole.status in (10, 20) else 20, formula)
     for name in NAMES:
-        after = numbers.uniform(0, lasts) if name != READING else 0        # it reads only briefly
+        after = numbers.uniform(0, lasts) if name != READING else 0        # reading is brief
         answer = killed_one(name, after, formula, hooks, work)
         answer.said = ""        # has a message about the killed process
         if answer.status == -signal.SIGKILL:
@@ -78,8 +78,8 @@ def kills(seed: int, work: Path) -> None:
 
 
 class Kills:
-    """What kills lrupd in a run. The run ends with the third start in a row in which no round
-    ended, so that no round gets more than two kills."""
+    """Kills lrupd in a run. The run would end after three starts in a row without the end of a
+    round, so no round gets more than two kills."""
 
     def __init__(self, running: "subprocess.Popen[str]", kept: Path,
                  numbers: random.Random) -> None:
@@ -93,7 +93,7 @@ class Kills:
                     for path in self.kept.glob("round-*.sizes")), default=0)
 
     def lrupd(self) -> int:
-        """An lrupd other than those that were killed; 0: there is none."""
+        """The id of an lrupd that wasn't killed; 0 if there is none."""
         pid = processes_of_run(self.running.pid).get("lrupd", 0)
         return pid if pid not in self.pids and is_alive(pid) else 0
 
@@ -148,7 +148,7 @@ def killed_again(words: str, count: int, most: float, hooks: Optional[Mapping[st
 
 
 def gone(work: Path) -> None:
-    """A stream that another lrupd would have to read is packed by then: the run ends, with
+    """A stream that another lrupd would have to read has been packed meanwhile: the run ends, with
     a reason."""
     marked(work)
     kept, hooks = work / "kept", {"SAME_WORDS": 1, "FIRST_WORDS": 5000}
@@ -191,7 +191,7 @@ def changed(work: Path) -> None:
 
 def in_its_place(body: str, starts: int, status: int, cause: str,
                  hooks: Optional[Mapping[str, object]], options: Sequence[str], work: Path) -> None:
-    """How often it is started to check streams."""
+    """Counts how often a program in lrupd's place is started to check streams."""
     marked(work)
     counts = f"echo x >> {work}/starts; count=$(wc -l < {work}/starts)"
     lrupd = before_lrupd(f"case \"$*\" in *--rounds*) {counts}; {body};; esac", work)

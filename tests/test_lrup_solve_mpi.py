@@ -1,9 +1,9 @@
 """Runs lrup-solve --mpi in two to eight processes on one host, and under failures between them.
 
-Each answer, with and without sharing, rows so small that a run continues for many rounds, the
-record; refusals; each kind of process killed or stopped, in process 0 and in another one, and
-mpirun, and the front. Rows with long waits or races are marked as long, and `make test` leaves them
-out. Without MPI, or mpirun, everything is skipped."""
+Runs have each answer, with and without sharing, with rows so small that a run takes many rounds,
+and with a record; or they are refused. Each kind of process is killed or stopped, in process 0 and
+in another one, and so are mpirun and the front. Rows with long waits or races are marked as long,
+and `make test` leaves them out. Without MPI, or mpirun, everything is skipped."""
 import contextlib
 import itertools
 import os
@@ -238,8 +238,8 @@ def rests_on(what: str, late: str, work: Path) -> None:
 
 
 def lines_first(work: Path) -> None:
-    """Streams are sent in pieces once they are whole, and then what follows from them: in a run of
-    one round engine 1 gets no gift. Without the rule it does."""
+    """Streams are sent in pieces once they are whole, and only then what follows from them: in a
+    run of one round engine 1 gets no gift. Without the rule it gets some."""
     for omitted in ({}, {"WITHOUT": "clearing"}):
         tested = {**SMALL, "FIRST_WORDS": 8000000, "EXCHANGING": 10, "LATE": "lines"}
         answer = solve(3, ["-v", "-j", "1", generated("random 220 0 5", work)],
@@ -254,8 +254,8 @@ def lines_first(work: Path) -> None:
 
 
 def refused(processes: int, words: List[str], said: str, before: Sequence[str], work: Path) -> None:
-    """One line, from process 0, even if it starts after the others. The formula is the last
-    argument, if none is given."""
+    """The message is one line, from process 0, even if that process starts after the others. A
+    formula is added as the last argument."""
     words = launched(processes, [*(word.format(work=work) for word in words), written(FOUR, work)],
                      before=before)
     answer = Answer(run(words))
@@ -264,7 +264,7 @@ def refused(processes: int, words: List[str], said: str, before: Sequence[str], 
 
 
 def shows(word: str, beginning: str, work: Path) -> None:
-    """Reported once, by the program that MPI starts."""
+    """The text is printed once, by the program that MPI starts."""
     out, said, status = run(launched(3, [word]))
     want((out.count(beginning), out.startswith(beginning), said, status), (1, True, "", 0),
          f"what is shown: {out}")
@@ -345,8 +345,8 @@ def children_of_all(pid: int) -> List[int]:
 
 
 def ends(process: int, name: str, number: int, cause: str, work: Path) -> None:
-    """The run ends soon, without an answer. Processes that process 0 lacks were started by the
-    front."""
+    """The run ends soon, without an answer. The front and its children are listed with process
+    0."""
     running = Running(generated("pigeons 11", work), 2, more=PATIENCE)
     os.kill(running.ids[process][name], number)
     answer = Answer(running.end())
@@ -395,7 +395,7 @@ def checks_again(work: Path) -> None:
 
 
 def bytes_kept(pid: int) -> int:
-    """The bytes of its files in memory, with streams that are kept there."""
+    """The bytes of a process's files in memory, including streams that are kept there."""
     files = [f"/proc/{pid}/fd/{name}" for name in os.listdir(f"/proc/{pid}/fd")]
     return sum(os.stat(file).st_size for file in files if "memfd:" in os.readlink(file))
 
@@ -407,7 +407,7 @@ def stands_still(pids: List[int]) -> bool:
 
 
 def slow_checker(work: Path) -> None:
-    """While lrupd is stopped nothing grows; when it continues, everything does."""
+    """While lrupd is stopped, nothing grows; when lrupd continues, everything else does, too."""
     running = Running(generated("pigeons 9", work), 2, {"AHEAD": 2000000})
     runs, lrupd = [one["run"] for one in running.ids], running.ids[0]["lrupd"]
     os.kill(lrupd, signal.SIGSTOP)
@@ -419,7 +419,7 @@ def slow_checker(work: Path) -> None:
     finally:
         os.kill(lrupd, signal.SIGCONT)
     want_answer(Answer(running.end()), 20)
-    want(found < GROWING, True, f"the bytes that came while it stood still, {found}")
+    want(found < GROWING, True, f"the bytes that came while lrupd was stopped, {found}")
 
 
 # The tests.

@@ -220,7 +220,7 @@ def second_signal(work: Path) -> None:
                      stderr=subprocess.PIPE) as running:
             until("a round more is saved", lambda: saved_rounds(kept) > before)
             os.kill(children_of(running.pid)["lrupd"], signal.SIGSTOP)
-            time.sleep(0.5)         # so that a round is in hand
+            time.sleep(0.5)         # so that a round is in progress
             running.send_signal(signal.SIGTERM)
             begun = time.monotonic()
             if count == 2:
@@ -344,7 +344,7 @@ def contradictory(kept: Path) -> None:
 
 
 def another_beginning(kept: Path) -> None:
-    """Replaces the formula's clauses at the beginning, so that an assignment is one of another
+    """Replaces the formula's clauses at the beginning, so that an assignment satisfies another
     formula."""
     checkpoint = kept / f"checkpoint-{saved_rounds(kept)}.cnf"
     lines = checkpoint.read_text().splitlines(True)
@@ -434,7 +434,8 @@ def of_another(work: Path) -> None:
 
 
 def kept_by_others(work: Path) -> None:
-    """Saved rounds of an unfinished run stay, also from lrup-check, unless --replace is given."""
+    """Saved rounds of an unfinished run stay, also if lrup-check is run, unless --replace is
+    given."""
     marked(work)
     formula, kept = generated("pigeons 8", work), work / "d;"
     proof = written("", work, "proof")
@@ -531,5 +532,5 @@ def rows(count: int) -> List[Row]:
                     ("can't be saved", unsaved)]
 
 
-pytestmark = pytest.mark.usefixtures("solve_for_tests")     # none is tried again
+pytestmark = pytest.mark.usefixtures("solve_for_tests")     # no row is tried again
 test_row = parametrized(rows(COUNT or 3))

@@ -1,9 +1,9 @@
 """Runs lrup-solve with rows so small that a run takes many rounds, and with failures in and between
 rounds.
 
-One to four engines, with and without sharing, each answer; the record, which lrupd checks again,
-and lrup-chain; a child killed in a round or in the pause after it, checkpoints that can't be
-written, signals; nothing grows from round to round. The rules of sharing between rounds are left
+One to four engines find each answer, with and without sharing; the record is checked again by lrupd
+and lrup-chain. A child is killed in a round or in the pause after it; checkpoints can't be written;
+there are signals; nothing grows from round to round. The rules of sharing between rounds are left
 out one by one."""
 import contextlib
 import glob
@@ -74,7 +74,7 @@ def plainly(options: List[str], work: Path) -> None:
 
 
 def randomly(seed: int, work: Path) -> None:
-    """Any answer but 'unknown', with early inprocessing: an assignment is evaluated here, and a
+    """The answer isn't 'unknown', with early inprocessing: an assignment is evaluated here, and a
     record is checked again."""
     numbers = random.Random(f"{seed} rounds")
     formula, kept = written(random_formula(seed), work), work / "kept"
@@ -92,7 +92,7 @@ def randomly(seed: int, work: Path) -> None:
 
 def assuming(engines: int, work: Path) -> None:
     """The clause that contradicts the assumptions comes after some rounds; the formula without them
-    is satisfiable. Also in the record."""
+    is satisfiable. The record's check has the same verdict."""
     clauses = [[9999, *clause] for clause in random_clauses(random.Random(7), 130, 600)]
     formula = written(dimacs(9999, clauses), work)
     for literal, status in (("-9999", 20), ("9999", 10)):
@@ -135,7 +135,7 @@ def rows_stay_large(work: Path) -> None:
 
 
 def one_clause(work: Path) -> None:
-    """A row has no room for a clause: the next row has."""
+    """If a row has no room for a clause, the next row has."""
     clauses = [[-k for k in range(1, 400)], *([k, 1000 + k] for k in range(1, 400)),
                *([k, -1000 - k] for k in range(1, 400))]
     answer = solve(["-j", "1", written(dimacs(1400, clauses), work)],
@@ -153,7 +153,7 @@ def doubled_literals(work: Path) -> None:
 
 def small_rows(memory: str, words: str, engines: int, work: Path) -> None:
     """However small --memory is, a row has room for the live clauses, and as much again. A comment
-    says if it is larger."""
+    says if that is more than --memory."""
     answer = solve(["-v", "-j", engines, "--memory", memory, generated(words, work)])
     want_answer(answer, 20)
     want(answer.lost(), [], "engines that are lost")
@@ -212,9 +212,9 @@ def largest_formula(work: Path) -> None:
 
 
 class Running:
-    """A run in that round: its lrupd, of that round or a later one, will save round-N.cnf. With
-    `pause` lrupd is stopped from then on, and the run is in the pause at the round's end until
-    `go_on`; slices are long, so that little is taken over before. Processes that haven't ended are
+    """A run that has reached that round, or a later one, whose lrupd will save round-N.cnf. With
+    `pause` lrupd is then stopped, and the run stays in the pause at the round's end until `go_on`;
+    slices are long, so that little is taken over before the pause. Processes that haven't ended are
     killed when the block is left."""
 
     def __init__(self, words: Sequence[object], number: int, work: Path, pause: bool = False,
@@ -347,7 +347,7 @@ def nobody_looks(pause: bool, work: Path) -> None:
 
 
 def folder_removed(work: Path) -> None:
-    """From then on no file can be created in the folder."""
+    """The folder is removed during the run, so no more files can be created in it."""
     with Running(["-j", "2", generated("pigeons 11", work)], 2, work, FIRST_WORDS=50000) as running:
         for folder in running.folder.iterdir():
             while folder.exists():
@@ -438,8 +438,8 @@ def no_folder(work: Path) -> None:
 
 
 def full(work: Path) -> None:
-    """A disk without room for checkpoints: files of at most 500,000 bytes. The streams of a round
-    fit."""
+    """The disk has no room for checkpoints, since files have at most 500,000 bytes. The streams of
+    a round fit."""
     clauses = random_clauses(random.Random(3), 2000, 30000, (6,))
     formula = written(dimacs(2000, clauses + read(generated("pigeons 11", work))), work)
     limit = lambda: resource.setrlimit(resource.RLIMIT_FSIZE, (500000, 500000))
@@ -474,13 +474,13 @@ saved=$next.cnf
 
 
 def resident(pid: int) -> int:
-    """Kilobytes."""
+    """The process's resident memory, in kilobytes."""
     found = re.search(r"^VmRSS:\s+(\d+)", of_process(pid, "status"), re.M)
     return int(found[1]) if found else 0
 
 
 def in_files(pid: int) -> int:
-    """Kilobytes of its open files in memory, which nothing else counts."""
+    """The kilobytes of the process's open files in memory, which no other figure includes."""
     total = 0
     for link in Path(f"/proc/{pid}/fd").iterdir():
         if os.readlink(link).startswith("/memfd:"):
@@ -489,8 +489,8 @@ def in_files(pid: int) -> int:
 
 
 def stays_small(work: Path) -> None:
-    """From round 10 to round 60, with streams of some 500 KB each, whose clauses the engines soon
-    delete."""
+    """Memory doesn't grow from round 10 to round 60, with streams of some 500 KB each, whose
+    clauses the engines soon delete."""
     tested = {"FIRST_WORDS": 100000, "SET": "reduceint=20 reducetarget=95"}
     with Running(["-j", "2", generated("random 300 5", work)], 10, work, **tested) as running:
         sizes = lambda: {"files": in_files(running.children["lrup-engines"]),

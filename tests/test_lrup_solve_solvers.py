@@ -1,9 +1,9 @@
 """Runs lrup-solve with common solvers by --solver, and with misbehaving scripts.
 
-CaDiCaL, CryptoMiniSat and PicoSAT, if they are on the PATH, and the example solver, alone, together
-and beside engines: known formulas, random ones, in one round and in many. A solver that dies, lies,
-writes nonsense or hangs is lost: alone it gives no verdict; beside a good one the answer is the
-good one's. No process of a command outlives the run."""
+CaDiCaL, CryptoMiniSat and PicoSAT, if they are on the PATH, and the example solver run alone,
+together and beside engines, on known formulas and random ones, in one round and in many. A solver
+that dies, lies, writes nonsense or hangs is lost: alone it gives no verdict; beside a good solver
+the answer is the good solver's. No process of a command outlives the run."""
 import os
 import random
 import re
@@ -119,9 +119,9 @@ def gaps(work: Path) -> None:
 
 
 def small_outbox(work: Path) -> None:
-    """Engines beside a solver, which reads no outbox: more goes through a small outbox than it
-    holds, three words or more each. The proof is longer than a pipe, so that engines don't get
-    ahead of their filters, which are slow in a build for tests."""
+    """Engines beside a solver, which reads no outbox: more clauses go through a small outbox than
+    it holds, each with three words or more. The proof is longer than what a pipe holds, so that
+    engines don't get ahead of their filters, which are slow in a build for tests."""
     answer = solve(["-v", "-j", "2", *by(["sleep 1000 # %formula %proof"]),
                     given("random 235 3", work)],
                    tested={"OUTBOX": 240, "SLICE": 100})
@@ -185,7 +185,8 @@ def names(work: Path) -> None:
 
 
 def sealed(work: Path) -> None:
-    """A solver can't write to the copy of a formula from a pipe, which would then be refuted."""
+    """A solver can't write to the copy of a formula from a pipe, to have the changed copy
+    refuted."""
     text = generated("random 120 7 3.6", work).read_text()
     writing = ("(printf 'p cnf 1 2\\n1 0\\n-1 0\\n' > %formula; printf '1 0' 1<> %formula) "
                "2> /dev/null; " + CADICAL)
@@ -281,7 +282,8 @@ def beside_others(command: str, formula: Path) -> None:
 
 
 def missing(work: Path) -> None:
-    """Beside a good solver: the loss is reported, and the summary counts the remaining ones."""
+    """A missing solver is beside a good one: the loss is reported, and the summary counts the
+    remaining solvers."""
     answer = solve([*by(["sleep 1; " + CADICAL, "no-such-solver %formula %proof"]),
                     given("random 120 5", work)])
     want_answer(answer, 20)
@@ -291,8 +293,8 @@ def missing(work: Path) -> None:
 
 
 def after_a_model(work: Path) -> None:
-    """A wrong assignment is noticed, and the others continue; a right one counts, no matter who has
-    it. Variables that it leaves out are false."""
+    """A wrong assignment is noticed, and the other solvers continue; a right one counts, whichever
+    solver has it. Variables that an assignment leaves out are false."""
     formula = written("p cnf 3 3\n1 2 0\n-1 2 0\n-3 1 0\n", work)
     want_answer(solve(by(["echo s SATISFIABLE; echo v 2; echo v 0; exit 10 # %formula %proof"])
                       + [formula]), 10, formula)
@@ -325,8 +327,8 @@ def background(work: Path) -> None:
 
 
 def killed(number: int, whom: str, work: Path) -> None:
-    """The first process or an engine's is killed: nothing of the command is left. The hard formula
-    isn't solved meanwhile."""
+    """The first process or an engine's process is killed: no process of the command is left. The
+    hard formula isn't solved meanwhile."""
     mark, command = marked(work), "sleep 1000 & " + CADICAL
     words = [SOLVE, "--lrupd", PROGRAM, *by([command]), given("pigeons 11", work)]
     with started(words, stdout=subprocess.PIPE, text=True) as running:

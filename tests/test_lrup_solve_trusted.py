@@ -38,12 +38,12 @@ def answer_of(front: Path, work: Path, body: str, words: Sequence[object] = (),
 
 
 def says(line: str, *how: Any, **more: Any) -> Attack:
-    """The answer to a satisfiable formula."""
+    """The front prints this line for a satisfiable formula."""
     return lambda front, work: line in answer_of(front, work, *how, **more).out.splitlines()
 
 
 def gives(signs: str, text: str = SATISFIABLE, variables: int = 3) -> Attack:
-    """An assignment that doesn't satisfy the formula."""
+    """The front accepts an assignment that doesn't satisfy the formula."""
     def attack(front: Path, work: Path) -> bool:
         answer = answer_of(front, work, f"model({signs!r})\ntime.sleep(0.5)", text=text)
         values = {abs(value) for value in answer.values} - {0}
@@ -128,7 +128,7 @@ import resource
 resource.prlimit(int(front), resource.RLIMIT_AS, (1 << 20, 1 << 20))
 """
 FORGED = ENDS + FORGES.format(end="feeding.close()", line=UNSATISFIABLE)
-# By the words of the marks.
+# The attacks, by the words of the marks.
 ATTACKS: Dict[str, Attack] = {
     "current folder": in_the_current_folder, "PATH": looked_up([], f".::{os.environ['PATH']}"),
     "name": looked_up(["--lrupd", "lrupd"], "/usr/bin"), "output": prints,
@@ -161,7 +161,7 @@ ATTACKS: Dict[str, Attack] = {
 
 
 def front_without(number: int, work: Path) -> Path:
-    """The front without this line; -1: with each line."""
+    """The front without this line; -1: with all lines."""
     folder = work / "front"
     folder.mkdir()
     (folder / "front.c").write_text("".join(line for at, line in enumerate(LINES) if at != number))

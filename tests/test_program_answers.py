@@ -90,7 +90,8 @@ def examples() -> Iterator[Named]:
 
 
 def one_stream() -> Iterator[Named]:
-    """Over the four clauses of two literals: each assignment makes one of them false."""
+    """Streams over the four clauses of two literals: each assignment makes one of these clauses
+    false."""
     yield streams("two additions", "", 0, BOTH_ADDED, TWO)
     yield streams("a repeated literal", "--room 1", 3, ADDED, "5 2 2 0 1 2 0\n")
     yield streams("a bad line after the empty clause", "", 0,
@@ -167,8 +168,8 @@ def several_streams() -> Iterator[Named]:
 
 
 def pipes() -> Iterator[Named]:
-    """Opened in the order of the arguments, and written while they are checked; a file named twice;
-    a folder."""
+    """Pipes that are opened in the order of the arguments, and written while they are checked; also
+    a file named twice, and a folder."""
     both: Dict[str, Pieces] = {"pipe1": [b"5 2 0 1 2 0\n7", 0.2, b" 0 5 6 0\n"],
                                "pipe2": [b"6 -2 0 3", 0.1, b" 4 0\n"]}
     yield "two pipes", Wanted(["--tries", "1000000", "formula", "pipe1", "pipe2"], 0,
@@ -355,7 +356,8 @@ def full_outputs() -> Iterator[Named]:
 
 
 def usage(program: str, words: List[str], work: Path) -> None:
-    """No report, but help or a usage fault in its own words, whose first line comes once."""
+    """No report, but help or one usage fault, not in lrupd's own words; its first line comes
+    once."""
     out, err, status = answered(program,
                                 Wanted(words, 2, files={**FILES, "cube": CUBE.read_text()}), work)
     want((out, status), ("", 2), "the output and the status")

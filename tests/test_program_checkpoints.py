@@ -1,8 +1,8 @@
 """Runs the program with --checkpoint, and compares its answers and checkpoints.
 
-Rows have the file's bytes; for recorded streams they follow from the rules. If nothing may be
-created, nothing is touched; if saving fails, there is still a report. A checkpoint is a formula
-that the program accepts; a part of it, as a full disk leaves it, isn't."""
+Rows have the checkpoint's bytes; for recorded streams the bytes follow from the rules. If no file
+may be created, nothing is touched; if saving fails, there is still a report. A checkpoint is a
+formula that the program accepts; a part of a checkpoint, as a full disk leaves it, isn't."""
 import os
 import shutil
 from pathlib import Path
@@ -190,7 +190,7 @@ def watched() -> Iterator[Named]:
 
 
 def full() -> Iterator[Named]:
-    """Files without bytes, and a report that can't be written."""
+    """No byte of a checkpoint can be written, or the report can't be written."""
     none = 'trap "" XFSZ; ulimit -f 0; exec "$@"'
     words = ["--checkpoint", "saved", "formula", "one"]
     cube = {**FILES, "cube": "-2 0\n"}
@@ -216,7 +216,7 @@ def full() -> Iterator[Named]:
 
 
 def torn(program: str, way: List[str], limit: Optional[int], work: Path) -> None:
-    """A limit on the size of files, or a full disk: a part of the checkpoint is left, which is no
+    """A limit on the size of files, or a full disk: a part of the checkpoint is left, which isn't a
     formula."""
     formula, whole = example("bmc.cnf"), printed(variables_of(example("bmc.cnf")),
                                                  live(example("bmc.cnf"), [Path("/dev/null")]))
@@ -279,8 +279,8 @@ def refused(fault: str, count: int, program: str, work: Path) -> None:
 
 def recorded(program: str, way: str, formula: Path, names: List[str], part: float,
              work: Path) -> None:
-    """The first lines of each stream, so that none derives the empty clause. The checkpoint is a
-    formula again, and the same one."""
+    """Runs the first lines of each stream, so that none derives the empty clause. The checkpoint of
+    a run over the checkpoint has the same clauses."""
     streams = []
     for name in names:
         lines = example(name).read_text().splitlines(True)

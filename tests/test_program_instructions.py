@@ -1,4 +1,4 @@
-"""Counts the program's instructions by valgrind, and compares them with the recorded figures.
+"""Counts the program's instructions with valgrind, and compares them with the recorded figures.
 
 PROGRAM is built by LLVM. With --serial, runs over the same files take the same number of
 instructions. The count is for the lines, so a run over empty streams is subtracted. Each count has
@@ -65,8 +65,8 @@ def assumed(program: str, literals: int, lines: int, work: Path) -> int:
 
 
 def lines_under_a_cube(program: str, work: Path) -> None:
-    """A cube is searched by halves: lines under a large cube take little more than
-    under a small one."""
+    """A cube is searched by halving: lines under a large cube take little more than under a small
+    one."""
     few, many = [assumed(program, count, LINES, work) - assumed(program, count, 0, work)
                  for count in (1, ASSUMED)]
     print(f"{many} instructions under {ASSUMED:,} literals, {few} under one")

@@ -1,10 +1,10 @@
-"""Four recorded solvers: each writes its lines into its own pipe, one after the other at a steady
-pace, and the program checks them all at the same time. Its report comes when the last solver ends,
-after some five seconds. Then two pipes with --watch: a bad line in one is reported while both are
-open. Then the first half of the four solvers' lines, with a checkpoint, which stays empty until all
-of them have ended. Then pipes without writers, which --watch names after a second.
+"""First, four recorded solvers each write their lines into a pipe, at a steady pace, and the
+program checks them all at the same time. The report comes when the last solver ends, after some
+five seconds. Then come two pipes with --watch: a bad line in one is reported while both are open.
+Next comes the first half of the four solvers' lines, with a checkpoint, which stays empty until all
+streams have ended. Last come pipes without writers, which --watch names after a second.
 
-The report has to be that in bmc-four.out, and without the flag nothing may be on standard error."""
+The report has to be that in bmc-four.out, and without --watch nothing may be on standard error."""
 import re
 import subprocess
 import time
@@ -29,7 +29,7 @@ class Late(NamedTuple):
     answer: Ran
 
 
-LATE = 1.5  # seconds for which a late pipe has no writer, or after which it still was named once
+LATE = 1.5  # seconds for which a late pipe has no writer, with --watch after it was named
 TEXTS = {"formula": FOUR, "cube": "-2 0\n", "one": "5 2 0 1 2 0\n7 0 5 3 4 0\n",
          "other": "6 -2 0 3 4 0\n", stream_name(1): "5 2 0 1 2 0\n", "d/round-2.sizes": "1 9 9\n",
          stream_name(2): "6 0 5 3 4 0\n"}
@@ -99,8 +99,8 @@ def checkpoint_at_the_end(program: str, work: Path) -> None:
 
 
 def late_writers(row: Late, program: str, work: Path) -> None:
-    """With --watch each pipe that has no writer for a second is named; without it none is. Each
-    late pipe gets its writer after some time, with --watch after the line that names it."""
+    """With --watch each pipe that has no writer for a second is named; without --watch none is.
+    Each late pipe gets its writer after some time, with --watch after the line that names it."""
     for name in row.pipes:
         pipe = piped(work / name)
         if name not in row.late:

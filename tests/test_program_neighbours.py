@@ -2,8 +2,8 @@
 other.
 
 The proof cites no other stream, so its line in the report has to be the same each time, with
-threads and with --serial: that beside an empty stream. For some neighbours their line is known,
-too."""
+threads and with --serial, as beside an empty stream. For some neighbours, the line of the neighbour
+is known, too."""
 import os
 import random
 import subprocess
@@ -44,7 +44,7 @@ def endless(process: Process, serial: bool) -> Pieces:
 
 
 def is_alone(process: Process) -> bool:
-    """Only the program's first thread and stream 1's two threads are left, for a while."""
+    """Whether only the program's first thread and stream 1's two threads are left, for a while."""
     for _ in range(20):
         if len(os.listdir(f"/proc/{process.pid}/task")) != 3:
             return False
@@ -53,16 +53,16 @@ def is_alone(process: Process) -> bool:
 
 
 def silent(process: Process, serial: bool) -> Pieces:
-    """Writes nothing until stream 1 has ended. With --serial stream 1 waits for it, so then for a
-    second."""
+    """Writes nothing until stream 1 has ended. With --serial stream 1 waits for this stream, which
+    then stays silent for only a second."""
     yield 1.0
     while not serial and process.poll() is None and not is_alone(process):
         yield 0.01
 
 
 def imports(lines: List[str]) -> Iterator[str]:
-    """For each line of the proof an import: of its clause, if that is never deleted, otherwise of
-    the formula's first clause."""
+    """An import for each line of the proof: of the line's clause if that is never deleted,
+    otherwise of the formula's first clause."""
     clause = next(line for line in FORMULA.read_text().splitlines() if line[0] not in "cp").split()
     deleted = {identity for line in lines if line.split()[1] == "d"
                for identity in line.split()[2:-1]}

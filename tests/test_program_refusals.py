@@ -50,8 +50,8 @@ MANY = 5_000
 ONE_LINE, MANY_LINES = "a line and an import", f"{MANY} lines and imports"
 BURDENED = " under assumptions, after a drop"
 FEW_CLAUSES, MANY_CLAUSES = "two clauses", f"{MANY} clauses"
-COUNTED = (ONE_LINE, MANY_LINES, FEW_CLAUSES, MANY_CLAUSES)     # with --serial or burdened, too
-# How many more allocations the many clauses may take, whose lists double: some thirty.
+COUNTED = (ONE_LINE, MANY_LINES, FEW_CLAUSES, MANY_CLAUSES)     # also with BURDENED or --serial
+# How many more allocations the many clauses may take; they take some thirty, since lists double.
 GROWTHS = 100
 MOST = 1_000  # the most calls of a kind that are refused; no run makes as many
 HELD = 100  # seconds after which a run that waits for a pipe counts as hanging
@@ -324,7 +324,7 @@ def leave(machine: Machine, folder: Path, count: int) -> Tuple[int, List[str]]:
     """How many threads were refused beside a number of pipes that stay open after their first line,
     and what went wrong.
 
-    The run ends all the same, and reads none of them.
+    The run ends all the same, and reads no pipe.
     """
     line, wrong = b"5 2 0 1 2 0\n", []
     paths = [piped(folder / f"pipe_{count}_{number}") for number in range(1, count + 1)]

@@ -230,8 +230,8 @@ def pipes() -> Iterator[Named]:
 
 
 def late(name: str, text: str, seconds: float = 0.3) -> str:
-    """For the shell: a pipe replaces the file, and is opened for writing late. It gets the file's
-    text, or this one if there was no file."""
+    """For the shell: a pipe replaces the file, and is opened for writing late. The pipe gets the
+    file's text, or this text if there was no file."""
     return (f"[ -e {name} ] || echo {text} > {name}; mv {name} late; mkfifo {name}; (sleep "
             f"{seconds}; cat late > {name}) & ")
 

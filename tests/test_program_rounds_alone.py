@@ -17,7 +17,7 @@ from rounds import first_words, saved_name, stream_name
 
 TRIES = ["--tries", "1000000"]
 WAYS: List[List[str]] = [[], ["--serial"]]
-# Each with its number of rounds.
+# Each with its numbers of rounds.
 RECORDED = [("four-clause.cnf", ["four-clause.lrup"], (1, 2)),
             ("pigeonhole.cnf", ["pigeonhole.lrup"], (2, 7)), ("bmc.cnf", ["bmc.lrup"], (3, 9)),
             ("pigeonhole.cnf", ["pigeonhole-two.1", "pigeonhole-two.2"], (3,)),
@@ -44,7 +44,7 @@ class Alone(NamedTuple):
 
 def round_alone(program: str, options: Sequence[object], number: int, streams: int, work: Path,
                 alone: Alone) -> bool:
-    """Whether another round would follow."""
+    """Runs one round; returns whether another round would follow."""
     formula = work / (f"alone-{number}" if number > 1 else "formula")
     saved = work / f"alone-{number + 1}"
     words = [work / stream_name(number, stream) for stream in range(1, streams + 1)]
@@ -58,7 +58,7 @@ def round_alone(program: str, options: Sequence[object], number: int, streams: i
 
 def want_same(program: str, options: Sequence[object], streams: int, work: Path,
               alone: Alone) -> None:
-    """The run in rounds, over the streams in the folder d."""
+    """Compares a run in rounds, over the streams in the folder d, with these runs."""
     found, count = (run([program, *options, *first_words([[""] * streams])], cwd=work),
                     len(alone.answers))
     last = alone.answers[-1]

@@ -60,8 +60,8 @@ def unopened() -> Iterator[Named]:
             if number > 1:
                 yield from stopped(number, "sizes", 2, f"which are /dev/{device}",
                                    do=f"ln -s /dev/{device} {name}; ")
-    # A path has at most 4,095 bytes. That of round 2's formula has 4,095; or it has 4,093, and that
-    # of round 2's sizes 4,095.
+    # A path has at most 4,095 bytes. The path of round 2's formula has 4,095; or it has 4,093, and
+    # the path of round 2's sizes 4,095.
     for cause, times in ("cannot read sizes", 2041), ("cannot open stream 1", 2040):
         for way in WAYS:
             words = [*way.split(), "--rounds", "d" + "/." * times, "formula", stream_name(1)]
@@ -182,7 +182,7 @@ def wrong_sizes() -> Iterator[Named]:
                            others={**sized(2, "1 1 1\n"), **sized(3, text)})
 
 
-# From the four clauses, two lines with three literals, 2 and 2 1.
+# Two lines over the four clauses, with three literals in all: they derive 2 and 2 1.
 LINES, LINES_SAID = "5 2 0 1 2 0\n6 2 1 0 5 0\n", "2 added, 0 deleted, ended"
 LINES_SAVED = FOUR.replace("2 4", "2 6") + "2 0\n2 1 0\n"
 NO_LINE = "1 added, 0 deleted, bad line 2 (identity)"
@@ -190,7 +190,7 @@ NO_ROOM = "1 added, 0 deleted, bad line 2 (no room)"
 
 
 def sizes() -> Iterator[Named]:
-    """Each limit from both sides; without sizes those of the round before hold."""
+    """Each limit from both sides; without a file of sizes, those of the round before apply."""
     def second(text: str, said: str, saved: str, options: str = "") -> Iterator[Named]:
         """The two lines in round 2, with sizes of this text."""
         yield from rounds(f"sizes {text!r} {options}", 3, [[""], [LINES]], last(2, [said], 3),
@@ -213,7 +213,7 @@ def sizes() -> Iterator[Named]:
     yield from second("", NO_ROOM, SAVED_ONE, "--room 2")
     yield from second("1 2 3\n", LINES_SAID, LINES_SAVED, "--lines 0 --room 0")
     yield from second("1 1 3\n", NO_LINE, SAVED_ONE, "--lines 2 --room 3")
-    # The options' limits are allowed there, but exceed a row.
+    # The options' limits are allowed in a file of sizes, but exceed a row.
     for text in "1 268435456 0\n", "1 0 268435456\n", "1 268435456 268435456\n":
         yield from too_long(text)
     # The formula has 4 clauses and 8 literals; the total is at most 268,435,455.
@@ -275,7 +275,7 @@ def counts() -> Iterator[Named]:
 
 
 def full() -> Iterator[Named]:
-    """Files without bytes, and a report that can't be written."""
+    """No byte of a checkpoint can be written, or the report can't be written."""
     none, unwritten = 'trap "" XFSZ; ulimit -f 0; ', fault(1, "checkpoint not written")
     texts, said, saved = TWO
     yield from rounds("a full disk", 9, texts, last(1, said[0], 3), unwritten, [""], do=none)

@@ -1,11 +1,11 @@
 """Runs the commands that pages show, in order, with one shell and one folder for each page.
 
 A command comes after '$ ' in a block that is indented by four spaces or more. If its line ends with
-a backslash, a bar or '&&', it continues in the next one. The text below is its expected output,
-standard error, too: a line '..' stands for any lines, and in a line with lrup-solve's times each
-number for any other. If there is no text, any output is fine. Some commands aren't run, since they
-would prove the program: see NOT_RUN. Then the examples' scripts get wrong arguments, files and
-answers."""
+a backslash, a bar or '&&', it continues on the next one. The text below it is the expected output,
+including standard error: a line '..' stands for any lines, and in a line with lrup-solve's times
+each number stands for any other. If there is no text, any output is fine. Some commands aren't run,
+since they would prove the program: see NOT_RUN. Then the examples' scripts get wrong arguments,
+files and answers."""
 import os
 import re
 import shutil
@@ -19,8 +19,8 @@ from solving import LRUP_SOLVE, PROGRAM, SOLVE
 
 LIMIT = 120  # seconds for a page
 NOT_RUN = ["make try", "make install PREFIX=$HOME/.local", "sudo make packages && make test"]
-# Files in a page's folder, besides the examples: copies, and generated formulas. And the packages
-# that its commands need.
+# The files in a page's folder besides the examples, which are copies and generated formulas; and
+# the packages that the page's commands need.
 PAGES: List[Tuple[str, Sequence[str], Sequence[str]]] = [
     ("README.md", ["random 150 1 > formula.cnf"], ["cadical"]),
     ("docs/USING.md", ["random 150 1 > formula.cnf"], ["cadical", "cryptominisat5"]),
@@ -42,7 +42,7 @@ class Command(NamedTuple):
 
 
 def commands_of(page: Path) -> Iterator[Command]:
-    """Each with its first line's number."""
+    """Each command, with the number of its first line."""
     lines = [*page.read_text().splitlines(), ""]
     at = 0
     while at < len(lines):

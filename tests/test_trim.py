@@ -1,13 +1,13 @@
 """Runs lrup-trim, and lrupd and an independent LRAT checker on its output.
 
-Random runs (300, or --count) of one to five solvers, with and without imports, in one to seven
-rounds, some under an assumption, some with new hints; and as many garbled records. The core has to
-have clauses of the formula; lines have to be numbered densely, each has to be cited, and deleted
-right after that. With the commands that lrup-trim prints, lrupd has to accept the lines over the
-core and over the formula; of garbled streams, both or none, as the LRAT checker does; and none if
-the formula is satisfiable. Records of lrup-solve are trimmed if CaDiCaL's library is installed.
-While streams are rewritten and truncated, everything is written or nothing. lrup-trim is built for
-tests, with -fsanitize=address,undefined if the compiler can."""
+There are 300 (or --count) random runs of one to five solvers, with and without imports, in one to
+seven rounds, some under an assumption, some with new hints; and as many garbled records. The core
+has to consist of clauses of the formula; lines have to be numbered densely, and each clause has to
+be cited, and deleted right after its last use. With the commands that lrup-trim prints, lrupd has
+to accept the lines over the core and over the formula; of garbled streams, both or none, as the
+LRAT checker does; and none if the formula is satisfiable. Records of lrup-solve are trimmed if
+CaDiCaL's library is installed. While streams are rewritten and truncated, all outputs are written
+or none. lrup-trim is built for tests, with -fsanitize=address,undefined if the compiler can."""
 import hashlib
 import mmap
 import os
@@ -56,8 +56,8 @@ def core_of(path: Path) -> Tuple[int, List[int], List[Clause]]:
 
 
 def is_tight(steps: Sequence[Step], clauses: int) -> None:
-    """Numbered densely, each clause deleted right after the line that cites it last; all but the
-    last one are cited."""
+    """Lines are numbered densely; each clause but the last is cited, and deleted right after the
+    line that cites it last."""
     last: Dict[int, int] = {}
     for step in steps:
         last.update({hint: step.identity for hint in step.hints if step.kind == "a"})
@@ -88,7 +88,7 @@ def verdicts(said: str, work: Path) -> List[Ran]:
 
 
 def are_right(formula: Path, said: str, work: Path, status: int = 0) -> None:
-    """All three outputs, and the printed lines."""
+    """Checks all three outputs, and the printed lines."""
     clauses = read_formula(formula)
     variables, core, literals = core_of(work / "core")
     want((literals, variables),
@@ -167,7 +167,7 @@ def at_random(seed: int, work: Path) -> None:
 
 
 def longer_than_a_row(output: str, formula: str, work: Path) -> None:
-    """The printed line for such an output, checked with small rows of the filter."""
+    """Checks this output with small rows of the filter, by the line that lrup-trim prints."""
     trimmed(example("bmc.cnf"), [example("bmc.lrup")], work)
     os.symlink(example("bmc.cnf"), work / "bmc.cnf")
     command = (f'"$1" --rounds live --memory 48K {formula} {output} | {{ read ready && '
@@ -254,8 +254,8 @@ def few_in_rounds(proof: Proof, stream: str, work: Path) -> None:
 
 
 def fewer_streams(work: Path) -> None:
-    """In round 2, by its sizes; a file of another stream is ignored, and so is one after the empty
-    clause."""
+    """Round 2 has fewer streams, by its sizes; the file of another stream is ignored, and so is a
+    file after the round with the empty clause."""
     files = {"round-1.stream-1": "5 2 0 1 2 0\n5 d 1 0\n", "round-1.stream-2": "6 d 4 1 0\n",
              "round-2.sizes": "1 9 9\n", "round-2.stream-1": "5 1 0 4 2 0\n6 0 5 4 3 0\n",
              "round-2.stream-2": "x", "round-3.stream-1": "x"}
@@ -333,7 +333,7 @@ FAULT = (rf"lrup-trim: (\S+, line \d+: ({FAULTY_LINE})|no line derives the empty
 
 def garbled_trim(found: Garbled, formula: Path, rehints: bool,
                  work: Path) -> Optional[Tuple[bool, List[Ran]]]:
-    """The LRAT checker's verdict, and lrupd's on both outputs; None if nothing is written, with a
+    """The LRAT checker's verdict, and lrupd's answers on both outputs; None if there is only a
     message."""
     for name, text in found.files.items():
         (work / "rounds" / name).write_bytes(text.encode("latin-1"))
@@ -352,7 +352,8 @@ def garbled_trim(found: Garbled, formula: Path, rehints: bool,
 
 
 def garbled(number: int, work: Path) -> None:
-    """lrupd accepts both outputs, and the LRAT checker its own, or neither accepts any."""
+    """Either lrupd accepts both outputs and the LRAT checker accepts its own, or neither accepts
+    any."""
     numbers = random.Random(f"{number} garbled")
     found = base(number, work)
     for name in numbers.sample(sorted(found.files), numbers.randint(1, min(2, len(found.files)))):
@@ -396,7 +397,7 @@ def satisfiable(number: int, work: Path) -> None:
 
 
 def fault(streams: Sequence[str], said: Sequence[str], work: Path) -> None:
-    """Without these lines nothing refutes the four clauses."""
+    """These faulty lines are reported; without them nothing refutes the four clauses."""
     for number, text in enumerate(streams, 1):
         written(text, work, f"f{number}")
     done = trim([*outputs_of(work), written(FOUR, work),
@@ -483,16 +484,16 @@ def digests(work: Path) -> None:
                  f"the message on {kept}, with {length} bytes")
 
 
-CHANGED = ("lrup-trim: {} isn't the formula of d, or was changed since: its digest isn't that of "
-           "d/formula.sha256\n")
+CHANGED = ("lrup-trim: {} isn't the formula of d, or was changed since: its digest isn't the one "
+           "in d/formula.sha256\n")
 
 
 # Files and the command line.
 
 
 def refuses(words: str, status: int, said: str, work: Path) -> None:
-    """In a folder with a formula f, a stream s, a pipe p, a folder d without rounds, files there
-    and r.re-hint, and a compressed file z."""
+    """Runs in a folder with a formula f, a stream s, a pipe p, a folder d without rounds, files
+    there and r.re-hint, and a compressed file z."""
     files = {"f": FOUR.encode(), "s": FIRST.encode(), "there": b"mine", "r.re-hint": b"",
              "z": COMPRESSED["zcat"]}
     for name, text in files.items():
@@ -518,8 +519,8 @@ REFUSED = [("", 2, "error: no FORMULA"), ("f", 2, "error: no DIR or STREAM"),
            ("--core x --stream=s f s", 1, "s: exists, not overwritten"),
            ("f d s", 1, "d: a folder has to be the only input"),
            ("f d", 1, "d has no record: lrup-solve --proofs makes one"),
-           ("f p", 1, "p: not a regular file, but it is read more than once"),
-           ("p s", 1, "p: not a regular file, but it is read more than once"),
+           ("f p", 1, "p: has to be a regular file, since it is read more than once"),
+           ("p s", 1, "p: has to be a regular file, since it is read more than once"),
            ("f none", 1, "none: No such file or directory"),
            ("none s", 1, "none: No such file or directory"),
            ("f z", 1, "z: compressed: unpack it with zcat"),
@@ -560,7 +561,7 @@ def no_place(work: Path) -> None:
 
 
 def full(limit: int, options: Sequence[object], work: Path) -> None:
-    """A limit on the size of files: no part of one is left."""
+    """With a limit on the size of files, no part of an output is left."""
     words = [*outputs_of(work), *options, example("bmc.cnf"), example("bmc.lrup")]
     done = trim(words, work, preexec_fn=lambda: within(limit))
     found = re.fullmatch(

@@ -1,6 +1,6 @@
 /* The sweep has to refuse this program: it starts six threads, as lrupd does for three streams, and
    if one isn't started, it says so without waiting for the others. It tests the tests, and isn't
-   part of the program. */
+   part of lrupd. */
 #include <pthread.h>
 #include <stdio.h>
 #include <unistd.h>

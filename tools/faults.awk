@@ -1,4 +1,4 @@
-# Makes lrup-explain's words for faults, the entries of an array in C, from lrupd's definition:
+# Makes lrup-explain's words for faults, as entries of a C array, from lrupd's definition:
 #
 #     awk -f tools/faults.awk crates/stream_check/specs/Faults.antt
 

@@ -1,11 +1,11 @@
-# Makes what a program's --help prints, as strings of C:
+# Makes the text that a program's --help prints, as C strings:
 #
 #     awk -v program=lrup-check -f tools/help.awk docs/lrup-*.1
 #
-# The program's own page has the synopsis and, up to .Pp, what it does. Each item of a list below a
-# comment 'help of lrup-solve, lrup-check' is taken up to the end of its first sentence.
+# The program's own page has the synopsis and, up to .Pp, what the program does. Each item of a list
+# below a comment 'help of lrup-solve, lrup-check' is taken up to the end of its first sentence.
 
-# A line without macros.
+# Returns the line without macros.
 function plain(line,    end, name) {
     if (line !~ /^\./) return line
     if (line ~ / [.,:;]$/) {
@@ -34,7 +34,7 @@ function put(line) {
     print "\"" line "\\n\""
 }
 
-# Puts text with this indent, after a head, or below it if there is no room.
+# Prints text with this indent: after the head, or below the head if that is too long.
 function wrap(head, text, indent,    word, count, k, line) {
     line = head substr(indent, length(head) + 1)
     if (length(head) >= length(indent)) {

@@ -7,9 +7,9 @@ SOLVE, lrup-solve with two engines, and TRIM, lrup-trim, make the proofs, which 
 both checkers of ACL2, and check.c, an unverified one, have to accept all of them; each runs N times
 in turn, 3 by default, and the least user time counts. With 0 nothing is timed. Then one fault each
 is put into copies of an LRAT proof. The tables of RESULTS are printed. The status is 1 if a good
-proof is refused, if lrupd accepts a faulty one that both others refuse, except one with a literal
-twice, or if lrupd accepts a proof for a satisfiable formula. It needs Python 3, a C compiler, and
-Debian's acl2, acl2-books and acl2-books-certs."""
+proof is refused, if lrupd accepts a faulty proof that both others refuse, except a proof with a
+literal twice, or if lrupd accepts a proof for a satisfiable formula. It needs Python 3, a C
+compiler, and Debian's acl2, acl2-books and acl2-books-certs."""
 import argparse
 import collections
 import os

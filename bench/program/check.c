@@ -1,12 +1,12 @@
-// An unverified checker of a formula's streams, for comparison with lrupd; no part of it.
+// An unverified checker of a formula's streams, for comparison with lrupd, not a part of it.
 //
 //     check [--threads] [--lines N] FORMULA STREAM...
 //
-// Without --threads it checks all streams on one thread, one line of each in turn. With it each
-// stream has a thread, and a hint of another stream is tried a million times, a microsecond apart.
-// All share one array of pointers to clauses; a pointer's lowest bit means that the clause was
-// retired. Each stream has N identities, 65,536 by default; room has no limit. For good streams it
-// prints the same as lrupd; for a bad line it names a hint's fault, and otherwise prints 'not
+// Without --threads it checks all streams on one thread, one line of each in turn. With --threads
+// each stream has a thread, and a hint of another stream is tried a million times, a microsecond
+// apart. All share one array of pointers to clauses; a pointer's lowest bit means that the clause
+// was retired. Each stream has N identities, 65,536 by default; room has no limit. For good streams
+// it prints the same as lrupd; for a bad line it names a hint's fault, and otherwise prints 'not
 // taken'.
 #include <fcntl.h>
 #include <stdatomic.h>
@@ -84,8 +84,8 @@ static inline uint32_t code(int64_t literal) {
     return literal < 0 ? (uint32_t)(-literal) * 2 + 1 : (uint32_t)literal * 2;
 }
 
-// Reads a number of which the first byte was read already. Returns the byte after it, or -2 without
-// a number.
+// Reads a number whose first byte was already read. Returns the byte after it, or -2 without a
+// number.
 static inline int number(Reader *reader, int byte, int64_t *value) {
     int negative = byte == '-';
     if (negative) byte = next(reader);
@@ -142,7 +142,7 @@ static inline int owns(const Stream *s, uint64_t id) {
     return id > clauses && id <= last_identity && (id - clauses - 1) % streams == s->number - 1;
 }
 
-// An identity's clause: 0 if there is none, also after all tries.
+// An identity's clause; 0 if there is none even after all tries.
 static inline uintptr_t look(const Stream *s, uint64_t id) {
     if (id == 0 || id > last_identity) return 0;
     uintptr_t found = atomic_load_explicit(&clause_at[id], memory_order_acquire);

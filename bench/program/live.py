@@ -4,9 +4,9 @@
     live.py PROGRAM
 
 It prints the processor time of 64 silent pipes; of a hint that is tried 1,000,000 times and never
-comes, with nothing after it and with more than its ring holds; the time from a line after silence
-to the report; and for 1,000 and 10,000 lines a second the processor time of a line, and the time
-from the last one to the report."""
+comes, with nothing after it, and with more bytes after it than its ring holds; the time from a line
+after silence to the report; and for 1,000 and 10,000 lines a second the processor time of a line,
+and the time from the last line to the report."""
 import os
 import statistics
 import subprocess
@@ -73,8 +73,8 @@ def behind_a_hint(folder, behind):
     run = Run(folder, 2, "--tries", "1000000")
     run.write("5 0 6 0\n")
     if behind:
-        # The pipe holds only part of it while the hint is tried; the write fails when the program
-        # ends.
+        # While the hint is tried, the pipe holds only a part of these bytes; the write fails when
+        # the program ends.
         threading.Thread(target=lambda: run.write("\n" * behind), daemon=True).start()
     taken = busy_meanwhile(run.process)
     run.process.kill()

@@ -12,7 +12,7 @@ Writes a formula or a stream of additions for measuring, 40 MB by default, the s
 import random
 import sys
 
-# the least and the most literals of a line, and hints
+# the least and the most literals of a line, and the least and the most hints
 STREAMS = {"short": ((1, 3), (1, 5)), "long": ((20, 100), (40, 200)),
            "huge": ((100, 100), (50_000, 50_000))}
 # literals of a clause, its approximate bytes, and the number of variables for a number of clauses

@@ -127,7 +127,7 @@ def sort(count, bits):
 
 def pipeline(steps, bits, registers=4):
     """Each step writes the sum, or the exclusive or, of two registers into a register. The pipeline
-    writes it two steps later."""
+    writes the result two steps later."""
     circuit = Circuit()
     start = [circuit.word(bits) for _ in range(registers)]
     code = [(circuit.fresh(), circuit.word(2), circuit.word(2), circuit.word(2))

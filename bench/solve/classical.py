@@ -24,8 +24,8 @@ def chessboard(size: int) -> Tuple[int, Clauses]:
 
 
 def waerden(first: int, second: int, count: int) -> Tuple[int, Clauses]:
-    """The numbers up to `count` have two colours, without `first` evenly spaced ones of the first
-    colour, and `second` of the second."""
+    """The numbers up to `count` have two colours, without `first` evenly spaced numbers of the
+    first colour, or `second` of the second."""
     clauses: Clauses = []
     for length, sign in ((first, -1), (second, 1)):
         for distance in range(1, (count - 1) // (length - 1) + 1):

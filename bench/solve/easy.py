@@ -8,7 +8,7 @@
     easy.py corridor CELLS HORIZON [reversed]
         a plan to walk to the last cell of a corridor; refuted if HORIZON is below CELLS
     easy.py lfsr BITS STEPS [reversed]
-        a feedback shift register, from a known state, doesn't end in the state in which it ends
+        a feedback shift register, from a known state, isn't in the right state after STEPS steps
     easy.py simulation STEPS
         a register of 32 bits in Verilog, unrolled by yosys, becomes 0 in STEPS steps; needs yosys
 

@@ -7,7 +7,8 @@
     formulas.py sort NUMBERS BITS       two sorting networks, bubble sort and odd-even transposition
                                         sort, differ
     formulas.py pipeline STEPS BITS     a pipeline with forwarding and a machine without one differ
-    formulas.py factor NUMBER           the number has two factors above 1; satisfiable if it has
+    formulas.py factor NUMBER           the number has two factors above 1; satisfiable unless it
+                                        is prime
     formulas.py distribute BITS         (a + b) c isn't a c + b c, for words
     formulas.py squares BITS            (a + b) (a - b) isn't a a - b b, for words
     formulas.py count BITS              the ones of a word, counted one by one and in a tree, differ
@@ -15,7 +16,7 @@
                                         room to the other; satisfiable from 2 BALLS - 1 steps on if
                                         BALLS is even, from 2 BALLS + 1 if it is odd
     formulas.py tiles STEPS             a plan for eight tiles that need 31 moves; satisfiable from
-                                        31 on
+                                        31 steps on
     formulas.py chessboard SIZE         dominoes cover a board without two opposite corners
     formulas.py waerden A B COUNT       COUNT numbers in two colours, without A evenly spaced ones
                                         of the first, and B of the second; satisfiable below van der

@@ -5,10 +5,10 @@
             [--proofs DIR [--kills N] [--after SECONDS]] SOLVE LRUPD FORMULA
 
 It prints a line for each round: the row, the clauses that were derived and those that were carried
-over, and the pause; and each process's peak memory of its own, in MB. --svg draws the clauses that
-each round carried over, and the memory over time. With --proofs the run has a record, whose size it
-prints, and how long the record's check takes. With --kills the run is killed N times, each time
-after SECONDS, and resumed."""
+over, and the pause; and each process's own peak memory, in MB. --svg draws the clauses that each
+round carried over, and the memory over time. With --proofs the run keeps a record; its size is
+printed, and how long its check takes. With --kills the run is killed N times, each time after
+SECONDS, and resumed."""
 import argparse
 import re
 import subprocess
@@ -49,7 +49,7 @@ def children_of(pid: str) -> List[str]:
 
 
 def size_of(record: Path) -> float:
-    """In MB."""
+    """The record's size in MB."""
     return sum(path.stat().st_size for path in record.rglob("*") if path.is_file()) / 1e6
 
 
@@ -61,7 +61,7 @@ def look(pid: int, began: float, samples: Samples) -> None:
             samples.setdefault(facts["Name"], []).append((time.monotonic() - began,
                                                           int(facts["RssAnon"].split()[0]) / 1000))
     except (OSError, KeyError):
-        pass        # it has ended
+        pass        # the process has ended
 
 
 def axes(top: int, title: str, most: float, unit: str) -> List[str]:

@@ -46,7 +46,8 @@ class Steps:
         return step * self.size + len(self.facts) + place + 1
 
     def change(self, step: int) -> Clauses:
-        """Clauses for what an action needs and does, and that only an action changes a fact."""
+        """Clauses that say what an action needs and does, and that only an action changes a
+        fact."""
         clauses: Clauses = []
         adding, removing = defaultdict(list), defaultdict(list)
         for place, one in enumerate(self.actions):

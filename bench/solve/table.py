@@ -19,8 +19,8 @@
 `cadical -q` solves each formula without a proof, and lrup-solve with each number of engines, in
 turn. Time by the clock means little if other work uses the cores, so the last column has the most
 cores that other work used. 'Longest part' is the processor time of the engine or filter that took
-the most: no run takes less, on any number of cores. 'All' is that of all processes together. Both
-are relative to CaDiCaL's. Needs Python 3 on Linux, and `cadical` on the PATH."""
+the most: no run takes less, on any number of cores. 'All' is the sum over all processes. Both are
+relative to CaDiCaL's processor time. Needs Python 3 on Linux, and `cadical` on the PATH."""
 import argparse
 import math
 import os
@@ -202,7 +202,7 @@ def shares(engines: List[int], every: List[Formula], medians: List[Medians]) -> 
 
 
 def together(cells: List[str], count: int) -> List[str]:
-    """Joins each `count` cells to one."""
+    """Joins every `count` cells into one."""
     return [", ".join(cells[place:place + count]) for place in range(0, len(cells), count)]
 
 

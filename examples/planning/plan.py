@@ -29,8 +29,9 @@ def parts(expression):
 
 
 def ground(domain, problem):
-    """The initial facts, the goal's, and for each action its name, and the facts that it needs,
-    adds and deletes. Facts that no action changes have to hold initially, and are dropped."""
+    """The initial facts, the goal's facts, and for each action its name, and the facts that it
+    needs, adds and deletes. Facts that no action changes have to hold initially, and are
+    dropped."""
     sections = {entry[0]: entry[1:] for entry in problem[2:]}
     schemas = [dict(zip(entry[2::2], entry[3::2]), name=entry[1]) for entry in domain[2:]
                if entry[0] == ":action"]

@@ -3,7 +3,7 @@
 
     smt2cnf.py PROBLEM.smt2 > FORMULA.cnf
 
-The formula is satisfiable exactly if the problem is, if Z3 is right. It needs Debian's package
+If Z3 is right, the formula is satisfiable exactly if the problem is. It needs Debian's package
 python3-z3."""
 import sys
 

@@ -15,8 +15,8 @@ static void clear_marks(Solver *solver) {
     solver->marked.length = 0;
 }
 
-// How many of a clause's literals are of the last level and weren't seen before; those of levels
-// between go into the learnt clause.
+// How many of a clause's literals are of the last level and weren't seen before; those of the
+// levels between 0 and the last go into the learnt clause.
 static int look_at(Solver *solver, const Clause *clause) {
     int found = 0;
     for (unsigned k = 0; k < clause->length; k++) {
@@ -74,10 +74,10 @@ static void minimise(Solver *solver) {
     clear_marks(solver);
 }
 
-// In a clause of the chain all literals are false except the one that it implied. So something that
-// makes each other literal false has to come before it: nothing if the literal is in the learnt
-// clause, which is false at first; at level 0 its unit clause; otherwise its reason, which is then
-// another clause of the chain. Returns how many such reasons are new.
+// In a clause of the chain all literals are false except the one that it implied. So each other
+// literal has to be false before: a literal of the learnt clause is false at first; a literal of
+// level 0 needs its unit clause; any other literal needs its reason, which is then another clause
+// of the chain. Returns how many such reasons are new.
 static int need(Solver *solver, const Clause *clause, Identities *level_zero) {
     int found = 0;
     for (unsigned k = 0; k < clause->length; k++) {
@@ -141,7 +141,7 @@ static void hint_at_level_zero(Solver *solver, const Clause *clause, unsigned sk
 }
 
 // Gives each literal that is true at level 0 a unit clause with its own line, in the order of the
-// trail. Then the literal takes one hint in a chain, not its whole derivation, and its reason may
+// trail. Then the literal needs one hint in a chain, not its whole derivation, and its reason may
 // be deleted.
 void name_units(Solver *solver) {
     for (; solver->named < solver->trail.length; solver->named++) {

@@ -148,8 +148,8 @@ static Clause *propagate(Solver *solver) {
     return conflict;
 }
 
-// Adds a clause at level 0, watched by literals that aren't false. Returns the clause if it has
-// none.
+// Adds a clause at level 0, watched by literals that aren't false. Returns the clause if all its
+// literals are false.
 static Clause *install(Solver *solver, Clause *clause) {
     unsigned open = 0;
     for (unsigned k = 0; k < clause->length && open < 2; k++) {
@@ -232,8 +232,8 @@ static void forget_watches(Solver *solver) {
 }
 
 // Deletes the worse half. A clause of this solver that others have gets no deletion in the stream:
-// they may still cite it. For other solvers' clauses the line only says that this stream won't cite
-// them again.
+// they may still cite it. For other solvers' clauses the deletion only says that this stream won't
+// cite them again.
 static void reduce(Solver *solver) {
     Clauses *clauses = &solver->clauses;
     Identities *deleted = &solver->hints;

@@ -1,5 +1,5 @@
-// Unverified: an example of solvers that write streams for lrupd, not part of it. Common to its
-// files.
+// Unverified: an example of solvers that write streams for lrupd, not part of lrupd. Shared by the
+// solver's files.
 #ifndef SOLVER_H
 #define SOLVER_H
 

@@ -74,9 +74,9 @@ static bool has_odd(const Numbers *list, size_t start) {
     return false;
 }
 
-// Identities that are written as literals are even numbers, since those of RUP steps aren't
-// negative. So an odd number decides. Otherwise the first addition does: its identity is above the
-// formula's.
+// Identities that are written as literals are even numbers, since RUP steps have no negative ones.
+// So an odd number shows that they are plain. Otherwise the first addition decides: its identity is
+// above the formula's.
 static Coding coding_of(const Filter *filter, const Numbers *list, size_t hints, bool addition) {
     int64_t first = addition ? list->items[0] : 0, formula = (int64_t)filter->formula.clauses;
     if (first & 1 || has_odd(list, hints)) return PLAIN;

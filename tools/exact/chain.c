@@ -1,8 +1,8 @@
 // Unverified, like the whole filter. Option --rounds: writes a stream for each round of lrupd
 // --rounds, through FIFOs. Each FIFO exists before the previous round's stream ends, since lrupd
-// then looks for it. Once lrupd has opened it, the FIFO and the file of sizes are removed, and so
-// is a checkpoint once it is read. So the folder has files of an unfinished round only while this
-// program waits for lrupd.
+// then looks for it. Once lrupd has opened the FIFO, it is removed with the file of sizes; a
+// checkpoint is removed once it is read. So the folder has files of an unfinished round only while
+// this program waits for lrupd.
 #define _XOPEN_SOURCE 700
 #include <dirent.h>
 #include <errno.h>
@@ -38,8 +38,8 @@ static volatile sig_atomic_t is_awaited;    // whether the program waits for lru
 static int file;
 static struct stat made;                    // the FIFO
 
-// Locks the folder until this process ends; a file system without locks is used unlocked. Other
-// users must not be able to replace files in it.
+// Locks the folder until this process ends; on a file system without locks it stays unlocked. Other
+// users must not be able to replace files in the folder.
 static void lock_folder(void) {
     held = open(folder, O_RDONLY | O_DIRECTORY | O_CLOEXEC);
     if (held < 0) fail_file(folder, strerror(errno));
@@ -48,8 +48,8 @@ static void lock_folder(void) {
         fail_file(folder, "another run uses this folder");
 }
 
-// Opens the folder. It must have no file of a round: lrupd would read it, or refuse to overwrite
-// it.
+// Opens the folder. It must not have files of rounds: lrupd would read them, or refuse to overwrite
+// them.
 void chain_open(const char *path) {
     folder = path;
     if (strlen(folder) > LONGEST_PATH - LONGEST_NAME) fail_file(folder, "name too long");

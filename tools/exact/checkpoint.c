@@ -1,5 +1,5 @@
-// Unverified, like the whole filter. Reads a checkpoint of lrupd. A comment before a clause has its
-// previous identity, unless that was its place.
+// Unverified, like the whole filter. Reads a checkpoint of lrupd. A comment before a clause gives
+// its previous identity, unless that equals its index, counted from 1.
 #include "checkpoint.h"
 #include "errors.h"
 #include "input.h"

@@ -10,7 +10,7 @@
 extern "C" {
 #endif
 
-// The previous identity of each clause, in rising order. Its new identity is its place, counted
+// The clauses' previous identities, in rising order. A clause's new identity is its index, counted
 // from 1.
 typedef struct {
     Identities old;

@@ -1,4 +1,4 @@
-// Unverified: invariants, checked in builds for tests only (-DCHECKED): by `assert`, or, if the
+// Unverified: invariants, checked only in builds for tests (-DCHECKED): by `assert`, or, if the
 // check goes through a whole structure, by a function that CHECK calls.
 #ifndef CHECKS_H
 #define CHECKS_H

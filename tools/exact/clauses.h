@@ -9,7 +9,7 @@
 
 #include "literals.h"
 
-typedef uint32_t ClauseRef;             // a place in the row; 0: none
+typedef uint32_t ClauseRef;             // an index in the row; 0: none
 typedef LIST_OF(ClauseRef) ClauseRefs;
 
 enum { MANY = 1024 };                   // a clause with more literals is long
@@ -18,12 +18,12 @@ enum { DEAD = 1, TAUTOLOGY = 2, AGE = 4, RECENT = 3 * AGE, LONG = 16 };
 
 enum { LENGTH_BITS = 27, FLAG_BITS = 5 };
 
-// The literals are distinct, and the two watched ones come first. In a long clause a number follows
-// them: where the search for another literal to watch begins.
+// The literals are distinct, and the two watched ones come first. After a long clause's literals
+// comes the index at which the search for another literal to watch begins.
 typedef struct {
     uint64_t identity;                  // in the stream
     uint32_t length : LENGTH_BITS, flags : FLAG_BITS;
-    ClauseRef next;                     // the next clause with the same place in `sets`
+    ClauseRef next;                     // the next clause with the same index in `sets`
     Literal literals[];
 } Clause;
 

@@ -1,5 +1,5 @@
-// Unverified, like the whole filter. Finds out the form of a proof by its first bytes, and reads no
-// further than it needs.
+// Unverified, like the whole filter. Detects the form of a proof by its first bytes, and reads no
+// further than necessary.
 #include "detect.h"
 #include "errors.h"
 
@@ -49,8 +49,8 @@ static uint64_t number_ahead(Input *input, size_t *at) {
 }
 
 // DRAT's first addition begins with a literal of the formula, and LRAT's with an identity above the
-// formula's, plain or doubled. A number may be both. A deletion before it decides if it has a
-// number that is no literal.
+// formula's, plain or doubled. A number may be both. An earlier deletion with a number that is no
+// literal shows that the proof is LRAT.
 static Form binary_form(Input *input, const Formula *formula) {
     uint64_t last_literal = 2 * (uint64_t)formula->variables + 1, found;
     for (size_t at = 0;;) {
@@ -76,7 +76,7 @@ void check_plain(Input *input) {
     stop("compressed: unpack it with %s", program);
 }
 
-// The steps of a text decide whether it is LRAT, or DRUP or DRAT.
+// Returns TEXT for LRAT, DRUP and DRAT text: its steps show later which of them it is.
 Form form_of(Input *input, const Formula *formula) {
     position_set("byte", 1);
     int first = input_ahead(input, 0);

@@ -1,4 +1,4 @@
-// Unverified, like everything that includes it. Fatal errors.
+// Unverified, like every program that uses it. Fatal errors.
 #include <stdarg.h>
 #include <stdio.h>
 #include <stdlib.h>

@@ -9,7 +9,7 @@
 extern "C" {
 #endif
 
-// must not return; by default a line goes to standard error
+// the handler must not return; by default the cause goes to standard error
 void errors_handle(void (*handler)(const char *cause));
 // where the proof is being read; NULL: nowhere
 void position_set(const char *unit, uint64_t number);

@@ -1,4 +1,4 @@
-// Unverified, like the whole filter. Turns each step of a proof into lines of the stream, or into
+// Unverified, like the whole filter. Turns each step of a proof into lines of the stream, perhaps
 // none, or ends the program.
 #include <stdio.h>
 
@@ -18,8 +18,8 @@ static void make_known(Filter *filter, ClauseRef ref) {
     if (!filter->frat) clauses_keep_set(&filter->clauses, ref);
 }
 
-// In FRAT the proof names the formula's clauses; otherwise their order does. Only the formula's two
-// counts are kept. LRAT's identities aren't used in rounds, since gaps between them would count
+// In FRAT the proof names the formula's clauses; otherwise their order does. Of `formula` only the
+// two counts are kept. LRAT's identities aren't used in rounds, since gaps between them would count
 // towards the row's lines.
 void filter_open(Filter *filter, bool frat) {
     Formula *formula = &filter->formula;
@@ -126,14 +126,14 @@ uint64_t filter_next_identity(const Filter *filter) {
     return identity;
 }
 
-// The stream's next identity; or LRAT's own, if there is one stream only, or other streams may cite
-// it.
+// The stream's next identity, or LRAT's own if there is only one stream, or other streams may cite
+// the clause.
 static uint64_t new_identity(const Filter *filter, const Addition *addition) {
     int64_t formula = (int64_t)filter->formula.clauses, name = addition->name;
     if (addition->named && filter->keeps_identities && !filter->frat) {
         if (name <= formula || name <= (int64_t)filter->last ||
             owner(filter, (uint64_t)name) != filter->stream)
-            stop("the identity %lld isn't the stream's own, or not above the one before",
+            stop("the identity %lld isn't the stream's own, or isn't above the previous one",
                  (long long)name);
         return (uint64_t)name;
     }
@@ -183,8 +183,8 @@ static void write_addition(Filter *filter, const Addition *addition, Found found
     write_line(filter);
 }
 
-// Adds the other literals of the clause to those of the step. False if both have a literal and its
-// complement besides the pivot.
+// Adds the other literals of the clause to those of the step. False if, besides the pivot, one of
+// them has a literal and the other its complement.
 static bool resolve(Filter *filter, const Clause *clause, Literal complement) {
     for (unsigned k = 0; k < clause->length; k++) {
         Literal literal = clause->literals[k];
@@ -202,7 +202,7 @@ static bool has_literal(const Clause *clause, Literal literal) {
 }
 
 // Whether the clause, which isn't RUP, is RAT on its first literal: each resolvent with another
-// clause follows. Used for a message only, since the program then ends.
+// clause follows. Used only for a message, before the program ends.
 static bool is_rat(Filter *filter) {
     Literals *literals = &filter->literals;
     size_t length = literals->length;
@@ -261,7 +261,7 @@ static _Noreturn void stop_without_conflict(Filter *filter, const Addition *addi
          none, name, stream, stream);
 }
 
-// Finds a chain by unit propagation. A round may end at each lemma that is written for it.
+// Finds a chain by unit propagation. A round may end at each lemma that is written for the chain.
 static void look_for_chain(Filter *filter, const Addition *addition, bool has_lemmas) {
     Propagation *propagation = &filter->propagation;
     ClauseRef conflict = propagation_conflict(propagation, &filter->literals);
@@ -281,8 +281,8 @@ static void look_for_chain(Filter *filter, const Addition *addition, bool has_le
     propagation_take_back(propagation);
 }
 
-// Makes a chain of the hints, or else by unit propagation. NO_CHAIN if the empty clause was derived
-// instead of this one.
+// Makes a chain from the hints or, if that fails, by unit propagation. NO_CHAIN if the empty clause
+// was derived instead of this clause.
 static Found find_chain(Filter *filter, const Addition *addition) {
     bool has_lemmas = has_identities(filter, addition);
     Found found = addition->hinted > 0 ? try_hints(filter, addition) : NO_CHAIN;
@@ -358,7 +358,7 @@ void filter_import(Filter *filter, int64_t identity, const int64_t *literals, si
         stop("an import, but the solver shares nothing");
     if (filter->refuted) return;
     if (identity < 1 || (identity > formula && owner(filter, (uint64_t)identity) == filter->stream))
-        stop("an import of %lld, which is no clause of the formula or of another stream",
+        stop("an import of %lld, which isn't a clause of the formula or of another stream",
              (long long)identity);
     bool tautology = mark_or_stop(filter, literals, length);
     if (length > LITERALS_OF_A_LINE) stop("longer than a line may be");
@@ -394,8 +394,8 @@ void filter_take_over(Filter *filter, uint64_t identity, const int64_t *literals
 
 // Deletions.
 
-// Gives back the memory of deleted clauses if it is half of all, and a lot compared to what a move
-// visits.
+// Gives back the memory of deleted clauses if it is half of the row, and large compared with what a
+// move visits.
 static void give_back(Filter *filter) {
     Clauses *clauses = &filter->clauses;
     if (filter->busy) return;
@@ -406,7 +406,7 @@ static void give_back(Filter *filter) {
     clauses_end_move(clauses, old);
 }
 
-// Callers keep a clause that is the reason of a literal at the root: it may be needed again.
+// Callers don't pass a clause that is the reason of a literal at the root: it may be needed again.
 static void delete(Filter *filter, ClauseRef ref) {
     uint64_t identity = clause_at(&filter->clauses, ref)->identity;
     clauses_delete(&filter->clauses, ref);
@@ -480,11 +480,12 @@ void filter_original(Filter *filter, int64_t name, const int64_t *literals, size
     if (clauses_named(&filter->clauses, (uint64_t)name) != 0)
         stop("the identity %lld is used twice", (long long)name);
     ClauseRef ref = take_set(filter, literals, length);
-    if (ref == 0) stop("an original clause that the formula doesn't have, or not as often");
+    if (ref == 0)
+        stop("an original clause that the formula doesn't have, or doesn't have that often");
     clauses_name(&filter->clauses, (uint64_t)name, ref);
 }
 
-// Pairs of an old name and a new one; all change at once.
+// Each pair is an old name and a new one; all change at once.
 void filter_rename(Filter *filter, const int64_t *pairs, size_t length) {
     ClauseRefs *given = &filter->given;
     given->length = 0;

@@ -24,7 +24,7 @@ typedef struct {
     void (*derives)(const Filter *filter);
     // once the line is in the buffer; its identity: filter->last
     void (*derived)(const Filter *filter);
-    // the identity of the clause given away there
+    // the identity of the clause that the engine gave away at this position
     uint64_t (*gift)(uint64_t engine, uint64_t position);
     void (*passed)(uint64_t engine, uint64_t position);  // no earlier clause will be taken over
     // whether the solver starts without this clause; NULL: it has all clauses
@@ -59,7 +59,7 @@ struct Filter {
     Identities chain;
     Literals spare, left;           // a lemma's literals; those that a shortened clause keeps
     ClauseRefs lemmas;              // lemmas that only the next line needs
-    Weight *weights;                // by variable; all 0 except while a chain is split; NULL before
+    Weight *weights;                // by variable; 0 except while a chain is split; NULL at first
 };
 
 typedef struct {
@@ -70,7 +70,7 @@ typedef struct {
     const Line *line;               // if it is spelled as in a stream, else NULL
 } Addition;
 
-// between steps; rarely enough to take no longer than they do
+// call between steps; it checks rarely enough to take no longer than they do
 void filter_check(const Filter *filter);
 
 static inline bool filter_ends(const Filter *filter) {
@@ -79,7 +79,7 @@ static inline bool filter_ends(const Filter *filter) {
 }
 
 void filter_open(Filter *filter, bool frat);
-// before the first step, if it was opened for FRAT and the proof has another form
+// before the first step, if the filter was opened for FRAT and the proof has another form
 void filter_name_formula(Filter *filter);
 void filter_add(Filter *filter, const Addition *addition);
 void filter_import(Filter *filter, int64_t identity, const int64_t *literals, size_t length);

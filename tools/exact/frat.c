@@ -10,7 +10,7 @@
 #include "readers.h"
 #include "words.h"
 
-// The place after the list that begins at `start` and ends with 0.
+// The index after the list that begins at `start` and ends with 0.
 static size_t end_of(const Words *words, size_t start) {
     size_t end = start;
     while (end < words->numbers.length && words->numbers.items[end] != 0) end++;

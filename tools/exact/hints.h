@@ -7,7 +7,7 @@
 
 #include "clauses.h"
 
-enum { OPEN, GIVEN, TOUCHED, WANTED };      // marks of literals; all but OPEN: it is false
+enum { OPEN, GIVEN, TOUCHED, WANTED };      // marks of a literal, which is false unless OPEN
 
 // the clause became unit, which made the literal false
 typedef struct { ClauseRef clause; Literal literal; } Step;

@@ -1,8 +1,9 @@
 // Unverified, like the whole filter. Lemmas, lines that the proof doesn't have. A literal at the
 // root gets a unit clause once a chain needs it, so that no chain derives it again. A chain that is
-// too long for a line is cut, from its end on: a lemma says that the literals needed there don't
-// all hold, and replaces the conflict. If these are too many for a clause, the chain is split by
-// literals: a lemma says that such a literal holds, or one of the clause's own literals does.
+// too long for a line is cut, beginning at its end: a lemma says that the literals needed by the
+// part that is cut off don't all hold, and replaces the conflict. If there are too many of these
+// literals for a clause, the chain is split by literals: a lemma says that a needed literal holds,
+// or one of the clause's own literals does.
 #include "errors.h"
 #include "lemmas.h"
 #include "stream.h"
@@ -15,12 +16,12 @@ _Static_assert((int)MOST_NEEDED <= (int)LITERALS_OF_A_LINE,
                "a lemma has as many literals as a clause may need");
 
 // The end of a conflict's chain, from a position on the trail: its hints, and the literals that it
-// needs from before, which a lemma would have. `met` counts the clause's own literals, `open` the
-// others, and `marked` the variables marked so far.
+// needs from before the position, which a lemma would have. `met` counts the clause's own literals,
+// `open` the others, and `marked` the variables marked so far.
 typedef struct { size_t position, hints, open, met, marked; } Cut;
 
-// Writes the lemma that a clause and all its reasons imply: its literals are the assumed ones that
-// they depend on.
+// Writes the lemma that a clause and all its reasons imply: the lemma's literals are the assumed
+// ones on which these clauses depend.
 static ClauseRef write_lemma(Filter *filter, ClauseRef ref) {
     Propagation *propagation = &filter->propagation;
     Literals literals = filter->literals;
@@ -54,7 +55,7 @@ static void give_lemma(Filter *filter, int variable) {
     if (propagation->positions[variable] >= propagation->root) PUSH(&filter->lemmas, lemma);
 }
 
-// Writes the lemma that a clause implies if it keeps the literals in `left`.
+// Writes the lemma that a clause implies. The clause's literals in `left` stay in the lemma.
 static ClauseRef write_shorter(Filter *filter, ClauseRef ref) {
     Literals *left = &filter->left;
     propagation_see(&filter->propagation, left, ASSUMED);
@@ -86,8 +87,8 @@ static bool has_unit(const Filter *filter, int variable) {
     return clause_at(&filter->clauses, filter->propagation.reasons[variable])->length == 1;
 }
 
-// Adds a clause to the cut, and what it needs unless later clauses need it. A unit clause is a hint
-// in each line that needs it.
+// Adds a clause to the cut, and the literals that it needs but no later clause does. A unit clause
+// is a hint in each line that needs it.
 static void extend(Filter *filter, ClauseRef ref, Cut *cut) {
     Propagation *propagation = &filter->propagation;
     const Clause *clause = clause_at(&filter->clauses, ref);
@@ -106,8 +107,8 @@ static void extend(Filter *filter, ClauseRef ref, Cut *cut) {
 }
 
 // The best cut has the fewest literals per hint. It has more than half of a line's hints, and at
-// most MOST_NEEDED literals. So a chain's lemmas have at most twice as many literals as it has
-// hints, and few clauses are visited twice.
+// most MOST_NEEDED literals. So a chain's lemmas have at most twice as many literals as the chain
+// has hints, and few clauses are visited twice.
 static bool is_better(const Cut *cut, const Cut *best) {
     size_t literals = cut->open + cut->met;
     if (cut->hints <= IDENTITIES_OF_A_LINE / 2 || literals > MOST_NEEDED) return false;
@@ -115,7 +116,7 @@ static bool is_better(const Cut *cut, const Cut *best) {
 }
 
 // Goes back along the trail from the position. True if all fits into one line; if not, `best` is
-// the best cut, without hints if there is none.
+// the best cut, or has no hints if no cut was found.
 static bool find_cut(Filter *filter, ClauseRef conflict, size_t position, Cut *best) {
     const Propagation *propagation = &filter->propagation;
     Cut cut = { .position = position };
@@ -154,7 +155,7 @@ static void forget_marks(Propagation *propagation) {
     propagation->marked.length = 0;
 }
 
-// Replaces the conflict by a shorter one as often as a cut is found. False if the rest of the chain
+// Replaces the conflict by a shorter one as long as a cut is found. False if the rest of the chain
 // doesn't fit into a line.
 static bool cut_chain(Filter *filter, ClauseRef *conflict) {
     Cut best = { .position = filter->propagation.trail.length };
@@ -169,8 +170,8 @@ static bool cut_chain(Filter *filter, ClauseRef *conflict) {
 
 // Lemmas for literals.
 
-// How many hints derive all literals that the clause needs, and the clause; and how many literals
-// these are.
+// Counts the hints of the clause's chain: those that derive the literals which the clause needs,
+// and one for the clause. `needed` becomes the number of these literals.
 static uint64_t hints_for(const Filter *filter, ClauseRef ref, int own, size_t floor,
                           size_t *needed) {
     const Propagation *propagation = &filter->propagation;
@@ -234,7 +235,7 @@ static void count_uses(Filter *filter, ClauseRef conflict, size_t floor) {
 }
 
 // Goes along the trail. A literal that several clauses need gets a lemma, unless deriving it again
-// is as short. So few hints are written twice.
+// is as cheap. Thus few hints are written twice.
 static void weigh(Filter *filter, size_t floor, size_t worth) {
     Propagation *propagation = &filter->propagation;
     for (size_t position = floor; position < propagation->trail.length; position++) {
@@ -299,7 +300,7 @@ ClauseRef lemmas_for(Filter *filter, ClauseRef conflict) {
     return conflict;
 }
 
-// Only the empty clause is needed now, so no literal gets a unit clause that its chain can do
+// Only the empty clause is needed now, so no literal gets a unit clause that the chain can do
 // without.
 void lemmas_refute(Filter *filter) {
     filter->busy = true;

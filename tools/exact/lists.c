@@ -1,4 +1,4 @@
-// Unverified, like everything that includes it. Memory, and growing lists.
+// Unverified, like every program that uses it. Memory, and growing lists.
 #include <stdlib.h>
 
 #include "errors.h"

@@ -1,4 +1,4 @@
-// Unverified, like everything that includes it. Sorts the literals of a clause.
+// Unverified, like every program that uses it. Sorts the literals of a clause.
 #include <stdlib.h>
 
 #include "literals.h"

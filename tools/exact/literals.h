@@ -24,7 +24,7 @@ typedef LIST_OF(Literal) Literals;
 
 // removes repeated ones; returns how many are left
 size_t literals_sort(Literal *literals, size_t length);
-// sorted ones: is one the complement of another?
+// whether one of these sorted literals is the complement of another
 bool literals_clash(const Literal *literals, size_t length);
 
 #ifdef __cplusplus

@@ -1,6 +1,6 @@
 // Unverified and untrusted: lrupd checks the output like any other stream. lrup-exact makes a
-// stream for lrupd from a proof whose hints are missing or not exact, by docs/lrup-exact.1, which
-// also is its --help.
+// stream for lrupd from a proof whose hints are missing or not exact. docs/lrup-exact.1 describes
+// it, and is also the source of its --help.
 #include <errno.h>
 #include <fcntl.h>
 #include <signal.h>
@@ -70,7 +70,7 @@ static uint64_t number_of(const char *word) {
     return number;
 }
 
-// Of another stream: T=STREAM.
+// Reads T=STREAM, the number and the path of another stream.
 static const char *path_of(const char *word, uint64_t *number) {
     const char *rest = behind_number(word, number);
     if (!rest || rest[0] != '=' || rest[1] == 0) refuse("not T=STREAM:", word);

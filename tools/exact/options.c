@@ -1,4 +1,4 @@
-// Unverified, like everything that includes it. Reads a command line.
+// Unverified, like every program that uses it. Reads a command line.
 #include <getopt.h>
 #include <stdio.h>
 #include <stdlib.h>
@@ -10,9 +10,9 @@
 #define VERSION "unknown"       // make passes the version
 #endif
 
-enum { MOST_OPTIONS = 64, NAMED = 256 };        // NAMED + its place: the code of an option's name
+enum { MOST_OPTIONS = 64, NAMED = 256 };        // NAMED + an option's index: the code of its name
 
-// NULL if there is no such option; a name has to be whole.
+// NULL if there is no such option; a name can't be abbreviated.
 static const Option *option_of(const Option *options, int code, const char *word) {
     if (code == '?') return NULL;
     if (code >= NAMED) options += code - NAMED;

@@ -1,5 +1,5 @@
 // Unverified: reads the words of a command line, by a table of the options. lrup-solve's front has
-// a table of its own, since it is trusted.
+// a table of its own, since the front is trusted.
 #ifndef OPTIONS_H
 #define OPTIONS_H
 
@@ -28,12 +28,12 @@ typedef struct {
 const char *options_read(const Option *options, int count, char **words, Texts *files,
                          bool last_counts, void (*refusing)(const char *cause, const char *word));
 
-// The same for a program that prints its help for the row below, refuses a value that is given
-// twice, and reads no standard input for -.
+// The same for a program that has the two options below, refuses a value that is given twice, and
+// doesn't read standard input for -.
 #define HELP_AND_VERSION { .name = "help", .letter = 'h' }, { .name = "version" }, { .name = NULL }
 const Texts *arguments_read(const char *program, const char *help, const Option *options, int count,
                             char **words);
-_Noreturn void refuse(const char *cause, const char *word);     // prints how it is used; status 2
+_Noreturn void refuse(const char *cause, const char *word);     // prints the usage; status 2
 
 #ifdef __cplusplus
 }

@@ -1,4 +1,4 @@
-// Unverified: the endings of compressed streams' names, and the programs that unpack them. For C
+// Unverified: the file extensions of compressed streams, and the programs that unpack them. For C
 // and C++; tools/lrup-chain has the same list in shell.
 #ifndef PACKED_H
 #define PACKED_H

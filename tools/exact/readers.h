@@ -1,4 +1,4 @@
-// Unverified: read a proof to its end, or to the end of the stream.
+// Unverified: functions that read a proof to its end, or to the end of the stream.
 #ifndef READERS_H
 #define READERS_H
 

@@ -11,9 +11,9 @@ static bool is_own(const Filter *filter, uint64_t identity) {
     return (identity - filter->formula.clauses - 1) % filter->streams == filter->stream - 1;
 }
 
-// Marks the clause if the stream may delete it: the marks of the formula's clauses come first, then
-// those of the stream's own. A clause that was taken over by a wrong identity, which lrupd refuses,
-// may have one that the stream hasn't used yet.
+// Marks the clause if the stream may delete it. The marks of the formula's clauses come first, then
+// those of the stream's own. A clause that was taken over under a wrong identity, which lrupd
+// refuses, may have an identity that the stream hasn't used yet.
 static void mark(const Filter *filter, unsigned char *marks, uint64_t identity) {
     uint64_t formula = filter->formula.clauses;
     if (identity <= formula) marks[identity - 1] = 1;
@@ -39,7 +39,7 @@ void round_delete(Filter *filter, const Identities *kept, bool goes_on) {
     filter_write_deletion(filter);
 }
 
-// How many clauses a run saves if the stream ends after these deletions and `kept` was empty.
+// How many clauses a run saves if `kept` was empty and the stream ends after these deletions.
 uint64_t round_clauses(const Filter *filter, uint64_t *literals) {
     uint64_t count = 0;
     *literals = 0;

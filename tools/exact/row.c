@@ -41,7 +41,7 @@ static uint64_t bytes_of_machine(void) {
 }
 
 // By default a row has an eighth of the machine's memory, up to half a gigabyte, and grows to a
-// quarter at most: at its start lrupd takes twice the row.
+// quarter at most: when it starts, lrupd takes twice the row's memory.
 void rows_open(Rows *rows, uint64_t memory, uint64_t most, uint64_t streams) {
     uint64_t all = bytes_of_machine();
     if (!memory) memory = lesser(USUAL_MEMORY, greater(all / 8, LEAST_MEMORY));
@@ -58,7 +58,7 @@ static double length_of(Row used) {
 }
 
 // A clause takes one word, and one for each literal. Lines are cheap, so there are enough for
-// clauses of half the length.
+// clauses of half this length.
 static Row split(uint64_t words, double length) {
     uint64_t lines = (uint64_t)((double)words / (1 + length / 2));
     lines = greater(lines, words > 0);

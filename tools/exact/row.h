@@ -14,7 +14,7 @@ typedef struct { uint64_t lines, room; } Row;       // what each stream has, or 
 typedef struct {
     uint64_t usual, most;       // words of a row that several streams share
     uint64_t largest;           // words of a row that one stream has alone
-    uint64_t words;             // for all streams together, if the row has as many
+    uint64_t words;             // for all streams together, if the row has that many
     uint64_t formula;           // words that the round's formula takes
     Row row;                    // of the round
 } Rows;

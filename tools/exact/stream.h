@@ -1,4 +1,4 @@
-// Unverified: lrupd's limits on a line of a stream. A build for tests lowers one.
+// Unverified: lrupd's limits on a line of a stream. A build for tests lowers one limit.
 #ifndef STREAM_H
 #define STREAM_H
 

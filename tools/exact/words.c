@@ -28,8 +28,8 @@ static int64_t other_word(unsigned char **at) {
 #define EACH(byte) (UINT64_C(0x0101010101010101) * (byte))
 
 // Reads up to seven digits, without a branch for each. Returns how many there are, or 8 for more.
-// Of eight bytes, the highest bits mark those that are no digits; then neighbours are joined, to
-// two digits, and these to four and eight.
+// The highest bits of eight bytes mark the bytes that are no digits; then neighbours are joined to
+// numbers of two digits, and these to numbers of four and eight.
 static inline unsigned short_number(const unsigned char *at, uint64_t *value) {
     uint64_t digits;
     memcpy(&digits, at, sizeof digits);
@@ -48,7 +48,7 @@ static inline unsigned short_number(const unsigned char *at, uint64_t *value) {
 }
 #endif
 
-// How many digits there are, and the number that they spell, if it has at most 19.
+// How many digits there are, and the number that they spell, if there are at most 19.
 static inline size_t digits(const unsigned char *start, uint64_t *value) {
     size_t length = short_number(start, value);
     if (length < 8) return length;

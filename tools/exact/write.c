@@ -35,11 +35,11 @@ static void (*out)(const char *bytes, size_t length) = to_standard_output;
 
 void write_to(void (*place)(const char *bytes, size_t length)) { out = place; }
 
-// Writes the whole lines; the beginning of another line stays.
+// Writes the whole lines; the beginning of an unfinished line stays.
 void write_flush(void) {
     size_t length = whole;
     assert(whole <= buffer.length && buffer.length <= buffer.capacity);
-    whole = 0;              // so that a failure, which flushes too, doesn't write them again
+    whole = 0;              // so that a failure, which flushes too, doesn't write these lines again
     if (length > 0) out(buffer.items, length);
     buffer.length -= length;
     if (length > 0 && buffer.length > 0)
@@ -57,7 +57,7 @@ static void make_room(size_t bytes) {
 static const char pairs[] = TENS("0") TENS("1") TENS("2") TENS("3") TENS("4") TENS("5") TENS("6")
     TENS("7") TENS("8") TENS("9");
 
-// Two digits at a time. Always LONGEST bytes are copied: a constant length takes fewer
+// Writes two digits at a time. LONGEST bytes are always copied: a constant length takes fewer
 // instructions.
 static inline void put_number(uint64_t number, bool negative, char after) {
     char digits[2 * LONGEST], *end = digits + LONGEST, *at = end;

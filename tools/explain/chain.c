@@ -2,8 +2,8 @@
 // propagation: over the line's hints first, and then over all clauses that the line may cite.
 //
 // Unit clauses without an identity make the clause's literals false at the beginning of the trail.
-// Then each hint is used in its order, if it can be: clauses that make its literals false come
-// before it. Clauses that the conflict doesn't need are left out at the end.
+// Then the hints are used in their order, each if it can be: clauses that make its literals false
+// come before it. Clauses that the conflict doesn't need are left out at the end.
 #include "../exact/propagation.h"
 #include "explain.h"
 
@@ -16,7 +16,7 @@ typedef struct {
     bool is_found;
 } Search;
 
-// Propagation prefers recent clauses, so those that come first are marked as recent.
+// Propagation prefers recent clauses, so clauses that are to come first are marked as recent.
 static ClauseRef take(Search *search, uint64_t identity, const Literal *literals, size_t length,
                       bool comes_first) {
     ClauseRef ref = clauses_add(&search->clauses, identity, literals, length, false);

@@ -1,11 +1,11 @@
 // Unverified and untrusted: only lrupd's verdict counts. lrup-explain says why lrupd refuses a
-// line. Common to its files.
+// line. This header is common to its files.
 //
-// Streams are replayed line by line, and judged as lrupd does it (replay.c, judge.c). A bad line is
-// explained at once, while the literals still have the values that the hints gave them (tell.c,
-// why.c), with a right chain if there is one (chain.c). A misspelled line is read byte by byte
-// (form.c). Another process may write to a stream meanwhile, so a line is copied each time before
-// it is read.
+// Streams are replayed line by line, and judged as lrupd judges them (replay.c, judge.c). A bad
+// line is explained at once, while the literals still have the values that the hints gave them
+// (tell.c, why.c), with a right chain if there is one (chain.c). A misspelled line is read byte by
+// byte (form.c). Another process may write to a stream meanwhile, so a line is copied each time
+// before it is read.
 #ifndef EXPLAIN_H
 #define EXPLAIN_H
 
@@ -13,8 +13,8 @@
 #include "../exact/literals.h"
 #include "../trim/lines.h"
 
-// lrupd's faults, by the names in lrupd's definitions, from which faults.awk makes the words; and
-// FAULT_WAITING: another stream has to move on first.
+// lrupd's faults, with the names in lrupd's definitions, from which faults.awk makes their words.
+// FAULT_WAITING isn't a fault: another stream has to continue first.
 typedef enum {
     NO_FAULT, FAULT_SPELLING, FAULT_TOO_LONG, FAULT_TRUNCATED, FAULT_RAT_HINT, FAULT_IDENTITY,
     FAULT_LITERAL, FAULT_TAUTOLOGY, FAULT_NO_ROOM, FAULT_EXCESS, FAULT_DROPPED, FAULT_MISSING,
@@ -34,7 +34,7 @@ typedef struct {
 } Known;
 
 // Where a clause that a round begins with comes from: a line, or, if the stream is 0, the formula's
-// clause of that number.
+// clause with that number.
 typedef struct { uint32_t round, stream; uint64_t number; } Origin;
 
 typedef struct {
@@ -44,7 +44,7 @@ typedef struct {
     uint64_t lines;                     // accepted so far
     uint64_t last, room;                // the last identity; literals that still fit
     Known *known;                       // by its identities
-    Clauses dropped;                    // names only: of clauses of the formula, or of others
+    Clauses dropped;                    // names only: of the formula's and other streams' clauses
     uint64_t awaited;                   // an identity of another stream, or 0
     bool over, told;                    // ended; its fault is explained
     Fault fault;
@@ -55,8 +55,8 @@ typedef struct {
     Clauses store;  // all clauses, deleted ones too; literals as written, each once
     uint32_t round;
     uint64_t clauses, literals;         // of the round's formula
-    ClauseRef *first;                   // its clauses
-    Origin *origins;                    // of its clauses; NULL in round 1
+    ClauseRef *first;                   // the formula's clauses
+    Origin *origins;                    // of these clauses; NULL in round 1
     Row row;
     uint64_t last;                      // the last identity
     Stream *streams;
@@ -67,7 +67,7 @@ typedef struct {
 
     // Of the line being judged.
     signed char *values;                // by literal: 1 true, -1 false
-    uint32_t *reasons;  // by variable: 0: the new clause; else the hint's place, from 1
+    uint32_t *reasons;  // by variable; 0: the new clause; else the hint's index, from 1
     Literals trail;                     // true literals
     unsigned char *marks;               // by literal; all 0 except while two clauses are compared
     Reading line;                       // a copy, if it is bad
@@ -78,8 +78,8 @@ static inline Literal literal_of(int64_t written) {
 }
 
 // judge.c
-Stream *owner_of(const Replay *replay, uint64_t identity);  // for one above the formula's
-Known *known_of(const Replay *replay, uint64_t identity);  // for one up to the last
+Stream *owner_of(const Replay *replay, uint64_t identity);  // above the formula's
+Known *known_of(const Replay *replay, uint64_t identity);  // above the formula's, up to the last
 ClauseRef clause_of(const Replay *replay, uint64_t identity);  // deleted ones, too; 0: none
 // deleted by a stream that doesn't own it
 bool is_dropped(const Stream *stream, uint64_t identity);
@@ -98,9 +98,9 @@ void forget_values(Replay *replay);
 void replay_all(Replay *replay, const char *formula, const char *folder, const char *const *paths,
                 uint32_t count);
 Line line_at_hand(const Stream *stream, bool *is_whole);
-// the line from the current one on that derives it: its number, or 0
+// the number of the line, from the current one on, that derives the clause; or 0
 uint64_t line_deriving(const Stream *stream, uint64_t identity);
-// the first line up to the current one that deletes it: its number, or 0
+// the number of the first line, up to the current one, that deletes the clause; or 0
 uint64_t line_deleting(const Stream *stream, uint64_t identity);
 
 // form.c
@@ -108,11 +108,11 @@ typedef struct {
     Kind kind;
     size_t place;               // of the byte that decides
     const char *wanted;         // what has to be there
-    const char *of;             // in a line that is too long: what there is too much of
+    const char *of;             // in a line that is too long: what it has too many of
     size_t most, count;
 } FormFault;
 
-// Of the current line. `line` is a copy, valid until another line is read.
+// The fault of the current line. `line` is a copy, valid until another line is read.
 FormFault form_fault(const Stream *stream, Line *line, bool *is_whole);
 
 // chain.c. An exact chain for the line's clause, or none; it keeps the order of the line's hints as
@@ -123,7 +123,7 @@ typedef struct {
     size_t true_literals, open_clauses;     // if none is found
 } Chain;
 
-// also: a clause that was deleted, or 0
+// also: a deleted clause that may be cited nevertheless, or 0
 Chain chain_find(const Replay *replay, const Stream *stream, uint64_t also);
 
 // tell.c
@@ -134,7 +134,7 @@ void tell_place(const Replay *replay, uint64_t identity);       // where the cla
 void tell_list(const int64_t *numbers, size_t count);
 void tell_literals(const Literal *literals, size_t count, const char *between);
 const char *fault_words(const Fault *fault);
-// a bad line, or a line after it, may derive it
+// the owner's bad line, or a line after that, may derive the clause
 bool is_cut_off(const Stream *owner, uint64_t identity);
 bool is_effect(const Replay *replay, const Stream *stream);  // another stream's fault is the cause
 

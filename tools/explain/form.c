@@ -10,8 +10,8 @@ typedef enum {
     IMPORTS, STATED, STATED_SIGN, STATED_DIGITS, END, WHOLE
 } State;
 
-// The next state for each byte; NOWHERE: the byte is wrong here. In a list, what it has, and how
-// many at most.
+// The next state for each byte; NOWHERE: the byte is wrong here. For a list, also what it consists
+// of, and how many items it may have.
 typedef struct {
     const char *wanted;
     State digit, zero, sign, space, d, i, end;

@@ -86,7 +86,7 @@ static Fault fault(Kind kind, uint64_t object, size_t place) {
 }
 static const Fault no_fault;
 
-// Whether the other stream may still derive it.
+// Whether the owner may still derive this clause.
 bool is_awaited(const Replay *replay, uint64_t identity) {
     const Stream *owner = owner_of(replay, identity);
     return !replay->serial && !replay->is_stuck && !owner->over && owner->last < identity;
@@ -187,7 +187,7 @@ static Fault take_deletion(Replay *replay, Stream *stream, const Reading *line) 
     return no_fault;
 }
 
-// The clause's complements come first on the trail, each once.
+// The complements of the clause's literals come first on the trail, each once.
 static void add(Replay *replay, Stream *stream, const Reading *line) {
     static Literals literals;
     size_t length = 0;

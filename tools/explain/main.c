@@ -1,6 +1,6 @@
 // Unverified and untrusted: only lrupd's verdict counts. lrup-explain replays the streams of a run,
-// or of a record of rounds, and says why a line is bad, and what would be right, by
-// docs/lrup-explain.1, which also is its --help.
+// or of a record of rounds, and says why a line is bad, and what would be right.
+// docs/lrup-explain.1 describes it, and is also the source of its --help.
 #include <stdio.h>
 #include <stdlib.h>
 

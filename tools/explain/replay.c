@@ -67,7 +67,7 @@ static bool take_turn(Replay *replay, Stream *stream) {
     return take_line(replay, stream);
 }
 
-// All unfinished streams wait for each other. The cause is a stream in the cycle.
+// Call if all unfinished streams wait for each other. Returns the first stream of the cycle.
 static Stream *in_circle(const Replay *replay) {
     Stream *stream = replay->streams;
     while (stream->over) stream++;
@@ -109,7 +109,7 @@ static void open_values(Replay *replay, int variables) {
     replay->reasons = zeroed((size_t)variables, sizeof *replay->reasons);
 }
 
-// Each literal once, in the order in which they first occur.
+// Takes each literal of a clause once, in the order in which the literals first occur.
 static void take_formula(Replay *replay, const char *path) {
     static Formula formula;
     static Literals literals;
@@ -177,8 +177,8 @@ static Origin origin_of(const Replay *replay, uint64_t identity) {
                      known_of(replay, identity)->line };
 }
 
-// The formula's clauses except those that all streams deleted, and derived clauses that their
-// owners didn't delete.
+// True for the formula's clauses, except those that all streams deleted, and for derived clauses
+// that their owners didn't delete.
 static bool is_carried(const Replay *replay, uint64_t identity) {
     if (identity > replay->clauses)
         return clause_of(replay, identity) != 0 && !known_of(replay, identity)->deleted;
@@ -187,7 +187,7 @@ static bool is_carried(const Replay *replay, uint64_t identity) {
     return false;
 }
 
-// The clauses that the next round begins with. Their new identities are their places.
+// Collects the clauses that the next round begins with, and numbers them from 1.
 static void carry(Replay *replay) {
     Clauses store = {0};
     ClauseRefs places = {0};
@@ -231,7 +231,7 @@ void replay_all(Replay *replay, const char *formula, const char *folder, const c
 
 // Searches for lines.
 
-// The number of the line that derives it, from the current line on; or 0.
+// The number of the line, from the current one on, that derives the clause; or 0.
 uint64_t line_deriving(const Stream *stream, uint64_t identity) {
     char word[24];
     size_t length = (size_t)snprintf(word, sizeof word, "%llu ", (unsigned long long)identity);
@@ -250,7 +250,7 @@ static bool is_deletion(const unsigned char *at, const unsigned char *end) {
     return end - at > 1 && at[0] == ' ' && at[1] == 'd';
 }
 
-// The number of the first line that deletes it, up to the current line; or 0.
+// The number of the first line, up to the current one, that deletes the clause; or 0.
 uint64_t line_deleting(const Stream *stream, uint64_t identity) {
     Reading reading;
     unsigned char *at = stream->start;

@@ -109,7 +109,7 @@ static void tell_hint(const Replay *replay, size_t place, const char *word, uint
     printf("\n");
 }
 
-// A right hint: what it made true, or that it is the conflict.
+// Prints what a right hint made true, or that it is the conflict.
 static void tell_good_hint(const Replay *replay, size_t place) {
     const Clause *clause = clause_at(&replay->store,
                                      clause_of(replay, (uint64_t)replay->line.cited[place]));
@@ -155,8 +155,8 @@ void tell(const Replay *replay, const Stream *stream) {
     tell_why(replay, stream);
 }
 
-// Whether the owner's bad line, or a line after it, derives it; or may derive it, if lines can't be
-// read.
+// Whether the owner's bad line, or a line after that, derives the clause; or may derive it, if the
+// lines can't be read.
 bool is_cut_off(const Stream *owner, uint64_t identity) {
     if (owner->fault.kind == NO_FAULT || identity <= owner->last) return false;
     return owner->fault.kind <= FAULT_RAT_HINT || line_deriving(owner, identity) != 0;
@@ -175,6 +175,6 @@ void tell_short(const Replay *replay, const Stream *stream) {
         printf(", of stream %u, whose line %llu is bad\n", owner->number,
                (Printed)owner->lines + 1);
     } else {
-        printf(", by itself: --all says why\n");
+        printf(", for a reason of its own: --all says why\n");
     }
 }

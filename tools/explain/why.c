@@ -22,7 +22,7 @@ static int tell_byte(unsigned char byte) {
                         : printf("\\x%02x", byte);
 }
 
-// The bytes around the one that decides, with a caret below it.
+// Prints the bytes around the decisive one, with a caret below that.
 static void tell_bytes(Line line, bool is_whole, size_t place) {
     size_t length = (size_t)(line.end - line.start),
            first = place > BYTES_BEFORE ? place - BYTES_BEFORE : 0;
@@ -47,12 +47,12 @@ static const char *name_of(unsigned char byte) {
                         : text;
 }
 
-// The usual cause.
+// The usual cause of a wrong byte, or NULL.
 static const char *guess_of(const Stream *stream, Line line, size_t place, unsigned char byte) {
     static char text[64];
     const char *program = stream->lines == 0 ? unpacked_by(line.start[0], line.start[1]) : NULL;
     if (program) return snprintf(text, sizeof text, "compressed: unpack it with %s", program), text;
-    if (byte == '\r') return "lines end with LF alone, not with CR LF";
+    if (byte == '\r') return "lines end with LF, not with CR LF";
     if (place == 0 && byte == '\n') return "an empty line, which streams don't have";
     if (place == 0 && byte == 'c') return "a comment, which streams don't have?";
     if (place == 0 && byte == 'd') return "a deletion of DRAT, which has no identities?";
@@ -78,7 +78,7 @@ static void why_form(const Stream *stream) {
     if (is_spelling)
         printf("  why: expected %s, found %s\n", fault.wanted, name_of(byte));
     else if (fault.kind == FAULT_RAT_HINT)
-        printf("  why: a negative hint, of a RAT step, which lrupd doesn't check: switch "
+        printf("  why: a negative hint: a RAT step, which lrupd doesn't check; switch "
                "off what makes such steps\n");
     else if (fault.kind == FAULT_TRUNCATED)
         printf("  why: the stream ends within this line, after %zu bytes: expected %s\n",
@@ -108,7 +108,7 @@ static uint32_t number_of_owner(const Replay *replay, uint64_t identity) {
     return (uint32_t)((identity - replay->clauses - 1) % replay->count) + 1;
 }
 
-// Reads the next line from there on that is well-formed and derives a clause. False at the end.
+// Reads the next line, from `at` on, that is well-formed and derives a clause. False at the end.
 static bool next_addition(const Stream *stream, unsigned char **at, Reading *reading) {
     for (unsigned char *end; (end = memchr(*at, '\n', (size_t)(stream->end - *at))) != NULL;) {
         Line line = { *at, end, true };
@@ -118,8 +118,8 @@ static bool next_addition(const Stream *stream, unsigned char **at, Reading *rea
     return false;
 }
 
-// The greatest common divisor of the differences between the stream's identities; 0 if it has fewer
-// than three, since that may be chance.
+// The greatest common divisor of the differences between the stream's identities; 0 if there are
+// fewer than three identities, since their difference may be chance.
 static uint64_t step_of(const Stream *stream) {
     uint64_t step = 0, last = 0, count = 0;
     Reading reading;
@@ -135,7 +135,7 @@ static uint64_t step_of(const Stream *stream) {
     return count < 3 ? 0 : step;
 }
 
-// How identities are numbered depends on the number of streams.
+// The step between a stream's identities shows for how many streams they were numbered.
 static bool tell_left_out(const Replay *replay, const Stream *stream) {
     uint64_t step = step_of(stream);
     if (step <= replay->count || step > STREAMS) return false;
@@ -146,7 +146,7 @@ static bool tell_left_out(const Replay *replay, const Stream *stream) {
     return true;
 }
 
-// All identities of the stream, if there are several, belong to one other stream.
+// Prints a line if all identities of the stream, at least two, belong to one other stream.
 static void tell_order(const Replay *replay, const Stream *stream) {
     uint64_t count = 0;
     uint32_t owner = 0;
@@ -169,12 +169,12 @@ static void tell_right_identity(const Replay *replay, const Stream *stream) {
                stream->number, (Printed)next);
         tell_lines_for(replay, next);
     } else {
-        printf("       right here: %llu, or after a gap %llu, %llu and so on\n", (Printed)next,
+        printf("       valid here: %llu, or after a gap %llu, %llu and so on\n", (Printed)next,
                (Printed)(next + replay->count), (Printed)(next + 2 * replay->count));
     }
 }
 
-// Prints the --lines for the line's identity, and for the greatest of the stream's own identities.
+// Prints which --lines is enough for the line's identity, and which for all of the stream's own.
 static void tell_lines_of(const Replay *replay, const Stream *stream, uint64_t identity) {
     uint64_t greatest = identity;
     Reading reading;
@@ -201,8 +201,8 @@ static void why_identity(const Replay *replay, const Stream *stream) {
         return;
     }
     if (identity <= replay->clauses) {
-        printf("  why: %llu is of the formula, whose clauses are 1 to %llu\n", (Printed)identity,
-               (Printed)replay->clauses);
+        printf("  why: %llu belongs to the formula, whose clauses are 1 to %llu\n",
+               (Printed)identity, (Printed)replay->clauses);
     } else if (number_of_owner(replay, identity) != stream->number) {
         printf("  why: %llu belongs to stream %u: %u streams take turns above %llu\n",
                (Printed)identity, number_of_owner(replay, identity), replay->count,
@@ -231,7 +231,7 @@ static void why_literal(const Replay *replay) {
     printf("  why: ");
     if (count == 1) printf("%lld is", (long long)line->literals[first]);
     else printf("%zu literals are", count);
-    printf(" above %d, the variables of the formula's header", replay->variables);
+    printf(" above %d, the number of variables in the formula's header", replay->variables);
     if (count > 1) printf(": the first is %lld", (long long)line->literals[first]);
     printf("\n");
 }
@@ -246,7 +246,7 @@ static void why_tautology(const Replay *replay) {
     }
 }
 
-// How many literals its well-formed lines derive, as written.
+// How many literals, as written, the stream's well-formed lines derive.
 static uint64_t literals_of_stream(const Stream *stream) {
     uint64_t literals = 0;
     Reading reading;
@@ -321,7 +321,7 @@ static void why_deleted(const Replay *replay, const Stream *stream, uint64_t hin
                "that others cite\n");
 }
 
-// The first clause that is unit with this literal now, or the conflict; or 0.
+// The first clause that is now unit with this literal, or the conflict for CONFLICT; 0 if none is.
 static uint64_t clause_with_unit(const Replay *replay, const Stream *stream, Literal literal) {
     uint64_t last = last_derived(replay);
     for (uint64_t identity = 1; identity <= last; identity++)
@@ -331,7 +331,7 @@ static uint64_t clause_with_unit(const Replay *replay, const Stream *stream, Lit
     return 0;
 }
 
-// The place of the first later hint that is such a clause; the number of hints if none is.
+// The index of the first later hint that is unit with this literal; the number of hints if none is.
 static size_t later_with_unit(const Replay *replay, const Stream *stream, Literal literal) {
     const Reading *line = &replay->line;
     size_t place = stream->fault.place + 1;

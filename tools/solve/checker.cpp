@@ -1,5 +1,5 @@
-// Unverified, like the whole solver. The front, and lrupd, which it starts: reads what they report,
-// and feeds lrupd.
+// Unverified, like the whole solver. The front, and lrupd, which the front starts. Reads what both
+// report, and feeds lrupd.
 #include <algorithm>
 #include <cerrno>
 #include <cstdlib>
@@ -23,14 +23,14 @@ const uint64_t TRIES = 1000000;     // a stream waits up to a minute for another
 const int FRONTS_WORDS = 3;
 const size_t BLOCK = 4096;          // of a message to the front; the system writes it whole
 
-// the first of two fields in /proc/PID/stat; of its ended children
+// the first of two fields in /proc/PID/stat: for the process; for its ended children
 const int OWN_TIME = 14, TIME_OF_CHILDREN = 16;
 
 double processor_time(int pid, int first_field) {
     std::ifstream file("/proc/" + std::to_string(pid) + "/stat");
     std::string line, field;
     std::getline(file, line);
-    // after its name, which may have any byte in it
+    // after the process's name, which may have any byte in it
     std::istringstream fields(line.substr(line.rfind(')') + 1));
     double ticks = 0;
     for (int number = 3; fields >> field; number++)
@@ -75,7 +75,7 @@ void Front::find(int &count, char **&words) {
     output_of_lrupd = name(of_lrupd);
 }
 
-// On another host that name is another file's, or nobody's, so the words have a number, too.
+// On another host that name may lead to another file, or to none, so the words have an inode, too.
 std::vector<std::string> Front::words() const {
     struct stat found;
     if (fstat(file, &found) != 0) refuse("cannot find lrup-solve: " + error_text());
@@ -100,7 +100,7 @@ void Front::say(const std::string &line) const {
     while (heard >= 0 && write(heard, block.data(), BLOCK) < 0 && errno == EINTR) {}
 }
 
-// The probe ended with a status other than 3, and not by a signal.
+// Whether the probe ended with a status other than 3, and not by a signal.
 bool Front::has_refused() const {
     return probe.child.ended() && WIFEXITED(probe.child.status) && !probe.child.ended_with(UNKNOWN_STATUS);
 }
@@ -120,7 +120,7 @@ void Front::read_on(Checker *checker) {
     char bytes[4096];
     ssize_t count = -1;
     while (file >= 0 && (count = read(file, bytes, sizeof bytes)) > 0) unread.append(bytes, size_t(count));
-    if (file >= 0 && count == 0) end_children(), _exit(1);      // it is gone
+    if (file >= 0 && count == 0) end_children(), _exit(1);      // the front is gone
     for (size_t end; (end = unread.find('\n')) != std::string::npos; unread.erase(0, end + 1)) {
         std::string line = unread.substr(0, end), name = line.substr(0, line.find(' ')), rest = line.substr(line.find(' ') + 1);
         if (name == "probe") probe.take_end(rest);
@@ -185,7 +185,7 @@ void Checker::start(Row row, const std::vector<int> &files) {
 
 bool Checker::was_killed() const { return child.ended() && WIFSIGNALED(child.status); }
 
-// All that the killed lrupd wrote was read. Another one appends its lines to the same file.
+// Call once all output of the killed lrupd is read. Another one appends its lines to the same file.
 void Checker::renew() {
     opener.end();
     close_file(sizes);
@@ -221,7 +221,7 @@ std::vector<pollfd> Checker::full_pipes() const {
     return list;
 }
 
-// If lrupd has ended meanwhile, the run sees that soon.
+// If lrupd has ended meanwhile, the run will notice it soon.
 void Checker::begin_round(Row row, const std::vector<int> &files) {
     open_streams(files);
     std::string text = sizes_of(row);

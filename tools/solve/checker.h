@@ -40,24 +40,24 @@ public:
     // of each round's sizes, and of each finished stream, as by sha256sum
     std::vector<std::string> digests;
 
-    void expect(const std::string &path);   // it runs, or will run; the file with its output
-    // asks the front for it; round 1 reads these files
+    void expect(const std::string &path);   // it runs, or will run; path: the file with its output
+    // asks the front to start it; round 1 reads these files
     void start(Row row, const std::vector<int> &files);
     bool was_killed() const;                // a signal has ended it
-    void renew();                           // after that; another one may be started
+    void renew();                           // after that; then another one may be started
 
-    // expect_round comes before a round's streams end: how the names of the next round's files in
-    // lrupd's folder begin. Once lrupd has saved the round, begin_round gives it the next round's
-    // sizes, and the files of its streams.
+    // Call expect_round before a round's streams end, with the beginning of the names that the next
+    // round's files have in lrupd's folder. Once lrupd has saved the round, begin_round gives it
+    // the next round's sizes, and the files of that round's streams.
     void expect_round(const std::string &path);
     bool awaits_sizes() const { return sizes >= 0; }
     void begin_round(Row row, const std::vector<int> &files);
 
-    void look();                        // whether lrupd has opened something
+    void look();                        // looks whether lrupd has opened something
     std::vector<pollfd> full_pipes() const;     // for when they have room
     // up to this byte of the file; true if all are fed
     bool feed(size_t stream, uint64_t bytes, bool drop);
-    // with the stream's next bytes
+    // this file has the stream's next bytes
     void go_on_in(size_t stream, int file) { streams[stream].file = file; }
     void end_stream(size_t stream);
     bool has_digest(size_t stream) const { return streams[stream].has_digest; }
@@ -94,7 +94,7 @@ private:
 struct Front {
     // empty if no front has started this process
     std::string output_of_probe, output_of_lrupd, lrupd, formula, assumptions;
-    std::string stopped;  // the words for the signal that ends the run without waiting
+    std::string stopped;  // describes the signal that ends the run without waiting
     Checker probe;                      // an lrupd that reads the formula, and no stream
 
     void find(int &count, char **&words);  // by LRUP_FRONT, or by words, which it removes
@@ -111,7 +111,7 @@ struct Front {
 
 private:
     int pid = 0, told = -1, hears = -1;                 // its descriptors
-    uint64_t number = 0;                                // the inode of the pipe that `told` is; 0: unknown
+    uint64_t number = 0;                                // the inode of the pipe `told`; 0: unknown
     int file = -1, heard = -1;                          // from it, and to it
     std::string given, unread;
 

@@ -10,7 +10,7 @@ namespace {
 const uint64_t LEARNING = 1000;         // conflicts of the first engine before cubes are made
 const double BUMP = 1.0005;
 
-// The place after the last engine of this host that takes clauses over, from 0.
+// The index, from 0, after the last engine of this host that takes clauses over.
 int end_of_engines(const Shared &shared, const Options &options) {
     return std::min(shared.first_here + shared.engines_here,
                     options.engines - int(options.solvers.size()));
@@ -21,7 +21,7 @@ bool has_cube(const EngineStatus &engine_status) {
         LOAD(engine_status.refuted_cube) != engine_status.cube_number;
 }
 
-// The literals of its cube, without those of the user's cube.
+// The literals of the engine's cube, without those of the user's cube.
 Cube literals_of(const EngineStatus &engine_status) {
     return { engine_status.cube, engine_status.cube + engine_status.cube_length };
 }
@@ -107,7 +107,7 @@ void Cubes::tell_usable() {
     STORE(engine_status.ready, 1);
 }
 
-// If the first process writes another cube meanwhile, it is taken after the next slice.
+// If the first process writes another cube meanwhile, that one is taken after the next slice.
 void Cubes::take() {
     uint64_t found = LOAD(engine_status.cube_number);
     bool may_come = literals.empty() && LOAD(engine.shared->cubes_left) > 0;

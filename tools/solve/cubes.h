@@ -1,12 +1,12 @@
 // Unverified, like the whole solver. Cubes: if a host has three engines or more, all but the first
 // divide the search space.
 //
-// Each assumes the literals of a cube. What it learns doesn't depend on them, and is given away as
-// usual; the clause that refutes a cube is a clause like any other. So nothing in proofs is about
-// cubes. The first engine stays on the whole formula, since a cube may be as hard as that. After
-// some conflicts it chooses the variables by which cubes are made, and all engines keep these. The
-// first process deals cubes out: an idle engine gets the cube of a lost engine, or half of the
-// oldest cube. Until then it works on the whole formula, too.
+// Each of these assumes the literals of a cube. What it learns doesn't depend on them, and is given
+// away as usual; the clause that refutes a cube is a clause like any other. So nothing in proofs is
+// about cubes. The first engine stays on the whole formula, since a cube may be as hard as the
+// formula. After some conflicts it chooses the variables by which cubes are made, and all engines
+// keep these variables. The first process deals cubes out: an idle engine gets the cube of a lost
+// engine, or half of the oldest cube. Before its first cube, an engine works on the whole formula.
 //
 // If the user gives cubes, all engines first take these, one after the other, and no engine
 // eliminates their variables.

@@ -48,7 +48,7 @@ static std::string sizes_of_record() {
 
 std::string title(const std::string &path) { return path == "-" ? "standard input" : quoted(path); }
 
-// While it runs.
+// During the run.
 
 void Display::begin() { shows_progress = !inputs.options.quiet && isatty(STDERR_FILENO); }
 
@@ -184,7 +184,7 @@ void Display::details() const {
                     lines ? 100.0 * double(LOAD(engine_status.citing_others)) / double(lines) : 0));
     }
     if (teams.dealer.dealt > 0)
-        tell(format("cubes: %s dealt out, %s refuted, %s of lost engines handed on",
+        tell(format("cubes: %s dealt out, %s refuted, %s handed on from lost engines",
                     grouped(teams.dealer.dealt).c_str(),
                     grouped(teams.all(&EngineStatus::refuted_cubes)).c_str(),
                     grouped(teams.dealer.handed_on).c_str()));

@@ -20,7 +20,7 @@ public:
         : inputs(its_inputs), teams(its_teams), rounds(its_rounds), checker(its_checker) {}
     void begin();                       // on a terminal, shows progress from now on
     double next_reading() const;        // when show_reading is due; INFINITY: never
-    void show_reading();                // that the formula is being read, if due
+    void show_reading();                // if due, shows that the formula is being read
     void end_reading() const;
     double next_show() const;           // when show is due; INFINITY: never
     void show();                        // if due

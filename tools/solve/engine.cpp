@@ -1,17 +1,18 @@
 // Unverified, like the whole solver. An engine's process: CaDiCaL, what it gives away, and what it
 // takes over.
 //
-// Sharing depends on these rules; without one of them proofs break silently: - A clause over a
-// variable that this engine eliminated or substituted isn't taken over: CaDiCaL
+// Sharing depends on these rules; without one of them proofs break silently:
+// - A clause over a variable that this engine eliminated or substituted isn't taken over: CaDiCaL
 //   would restore clauses that the proof has deleted, without a line. Whenever the number of active
 //   variables has changed, the witnesses are read again.
-// - The line of an import comes before the clause is added: CaDiCaL may shorten the clause by what
-//   it knows at the root, and then traces the shorter clause, which follows only from the import.
+// - The line of an import is written before the clause is added: CaDiCaL may shorten the clause by
+//   what it knows at the root, and then traces the shorter clause, which follows only from the
+//   import.
 // - The filter publishes a clause only once its line is written, and doesn't delete it in the round
 //   in which it was given away.
 // - Identities change from round to round. So a clause is asked for by its position in the outbox.
 //   The outbox's owner renews the identities there, and overwrites nothing that others may ask for
-//   (outbox.c). No filter drops what it may be asked for (filtering.c).
+//   (outbox.c). No filter drops a clause that it may still have to take over (filtering.c).
 #include <cadical.hpp>
 
 #include <algorithm>
@@ -104,8 +105,8 @@ private:
         solver.traverse_witnesses_forward(*this);
     }
 
-    // The first two each stay in one of the two modes between which CaDiCaL alternates; which mode
-    // is better depends on the formula.
+    // The first two engines each stay in one of the two modes between which CaDiCaL alternates;
+    // which mode is better depends on the formula.
     void differ() {
         switch ((engine.number - 1) % 8) {
             case 0: solver.configure("unsat"); break;
@@ -123,7 +124,7 @@ private:
 
     // A single engine has CaDiCaL's default options. With each call of `solve` CaDiCaL restarts its
     // rephasing: it inverts all phases, and hardly ever reaches better ones. Two engines are faster
-    // without that; with cubes a pipeline formula took longer.
+    // without rephasing; with cubes a pipeline formula took longer without it.
     void configure() {
         solver.set("quiet", 1);
         solver.set("seed", engine.options->seed + engine.number - 1);
@@ -174,7 +175,8 @@ private:
             solver.assume(engine.formula->variables + 1);
     }
 
-    // The clause is given away, regardless of its length.
+    // Whether only the cube is refuted. Then the clause that refutes it is given away, whatever its
+    // length.
     bool refutes_cube() {
         if (!cubes.is_refuted()) return false;
         collect_failed();
@@ -244,8 +246,8 @@ private:
         solver.add(0);
     }
 
-    // Takes over a clause that another engine gave away at that position, which names it in the
-    // proof.
+    // Takes over a clause that another engine gave away at that position. The position names the
+    // clause in the proof.
     void take(int other, uint64_t position, const Literal *literals, size_t length) {
         if (!is_new(literals, length)) return;
         clause.clear();
@@ -269,7 +271,7 @@ private:
     }
 
     // Takes all units and binary clauses, and at most MOST_TAKEN longer ones; it never takes the
-    // rest. Then the proof says that none of these will be asked for again.
+    // rest. Then the proof says that none of the clauses so far will be asked for again.
     void take_over() {
         look_for_witnesses();
         int left = MOST_TAKEN;

@@ -51,7 +51,7 @@ static void tell(uint64_t *field, uint64_t value) {
     events_advance(&own->shared->events);
 }
 
-// Waits until the first process has stored at least that value, or the run ends.
+// Waits until the first process has stored at least the wanted value, or the run ends.
 static void await(const uint64_t *field, uint64_t wanted) {
     for (;;) {
         uint64_t seen = events_so_far(&engine_status->events);
@@ -72,8 +72,8 @@ static _Noreturn void leave_unwritten(const char *cause) {
     leave(cause);
 }
 
-// The record can't be written, perhaps since the disk is full. lrupd still gets these lines, from
-// memory.
+// Call if the record can't be written, perhaps because the disk is full. lrupd still gets these
+// lines, from memory.
 static void spill(const char *bytes, size_t length) {
     const char *cause = strerror(errno);
     off_t at = (off_t)engine_status->bytes;
@@ -122,7 +122,7 @@ static void await_round(const uint64_t *field, uint64_t wanted) {
     if (LOAD(*field) < wanted) leave(NULL);
 }
 
-// Whether it is the file that the first process made for the round.
+// Whether this is the file that the first process made for the round.
 static bool is_as_made(int stream) {
     struct stat found;
     return fstat(stream, &found) == 0 && S_ISREG(found.st_mode) && found.st_nlink == 1 &&
@@ -160,7 +160,7 @@ static void end_stream(bool goes_on) {
     if (!goes_on) leave(NULL);
 }
 
-// Waits until lrupd has saved, and continues with the saved clauses.
+// Ends the stream, waits until lrupd has saved the round, and continues with the saved clauses.
 static void next_round(void) {
     Checkpoint checkpoint;
     end_stream(LOAD(own->shared->leaving) != (uint64_t)own->engine);
@@ -224,7 +224,7 @@ static void give(uint32_t mark) {
         _exit(1);
 }
 
-// Whether the stream is an engine's of another host.
+// Whether the stream belongs to an engine on another host.
 static bool is_elsewhere(uint64_t stream) {
     const Shared *shared = own->shared;
     int first = shared->first_here;
@@ -291,7 +291,7 @@ static void passed(uint64_t engine, uint64_t position) {
 }
 
 // The filter is already open, since a round may end before the first bytes arrive. If a binary
-// proof may be DRAT or LRAT, it is DRAT.
+// proof may be DRAT or LRAT, it is taken for DRAT.
 static Form form_found(const Formula *formula) {
     Form form = form_of(&input, formula);
     if (form != FRAT) filter_name_formula(&filter);
@@ -314,7 +314,7 @@ static void read_proof(const Formula *formula) {
     else text_run(&filter, &input, form);
 }
 
-// A solver said 20, but hasn't written the empty clause.
+// Adds the empty clause if a solver answered 20 without writing it.
 static void end_proof(void) {
     if (refuted || LOAD(own->shared->over) || own->form != UNKNOWN_FORM ||
         LOAD(engine_status->answer) != 20)

@@ -18,13 +18,13 @@
 
 namespace {
 
-std::string path, last_name;                // last_name: without the folder that it is in
-int place = -1, folder_file = -1;           // the folder that it is in; the folder itself
+std::string path, last_name;                // last_name: without the parent folder
+int place = -1, folder_file = -1;           // the parent folder; the folder itself
 Pipe life;                                  // closed when this process ends
 pid_t cleaner = 0;
 
-// Removes everything whose name begins in this way, by descriptors only, since a name may be
-// another file's by now. Closes `file`.
+// Removes everything whose name has this beginning, by descriptors only, since a name may lead to
+// another file by now. Closes `file`.
 void remove_within(int file, const std::string &beginning = "") {
     DIR *list = file < 0 ? nullptr : fdopendir(file);
     while (const dirent *entry = list ? readdir(list) : nullptr) {
@@ -37,7 +37,7 @@ void remove_within(int file, const std::string &beginning = "") {
     if (list) closedir(list);
 }
 
-// Whether the folder's name still names it.
+// Whether the folder's name still names this folder.
 bool is_named(int file) {
     struct stat ours, found;
     return fstat(file, &ours) == 0 &&
@@ -71,7 +71,7 @@ void remove_folder() {
     _exit(0);
 }
 
-// Started before the folder is made, so that the folder is removed however this process ends.
+// Call before the folder is made, so that the folder is removed however this process ends.
 void start_cleaner() {
     sigset_t all, before;
     life = make_pipe(0);
@@ -93,7 +93,7 @@ void end_cleaner() {
 
 }
 
-// Returns the cause if it can't be made.
+// Returns the cause if the folder can't be made.
 std::string Folder::make_if_possible() {
     if (cleaner > 0) return "";
     const char *given = getenv("TMPDIR");
@@ -148,7 +148,7 @@ void Folder::remove_rounds() {
     remove_within(openat(folder_file, ".", O_RDONLY | O_DIRECTORY | O_CLOEXEC), "round-");
 }
 
-// This process removes it itself, since the cleaner may be stopped.
+// This process removes the folder itself, since the cleaner may be stopped.
 void Folder::remove() {
     if (cleaner <= 0) return;
     remove_folder();

@@ -25,7 +25,7 @@ const int LONGEST_NUMBER = 21;
 const Inputs *the_inputs;
 
 // A thread reads the formula, and then writes to the file; a fault ends the run. The thread may
-// have a fault before the main thread knows that it is there.
+// find a fault before the main thread knows that the thread has started.
 thread_local bool is_reader = false;
 int read_file = -1;
 std::string fault;
@@ -65,7 +65,7 @@ std::string Inputs::again(const std::string &path, const std::string &fronts,
 }
 
 // Nothing of an earlier run in the folder is removed until the inputs are read: they may come from
-// there, through a pipe.
+// that folder, through a pipe.
 void Inputs::find() {
     std::vector<std::string> inputs = { options.formula };
     if (options.assume) inputs.push_back(options.assume);
@@ -87,8 +87,8 @@ std::string Inputs::path_of_digests() const {
     return std::string(options.proofs) + "/formula.sha256";
 }
 
-// Unless the record is that of this formula and these assumptions, nothing in it is touched. A run
-// that ended while it read them has left no digests.
+// Refuses a record of another formula or other assumptions before anything in it is touched. A run
+// that ended while it read its inputs has left no digests.
 void Inputs::check_digests() {
     const std::string path = path_of_digests(), name[] = { "formula", "assumptions" };
     if (saved.count() == 0 && !is_there(path)) return;
@@ -130,8 +130,8 @@ void Inputs::read(const Meanwhile &meanwhile) {
     if (!unwritten.empty()) refuse(unwritten);
 }
 
-// Reading a large formula takes seconds, in which a signal ends the run at once. No process has
-// been started by then.
+// Reading a large formula takes seconds, during which a signal ends the run at once. No process has
+// been started yet.
 void Inputs::read_in_thread(const Meanwhile &meanwhile) {
     auto begin = [](void *inputs) -> void * {
         is_reader = true;
@@ -206,7 +206,7 @@ void Inputs::read_cubes() {
     if (!has_cube) refuse(name + ": no cube: no line is like 'a 1 -2 0'");
 }
 
-// False if the line can't be one of such a file.
+// False if the line can't belong to an iCNF file.
 bool Inputs::read_cube(const std::string &line, bool &has_cube) {
     static const std::string others = "cp-0123456789";
     std::istringstream words(line);
@@ -238,7 +238,8 @@ std::string Inputs::fault_of_assumptions() const {
     size_t end = text.find('\n');
     bool is_spaced = text.find("  ") != std::string::npos || text.find('\t') != std::string::npos ||
                      text[0] == ' ' || text.find(" \n") != std::string::npos;
-    if (text.find('\r') != std::string::npos) return ": it has a CR, but lines end with LF alone";
+    if (text.find('\r') != std::string::npos)
+        return ": it has a CR, but lines must end with LF only";
     if (end == std::string::npos) return ": no LF at its end";
     if (end + 1 < text.size()) return ": a second line";
     return is_spaced ? ": more than single spaces between its literals" : "";
@@ -248,7 +249,7 @@ double Inputs::deadline() const {
     return options.seconds > 0 ? started + options.seconds : INFINITY;
 }
 
-// No clause can show this, and so no proof can.
+// No clause, and so no proof, can show that assumptions contradict each other.
 std::string Inputs::contradiction() const {
     for (size_t k = 1; k < assumed.size(); k++)
         if (assumed[k] == complement_of(assumed[k - 1]))
@@ -276,7 +277,7 @@ std::string Inputs::named(const std::string &cause) const {
     return title(options.formula) + cause.substr(cause.find_first_not_of("0123456789", begin));
 }
 
-// Also prints the cause that was found here.
+// Prints lrupd's refusal, and also the cause that was found here.
 void Inputs::refuse_formula(const std::string &cause) const {
     std::string said = front.await_refusal(deadline());
     if (said.empty()) refuse(named(cause));

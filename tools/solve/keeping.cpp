@@ -47,7 +47,7 @@ bool run_tool(const std::vector<std::string> &words, Child &child, std::string &
 }
 
 // Compares a text with an expected one in which only numbers are unknown. Names in the text may
-// contain anything, so it isn't split into words.
+// contain anything, so the text isn't split into words.
 struct Known {
     std::string text;
     size_t at = 0;
@@ -98,7 +98,7 @@ std::string as_word(const char *path) {
 
 }
 
-// lrup-trim needs the streams: they are kept in the front's folder, unless the user names one.
+// lrup-trim needs the streams: they are kept in the temporary folder, unless the user names one.
 void Keeping::prepare(const std::string &program) {
     Options &options = inputs.options;
     checker_program = program;
@@ -111,8 +111,8 @@ void Keeping::prepare(const std::string &program) {
     if (!options.proofs) options.proofs = folder.c_str();
 }
 
-// lrupd's verdict on the output, in rounds if the lines don't fit into a row; empty if it is
-// rejected. lrupd gets open files, since it doesn't accept every name.
+// lrupd's verdict on the output, in rounds if the lines don't fit into a row; empty if lrupd
+// rejects the output. lrupd gets open files, since it doesn't accept every name.
 std::string Keeping::verdict_on(const Output &output, const Wait &wait) const {
     static const char in_rounds[] =
         "exact=$1 lrupd=$2 folder=$3 formula=$4 stream=$5; shift 5; \"$exact\" --rounds \"$folder\" \"$formula\" \"$stream\" | "
@@ -146,7 +146,7 @@ bool Keeping::is_in_record(const std::string &path) const {
     return record && absolute(path).compare(0, place.size(), place) == 0;
 }
 
-// Creates each output for a moment. One in the record's folder is checked once the folder exists.
+// Creates each output for a moment; those in the record's folder only once the folder exists.
 void Keeping::check_outputs(bool has_record) const {
     const int how = O_WRONLY | O_CREAT | O_EXCL | O_NOFOLLOW | O_CLOEXEC;
     std::string why;
@@ -173,7 +173,7 @@ std::string Keeping::keep_if_right(const char *path, const Output &output, const
     if (!verdict.empty()) display.tell(quoted(path) + ": lrupd's verdict: " + verdict);
     if (!verdict.empty()) return "";
     unlink(path);
-    return "lrupd rejects " + quoted(path) + ", which is removed";
+    return "lrupd rejects " + quoted(path) + ", which was removed";
 }
 
 std::string Keeping::keep(bool is_proved, const std::string &lost, const Wait &wait) const {
@@ -271,6 +271,7 @@ std::string Keeping::explain_proof(const std::string &cause, const std::string &
     unsigned long long first = 0, other = 0;
     bool is_known = sscanf(cause.c_str(), "%*s %llu:", &first) == 1;
     bool is_later = sscanf(said.c_str(), "lrup-exact: %*s %llu:", &other) == 1 && other > first;
-    if (is_known && (child.ended_with(0) || is_later)) return ". It follows with clauses that were deleted before it";
-    return is_known && other == first ? ". Nor does it follow with those that were deleted" : "";
+    if (is_known && (child.ended_with(0) || is_later))
+        return ". It would follow if no clause had been deleted before it";
+    return is_known && other == first ? ". Nor would it follow if none had been deleted" : "";
 }

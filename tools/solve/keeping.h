@@ -11,7 +11,7 @@
 
 class Keeping {
 public:
-    // waits for its end; false if this run is ended meanwhile
+    // waits for the child's end; false if this run is ended meanwhile
     using Wait = std::function<bool(Child &child)>;
 
     // An output of lrup-trim: a stream, its formula, and the lines and room that it needs.
@@ -19,13 +19,13 @@ public:
 
     Keeping(Inputs &its_inputs, const Display &its_display) : inputs(its_inputs), display(its_display) {}
     void prepare(const std::string &program);           // before solving; program: lrupd
-    // refuses unwritable ones; has_record: its folder exists
+    // refuses unwritable ones; has_record: the record's folder exists
     void check_outputs(bool has_record) const;
     // Returns why the outputs aren't kept; empty if they are. lost: why the record is incomplete.
     std::string keep(bool is_proved, const std::string &lost, const Wait &wait) const;
     std::string describe(const Checker &checker, uint64_t rounds, const Wait &wait) const;
     void explain(const std::string &report, const Wait &wait) const;
-    // adds to the cause
+    // what to add to the cause
     std::string explain_proof(const std::string &cause, const std::string &path, const Wait &wait) const;
 
 private:

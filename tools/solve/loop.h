@@ -13,8 +13,8 @@ public:
     bool looks_again = false;   // without waiting
 
     void begin();               // takes signals from now on
-    // Waits for a signal, the end of a child, an event of engines and filters, input from these
-    // files, or that time.
+    // Waits for a signal, the end of a child, an event of engines and filters, or input from these
+    // files, until that time at the latest.
     void wait(EventCount &events, std::vector<pollfd> &files, double time,
               const std::vector<Child *> &children);
 

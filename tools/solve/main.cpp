@@ -8,8 +8,8 @@
 //
 // The first process (run.cpp) reads the formula (inputs.cpp), starts engines and filters
 // (teams.cpp), feeds lrupd (checker.cpp), goes from round to round (rounds.cpp), shows progress
-// (display.cpp), and watches all processes. Whatever happens to one of them is an event of its loop
-// (loop.cpp). When it ends, all of them end.
+// (display.cpp), and watches all processes. Whatever happens to one of them is an event of the
+// first process's loop (loop.cpp). When the first process ends, all of them end.
 #include <csignal>
 
 #include <fcntl.h>

@@ -5,7 +5,7 @@
 // Only MPI_Init, the broadcast before engines start, and MPI_Finalize wait for other processes; if
 // one dies, mpirun ends all. The bytes on their way to others are bounded: above the bound nothing
 // more is read from the Run.
-#define OMPI_SKIP_MPICXX 1      // C++ bindings that warn
+#define OMPI_SKIP_MPICXX 1      // leaves out C++ bindings that cause warnings
 #include <mpi.h>
 
 #include <csignal>

@@ -1,7 +1,7 @@
-// Unverified, like the whole solver. What engines give away to those of other processes. All
-// clauses that refute cubes are sent. For the others a process has a budget of literals in each
-// exchange: the shortest go first, and those that don't fit aren't sent later, since newer ones
-// come.
+// Unverified, like the whole solver. Sends what engines give away to the engines of other
+// processes. All clauses that refute cubes are sent. For other clauses a process has a budget of
+// literals in each exchange: the shortest go first, and clauses that don't fit aren't sent later
+// either, since newer ones come.
 //
 // Only clauses of the current round are sent and taken. Their lines are sent before them, and lrupd
 // saves them at the round's end, since no stream deletes what it gave away in the round. Clauses
@@ -93,8 +93,8 @@ void Exchange::begin_round() {
     pass_over();
 }
 
-// Skips what was given away so far. Also called once lrupd has saved: filters then renew the
-// identities in the outboxes before the next round begins.
+// Skips what has been given away so far. Also called once lrupd has saved the round: filters then
+// renew the identities in the outboxes before the next round begins.
 void Exchange::pass_over() {
     for (int k = first; k < end; k++) {
         read[size_t(k)] = cleared[size_t(k)] = LOAD(shared->engine_statuses[k].outbox_used);

@@ -111,8 +111,8 @@ private:
         }
     }
 
-    // Broadcasts the formula; in a resumed run also the last checkpoint. Returns the round with
-    // which this run begins.
+    // Receives what process 0 broadcasts: the formula, assumptions and cubes; in a resumed run also
+    // the last checkpoint. Returns the round with which this run begins.
     uint64_t receive_inputs() {
         int file = file_in_memory(), saved_before = file_in_memory();
         uint64_t round = 1;
@@ -230,7 +230,7 @@ private:
     // The processes here.
 
     void look_here() {
-        // mpirun ends all, or has done so
+        // mpirun ends all processes, or has ended them
         if (loop.ended_by || link.carrier.ended()) end_children(), _exit(1);
         if (peer.silent_process() >= 0) refuse("no message from process 0 for some seconds");
         for (size_t k = 0; k < teams.size(); k++) {
@@ -246,7 +246,7 @@ private:
         if (state == SOLVING) teams.look();
     }
 
-    // What it sends. Others get what a stream implies only after the whole stream.
+    // What this process sends. Facts that depend on a stream are sent only after the whole stream.
 
     bool send_stream(size_t k) {
         EngineStatus &engine_status = teams.engine_status(k);
@@ -309,8 +309,8 @@ private:
         return { child.ended(), child.status, child.seconds };
     }
 
-    // Reads the counts backwards, rounds first: what a filter stores before it ends a round is then
-    // stored.
+    // Reads the counts backwards, rounds first: if a round has ended, what the filter stored before
+    // that is seen, too.
     Facts facts_of(size_t k) const {
         const EngineStatus &engine_status = teams.engine_status(k);
         Facts facts = {};

@@ -176,7 +176,7 @@ private:
         if (message.head.word == TRAFFIC) message.take(traffic[size_t(message.head.process)]);
     }
 
-    // What it sends.
+    // What process 0 sends.
 
     // Sends the differences of identities, seven bits to a byte, as in binary proofs.
     void say_saved() {
@@ -224,7 +224,7 @@ private:
 
     void say() {
         Control words = control();
-        // if not, no filter elsewhere is left
+        // if the next round has begun before this, no filter elsewhere is left
         bool is_due = words.saved_round > told_saved && words.saved_round == words.round;
         if (is_due) say_saved(), told_saved = words.saved_round;
         if (!is_news(words, told) && now() - told_at < PULSE) return;

@@ -32,7 +32,7 @@ namespace {
 const uint64_t EXCHANGING = 500;        // milliseconds
 const double STARTING = 600;            // seconds
 
-// By the variables that mpirun and SLURM's launcher set before MPI is initialised.
+// Decides by the variables that mpirun and SLURM's launcher set before MPI is initialised.
 bool is_process_0() {
     for (const char *name : { "OMPI_COMM_WORLD_RANK", "PMIX_RANK", "PMI_RANK" })
         if (const char *rank = getenv(name)) return atoi(rank) == 0;
@@ -42,7 +42,7 @@ bool is_process_0() {
 }
 
 // Only one process reports an error. The others must not end before it with a status other than 0:
-// mpirun would then kill it, and nothing would be reported.
+// mpirun would then kill the reporting process, and nothing would be reported.
 int solve(int count, char **words) {
     if (front.is_there() && is_process_0()) front.open();
     Options options = read_words(count, words);
@@ -135,7 +135,7 @@ bool Peer::is_due(const Message &message) const {
                                       : awaited <= 0;
 }
 
-// Process 0 collects when a round begins, and then not before its filters have the new identities.
+// Process 0 collects when a round begins, and then only after its filters have the new identities.
 bool Peer::holds_back() const {
     if (!test_hooks.late_saved || link.process != 0 || !exchange.has_begun()) return false;
     for (size_t k = 0; k < teams.size(); k++)

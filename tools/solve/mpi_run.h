@@ -7,8 +7,8 @@
 // the engines of all processes, whose state arrives in messages. Process 0 leads: it feeds all
 // streams to lrupd, and decides when rounds end. Every half second all processes exchange the
 // clauses that their engines gave away. Clauses that arrive are put into the outboxes of the absent
-// engines, but at other positions than at home. Only carriers use MPI; they are forked first, and
-// fork nothing.
+// engines, but at other positions than in their own process. Only carriers use MPI; they are forked
+// first, and fork nothing.
 #ifndef MPI_RUN_H
 #define MPI_RUN_H
 
@@ -115,7 +115,7 @@ public:
     Traffic traffic = {};
 
     void open(Shared *all, const std::vector<uint32_t *> &boxes);
-    // the lines before that position are sent
+    // the lines of clauses before that position are sent
     void clear(int engine, uint64_t used) { cleared[size_t(engine)] = used; }
     std::string collect();              // what was given away since the last time
     // it has collected in this round
@@ -138,7 +138,7 @@ private:
 // Reports about an engine and its filter.
 struct Ended { int32_t ended, status; double seconds; };
 
-enum { ENDED_ROUND = 16, MAPPED_ROUND, COUNTS };        // places of two counts
+enum { ENDED_ROUND = 16, MAPPED_ROUND, COUNTS };        // indices of two counts
 
 struct Facts {
     int32_t engine, answer, refuted, unwritten;         // the engine from 0

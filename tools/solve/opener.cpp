@@ -1,6 +1,6 @@
 // Unverified, like the whole solver. A process that opens lrupd's pipes for writing, one after the
 // other: each open waits until lrupd opens the pipe, too, and nothing else shows when that happens.
-// It keeps the pipe open until the first process has also opened it.
+// The opener keeps the pipe open until the first process has also opened it.
 #include <cerrno>
 #include <csignal>
 #include <cstring>
@@ -39,7 +39,7 @@ void Opener::start() {
     close_file(other);
 }
 
-// If the process has ended, the run sees that separately.
+// If the process has ended, the run notices that separately.
 void Opener::say(const std::string &path) const {
     send(socket, path.c_str(), path.size() + 1, MSG_NOSIGNAL);
 }

@@ -200,7 +200,7 @@ std::string version() {
     return std::string(program_name) + " " + VERSION + ", with CaDiCaL " + engine_version();
 }
 
-// lrup-check gives --check first.
+// lrup-check passes --check as the first word.
 Options read_words(int count, char **words) {
     Options options;
     options.words = program_name;

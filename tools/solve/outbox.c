@@ -1,12 +1,12 @@
-// Unverified, like the whole solver. Outboxes: putting clauses in, and new identities from round to
-// round.
+// Unverified, like the whole solver. Outboxes: puts clauses in, and renews their identities from
+// round to round.
 #include "../exact/checks.h"
 #include "shared.h"
 
-#define OF_AN_ODD_ROUND (UINT32_C(1) << 31)     // the highest bit of an identity; all are far below
+#define OF_AN_ODD_ROUND (UINT32_C(1) << 31)     // a bit that is far above all identities
 
-// The least floor of all readers of the outbox. An engine reads its own, too, but never takes over
-// from it.
+// The least floor of all readers of the outbox. An engine reads its own outbox, too, but takes over
+// nothing from it.
 static uint64_t least_floor(const Shared *shared, int engine, uint64_t end, bool with_own) {
     uint64_t least = end;
     for (int k = 0; k < shared->engines; k++) {

@@ -197,8 +197,8 @@ std::string Child::end() const {
     return "ended with status " + std::to_string(WEXITSTATUS(status));
 }
 
-// A child that forwards signals gets SIGTERM for SIGKILL, and SIGTSTP for SIGSTOP, which can't be
-// caught. While it starts, SIGTSTP stops it, so SIGCONT follows SIGTERM.
+// A child that forwards signals gets SIGTERM instead of SIGKILL, and SIGTSTP instead of SIGSTOP,
+// which can't be caught. While it starts, SIGTSTP stops it, so SIGCONT follows SIGTERM.
 static void send(pid_t pid, int number, bool hands_on) {
     if (hands_on) number = number == SIGKILL ? SIGTERM : number == SIGSTOP ? SIGTSTP : number;
     kill(pid, number);
@@ -233,8 +233,8 @@ bool begin(Child &child, const std::string &name, const std::vector<int> &kept) 
     return true;
 }
 
-// A run can lose an engine, but not lrupd or the first process. A process may always raise this
-// number; if that fails, the system chooses as usual.
+// A run can lose an engine, but not lrupd or the first process. A process may always raise its own
+// score; if that fails, the system chooses as usual.
 void give_way() {
     int file = open("/proc/self/oom_score_adj", O_WRONLY | O_CLOEXEC);
     if (file < 0) return;

@@ -75,7 +75,7 @@ bool is_of_a_round(const std::string &name) {
     return name.compare(0, line, "round") == 0 && (rest == "sizes" || is_stream);
 }
 
-// A name that a run gives a file, complete or not.
+// Whether a run gives a file this name, complete or not.
 bool is_of_a_record(const std::string &name) {
     for (const char *known : NAMES)
         if (name == known || name == unfinished(known)) return true;
@@ -84,7 +84,7 @@ bool is_of_a_record(const std::string &name) {
     return is_of_a_round(is_unfinished ? name.substr(1, length - 5) : name);
 }
 
-// The paths of all files with such names, also of those that no run made.
+// The paths of all files with a record's names, also of files that no run made.
 std::vector<std::string> files_of(const std::string &folder) {
     std::vector<std::string> paths;
     int file = openat(record_folder, ".", O_RDONLY | O_DIRECTORY | O_CLOEXEC);
@@ -106,8 +106,8 @@ bool write_list(const std::string &text) {
     return write(list_file, text.data(), text.size()) == ssize_t(text.size());
 }
 
-// A last name without LF has no file, since the run ended before making it. Another user's list is
-// refused: it may name files that this user can remove, but the other can't.
+// A last name without LF has no file, since the run ended before making the file. Another user's
+// list is refused: it may name files that this user can remove, but the other user can't.
 void read_list(const std::string &path) {
     struct stat found;
     const int how = O_RDWR | O_APPEND | O_NOFOLLOW | O_NONBLOCK | O_CLOEXEC;
@@ -136,7 +136,7 @@ bool has_proof() {
     return report.find("\ns UNSATISFIABLE") != std::string::npos;
 }
 
-// The rounds that an unfinished run has saved, each with its sizes in their list.
+// How many rounds an unfinished run has saved: the list of rounds has the sizes of each.
 size_t rounds_to_resume() {
     int file = listed.count(LIST_OF_ROUNDS) == 0 ? -1 : open_in_record(LIST_OF_ROUNDS);
     const std::string list = file < 0 ? "" : text_of(file), ending = ".sizes\n";
@@ -197,7 +197,7 @@ std::string quoted(const std::string &word) {
     return text + "'";
 }
 
-// Reads the UTF-8 character at this place. Returns its length in bytes, or 0 if there is none.
+// Reads the UTF-8 character at this index. Returns its length in bytes, or 0 if there is none.
 static size_t read_letter(const std::string &text, size_t at, uint32_t &letter) {
     static const uint32_t least[] = { 0, 0x80, 0x800, 0x10000 };
     auto first = static_cast<unsigned char>(text[at]);
@@ -254,7 +254,7 @@ std::string real_path(const std::string &folder) {
     return path.empty() || path.back() == '/' ? path : path + "/";
 }
 
-// A file's name until it is complete.
+// A file's name until the file is complete.
 std::string unfinished(const std::string &path) {
     size_t name = path.rfind('/') + 1;
     return path.substr(0, name) + "." + path.substr(name) + ".new";
@@ -267,7 +267,7 @@ void check_input(const std::string &path) {
 }
 
 // Whether lrupd can open the path again. It can't if the path is a name of standard input, since
-// lrupd has another one.
+// lrupd has another standard input.
 bool is_read_again(const std::string &path) {
     struct stat found;
     bool is_ours = is_standard_input(path) || path.rfind("/dev/fd/", 0) == 0 || path.rfind("/proc/", 0) == 0;
@@ -293,7 +293,7 @@ void check_plain(const std::string &path, const std::string &name) {
 
 // Locks the folder until this process ends, in any way; without locks in the file system, another
 // run isn't noticed. Refuses a folder in which others may write, since they could replace streams
-// that are opened again by name. An earlier run's processes may still be ending, so it waits.
+// that are opened again by name. Waits, since an earlier run's processes may still be ending.
 static void hold_folder(const std::string &folder, double seconds) {
     int file = open(folder.c_str(), O_RDONLY | O_DIRECTORY | O_CLOEXEC);
     if (file < 0) refuse(folder + ": " + error_text());
@@ -301,7 +301,7 @@ static void hold_folder(const std::string &folder, double seconds) {
     kept_open(file);
     for (double until = now() + seconds; flock(file, LOCK_EX | LOCK_NB) != 0 && errno == EWOULDBLOCK; usleep(PAUSE))
         if (now() >= until) refuse(folder + ": another run has its files there, and hasn't ended: choose another --proofs");
-    // opened again, so it doesn't hold the lock
+    // opened again, so that this descriptor doesn't hold the lock
     record_folder = kept_open(openat(file, ".", O_PATH | O_DIRECTORY | O_CLOEXEC));
     record_name = absolute(folder) + "/";
 }
@@ -329,7 +329,7 @@ void open_record(const std::string &folder, const std::vector<std::string> &inpu
     if (size_t rounds = replaces ? 0 : rounds_to_resume())
         refuse(folder + " has " + counted(rounds, "round") +
                " of an earlier run: lrup-solve --resume " + quoted(folder) +
-               " continues it, --replace removes it");
+               " continues it, --replace removes them");
     if (list_file < 0 && !list_anew({})) refuse_unlisted(folder);
 }
 

@@ -47,8 +47,8 @@ bool Rounds::size(uint64_t clauses, uint64_t literals) {
     return fits;
 }
 
-// Whatever --memory says, a row may take twice the formula. A resumed run's row is as large as
-// before.
+// Whatever --memory says, a row may have twice the formula's size. A resumed run's row is as large
+// as before.
 void Rounds::begin(const std::string &program) {
     uint64_t clauses = inputs.first_formula.clauses, literals = literals_of(inputs.first_formula), last = inputs.saved.count();
     number = last + 1;
@@ -139,7 +139,7 @@ clean() { printf '%s' "$1" | LC_ALL=C tr '\001-\037\177' '?'; }
 refuse() { printf '%s\n' "$(clean "$1")" >&2; exit 1; }
 readable() {
     [ -r "$1" ] || refuse "$1 isn't there, or can't be read"
-    [ -f "$1" ] || refuse "$1 is no regular file"
+    [ -f "$1" ] || refuse "$1 isn't a regular file"
 }
 named() {
     file=$2
@@ -233,8 +233,8 @@ checker=$!
 wait "$checker"
 )sh";
 
-// The file's path relative to the record's folder, with symbolic links resolved; empty if it is in
-// the record.
+// The file's path relative to the record's folder, with symbolic links resolved; empty if the file
+// is in the record.
 std::string Rounds::from_record(const std::string &path) const {
     std::string whole = absolute(path);
     size_t slash = whole.rfind('/');
@@ -305,7 +305,7 @@ bool Rounds::may_check_again() {
     return inputs.options.record && teams.lost.empty() && starts < MOST_STARTS;
 }
 
-// Not while filters read what the killed one has saved. What it was saving is saved again.
+// Not called while filters read what the killed lrupd has saved. What it was saving is saved again.
 std::string Rounds::check_again() {
     const std::string missing = ended.missing();
     if (!missing.empty()) return ", and " + missing + " is gone";
@@ -328,7 +328,7 @@ void Rounds::open_saved() {
     }
 }
 
-// Feeds lrupd a saved round. Meanwhile filters don't wait for it.
+// Feeds lrupd a saved round. Meanwhile filters don't wait for lrupd.
 std::string Rounds::feed_saved() {
     bool are_compared = true;
     for (size_t k = 0; k < teams.size(); k++) teams.tell_fed(k, ALL_FED);
@@ -343,7 +343,7 @@ std::string Rounds::feed_saved() {
     return "";
 }
 
-// Returns the first file, of those that lrupd has read, that was changed; or "".
+// Returns the first changed file of those that lrupd has read; or "".
 std::string Rounds::changed_file() {
     for (; compared < checker.digests.size(); compared++)
         if (ended.is_changed(checker.digests[compared]))
@@ -357,11 +357,12 @@ std::string Rounds::checkpoint_path() const {
 }
 
 // A file of lrupd's round was changed, so this round and those after it are useless. The record now
-// ends before it, and the run can be resumed from there.
+// ends before this round, and the run can be resumed from there.
 std::string Rounds::end_record(const std::string &path) {
     std::vector<std::string> &digests = checker.digests;
     size_t named = 0;
-    if (ended.is_as_saved(path)) return path + " was read with other bytes than before: disk or memory is at fault";
+    if (ended.is_as_saved(path))
+        return path + " was read with other bytes than before: the disk or the memory is at fault";
     const std::string cause = path + " was changed since it was saved", sizes = name_of_round(checked) + ".sizes";
     if (checked > 1) {
         while (named < digests.size() && digests[named].substr(DIGEST_DIGITS + 2) != sizes) named++;
@@ -399,7 +400,7 @@ std::string Rounds::feed(bool is_last) {
     return "";
 }
 
-// While filters go to the next round, their counts may be either round's.
+// While filters go to the next round, their counts may belong to either round.
 void Rounds::feed_teams(bool is_last) {
     for (size_t k = 0; k < teams.size(); k++) {
         uint64_t stream = LOAD(teams.engine_status(k).stream);
@@ -493,7 +494,7 @@ std::string Rounds::how_to_go_on() {
     return line + " " + quoted(inputs.formula_path) + " continues the run";
 }
 
-// Ends all streams. Paused filters continue, to end theirs.
+// Ends all streams. Paused filters continue, so that they can end their streams.
 void Rounds::end_round(bool full) {
     is_full = full;
     teams.start_others();       // all engines begin with round 1

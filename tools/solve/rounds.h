@@ -1,8 +1,8 @@
 // Unverified, like the whole solver. Rounds: lrupd makes a row before it reads the first line, and
-// the row doesn't grow. When it is full, all streams end after a whole line, and lrupd continues in
-// a new row, whose formula has the clauses that are live. lrupd has also saved them as a
-// checkpoint, from which filters take the clauses' new identities (filtering.c). tools/exact/row.c
-// has the sizes of rows.
+// the row doesn't grow. When the row is full, all streams end after a whole line, and lrupd
+// continues in a new row, whose formula has the clauses that are live. lrupd has also saved them as
+// a checkpoint, from which filters take the clauses' new identities (filtering.c).
+// tools/exact/row.c chooses the sizes of rows.
 #ifndef ROUNDS_H
 #define ROUNDS_H
 
@@ -36,10 +36,10 @@ public:
     std::string look();                         // returns why the run can't continue, or ""
     std::string feed(bool is_last);             // feeds lrupd; returns why it can't, or ""
     bool is_behind() const { return checked < number; }     // lrupd reads rounds that have ended
-    void save_last();                           // round, so that the run can be resumed
+    void save_last();                           // saves the last round, for a resumed run
     bool is_saving() const;
     std::string how_to_go_on();                 // a message
-    double next_saving() const;                 // when a round with room ends; INFINITY: never
+    double next_saving() const;                 // when a round that has room ends; INFINITY: never
     void end_streams();                         // those of the last round, which are whole
     std::string keep_report() const;            // returns why it can't, or ""
 
@@ -49,7 +49,7 @@ private:
     Checker &checker;
     const Display &display;
     std::string checker_program, said;
-    int starts = 0;                             // of lrupd, since it saved a round that is new
+    int starts = 0;                             // of lrupd, since it last saved a new round
     SavedRounds ended;                          // before `number`: lrupd gets them again
     Row first = {};                             // of round 1
     std::vector<int> saved_streams;             // of the saved round that lrupd is in; their sizes

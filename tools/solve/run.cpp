@@ -1,5 +1,5 @@
-// Unverified, like the whole solver. The first process: handles the ends of the others, and finds
-// the answer.
+// Unverified, like the whole solver. The first process: handles the ends of the other processes,
+// and finds the answer.
 #include <algorithm>
 #include <cmath>
 #include <csignal>
@@ -53,7 +53,7 @@ void Run::await_formula(int file) {
         poll(files, 2, milliseconds_to(std::min(limit, display.next_reading())));
         is_read = files[1].revents != 0;
         if (files[0].revents != 0) front.read_on(nullptr);
-        if (now() >= limit && !is_read) why = "time is up, but the formula isn't read yet";
+        if (now() >= limit && !is_read) why = "time is up, but the formula hasn't been read yet";
         if (!front.stopped.empty()) why = front.stopped;
     }
     display.end_reading();
@@ -109,7 +109,7 @@ std::string Run::why_it_is_asked() const {
 }
 
 // Before it ends, a run saves what it found since its last round, or checks its proof, if that
-// takes only some seconds. Returns whether it still does.
+// takes only some seconds. Returns whether it is still doing so.
 bool Run::saves_first() {
     if (saving == 0) {
         saving = now() + SAVING;
@@ -281,7 +281,7 @@ void Run::end_streams() {
     phase = CHECKING;
 }
 
-// Depends on lrupd's status alone. The answer is printed even if the report can't be kept.
+// Depends only on lrupd's status. The answer is printed even if the report can't be kept.
 void Run::verdict() {
     display.show_lines();
     bool is_proved = checker.child.ended_with(0) || checker.child.ended_with(8);

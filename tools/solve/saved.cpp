@@ -39,7 +39,8 @@ int open_regular(const std::string &path) {
     struct stat found;
     int file = open_in_record(path.substr(path.rfind('/') + 1));
     if (file < 0) refuse_file(path + ": " + error_text());
-    if (fstat(file, &found) != 0 || !S_ISREG(found.st_mode)) refuse_file(path + " is no regular file");
+    if (fstat(file, &found) != 0 || !S_ISREG(found.st_mode))
+        refuse_file(path + " isn't a regular file");
     return file;
 }
 
@@ -162,7 +163,7 @@ void bring_to_disk(const std::string &name) {
     close(file);
 }
 
-// Gives a whole file its name, once it is on disk; else removes it, and returns the cause.
+// Gives a whole file its name once it is on disk; otherwise removes it, and returns the cause.
 std::string written(const std::string &path, int file, bool is_whole) {
     const std::string begun = unfinished(path);
     if (is_whole && file >= 0 && fsync(file) == 0 && rename_file(begun, path)) return "";
@@ -197,7 +198,7 @@ void Saver::save(uint64_t round, const std::string &record, const std::string &c
     if (!child.running) start();
 }
 
-// Lists the names of the new files here, since the process doesn't have the list.
+// Lists the names of the new files here, since the saving process doesn't have the list.
 void Saver::start() {
     now = next;
     next = Work();

@@ -10,9 +10,9 @@
 
 #include "solve.h"
 
-// The rounds that an earlier run saved, and then those that this run adds.
 extern const char NOT_RESUMED[];        // the end of a message
 
+// The rounds that an earlier run saved, and then those that this run adds.
 class SavedRounds {
 public:
     void read(const std::string &record);               // refuses a record that can't be right

@@ -1,5 +1,5 @@
-// Unverified, like the whole solver. What its processes share: one mapping, made before they are
-// forked, and the outboxes. For C and C++.
+// Unverified, like the whole solver. What the solver's processes share: one mapping, made before
+// they are forked, and the outboxes. For C and C++.
 #ifndef SHARED_H
 #define SHARED_H
 
@@ -28,7 +28,7 @@ typedef struct {
 } EventCount;
 
 // The status of an engine and its filter. Each field has one writer, and others read it at any
-// time: only by LOAD and STORE.
+// time, so all use LOAD and STORE.
 typedef struct {
     // The engine writes:
     int answer;                 // 10 or 20, once its proof and the model are written
@@ -50,7 +50,7 @@ typedef struct {
     uint64_t bytes;             // of its stream
     uint64_t behind;            // bytes of the proof that it hasn't read
     uint64_t outbox_used;       // others may read its outbox up to this position
-    uint64_t floors[MOST_ENGINES];  // by engine, from 0: earlier gifts of it aren't needed any more
+    uint64_t floors[MOST_ENGINES];  // by engine, from 0: its earlier gifts aren't needed any more
     uint64_t wanted;            // the length of a clause for which a whole stream has no room
     uint64_t held;              // words of the clauses that it held when its last round ended
     uint64_t ended_round;       // the last round whose stream it has finished
@@ -59,7 +59,7 @@ typedef struct {
     int unwritten;              // the stream couldn't be written
     int spilled;                // the record couldn't be written: the stream continues in memory
     uint64_t kept;              // bytes of the stream that the record has then
-    char unkept[LONGEST_CAUSE]; // why it hasn't more
+    char unkept[LONGEST_CAUSE]; // why the record hasn't more
     char cause[LONGEST_CAUSE];  // why the filter stopped; read it once the filter has ended
     int proof_ended;            // it had then read the whole proof
     // The first process writes:
@@ -110,7 +110,7 @@ enum { OUTBOX_WORDS = 1 << 20, HEAD_OF_A_GIFT = 2 };
 
 static inline uint32_t length_of(const uint32_t *gift) { return gift[0] & ~OF_A_CUBE; }
 
-// The gift at that position, which moves to the next gift; NULL at the end.
+// The gift at position `at`, which then moves to the next gift; NULL at the end.
 static inline uint32_t *next_gift(const Shared *shared, uint32_t *outbox, uint64_t *at,
                                   uint64_t end) {
     uint64_t size = shared->outbox_words;
@@ -125,9 +125,9 @@ static inline const Literal *literals_of(const uint32_t *gift) {
     return (const Literal *)(const void *)(gift + HEAD_OF_A_GIFT);
 }
 
-// Which clauses an engine begins with: the user's formula, and the short ones of those that an
-// earlier run saved. Each longer one, up to a length, goes to one engine, since most had been
-// derived by one engine only, and no engine deletes what it begins with.
+// Which clauses an engine begins with: the user's formula, and the short clauses that an earlier
+// run saved. Each longer clause, up to a length, goes to one engine, since most of them had been
+// derived by only one engine, and no engine deletes what it begins with.
 typedef struct {
     uint64_t formula;               // clauses of the user's formula, which come first
     uint64_t for_all, for_one;      // most literals
@@ -155,7 +155,7 @@ typedef struct {
     const char *const *cited;
     const int *assumed;             // literals
     size_t assumed_length;
-    // the user's formula's clauses, which each round keeps if the run may be resumed
+    // how many clauses each round keeps: those of the user's formula if the run may be resumed
     uint64_t spared;
     Beginning beginning;
 } Filtering;

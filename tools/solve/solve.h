@@ -1,4 +1,4 @@
-// Unverified, like the whole solver. Common to its C++ files.
+// Unverified, like the whole solver. This header is common to the C++ files.
 #ifndef SOLVE_H
 #define SOLVE_H
 
@@ -28,7 +28,7 @@ struct Options {
     int seed = 0;
     const char *proofs = nullptr, *assume = nullptr, *cubes = nullptr, *mpi = nullptr,
                *formula = nullptr;
-    bool names_formula = false;         // else it is standard input
+    bool names_formula = false;         // false: it is standard input
     const char *record = nullptr;       // the user's folder of --proofs
     const char *resumed = nullptr;      // the folder of --resume
     double save_every = 0;              // seconds after which a round ends
@@ -49,20 +49,20 @@ std::string version();          // one line
 // ends all children, prints one line on standard error, exits with 1
 [[noreturn]] void refuse(const std::string &cause);
 extern void (*as_it_refuses)();                         // called then, except in children
-extern bool another_refuses;  // another process reports it, and its end ends this one
+extern bool another_refuses;  // another process reports the cause, and its end ends this one
 std::string error_text();                               // of errno
 double now();                                           // seconds
 int milliseconds_to(double time);                       // for poll; -1 for INFINITY
 
 struct Pipe { int read = -1, write = -1; };
 
-int kept_open(int file);  // by this process: a child keeps it only if it is listed for it
+int kept_open(int file);  // by this process: a child keeps a file only if `begin` lists it
 void close_all_but(const std::vector<int> &files);      // in a child
 Pipe make_pipe(int bytes);                              // of this size, if the system allows it
 void close_file(int &file);
 int create_file(const std::string &path);  // a new file; an old one of that name is removed
 int create_if_possible(const std::string &path);        // the same, or -1
-bool remove_file(const std::string &path);              // true if there is none, too
+bool remove_file(const std::string &path);              // also true if there is none
 bool rename_file(const std::string &path, const std::string &other);
 void create_pipe(const std::string &path);
 // for writing, and removes its name; -1 if nobody reads it
@@ -125,7 +125,7 @@ std::string one_line(const std::string &text);          // safe for a terminal
 std::string own_path();                                 // this program's path; empty: not known
 std::string absolute(const std::string &path);
 std::string real_path(const std::string &folder);  // with a slash, without links; empty: not known
-std::string unfinished(const std::string &path);        // the name until it is whole
+std::string unfinished(const std::string &path);        // the name until the file is whole
 void check_input(const std::string &path);              // refuses what can't be read
 // whether other processes can open it, as often as they like
 bool is_read_again(const std::string &path);

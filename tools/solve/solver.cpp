@@ -22,7 +22,7 @@ namespace {
 const size_t LONGEST_WORD = 64;     // longer words are cut
 const char SATISFIABLE_LINE[] = "SATISFIABLE", UNSATISFIABLE_LINE[] = "UNSATISFIABLE";
 
-// The lines `s` and `v` of its output, read word by word, since a line may be very long.
+// The lines `s` and `v` of a solver's output, read word by word, since a line may be very long.
 class Printed {
 public:
     explicit Printed(const Engine &engine)
@@ -83,7 +83,7 @@ private:
     }
 };
 
-// The last line of its standard error that isn't empty; only the beginning of a long one.
+// The last line of a solver's standard error that isn't empty; only the beginning of a long line.
 class LastLine {
 public:
     void read_from(int &file) {
@@ -178,7 +178,7 @@ int wait_for_solver(pid_t group, int signals, int out, int error, Printed &print
 
 }
 
-// Both paths need no quotes, and are right within quotes, too. Inserted paths aren't searched
+// Neither path needs quotes, and both also work within quotes. Inserted paths aren't searched
 // again.
 std::string solver_command(const std::string &command, const std::string &formula,
                            const std::string &proof) {

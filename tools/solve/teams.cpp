@@ -18,7 +18,7 @@ namespace {
 // the system's limit for all pipes of a user is 1 << 26
 const int PROOF_PIPE = 1 << 20, ALL_PROOF_PIPES = 1 << 24;
 const int CROWDED_PIPE = 1 << 16;
-// seconds for which the first engine is alone, besides READINGS of the formula
+// seconds for which the first engine runs alone, after the time of READINGS of the formula
 const double MOMENT = 0.1;
 const int READINGS = 2;
 const uint64_t LEARNED = 1 << 18;   // literals
@@ -184,7 +184,7 @@ void Teams::start_others() {
     others_start = 0;
 }
 
-// Never while the first engine's filter reads its answer.
+// The others never start while the first engine's filter reads that engine's answer.
 double Teams::next_start() const {
     if (others_start == 0) return INFINITY;
     return list[0].told ? 0 : LOAD(engine_status(0).answer) == 0 ? others_start : INFINITY;
@@ -295,7 +295,7 @@ bool Teams::has_refuted(size_t k) const {
 }
 
 // While the filter of an engine that has refuted the formula catches up, the other engines and
-// filters on this host are paused, so that it has the cores. They continue if it stops.
+// filters on this host are paused, so that this filter has the cores. They continue if it stops.
 void Teams::pause_others() {
     bool wanted = false;
     if (inputs.options.check) return;       // all proofs exist already
@@ -336,7 +336,7 @@ std::string Teams::choose_leaving(const std::string &cause) {
     return why_lost(found);
 }
 
-// Also keeps it if it has refuted the formula meanwhile.
+// Keeps the leaving engine also if it has refuted the formula meanwhile.
 void Teams::keep_last() {
     uint64_t leaving = shared->leaving;
     if (leaving == 0) return;

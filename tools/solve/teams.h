@@ -49,8 +49,8 @@ public:
     bool have_all(uint64_t EngineStatus::*field, uint64_t wanted) const;  // for all running filters
     std::vector<Child *> children();
 
-    void open(uint64_t round);          // before the formula is read; the first one of this run
-    void open_models();                 // after it
+    void open(uint64_t round);          // before the formula is read; round: this run's first one
+    void open_models();                 // after the formula is read
     void set_here(int first, int count);    // other engines are on other hosts
     void start(bool is_first_alone);    // then the others start a moment later
     void start_others();
@@ -58,7 +58,7 @@ public:
     void look();                        // to be called often while they solve
     void go_on();                       // resumes paused ones
     bool end_streams(bool is_late);     // after a whole line; true once all filters have ended
-    // an engine that ends with the next round; returns why
+    // chooses an engine that ends with the next round; returns why
     std::string choose_leaving(const std::string &cause);
     void keep_last();                   // keeps that engine, if no other is left
     void end_leaving();                 // ends that engine: its round has ended

@@ -38,7 +38,7 @@ static int file_open(const char *path, size_t *length) {
     int file = open(path, O_RDONLY | O_NONBLOCK | O_CLOEXEC);
     if (file < 0 || fstat(file, &found) != 0) stop("%s: %s", path, strerror(errno));
     if (!S_ISREG(found.st_mode) && !is_null(&found))
-        stop("%s: not a regular file, but it is read more than once", path);
+        stop("%s: has to be a regular file, since it is read more than once", path);
     *length = (size_t)found.st_size;
     return file;
 }
@@ -71,7 +71,7 @@ static int file_without_name(void) {
     return file;
 }
 
-// Unpacks the file into a temporary one. The program itself says why it can't unpack it.
+// Unpacks the file into a temporary one. The program itself says why it can't unpack the file.
 static int unpacked(int packed, const char *program, const char *path) {
     int file = file_without_name(), status;
     fflush(NULL);
@@ -97,7 +97,7 @@ static void file_was_cut(int number) {
     stop("a file was truncated while it was read");
 }
 
-// Mapped over zeros, which follow the file's bytes; so an empty file has memory, too.
+// Maps the file over zeros, which then follow its bytes; so an empty file has memory, too.
 unsigned char *file_map(const char *path, size_t *length) {
     int file = file_open(path, length);
     const char *program = packer_of(path);
@@ -149,7 +149,7 @@ static bool is_positive(const int64_t *numbers, size_t count) {
     return signs >= 0;
 }
 
-// The place of the letter of a deletion or an import, after a number; or NULL.
+// Finds the letter of a deletion or an import, which follows a number; or returns NULL.
 static unsigned char *mark_of(unsigned char *at, uint64_t *lead) {
     unsigned char *start = at;
     uint64_t value = 0;
@@ -243,7 +243,7 @@ const char *record_file(const char *folder, size_t round, const char *kind, uint
     return path;
 }
 
-// The digest is as sha256sum writes it, which puts \ before the line if the file's name is unusual.
+// The kept digest is as sha256sum writes it, with \ before the line if the file's name is unusual.
 void record_check(const char *folder, const char *formula) {
     char path[LONGEST_PATH], found[SHA256_DIGEST_STRING_LENGTH], kept[sizeof found + 1] = "";
     size_t length = (size_t)snprintf(path, sizeof path, "%s/formula.sha256", folder);
@@ -254,13 +254,13 @@ void record_check(const char *folder, const char *formula) {
     file_check(formula);
     if (!SHA256_File(formula, found)) stop("%s: %s", formula, strerror(errno));
     if (strncmp(kept + (kept[0] == '\\'), found, sizeof found - 1) != 0)
-        stop("%s isn't the formula of %s, or was changed since: its digest isn't that of %s",
+        stop("%s isn't the formula of %s, or was changed since: its digest isn't the one in %s",
              formula, folder, path);
 }
 
-// In round 1 counts the streams' files; later rounds have as many as the sizes say, or as the round
-// before. In round 1 the sizes are read only if `row` isn't NULL. Without a file of sizes the row
-// stays as it is.
+// Counts the streams' files in round 1; a later round has as many streams as its sizes say, or as
+// the round before. In round 1 the sizes are read only if `row` isn't NULL. Without a file of sizes
+// the row stays as it is.
 uint32_t record_streams(const char *folder, size_t round, uint32_t before, Row *row) {
     if (!is_there(record_file(folder, round, "stream-", 1))) return 0;
     uint32_t count = round == 1 ? 1 : before;

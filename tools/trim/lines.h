@@ -25,16 +25,16 @@ const int64_t *numbers_read(const char *path, size_t *count);
 Line line_copy(Line line);              // with LF and zeros; overwrites the last copy
 // NULL, or a fault; overwrites the last reading
 const char *line_read(Line line, Reading *reading);
-const int64_t *line_hints(Line line, size_t *count);  // of the rest after the literals; or NULL
+const int64_t *line_hints(Line line, size_t *count);  // of what follows a line's literals; or NULL
 void lines_free(void);                  // frees the buffers, which are as large as the longest line
 
-// Refuses other words than FORMULA DIR|STREAM... Returns the folder, or NULL.
+// Refuses words other than FORMULA DIR|STREAM... Returns the folder, or NULL.
 const char *folder_of(const Texts *files);
 
 // A record of rounds.
-// stops if its digest isn't the formula's
+// stops if the record has another formula's digest
 void record_check(const char *folder, const char *formula);
-// the path, valid until the next call; a stream may be compressed
+// the file's path, valid until the next call; a stream may be compressed
 const char *record_file(const char *folder, size_t round, const char *kind, uint32_t number);
 // 0: no such round
 uint32_t record_streams(const char *folder, size_t round, uint32_t before, Row *row);

@@ -1,6 +1,6 @@
 // Unverified and untrusted: lrupd, or any LRAT checker, checks the output. lrup-trim keeps what the
-// empty clause needs of the streams of a run, or of a record of rounds, by docs/lrup-trim.1, which
-// also is its --help.
+// empty clause needs of the streams of a run, or of a record of rounds. docs/lrup-trim.1 describes
+// it, and is also the source of its --help.
 #define _POSIX_C_SOURCE 200809L
 #include <ctype.h>
 #include <signal.h>
@@ -52,7 +52,7 @@ static const Option options[] = {
     HELP_AND_VERSION
 };
 
-// The temporary file is beside an output, since it is as large.
+// Puts the temporary file beside an output, since it is as large as the output.
 static void name_rehinted(void) {
     const char *output = given.lrat.path ? given.lrat.path : given.core.path;
     char *path = zeroed(strlen(output) + sizeof ".re-hint", 1);
@@ -60,7 +60,7 @@ static void name_rehinted(void) {
     given.rehinted.path = strcat(path, ".re-hint");
 }
 
-// Before the long work begins.
+// Checks the outputs before the long work begins.
 static void check_outputs(void) {
     struct stat found;
     if (given.stream.path && !given.core.path) refuse("--stream without", "--core");
@@ -89,7 +89,7 @@ static void assume(Proof *proof, const char *path) {
         stop("%s: not a line of literals of FORMULA's variables and 0, with single spaces", path);
 }
 
-// Prints a text, and a word quoted for a shell, as lrup-solve quotes it, too.
+// Prints a text, and a word that is quoted for a shell, as lrup-solve does, too.
 static void print(const char *text, const char *word) {
     bool is_plain = *word != 0;
     for (const char *at = word; *at; at++)
@@ -99,8 +99,8 @@ static void print(const char *text, const char *word) {
     if (!is_plain) putchar('\'');
 }
 
-// Prints an output's size, and the command that checks it: in one run, or in rounds if a row is too
-// small.
+// Prints an output's size, and the command that checks the output: in one run, or in rounds if a
+// row is too small.
 static void tell(const Proof *proof, const Output *output, const char *formula) {
     if (!output->path) return;
     uint64_t row = 1 + output->below + proof->literals + proof->kept + proof->room;

@@ -1,5 +1,5 @@
 // Unverified, like the whole tool. Marks what is needed, from the last line backwards: so the first
-// line met that cites a clause is the last line that cites it.
+// line visited that cites a clause is the last line that cites it.
 #include "trim.h"
 
 // The numbers of clauses follow the order of streams.

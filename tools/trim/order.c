@@ -100,8 +100,8 @@ static Outcome step(Proof *proof, const Round *round, Stream *stream, unsigned c
     return TAKEN;
 }
 
-// Reads a stream until it cites a line of another stream that wasn't read; then reads that stream
-// up to the cited line. If that leads back to a waiting stream, no order is right.
+// Reads a stream until it cites a line of another stream that hasn't been read; then reads the
+// other stream up to the cited line. If this leads back to a waiting stream, no order is right.
 static void merge(Proof *proof, const Round *round, unsigned char *dropped) {
     struct { uint32_t stream; uint64_t slots; } stack[STREAMS];
     bool waits[STREAMS] = { false };
@@ -143,8 +143,8 @@ void round_add(Proof *proof, const char *const *paths, uint32_t count) {
     PUSH(&proof->rounds, round);
 }
 
-// The formula of the next round, as lrupd makes it: the round's formula without clauses that all
-// streams deleted, and the derived clauses that their owners didn't delete, in order.
+// Makes the formula of the next round, as lrupd does: the round's formula without the clauses that
+// all streams deleted, and the derived clauses that their owners didn't delete, in order.
 static void carry(const Proof *proof, const Round *round, const unsigned char *dropped,
                   Round *next) {
     const Stream *streams = &proof->streams.items[round->first];
@@ -172,7 +172,7 @@ static void round_end(Proof *proof, const Round *round) {
     }
 }
 
-// Whether a round comes after the last one.
+// Whether another round follows, which is then added.
 static bool goes_on(Proof *proof, const unsigned char *dropped) {
     uint32_t index = (uint32_t)proof->rounds.length - 1, before = proof->rounds.items[index].count;
     uint32_t count = proof->target || !proof->folder

@@ -47,8 +47,8 @@ void output_close(void) {
     if (close(output->file) != 0) stop("%s: %s", output->path, strerror(errno));
 }
 
-// The core has FORMULA's order and variables. A comment before a clause has its number in FORMULA,
-// as in lrupd's checkpoints.
+// The core has FORMULA's order and variables. A comment before a clause gives the clause's number
+// in FORMULA, as in lrupd's checkpoints.
 
 void formula_free(Formula *formula) {
     formula->starts.items = grow(formula->starts.items, 0);
@@ -103,7 +103,7 @@ void core_write(Proof *proof, Output *core, const char *path) {
     core_check(proof, core->path, path);
 }
 
-// Lines. Some are read, and then written to each output.
+// Lines. They are read piece by piece, and each piece is written to each output.
 
 enum { PIECE = 1 << 16 };       // literals and hints
 
@@ -182,7 +182,7 @@ static size_t literals_take(const Reading *reading) {
     return kept;
 }
 
-// What the line cites came before it, and is needed.
+// The lines that a needed line cites come before it, and are needed.
 static void line_take(Proof *proof, const Stream *stream, Number number) {
     const Round *round = &proof->rounds.items[stream->round];
     Reading reading = line_again(stream, number);
@@ -197,7 +197,7 @@ static void line_take(Proof *proof, const Stream *stream, Number number) {
     PUSH(&lines, line);
 }
 
-// Over FORMULA, a first line deletes all but the core.
+// In an output over FORMULA, the first line deletes all clauses but the core.
 static void lines_begin(Proof *proof, Output *place, bool whole) {
     if (!place->path) return;
     output_open(place);

@@ -21,7 +21,7 @@ Line line_at(const Stream *stream, unsigned char *start) {
     return (Line){ start, end, true };
 }
 
-// The place of a line's hints takes 4 bytes.
+// Where a line's hints begin is kept in 4 bytes.
 
 void hints_keep(Stream *stream, uint64_t slot, unsigned char *place) {
     unsigned char **first = &stream->places[slot / SLOTS];
@@ -70,7 +70,7 @@ static uint64_t slots_of(const Stream *stream, const Round *round, uint64_t numb
     return 0;
 }
 
-// Opens the stream of that number, from 0, in its round.
+// Opens the stream with this number, from 0, in its round.
 void stream_open(Proof *proof, Stream *stream, const Round *round, uint64_t number) {
     size_t length;
     stream->at = stream->start = file_map(stream->path, &length);
@@ -83,7 +83,7 @@ void stream_open(Proof *proof, Stream *stream, const Round *round, uint64_t numb
     stream->cut = stream->end < stream->start + length;
     stream->slots = slots_of(stream, round, number);
     if (proof->numbers + stream->slots > UINT32_MAX)
-        stop("%s: more than %u clauses of all streams", stream->path, UINT32_MAX);
+        stop("%s: more than %u clauses in all streams together", stream->path, UINT32_MAX);
     stream->first = (Number)proof->numbers;
     proof->numbers += stream->slots;
     // pages in a gap are never touched

@@ -1,10 +1,11 @@
 // Unverified and untrusted: lrupd, or any LRAT checker, checks the output. lrup-trim keeps what the
-// empty clause needs of the streams of a run, or of all its rounds. Common to its files.
+// empty clause needs of the streams of a run, or of all its rounds. This header is common to its
+// files.
 //
 // A first pass puts all lines in an order in which each comes after those that it cites (order.c).
-// A second one, backwards, finds the lines that are needed, and which of them cites a clause last
-// (mark.c). A third one writes these lines (output.c). Streams are mapped, and only the place of a
-// line is kept, so each pass reads its hints again. Another process may write to a stream
+// A second pass, backwards, finds the lines that are needed, and which of them cites a clause last
+// (mark.c). A third pass writes these lines (output.c). Streams are mapped, and only the place of a
+// line is kept, so each pass reads the line's hints again. Another process may write to a stream
 // meanwhile, so the line is copied and checked each time.
 #ifndef TRIM_H
 #define TRIM_H
@@ -12,8 +13,8 @@
 #include "../exact/formula.h"
 #include "lines.h"
 
-// A clause's number over all rounds: FORMULA's are 1, 2 and so on; each stream's follow those of
-// the streams before it.
+// A clause's number over all rounds: FORMULA's clauses have 1, 2 and so on; each stream's clauses
+// follow those of the streams before it.
 typedef uint32_t Number;
 
 // streams.c: where the lines are.
@@ -24,11 +25,11 @@ typedef struct {
     uint32_t round;
     Number first;                       // the number of its first identity
     uint64_t slots, seen;  // how many identities it has; how many up to the last one taken
-    // by slot: where its line's hints begin, as a distance from `places`; 0: no line
+    // by slot: where the line's hints begin, as a distance from `places`; 0: no line
     uint32_t *hints;
     unsigned char **places;
     unsigned char *deleted;             // by slot; NULL: not needed
-    bool cut, stopped;                  // the last line isn't whole; a line can't be right
+    bool cut, stopped;                  // the last line isn't whole; a line is bad
 } Stream;
 
 typedef struct {
@@ -50,7 +51,7 @@ typedef struct {
     unsigned char *assumed;             // by literal; NULL: nothing is assumed
     uint64_t numbers;                   // the next free number
     Number target;                      // the clause that ends the proof, or 0
-    // by number: the last line that cites it, 0: not needed; its place among the needed lines,
+    // by number: the last line that cites it, 0: not needed; its index among the needed lines,
     // from 1
     Number *last_use, *place;
     uint64_t lines, bytes;              // read
@@ -60,7 +61,7 @@ typedef struct {
 Line line_at(const Stream *stream, unsigned char *start);
 Reading line_again(const Stream *stream, Number number);        // like line_read, for an addition
 const int64_t *hints_again(const Stream *stream, Number number, size_t *count);
-_Noreturn void stream_changed(const Stream *stream);            // stops: it has been written to
+_Noreturn void stream_changed(const Stream *stream);            // stops: the file was written to
 void hints_keep(Stream *stream, uint64_t slot, unsigned char *place);
 void stream_open(Proof *proof, Stream *stream, const Round *round, uint64_t number);
 

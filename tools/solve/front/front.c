@@ -4,22 +4,22 @@
 //     front --+-- lrupd checks the proof; the probe, another lrupd, only reads the formula
 //             +-- supervisor -- lrup-engines -- engines, filters, solvers, and what they leave
 //
-// Why no other process can bring about a wrong answer: the front opens the formula before it starts
+// No other process can bring about a wrong answer. The front opens the formula before it starts
 // anything, and gives lrupd that open file. It starts lrupd and the probe itself, and collects the
 // exit status of each through a pidfd, opened while only the front can wait for that child. Process
-// ids are never compared, and orphans are the supervisor's. Only an exit with lrupd's status sets
+// ids are never compared, and orphans go to the supervisor. Only lrupd's own exit status sets
 // `verdict`, in one place. If a signal ends lrupd, another one may begin, at the formula's first
 // byte. No other process gets the front's standard output. From lrup-engines it prints comments, in
 // ASCII, and an assignment if that satisfies each clause. The lines on which this rests are marked
 // `trusted`. Others can at worst prevent an answer. It is assumed that they can't trace the front
 // or lrupd, replace lrupd, or write to the formula's file or the user's output (docs/SECURITY.md).
 //
-// lrup-engines is sent a line for each child that ended, and for a signal. It sends blocks of BLOCK
-// bytes, each a line that is filled up with zeros, and it answers --help and --version.
+// lrup-engines gets a line for each child that has ended, and one for a signal. It sends blocks of
+// BLOCK bytes, each a line that is padded with zeros, and it answers --help and --version.
 //
 //     check STREAMS LINES ROOM TRIES PID FILE    start lrupd, if there is none; the streams are in
 //                                                the folder that process PID has open as FILE
-//     v SIGNS      + or - for each variable that comes next
+//     v SIGNS      + or - for each of the next variables
 //     model        the assignment is whole
 //     c WORDS      a comment
 //     refused      standard error says what can't be used: the status is 1
@@ -53,7 +53,7 @@ enum { GRACE = 8000, ENDING_TIME = 14000, READING_TIME = 600000 };  // milliseco
 enum state { SOLVING, ENDING, READING, OVER };
 enum which { SUPERVISOR, PROBE, LRUPD, CHILDREN };
 
-static struct {         // what was given, "" for an option without a value; NULL if it wasn't
+static struct {         // what was given: "" for an option without a value, NULL if it wasn't given
     const char *formula, *assume, *engines, *lrupd, *seconds, *mpi, *quiet, *verbose, *help;
     const char *check, *core_or_lrat, *expect, *others;     // others: lrup-engines reads them
 } options;
@@ -61,8 +61,8 @@ static struct {         // what was given, "" for an option without a value; NUL
 static struct child {
     const char *name;
     int handle;         // -1: it isn't running
-    int output;         // in memory, so that no full disk costs an answer
-    off_t begins;       // there; before it are lines of one that a signal has ended
+    int output;         // in memory, so that a full disk doesn't cost an answer
+    off_t begins;       // in `output`, after the lines of one that a signal has ended
     pid_t pid;          // 0: it wasn't started, or not since a signal ended it
     siginfo_t end;
 } children[CHILDREN] = { { .name = "supervisor", .handle = -1 }, { .name = "probe", .handle = -1 },
@@ -72,7 +72,7 @@ static long until, latest;                      // deadlines, by now(): of the s
 static const char *self, *lrupd, *formula, *assume;     // paths
 static const char *verdict;                     // a line; NULL: there is none
 static signed char *assignment;                 // from 1 on: 1 true, -1 false
-static long known;                              // how many variables it has
+static long known;                              // how many variables the assignment has
 static bool is_whole, has_refused;              // the assignment; lrup-engines
 static int ended_by, null, signals, told[2], heard[2];  // a signal; files; pipes of lrup-engines
 static sigset_t mask_before;
@@ -138,7 +138,7 @@ static const char *on_the_path(const char *name) {
     return NULL;
 }
 
-// The lrupd that the user has named, or the one that is installed with this program.
+// The program that the user has named, or else the one that is installed with lrup-solve.
 static const char *find_program(const char *named, const char *name) {
     const char *found = named ? named : beside_this(name);
     if (found == NULL) found = beside_this(text("../libexec/lrupd/%s", name));
@@ -148,7 +148,7 @@ static const char *find_program(const char *named, const char *name) {
     errx(1, "no %s that can be run: %s", name, named ? named : "none beside lrup-solve or on PATH");
 }
 
-// The open file's name for all processes, even once its path is another file's.
+// A name of the open file for all processes, even once its path leads to another file.
 static const char *name_of(int file) { return text("%s/fd/%d", self, file); }
 
 // A sealed copy of what can't be read twice. lrupd takes at most 2^28 literals and clauses, with
@@ -160,7 +160,7 @@ static int copied(int file, const char *path) {
     ssize_t count;
     while ((count = read(file, bytes, sizeof bytes)) > 0 && (left -= count) >= 0)
         if (write(copy, bytes, (size_t)count) != count) err(1, "cannot copy %s", path);
-    if (left < 0) errx(1, "%s: more than 2684354560 bytes, which lrupd doesn't take", path);
+    if (left < 0) errx(1, "%s: more than lrupd's limit of 2684354560 bytes", path);
     if (count < 0) err(1, "cannot read %s", path);
     if (fcntl(copy, F_ADD_SEALS, SEALS) != 0) err(1, "cannot seal %s", path);   // trusted (copy)
     return copy;
@@ -188,8 +188,8 @@ static bool is_true(long literal) {
     return assignment[labs(literal)] == (literal > 0 ? 1 : -1);
 }
 
-// Whether each clause has a literal that is true; assumptions have no header, and each literal is a
-// clause. lrupd has accepted the file: besides the header it has numbers, and comments (c ..).
+// Whether each clause has a true literal. Assumptions have no header, and each of them is a clause.
+// lrupd has accepted the file: besides the header it has only numbers, and comments (c ..).
 static bool satisfies(const char *path, bool is_formula) {
     FILE *file = fopen(path, "re");
     char *line = NULL, *rest;
@@ -234,12 +234,12 @@ static void stop_solving_within(long milliseconds) {
 
 static bool is_running(enum which which) { return children[which].handle >= 0; }
 
-// Only for a child that hasn't been waited for: no other process can have its id yet.
+// Signals only a child that hasn't been waited for: no other process can have its id yet.
 static void signal_group(enum which which, int number) {
     if (is_running(which)) kill(-children[which].pid, number);
 }
 
-// Starts a child, in a process group of its own. It gets a signal if the front ends before it.
+// Starts a child, in a process group of its own. It gets a signal if the front ends first.
 static void start(enum which which, const char *const *words, int in, int out, int error) {
     assert(children[which].pid == 0);
     pid_t parent = getpid(), pid = fork();
@@ -281,7 +281,7 @@ static void start_lrupd(enum which which, const struct request *request) {
     start(which, words, null, children[which].output, children[which].output);
 }
 
-// Only numbers within their ranges reach lrupd's command line. Another request ends the run.
+// Only numbers within their ranges reach lrupd's command line. Any other request ends the run.
 static void handle_request(const char *line) {
     struct request request;
     char more;
@@ -293,7 +293,7 @@ static void handle_request(const char *line) {
     else stop_solving_within(0);
 }
 
-// A line of lrup-engines; false if there is none. A comment that would have to wait is left out.
+// Reads a line of lrup-engines; false if there is none. A comment that would block is left out.
 static bool read_line(void) {
     char line[BLOCK + 1] = "";
     struct pollfd output = { STDOUT_FILENO, POLLOUT, 0 };
@@ -351,7 +351,7 @@ static void handle_signal(void) {
     struct signalfd_siginfo found;
     if (read(signals, &found, sizeof found) != sizeof found) return;
     if (found.ssi_signo == SIGTSTP) {
-        signal_group(SUPERVISOR, SIGSTOP);      // lrupd waits for their streams
+        signal_group(SUPERVISOR, SIGSTOP);      // lrupd then waits for streams
         raise(SIGSTOP);
         signal_group(SUPERVISOR, SIGCONT);
     }
@@ -400,7 +400,7 @@ static enum state next(void) {
     }
 }
 
-static int as_expected(const char *line) {      // by --expect: 0 for the line that it names, alone
+static int as_expected(const char *line) {      // returns 0 only for the line that --expect names
     const char *both = text("%s: %s", options.expect, line);
     if (strcmp(both, "sat: s SATISFIABLE") == 0) return 0;
     if (strcmp(both, "unsat: s UNSATISFIABLE") == 0) return 0;
@@ -414,7 +414,7 @@ static int answer(void) {
     if (!is_read) is_satisfied = false;                    // trusted (refused): lrupd accepted none
     if (is_satisfied && !satisfies(formula, true)) is_satisfied = false;        // trusted (model)
     if (assume && is_satisfied) is_satisfied = satisfies(assume, false);        // trusted (assumed)
-    if (is_refused && !has_refused && !verdict && !ended_by) errx(1, "lrupd accepted no formula");
+    if (is_refused && !has_refused && !verdict && !ended_by) errx(1, "lrupd didn't accept FORMULA");
     sigprocmask(SIG_SETMASK, &mask_before, NULL);           // a signal ends a wait for a reader
     const char *line = is_satisfied ? "s SATISFIABLE" : verdict ? verdict : "s UNKNOWN";
     if (is_satisfied) print_assignment();
@@ -439,7 +439,7 @@ static void hold_signals(void) {
     signals = signalfd(-1, &held, SFD_CLOEXEC | SFD_NONBLOCK);
     signal(SIGXFSZ, SIG_IGN);
     signal(SIGPIPE, SIG_IGN);
-    signal(SIGCHLD, SIG_DFL);       // else the system would wait for children
+    signal(SIGCHLD, SIG_DFL);       // if ignored, the system would reap children
 }
 
 int main(int count, char **words) {
@@ -462,7 +462,7 @@ int main(int count, char **words) {
     double seconds = options.seconds ? strtod(options.seconds, NULL) : 0;
     bool is_limited = seconds > 0 && seconds < 1e9;
     latest = is_limited ? now() + (long)(1000 * seconds) : 1L << 60;
-    until = latest + GRACE;     // lrup-engines ends by itself before
+    until = latest + GRACE;     // lrup-engines ends by itself before then
     start(SUPERVISOR, (const char *const *)words, STDIN_FILENO, null, STDERR_FILENO);
     start_lrupd(PROBE, &(struct request){ .streams = 0 });
     while ((state = next()) != OVER) await_event();

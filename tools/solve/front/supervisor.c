@@ -40,7 +40,7 @@ static long now(void) {
     return time.tv_sec * 1000 + time.tv_nsec / 1000000;
 }
 
-// By the clock: the front waits for the supervisor, but not for ever.
+// The time is measured by the clock, since the front doesn't wait for the supervisor for ever.
 static bool all_end_within(long milliseconds) {
     for (long until = now() + milliseconds; now() < until; usleep(1000))
         if (!take_ends()) return true;
@@ -48,7 +48,7 @@ static bool all_end_within(long milliseconds) {
 }
 
 // Each child gets SIGTERM once a step; lrup-engines removes its files when it gets the first one.
-// SIGKILL comes more often: what a child started becomes a child here only when that child ends.
+// SIGKILL is sent more often: a child's children become children here only when that child ends.
 static void end_children(void) {
     static const long steps[] = { 20, 300, 2000, 6000 };    // milliseconds
     for (size_t k = 0; k < sizeof steps / sizeof *steps; k++) {
@@ -61,9 +61,9 @@ static void end_children(void) {
     }
 }
 
-// Says how lrup-engines ended, unless it exited with 0 or still runs. With 127 it never began.
+// Reports how lrup-engines ended, unless it exited with 0 or still runs. 127: it never began.
 static void report(int says, bool is_mpi) {
-    const char *started = is_mpi ? "MPI's command" : "lrup-engines";    // which has become that
+    const char *started = is_mpi ? "MPI's command" : "lrup-engines";  // lrup-engines has become it
     char line[BLOCK] = "";
     if (WIFEXITED(end) && WEXITSTATUS(end) == 127) {
         warnx("%s ended with status 127, so nothing could run", started);
@@ -75,13 +75,13 @@ static void report(int says, bool is_mpi) {
     if (line[0] != 0 && write(says, line, BLOCK) < 0) return;     // the pipe is full
 }
 
-// Returns when lrup-engines has ended, or SIGTERM comes: from the front, or because it has ended.
+// Returns when lrup-engines has ended, or SIGTERM comes: the front sends it, or has ended.
 static void wait_for_end(const sigset_t *all) {
     while (take_ends() && end == -1)
         if (sigwaitinfo(all, NULL) == SIGTERM) return;
 }
 
-// It stays in the process group of lrup-engines, so that one signal stops both.
+// The supervisor stays in lrup-engines' process group, so that one signal stops both.
 _Noreturn void supervise(const char *const *words, const sigset_t *mask, int says, bool is_mpi) {
     pid_t self = getpid();
     sigset_t all;
