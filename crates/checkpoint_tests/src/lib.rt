@@ -1,4 +1,4 @@
-//! Tests of `checkpoint`, which use only its public calls.
+//! Tests of `checkpoint`, through its public calls only.
 #![tactic(auto)]
 
 #[cfg(test)]

@@ -16,7 +16,7 @@ use test_support::Paper;
 mod limits;
 mod worked;
 
-/// Stops the test if two values differ. In a function the assertion is proved only once.
+/// Stops the test if two values differ. Since it is a function, the assertion is proved only once.
 fn same<T: PartialEq + fmt::Debug + Drop>(rt: &impl Abort, value: T, wanted: T) {
     assert_eq!(rt; value, wanted);
 }

@@ -31,7 +31,7 @@ trait Host: Threads + Wait + Sync + Clock + Abort + AllocGlobal {}
 
 impl<T: Threads + Wait + Sync + Clock + Abort + AllocGlobal> Host for T {}
 
-/// Stops the test if two values differ. As a function the assertion is proved only once.
+/// Stops the test if two values differ. Since it is a function, the assertion is proved only once.
 fn same<T: PartialEq + fmt::Debug + Drop>(rt: &impl Abort, value: T, wanted: T) {
     assert_eq!(rt; value, wanted);
 }

@@ -1,4 +1,4 @@
-//! Tests of `dimacs`, which use only its public calls.
+//! Tests of `dimacs`, through its public calls only.
 #![tactic(auto)]
 
 #[cfg(test)]

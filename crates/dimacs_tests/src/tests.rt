@@ -180,7 +180,7 @@ fn memory_text(rt: HostRuntime) -> Result<(), Fail> {
     Ok(())
 }
 
-/// The gate refuses each allocation of this test in turn; the second attempt then succeeds.
+/// `make sweep` refuses each allocation of this test in turn; the second attempt then succeeds.
 #[test]
 fn a_refused_text_can_be_parsed_again(rt: HostRuntime) -> Result<(), Fail> {
     let text = b"p cnf 9 3\n1 -2 0\n1 2 3 4 5 6 7 8 9 -1 -2 -3 0\n9 0\n";

@@ -1,4 +1,4 @@
-//! Tests of `lrup_model`, by its public calls alone.
+//! Tests of `lrup_model`, through its public calls only.
 #![tactic(auto)]
 
 #[cfg(test)]

@@ -23,7 +23,7 @@ use std::process::Abort;
 use std::test::Fail;
 use test_support::{four_clauses, lit};
 
-/// Stops the test if two values differ. As a function the assertion is proved only once.
+/// Stops the test if two values differ. Since it is a function, the assertion is proved only once.
 fn same<T: PartialEq + fmt::Debug + Drop>(rt: &impl Abort, value: T, wanted: T) {
     assert_eq!(rt; value, wanted);
 }
@@ -45,7 +45,7 @@ static LITERALS: [(i64, u32, u32); 6] = [
     (-16_777_215, 16_777_215, 33_554_431),
 ];
 
-/// Numbers that are no literals.
+/// Numbers that aren't literals.
 static NO_LITERALS: [i64; 5] = [0, 16_777_216, -16_777_216, i64::MAX, i64::MIN];
 
 #[test]
@@ -75,7 +75,7 @@ const STREAMS: Option<LayoutFault> = Some(LayoutFault::BadStreamCount);
 
 const TOO_LONG: Option<LayoutFault> = Some(LayoutFault::RowTooLong);
 
-/// Six numbers for a layout, and why they give none.
+/// Six numbers, and why they give no layout.
 static LAYOUTS: [([u64; 6], Option<LayoutFault>); 21] = [
     ([16_777_215, 4, 8, 1, 0, 0], None),
     ([16_777_216, 4, 8, 1, 0, 0], VARIABLES),
@@ -180,7 +180,7 @@ fn a_formula_keeps_its_clauses(rt: HostRuntime) -> Result<(), Fail> {
     Ok(())
 }
 
-/// The gate refuses each allocation of this test in turn; the second attempt then succeeds.
+/// `make sweep` refuses each allocation of this test in turn; the second attempt then succeeds.
 #[test]
 fn a_refused_push_changes_nothing(rt: HostRuntime) -> Result<(), Fail> {
     let mut formula = Formula::new(rt.alloc(), 2);
@@ -193,7 +193,7 @@ fn a_refused_push_changes_nothing(rt: HostRuntime) -> Result<(), Fail> {
     Ok(())
 }
 
-/// As in the test above.
+/// `make sweep` refuses each allocation of this test, too.
 #[test]
 fn a_refused_open_can_be_made_again(rt: HostRuntime) -> Result<(), Fail> {
     let formula = Formula::new(rt.alloc(), 2);
@@ -217,7 +217,8 @@ fn literals(alloc: Global, values: &[i64]) -> Result<Vec<Lit>, Fail> {
     Ok(found)
 }
 
-/// The cube's largest variable, whether it makes the clause false, and whether it has the literal.
+/// The cube's largest variable, whether the cube makes the clause false, and whether it has the
+/// literal.
 fn ask_cube(
     alloc: Global,
     cube: &[i64],
@@ -266,7 +267,7 @@ fn cubes_refute_clauses(rt: HostRuntime) -> Result<(), Fail> {
     Ok(())
 }
 
-/// As with a refused push: the gate refuses each allocation in turn.
+/// `make sweep` refuses each allocation of this test, too.
 #[test]
 fn a_refused_cube_can_be_made_again(rt: HostRuntime) -> Result<(), Fail> {
     let cube = match Cube::of(rt.alloc(), &[lit(-2), lit(1)]) {
@@ -284,7 +285,8 @@ fn clips_have_their_parts(rt: HostRuntime) {
     holds(&rt, !clip.is_empty());
 }
 
-/// Publishes `2`, which follows from the first two clauses, under an identity of the caller's own.
+/// Publishes `2`, which follows from the first two clauses, under one of the caller's own
+/// identities.
 fn publish_two<M: ClauseMap>(desk: &mut M, id: Id) -> Option<Published>
     requires { (M.caller_view desk.old).caller.formula ≡ four }
     ensures { (es : History) × M.moves desk.old desk.new es }
@@ -354,7 +356,7 @@ fn first_desk(rt: &impl Abort, map: &mut PlainMap)
     same(rt, publish_two(&mut desk, 6), None);
 }
 
-/// Stream 2 publishes 6, which takes none of stream 1's room, and reads clauses.
+/// Stream 2 publishes 6, which uses none of stream 1's room, and reads clauses.
 fn second_desk(rt: &impl Abort, map: &mut PlainMap)
     requires formula { formula_of map.old ≡ four }
     requires stream { IsStream map.old.layout 2 }
@@ -493,7 +495,7 @@ fn four_is_a_formula()
     ensures { IsCnf four }
 {}
 
-/// From the laws alone: clauses of a legal history follow from the formula, and so do clauses
+/// Only from the laws: clauses of a legal history follow from the formula, and so do clauses
 /// derived from them by hints; under the complement of such a clause no assignment is left. An
 /// identity under which its stream never published is vacant.
 fn what_laws_say()

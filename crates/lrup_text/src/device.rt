@@ -36,8 +36,8 @@ pub trait Source {
     /// Whether a read has failed.
     ghost has_failed: { Self → Bool };
 
-    /// The effect of a read: it relates the source before, the buffer's length, the bytes given, or
-    /// none after a fault, and the source after.
+    /// The effect of a read: it relates the source before, the buffer's length, the bytes given
+    /// (none after a fault), and the source after.
     ghost reads: { Self → ℕ → Option (List ℕ) → Self → Type 0 };
 
     /// Reads bytes into the front of a buffer, and returns how many. If the buffer isn't empty, 0

@@ -1,4 +1,4 @@
-//! Tests of `lrup_text`, which use only its public calls.
+//! Tests of `lrup_text`, through its public calls only.
 #![tactic(auto)]
 
 #[cfg(test)]

@@ -12,7 +12,7 @@ mod devices;
 mod reading;
 mod writing;
 
-/// Stops the test if two values differ. In a function the assertion is proved only once.
+/// Stops the test if two values differ. Since it is a function, the assertion is proved only once.
 fn same<T: PartialEq + fmt::Debug + Drop>(rt: &impl Abort, value: T, wanted: T) {
     assert_eq!(rt; value, wanted);
 }

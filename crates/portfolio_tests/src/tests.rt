@@ -38,7 +38,7 @@ trait Machine: Threads + Wait + Clock + Abort + AllocGlobal + Sync {}
 
 impl<T: Threads + Wait + Clock + Abort + AllocGlobal + Sync> Machine for T {}
 
-/// Stops the test if two values differ. As a function the assertion is proved only once.
+/// Stops the test if two values differ. Since it is a function, the assertion is proved only once.
 fn same<T: PartialEq + fmt::Debug + Drop>(rt: &impl Abort, value: T, wanted: T) {
     assert_eq!(rt; value, wanted);
 }

@@ -300,8 +300,8 @@ fn call_often<M: ClauseMap>(marks: &mut Marks, map: &mut M, lits: &[Lit]) -> Opt
     Some(())
 }
 
-/// No call of `Marks` allocates: the ninth allocation comes after the last call. The gate refuses
-/// that one, and expects this test to fail.
+/// No call of `Marks` allocates: the ninth allocation comes after the last call. `make sweep`
+/// refuses that one, and expects this test to fail.
 #[test]
 fn the_ninth_allocation_comes_after_all_calls(rt: HostRuntime) -> Result<(), Fail> {
     let mut map = map_of_pairs(&rt, &[(1, 2), (-2, 3)])?;

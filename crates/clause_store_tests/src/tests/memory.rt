@@ -65,8 +65,8 @@ fn open_and_call<R: Abort>(rt: &R, alloc: Global) -> Result<(), Fail> {
     call_often(rt, &store, passes.as_mut_slice())
 }
 
-/// No call of a pass allocates: the last allocation is the test's own, after all calls. The gate
-/// refuses that one, and expects this test to fail.
+/// No call of a pass allocates: the last allocation is the test's own, after all calls. `make
+/// sweep` refuses that one, and expects this test to fail.
 #[test]
 fn the_last_allocation_comes_after_all_calls(rt: HostRuntime) -> Result<(), Fail> {
     open_and_call(&rt, rt.alloc())?;
@@ -117,7 +117,7 @@ fn is_new<R: Abort>(rt: &R, store: &Store, passes: &mut [Pass]) -> Result<(), Fa
     Ok(())
 }
 
-/// The gate refuses each allocation of this test in turn; the second opening then succeeds.
+/// `make sweep` refuses each allocation of this test in turn; the second opening then succeeds.
 #[test]
 fn a_refused_store_can_be_opened_again(rt: HostRuntime) -> Result<(), Fail> {
     let (store, mut passes) = open_empty(rt.alloc())?;
@@ -131,8 +131,8 @@ fn open_large<R: Abort>(rt: &R, alloc: Global) -> Result<(), Fail> {
     Ok(())
 }
 
-/// Opens four such stores, one after the other. The gate gives this test memory for one and a half,
-/// so memory that isn't freed would be missing at the next.
+/// Opens four such stores, one after the other. `make sweep` gives this test memory for one and a
+/// half, so memory that isn't freed would be missing at the next.
 #[test]
 fn a_large_store_is_given_back(rt: HostRuntime) -> Result<(), Fail> {
     for _ in 0..4 {

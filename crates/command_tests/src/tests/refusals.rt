@@ -52,7 +52,7 @@ fn may_end(ran: &Ran, in_rounds: bool, status: u8) -> bool {
     is_right && are_whole(kept) && is_discarded == done.contains(" -")
 }
 
-/// The gate runs this with each allocation and each thread refused in turn.
+/// `make sweep` refuses each allocation and each thread of this test in turn.
 #[test]
 fn memory_that_runs_out(rt: HostRuntime) {
     for way in &WAYS {

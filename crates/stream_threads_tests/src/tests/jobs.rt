@@ -561,7 +561,7 @@ fn open_again(alloc: Global) -> Result<(ReadingJob<Pieces<'static>>, Checking<Op
     Ok((reading, Checking { map, job }))
 }
 
-/// The gate refuses each allocation of the jobs in turn; the second attempt then succeeds.
+/// `make sweep` refuses each allocation of the jobs in turn; the second attempt then succeeds.
 #[test]
 fn refused_jobs_can_be_made_again(rt: HostRuntime) -> Result<(), Fail> {
     let (reading, checking) = open_again(rt.alloc())?;

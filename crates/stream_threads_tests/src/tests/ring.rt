@@ -468,7 +468,7 @@ fn a_sender_that_goes_wakes_the_receiver(rt: HostRuntime) -> Result<(), Fail> {
     Ok(())
 }
 
-/// The gate refuses each allocation of this test in turn; the second attempt then succeeds.
+/// `make sweep` refuses each allocation of this test in turn; the second attempt then succeeds.
 #[test]
 fn a_refused_ring_can_be_made_again(rt: HostRuntime) -> Result<(), Fail> {
     let (mut sender, mut receiver) = match ring(rt.alloc(), 4) {
