@@ -1,4 +1,4 @@
-//! Checkers at the map of one thread, for the tests of several crates.
+//! Checkers over the map of one thread, for the tests of several crates.
 #![tactic(auto)]
 
 mod opened;

@@ -1,5 +1,5 @@
--- A text of a formula has a token `0` for each clause, and a prefix of a printed text has fewer
--- than its header says.
+-- A text of a formula has a token `0` for each clause, and a prefix of a printed text has fewer of
+-- these tokens than its header says.
 use Rattle.std.proofs.Common.{◌≡◌, ◌≢◌, ◌≤◌, ◌<◌, ◌+◌, ◌-◌, ◌^◌, ◌++◌, ◌⊎◌, ℕ, zero, suc, ℤ, pos, negsuc, List, [], ◌∷◌, length}
 use Rattle.std.proofs.Common.{length-append, map, min, get_or, true, false, not, cond, refl, sym, ap, subst, ◌∙◌, inl, inr, arith}
 use Rattle.std.specs.Prelude.{codes, flat_map, ◌==◌, filter}
@@ -51,7 +51,7 @@ cut (x ∷ xs) ys (f ∷ front) back is =
           inr (record { between = within.between; some = within.some; front_is = cc (within.front_is, first); back_is = within.back_is })
     ]
 
--- a last element that isn't in the front
+-- if the back of a list isn't empty, the last element isn't in the front
 before_last : (xs : List ℕ) (x : ℕ) (front back : List ℕ) → xs ++ x ∷ [] ≡ front ++ back → 0 < length back
     → (rest : List ℕ) × (xs ≡ front ++ rest) × (length back ≡ length rest + 1)
 before_last xs x front back is some =
@@ -79,7 +79,7 @@ zeros-append (t ∷ ts) ys = elim (cases_Bool (is_zero t)) [
   | inr other ↦ let rest = zeros-append ts ys in rw other (omega (arith, rest))
 ]
 
--- a token that begins with another byte isn't `0`
+-- a token that begins with a byte other than 0 isn't `0`
 not_zero : (t : List ℕ) → get_or t 0 0 ≢ 48 → is_zero t ≡ false
 not_zero [] first = refl
 not_zero (b ∷ []) first = ne_eqb b 48 first
@@ -148,7 +148,7 @@ one_line line end = elim (cases_Bool (is_comment line)) [
   ]
 ]
 
--- the zeros of all lines
+-- the number of tokens `0` in all lines
 line_zeros : List ℕ → ℕ
 line_zeros bytes = zeros (flat_map (λ (line : List (List ℕ)). line) (token_lines bytes))
 
@@ -178,7 +178,7 @@ token_cut t more front back is = elim (cut t (32 ∷ more) front back is) [
         let space : 32 ≡ b = cc in
         inr (bs, front_is ∙ ap (λ x. t ++ x ∷ bs) (sym space), cc)
 
--- a prefix of a token has no token or just one
+-- a prefix of a token is empty, or one token
 part_runs : (t front between : List ℕ) → IsRun t → t ≡ front ++ between → (runs front ≡ []) ⊎ (runs front ≡ front ∷ [])
 part_runs t [] between run is = inl refl
 part_runs t (b ∷ bs) between run is =
@@ -262,7 +262,7 @@ module _ (vars : ℕ) (few : vars ≤ max_variable) where
     | inr within ↦ omega (arith, note_part e.id place front within.between within.front_is within.some)
   ]
 
-  -- fewer zeros than clauses
+  -- a text of clauses that lacks more than its last byte has fewer zeros than there are clauses
   entries_part : (place : ℕ) (es : List Entry) (front back : List ℕ) → AllByRecursion (AllByRecursion (IsLiteral vars)) (clauses_of es)
       → entries_text place es ≡ front ++ back → 1 < length back → line_zeros front < length es
   unfolding line_zeros zeros

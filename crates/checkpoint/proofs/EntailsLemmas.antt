@@ -13,7 +13,7 @@ all_satisfied : (f : Cnf) (a : Assignment) (cs : List Clause) → AllByRecursion
 all_satisfied f a [] follow sat = tt
 all_satisfied f a (c ∷ cs) follow sat = (follow.0.holds a sat, all_satisfied f a cs follow.1 sat)
 
--- clauses follow from a formula if they are satisfied whenever it is
+-- clauses follow from a formula if they are satisfied whenever the formula is
 all_follow : (f : Cnf) (cs : List Clause) → ((a : Assignment) → SatisfiesAll a f → AllByRecursion (Satisfies a) cs)
     → AllByRecursion (Follows f) cs
 all_follow f [] sat = tt

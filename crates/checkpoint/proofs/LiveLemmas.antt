@@ -1,4 +1,4 @@
--- What was fetched so far, one identity after the other.
+-- What has been fetched so far, one identity after the other.
 use Rattle.std.proofs.Common.{◌≡◌, ℕ, Bool, true, false, cond, ◌+◌, ◌-◌, ◌≤◌, List, [], ◌∷◌, ◌++◌, map, length, length-append, take, refl}
 use Rattle.std.proofs.Common.{sym, ap, subst, ◌∙◌, ◌⊎◌, inl, inr, arith}
 use Rattle.std.specs.List.{AllByRecursion}
@@ -25,7 +25,7 @@ fetches-push s id (q ∷ replies) r =
     let same : id + 1 + length replies ≡ id + length (q ∷ replies) = omega arith in
     ap (λ es. fetch s id q ∷ es) (fetches-push s (id + 1) replies r ∙ ap (λ n. fetches s (id + 1) replies ++ fetch s n r ∷ []) same)
 
--- one more element in front of both
+-- putting an element in front, or not, and appending a list can be done in either order
 cond-append : (b : Bool) (e : Entry) (xs ys : List Entry) → cond b (e ∷ (xs ++ ys)) (xs ++ ys) ≡ cond b (e ∷ xs) xs ++ ys
 cond-append true e xs ys = refl
 cond-append false e xs ys = refl
@@ -59,13 +59,13 @@ stay_same a b es (clip ∷ clips) step known =
     ap (λ (c : Clause). record { id = clip.id; clause = c } ∷ entries_of b clips) (known_stays a b es clip step known.0).1
     ∙ ap (λ (cs : List Entry). entry_of a clip ∷ cs) (stay_same a b es clips step known.1)
 
--- known clauses follow
+-- the clauses of known clips are derived from the formula
 all_follow : (p : CallerView) (clips : List ClipValue) → AllFollow p → AllByRecursion (IsKnown p) clips
     → AllByRecursion (IsDerived p.caller.formula) (clauses_of (entries_of p clips))
 all_follow p [] follow known = tt
 all_follow p (clip ∷ clips) follow known = (known_follows p clip follow known.0, all_follow p clips follow known.1)
 
--- the formula's clauses are live, as far as they were fetched
+-- the formula's clauses are live, as far as they have been fetched
 pub record First (f : Cnf) (count : ℕ) (last : ℕ) (replies : List Reply) : Type 0 where
   pub more : List Reply
   pub is : replies ≡ map live (take last f.clauses) ++ more
@@ -100,7 +100,7 @@ first_next f count last replies r all answer first =
           }
     ]
 
--- in the end all of the formula's clauses are
+-- in the end, the wanted clauses begin with all wanted ones of the formula
 pub first_whole : (wants : ℕ → Bool) (f : Cnf) (count last : ℕ) (replies : List Reply) → count ≡ length f.clauses → count ≤ last
     → First f count last replies → (more : List Entry) × (wanted_of wants 1 replies ≡ wanted_clauses wants f.clauses ++ more)
 first_whole wants f count last replies all within first = (
@@ -109,7 +109,7 @@ first_whole wants f count last replies all within first = (
       ∙ wanted_of-append wants 1 (map live f.clauses) first.more,
 )
 
--- what was found for the identities 1 to the last one, between the two views
+-- fetching the identities 1 to `last` leads from one view to the other, and gives these clips
 pub record Found (wants : ℕ → Bool) (a b : CallerView) (moves : History → Type 0) (last : ℕ) (clips : List ClipValue) : Type 0 where
   pub replies : List Reply
   pub moved : moves (fetches a.caller.stream 1 replies)
@@ -120,7 +120,7 @@ pub record Found (wants : ℕ → Bool) (a b : CallerView) (moves : History → 
   pub caller : b.caller ≡ a.caller
   pub first : a.caller.layout.clauses ≡ length a.caller.formula.clauses → First a.caller.formula a.caller.layout.clauses last replies
 
--- nothing was fetched
+-- before the first fetch, there are no clips
 pub found_none : (wants : ℕ → Bool) (a : CallerView) (moves : History → Type 0) → moves [] → Found wants a a moves 0 []
 found_none wants a moves none = record {
   replies = [];
@@ -133,7 +133,7 @@ found_none wants a moves none = record {
   first = λ all. record { more = []; is = refl; none = λ _. refl };
 }
 
--- the next identity, with the clips kept for it
+-- fetching the next identity adds the clips that are kept for it
 pub found_next : (wants : ℕ → Bool) (a b c : CallerView) (before after : History → Type 0) (count : ℕ)
     (clips fresh all : List ClipValue) (r : Reply)
     → Found wants a b before count clips
@@ -186,7 +186,7 @@ pub kept_none : (wants : ℕ → Bool) (p : CallerView) (id : ℕ) (r : Fetched)
 kept_none wants p id r (inl vacant_is) = rw vacant_is refl
 kept_none wants p id r (inr retired_is) = rw retired_is refl
 
--- what holds of an error, at the exit of a `?`
+-- an error satisfies every `IfOk`; for the exit of a `?`
 pub no_ok : {T E : Type 0} (r : Result T E) (P : T → Type 0) → IsErr r → IfOk r P
 no_ok (Ok x) P h = cc
 no_ok (Err e) P h = tt

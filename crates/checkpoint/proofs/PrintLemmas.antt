@@ -67,7 +67,7 @@ module _ (c : Clause) (i : ℕ) (first : ℤ) (at : slice_get c (2 * i) ≡ Some
       ] in
       ap literals_text (take_all (2 * (i + 1)) c (omega (arith, short)) ∙ sym (take_all (2 * i + 1) c short)) ∙ pair_first
 
--- a note, if there is one
+-- a clause's note: none if the identity is the place, otherwise a line
 pub note_none : (id place : ℕ) → id ≡ place → note id place ≡ []
 unfolding note
 note_none id place same = rw (eq-eqb id place same) refl
@@ -76,7 +76,7 @@ pub note_some : (id place : ℕ) → id ≢ place → note id place ≡ codes "c
 unfolding note
 note_some id place other = rw (ne_eqb id place other) refl
 
--- the texts of two lists, one after the other
+-- the text of an appended list is the texts of both, one after the other
 entries_text-append : (place : ℕ) (xs ys : List Entry)
     → entries_text place (xs ++ ys) ≡ entries_text place xs ++ entries_text (place + length xs) ys
 entries_text-append place [] ys = let same : place ≡ place + 0 = omega arith in ap (λ n. entries_text n ys) same
@@ -132,7 +132,7 @@ module _ (vars : ℕ) (entry : ClipValue → Entry) (clips : List ClipValue) whe
   entries_all k all = header_first
       ∙ ap (λ (cs : List ClipValue). header_line vars (length clips) ++ entries_text 1 (map entry cs)) (sym (take_all k clips all))
 
--- a text that is equal to the one that was put
+-- `PutsAll` holds for an equal text, too
 pub puts_all_as : {E : Type 0} (r : Result (Unit {0}) E) (a b : Option (List ℕ)) (h i : List ℕ) {x z : List ℕ} → PutsAll r a b h i x → z ≡ x
     → PutsAll r a b h i z
 puts_all_as r a b h i {x} {z} puts is = subst (λ t. PutsAll r a b h i t) (sym is) puts

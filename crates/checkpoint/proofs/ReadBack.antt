@@ -23,7 +23,7 @@ use Rattle.checkpoint.proofs.PrintLemmas.{note_none}
 
 -- ## bytes
 
--- the byte is no separator, no LF and no letter c
+-- the byte isn't a separator, LF or the letter c
 pub record IsPlain (b : ℕ) : Type 0 where
   pub separator : is_separator b ≡ false
   pub end : (b == 10) ≡ false

@@ -1,4 +1,4 @@
--- What is written of the live clauses is a checkpoint.
+-- The text that is written for the live clauses is a checkpoint.
 use Rattle.std.proofs.Common.{◌≡◌, ◌≤◌, ◌↔◌, ℕ, List, [], ◌∷◌, Option, length, ◌∙◌, arith}
 use Rattle.std.specs.Io.KnownBytes.{Appends}
 use Rattle.std.specs.List.{AllByRecursion}
@@ -39,7 +39,7 @@ few_clauses p clips known =
       λ few. (omega (arith, count, few.0), lengths.1 few.1),
     )
 
--- if the clauses follow, what was written of them is a checkpoint
+-- if the clauses follow from the formula, the text that was written for them is a checkpoint
 pub writes_checkpoint : (f : Cnf) (vars : ℕ) (entries : List Entry) (before after : Option (List ℕ)) (next : Option Cnf)
     → vars ≡ f.vars → vars ≤ max_variable → AreWithinLimits (clauses_of entries)
     → AllByRecursion (IsDerived f) (clauses_of entries) → Appends before after (formula_text vars entries)

@@ -80,7 +80,7 @@ abbrev pub FilesRefute : Type 0
 FilesRefute = (bytes : List ℕ) (more : List (List ℕ)) → AreCheckpoints bytes more
     → IsUnsatisfiableText (last_file bytes more) → IsUnsatisfiableText bytes
 
--- the same under a cube
+-- if the last file of a chain holds a formula that is unsatisfiable under a cube, the first does
 abbrev pub FilesRefuteUnder : Type 0
 FilesRefuteUnder = (cube : CubeValue) (bytes : List ℕ) (more : List (List ℕ))
     → AreCheckpoints bytes more → IsUnsatisfiableTextUnder cube (last_file bytes more)

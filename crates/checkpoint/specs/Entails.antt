@@ -32,7 +32,7 @@ EntailsOnward = (f g h : Cnf) → Entails f g → Entails g h → Entails f h
 abbrev pub RefutesBack : Type 0
 RefutesBack = (f g : Cnf) → Entails f g → IsUnsatisfiable g → IsUnsatisfiable f
 
--- the same under a cube
+-- what entails a formula that is unsatisfiable under a cube is unsatisfiable under it, too
 abbrev pub RefutesBackUnder : Type 0
 RefutesBackUnder = (f g : Cnf) (cube : CubeValue) → Entails f g → IsUnsatisfiableUnder g cube
     → IsUnsatisfiableUnder f cube
@@ -42,7 +42,7 @@ abbrev pub ChainRefutes : Type 0
 ChainRefutes = (f : Cnf) (gs : List Cnf) → IsChain f gs → IsUnsatisfiable (last_of f gs)
     → IsUnsatisfiable f
 
--- the same under a cube
+-- if the last formula of a chain is unsatisfiable under a cube, the first one is
 abbrev pub ChainRefutesUnder : Type 0
 ChainRefutesUnder = (f : Cnf) (gs : List Cnf) (cube : CubeValue) → IsChain f gs
     → IsUnsatisfiableUnder (last_of f gs) cube → IsUnsatisfiableUnder f cube

@@ -1,4 +1,4 @@
--- What was fetched from a clause map, one identity after the other, and what is kept from it (this
+-- Fetches from a clause map, one identity after the other, and what is kept of their replies (this
 -- project's own).
 use Rattle.std.specs.Prelude.{◌+◌, ℕ, Bool, List, [], ◌∷◌, map, if◌then◌else◌}
 use Rattle.lrup_model.specs.Clause.{Clause}

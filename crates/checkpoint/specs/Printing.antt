@@ -11,7 +11,7 @@ abbrev pub header_line : ℕ → ℕ → List ℕ
 header_line vars count =
     codes "p cnf " ++ decimal vars ++ codes " " ++ decimal count ++ codes "\n"
 
--- a comment with the clause's identity, unless the identity is its place
+-- a comment with the clause's identity, unless the identity is the clause's place
 unfoldable pub note : ℕ → ℕ → List ℕ
 note id place = if id == place then [] else codes "c id " ++ decimal id ++ codes "\n"
 
@@ -43,7 +43,7 @@ abbrev pub PrintedIsRead : Type 0
 PrintedIsRead = (vars : ℕ) (entries : List Entry) → IsCnf (printed vars entries)
     → IsFormulaText (formula_text vars entries) (printed vars entries)
 
--- a prefix that lacks more than the last byte is a text of no formula
+-- if more than the last byte is missing, the rest of the text isn't the text of any formula
 abbrev pub ABeginningIsNoText : Type 0
 ABeginningIsNoText = (vars : ℕ) (entries : List Entry) → IsCnf (printed vars entries)
     → (went rest : List ℕ) → formula_text vars entries ≡ went ++ rest → 1 < length rest

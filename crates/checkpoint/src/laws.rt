@@ -1,6 +1,6 @@
-//! Laws of checkpoints: what a formula says about another one from which its clauses follow. Each
-//! function does nothing: its contract is the law. If it calls another function, its proof uses
-//! that function's law.
+//! Laws of checkpoints: what a formula says about another one that entails it. Each function does
+//! nothing: its contract is the law. If it calls another function, its proof uses that function's
+//! law.
 ghost use Rattle.checkpoint.specs.Checkpoints.{FilesRefute, FilesRefuteUnder};
 ghost use Rattle.checkpoint.specs.Entails.{ChainRefutes, ChainRefutesUnder, EntailsItself, EntailsOnward, RefutesBack, RefutesBackUnder};
 ghost use Rattle.checkpoint.specs.Printing.{ABeginningIsNoText, PrintedIsRead};
@@ -45,8 +45,8 @@ pub fn printed_is_read()
     ensures { PrintedIsRead }
 {}
 
-/// A prefix of a checkpoint's text that lacks more than the last byte is a text of no formula: a
-/// file that was cut off is refused.
+/// If more than the last byte of a checkpoint's text is missing, the rest isn't the text of any
+/// formula: a file that was cut off is refused.
 pub fn a_beginning_is_no_text()
     ensures { ABeginningIsNoText }
 {}
@@ -59,7 +59,7 @@ pub fn files_refute()
     one_formula();
 }
 
-/// The same under a cube: for assignments that satisfy each of its literals.
+/// Like `files_refute`, under a cube: only assignments that satisfy each of its literals count.
 pub fn files_refute_under()
     ensures { FilesRefuteUnder }
 {

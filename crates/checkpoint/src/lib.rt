@@ -1,4 +1,4 @@
-//! Checkpoints: the clauses that are live at a clause map, written as a formula of their own. Each
+//! Checkpoints: the clauses that are live in a clause map, written as a formula of their own. Each
 //! clause follows from the formula of the run, so a later run may use the checkpoint as its
 //! formula.
 #![tactic(auto)]

@@ -1,4 +1,4 @@
-//! The live clauses of a clause map that are wanted.
+//! The clauses of a clause map that are live and wanted.
 ghost use Rattle.std.specs.Prelude.{◌≡◌, ◌≤◌, ◌++◌, ℕ, Bool, List, IfOk, length};
 ghost use Rattle.std.specs.List.{AllByRecursion};
 ghost use Rattle.lrup_model.specs.Layout.{last_identity};

@@ -46,10 +46,10 @@ impl From<AllocError> for SaveFault {
     }
 }
 
-/// Writes the formula of the clauses that are live at the map and wanted, each of which follows
-/// from the run's formula, and returns it if the run continues. All identities are fetched, each
-/// once, before the first write. Memory is allocated before that write, too: 16 bytes for the clip
-/// of each clause, and what the returned formula takes.
+/// Writes the formula of the clauses that are live in the map and wanted, and returns it if the run
+/// continues. Each of these clauses follows from the run's formula. All identities are fetched,
+/// each once, before the first write. Memory is allocated before that write, too: 16 bytes for the
+/// clip of each clause, and the memory of the returned formula.
 pub fn save<M: ClauseMap, K: Wanted, W: Sink>(
     alloc: Global,
     map: &mut M,
@@ -85,8 +85,8 @@ pub fn save<M: ClauseMap, K: Wanted, W: Sink>(
 }
 
 /// Writes the formula of these clauses, each of which follows from the run's formula. They may be
-/// all live clauses, or fewer. It returns the formula if the run continues; only then does it
-/// allocate. It makes no event at the map.
+/// all live clauses, or only some. If the run continues, the call returns the formula; only then
+/// does it allocate. It makes no event.
 pub fn save_clips<M: ClauseMap, W: Sink>(
     alloc: Global,
     map: &mut M,

@@ -11,8 +11,8 @@ use lrup_model::{ClauseMap, Clip, Id, Lit};
 use lrup_text::{Sink, WriteBuffer, WriteFault};
 
 /// Writes the formula over the variables 1 to `vars` with the clauses of the clips, in order. If a
-/// clause's identity isn't its number in the new formula, a comment before it gives the identity.
-/// If the sink fails, a prefix of the text was written. The call makes no event.
+/// clause's identity isn't its number in the new formula, a comment before the clause gives the
+/// identity. If the sink fails, a prefix of the text was written. The call makes no event.
 pub fn write_formula<M: ClauseMap, W: Sink>(
     map: &mut M,
     clips: &[Clip],
@@ -35,7 +35,7 @@ pub fn write_formula<M: ClauseMap, W: Sink>(
     buffer.flush(sink)
 }
 
-/// Puts the header of a formula of `vars` variables and `count` clauses.
+/// Writes the header of a formula of `vars` variables and `count` clauses.
 fn put_header<W: Sink>(
     buffer: &mut WriteBuffer,
     vars: u32,
@@ -54,7 +54,7 @@ fn put_header<W: Sink>(
     buffer.put(b"\n", sink)
 }
 
-/// Puts the clip's clause, with its note, as clause number `place` of the new formula.
+/// Writes the clip's clause, with its note, as clause number `place` of the new formula.
 fn put_entry<M: ClauseMap, W: Sink>(
     buffer: &mut WriteBuffer,
     map: &mut M,
@@ -74,8 +74,8 @@ fn put_entry<M: ClauseMap, W: Sink>(
     put_clause(buffer, map, clip, sink)
 }
 
-/// Puts the note of a clause, a comment with its identity, unless the identity is the clause's
-/// number in the new formula.
+/// Writes the note of a clause, i.e. a comment with its identity, unless the identity is the
+/// clause's number in the new formula.
 fn put_note<W: Sink>(
     buffer: &mut WriteBuffer,
     id: Id,
@@ -95,8 +95,8 @@ fn put_note<W: Sink>(
     buffer.put(b"\n", sink)
 }
 
-/// Puts the literals of the clip's clause, in the order in which the map keeps them, and the end of
-/// the line.
+/// Writes the literals of the clip's clause, in the order in which the map keeps them, and the end
+/// of the line.
 fn put_clause<M: ClauseMap, W: Sink>(
     buffer: &mut WriteBuffer,
     map: &mut M,
@@ -121,7 +121,7 @@ fn put_clause<M: ClauseMap, W: Sink>(
     buffer.put(b"0\n", sink)
 }
 
-/// Puts a literal, and a space after it.
+/// Writes a literal, and a space after it.
 #[inline]
 fn put_literal<W: Sink>(buffer: &mut WriteBuffer, lit: Lit, sink: &mut W) -> Result<(), WriteFault>
     requires { W.has_failed sink.old ≡ false }

@@ -25,7 +25,7 @@ fn same<T: PartialEq + fmt::Debug + Drop>(rt: &impl Abort, value: T, wanted: T) 
 #[derive(Clone, Copy)]
 struct Except(Id, Id);
 
-/// Wants all, since no identity is 0.
+/// Wants all identities, since none is 0.
 const ALL: Except = Except(0, 0);
 
 impl Wanted for Except {
@@ -53,7 +53,7 @@ fn save_formula(
     Ok(save_at_first(alloc, &mut map, &layout, paper))
 }
 
-/// Saves the live clauses at the first desk.
+/// Saves the live clauses through the desk of stream 1.
 fn save_at_first(
     alloc: Global,
     map: &mut PlainMap,
@@ -80,8 +80,8 @@ static WRITTEN: [(&str, &str); 5] = [
     ),
 ];
 
-/// Saves a formula by writes of at most `most` bytes. Write number `fails_at` fails; if that is 0,
-/// none does.
+/// Saves a formula with writes of at most `most` bytes. Write number `fails_at` fails; if that is
+/// 0, none does.
 fn saves(
     rt: &(impl Abort + AllocGlobal),
     formula: &Formula,
@@ -116,7 +116,7 @@ fn long_text(alloc: Global) -> Result<String, AllocError> {
 }
 
 /// 1,000 clauses fill the buffer again and again. The writes before write number `fails_at` have
-/// written a prefix, in nearly full pieces of 4,096 bytes.
+/// written a prefix, in pieces of almost 4,096 bytes.
 #[test]
 fn a_long_text_breaks_at_any_write(rt: HostRuntime) -> Result<(), Fail> {
     let text = long_text(rt.alloc())?;

@@ -1,4 +1,4 @@
--- Lemmas about the literals of a clip that is known at a pass.
+-- Lemmas about the literals of a clip that a pass knows.
 use Rattle.std.proofs.Common.{◌≡◌, ℕ, ℤ, ◌+◌, ◌*◌, ◌/◌, ◌%◌, ◌<◌, zero, suc, [], ◌∷◌, length, Option, None, Some, slice_get, refl, sym, ap}
 use Rattle.std.proofs.Common.{subst, ◌∙◌, arith}
 use Rattle.std.specs.List.{AllByRecursion}
@@ -42,7 +42,7 @@ module _ (v : View) (clip : ClipValue) (k place : ℕ) (known : IsKnown (pass_ca
   place_within : LieWithin (row_words v.caller.layout) v.spelt → place < row_words v.caller.layout
   place_within within = omega (arith, within clip.id stored known.stored, known.len, lies)
 
-  -- the clause has a literal here, and half k % 2 of the word at this index is the literal's code
+  -- the clause has a literal k, and half k % 2 of the word at index `place` is this literal's code
   literal_of : IsFair v → (word : ℕ) → IsText v.spelt place word
       → (l : ℤ) × (slice_get (clip_clause (pass_caller_view v) clip) k ≡ Some l) × (half_of (k % 2) word ≡ code_of l)
       × IsCode max_variable (half_of (k % 2) word)
@@ -53,14 +53,14 @@ module _ (v : View) (clip : ClipValue) (k place : ℕ) (known : IsKnown (pass_ca
       let code = IsCode-code_of max_variable at.0 (at.2.0, omega (arith, at.2.1, fair.caller.formula.vars)) in
       (at.0, at.1, is, (omega (arith, code.0), omega (arith, code.1)))
 
-  -- a literal whose code is in that half is literal k of the clause
+  -- a literal whose code is in half k % 2 of this word is literal k of the clause
   literal_is : IsFair v → (word : ℕ) (l : ℤ) → IsText v.spelt place word → code_of l ≡ half_of (k % 2) word
       → slice_get (clip_clause (pass_caller_view v) clip) k ≡ Some l
   literal_is fair word l text code =
       let one = literal_of fair word text in
       one.1 ∙ ap Some (code_of-injective one.0 l (sym one.2 ∙ sym code))
 
--- the same for a pass whose seat is at rest: the word that `Store::literal` reads
+-- a pass whose seat is at rest finds literal k in the word that `Store::literal` reads
 module _ (seat : SeatValue) (stream : ℕ) (p : PassValue) (clip : ClipValue) (k place : ℕ) (rests : IsAtRest seat stream)
     (same : pass_value seat ≡ p)
     (known : IsKnown (pass_caller_view p.view) clip) (lies : place ≡ clip.start + k / 2) (below : k < clip.len) where
@@ -82,8 +82,8 @@ module _ (seat : SeatValue) (stream : ℕ) (p : PassValue) (clip : ClipValue) (k
       subst (λ (v : View). slice_get (clip_clause (pass_caller_view v) clip) k ≡ Some l) here
       (literal_is seat.view clip k place known_here below lies rests.fair word l text code)
 
--- the same for the word that `Store::pair` reads: literal `2 * i + half` is in this half of word
--- `i`
+-- a pass whose seat is at rest finds literal `2 * i + half` in this half of word `i`, which
+-- `Store::pair` reads
 module _ (seat : SeatValue) (stream : ℕ) (p : PassValue) (clip : ClipValue) (i half place : ℕ) (rests : IsAtRest seat stream)
     (same : pass_value seat ≡ p)
     (known : IsKnown (pass_caller_view p.view) clip) (lies : place ≡ clip.start + i) (is_half : half < 2)

@@ -11,7 +11,7 @@ IsSynced (suc i) u v [] ys = ⊥
 IsSynced (suc i) u v (x ∷ xs) [] = ⊥
 IsSynced (suc i) u v (x ∷ xs) (y ∷ ys) = (w : View) × SyncViews u x.view w y.view × IsSynced i w v xs ys
 
--- the pass meets one more
+-- if a pass that has met the first i of the others meets the next one, it has met the first i + 1
 pub sync_next : (i : ℕ) (u v w : View) (xs ys : List PassValue) (d y : PassValue) → i < length ys → IsSynced i u v xs ys
     → SyncViews v (get_or ys i d).view w y.view → IsSynced (suc i) u w xs (set ys i y)
 sync_next zero u v w xs [] d y within synced meets = absurd (omega arith)
@@ -28,21 +28,22 @@ sync_next (suc i) u v w (x ∷ xs) [] d y within synced meets = absurd synced
 sync_next (suc i) u v w (x ∷ xs) (z ∷ ys) d y within synced meets =
     (synced.0, synced.1, sync_next i synced.0 v w xs ys d y (omega arith) synced.2 meets)
 
--- the pass has met all
+-- if the pass has met as many others as there are, it has met all
 pub synced_all : (u v : View) (xs ys : List PassValue) → IsSynced (length xs) u v xs ys → SyncInTurn u (views xs) v (views ys)
 synced_all u v [] [] synced = synced.0
 synced_all u v [] (y ∷ ys) synced = absurd (let same : y ∷ ys ≡ [] = synced.1 in cc)
 synced_all u v (x ∷ xs) [] synced = absurd synced
 synced_all u v (x ∷ xs) (y ∷ ys) synced = (synced.0, synced.1, synced_all synced.0 v xs ys synced.2)
 
--- a list of passes of a store, with one replaced by a pass of the same store
+-- passes of a store are still of the store after one of them is replaced by another pass of the
+-- store
 pub are_of-set : (store : StoreValue) (i : ℕ) (ps : List PassValue) (p : PassValue) → store_of p ≡ store → AreOf store ps
     → AreOf store (set ps i p)
 are_of-set store i [] p here all = tt
 are_of-set store zero (q ∷ ps) p here all = (here, all.1)
 are_of-set store (suc i) (q ∷ ps) p here all = (all.0, are_of-set store i ps p here all.1)
 
--- passes that met, and then met again
+-- two meetings, one after the other, are together a meeting
 pub are_synced-again : (xs ys zs : List View) → AreSynced xs ys → AreSynced ys zs → AreSynced xs zs
 are_synced-again [] [] [] once again = tt
 are_synced-again [] [] (z ∷ zs) once again = absurd again
@@ -57,12 +58,12 @@ abbrev pub SyncInRounds : ℕ → View → List View → View → List View → 
 SyncInRounds zero u xs v ys = (v ≡ u) × (ys ≡ xs)
 SyncInRounds (suc n) u xs v ys = (w : View) × (ws : List View) × SyncInRounds n u xs w ws × SyncInTurn w ws v ys × IsFair v
 
--- one more round
+-- n rounds and one more are n + 1 rounds
 pub rounds_next : (n : ℕ) (u v w : View) (xs ys zs : List View) → SyncInRounds n u xs v ys → SyncInTurn v ys w zs → IsFair w
     → SyncInRounds (n + 1) u xs w zs
 rounds_next n u v w xs ys zs rounds turns fair = subst (λ (m : ℕ). SyncInRounds m u xs w zs) (sym (add-one n)) (v, ys, rounds, turns, fair)
 
--- in one or more rounds no pass makes a call
+-- in one or more rounds, no pass makes a call
 rounds_keep : (n : ℕ) (u v : View) (xs ys : List View) → SyncInRounds (suc n) u xs v ys → AreSynced (u ∷ xs) (v ∷ ys)
 rounds_keep zero u v xs ys rounds =
     let once = synced_keep rounds.0 v rounds.1 ys rounds.3 in (
@@ -82,7 +83,7 @@ synced_in_rounds (suc n) p q ps qs rs some all rounds =
     subst (λ (os : List PassValue). AreSynced (views os) (q.view ∷ views rs)) (sym all)
     (rounds_keep n p.view q.view (views qs) (views rs) rounds)
 
--- after two or more rounds all have seen the same history
+-- after two or more rounds, all passes have seen the same history
 pub one_in_rounds : (n : ℕ) (u v : View) (xs ys : List View) → 2 ≤ n → SyncInRounds n u xs v ys → ShareHistory (v ∷ ys)
 one_in_rounds zero u v xs ys two rounds = absurd (omega arith)
 one_in_rounds (suc zero) u v xs ys two rounds = absurd (omega arith)

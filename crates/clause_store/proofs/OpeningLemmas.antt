@@ -1,4 +1,4 @@
--- Lemmas about the passes of a store that was opened.
+-- Lemmas about the passes of a store when it is opened.
 use Rattle.std.proofs.Common.{◌≡◌, ℕ, ◌+◌, ◌-◌, ◌<◌, zero, suc, List, [], ◌∷◌, length, map, Some, slice_get, refl, sym, ap, subst, ◌∙◌}
 use Rattle.std.proofs.Common.{arith}
 use Rattle.std.proofs.lemmas.Option.{slice_get_within}
@@ -28,7 +28,7 @@ are_of : (store : StoreValue) (seats : List SeatValue)
 are_of store [] each = tt
 are_of store (seat ∷ seats) each = (each 0 seat refl, are_of store seats (λ k other here. each (suc k) other here))
 
--- from the seats that the row gives at the opening
+-- about the seats that the row gives out at the opening
 module _ (row : Row) (f : Cnf) (p : LayoutValue) (seats : List SeatValue) (count : length seats ≡ p.streams)
     (given : (s : ℕ) → IsStream p s → slice_get seats (s - 1) ≡ Some (opening_seat row f p s)) where
   -- the seat at index k is the opening seat of stream k + 1

@@ -7,7 +7,7 @@ use Rattle.idwords.specs.Seats.{SeatValue}
 use Rattle.idwords.specs.Spelling.{LieWithin}
 use Rattle.clause_store.specs.internal.AtRest.{IsAtRest}
 
--- after a step that left no draft the seat is at rest again
+-- after a step that left no draft, the seat is at rest again
 pub rests : (old new : SeatValue) (stream : ℕ) → stream ≡ old.view.caller.stream → new.view.caller ≡ old.view.caller → IsFair new.view
     → new.draft ≡ [] → LieWithin (row_words new.view.caller.layout) new.view.spelt → IsAtRest new stream
 rests old new stream own caller fair none within = record {

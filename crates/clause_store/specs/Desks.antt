@@ -9,7 +9,7 @@ use Rattle.clause_store.specs.declared.desk.Desk.{Desk}
 abbrev pub desk_caller_view : Desk → CallerView
 desk_caller_view desk = pass_caller_view desk.pass.view
 
--- The desk is at the same store as before, and its pass has moved by these events.
+-- The desk has the same store as before, and its pass has made these calls.
 pub record DeskMoves (old new : Desk) (history : History) : Type 0 where
   pub store : store_of new.pass ≡ store_of old.pass
   pub moves : PassMoves old.pass.view new.pass.view history

@@ -1,9 +1,9 @@
--- What is true of passes that meet in turn.
+-- Laws of passes that meet in turn.
 use Rattle.std.specs.Prelude.{◌≡◌, List, []}
 use Rattle.lrup_model.specs.Pass.{View, IsFair, PassMoves, SyncInTurn, AreSynced, AllSaw}
 
--- If a pass meets all others in turn, and then all again, all have seen what the pass had seen
--- after the first round.
+-- If a pass meets all others in turn, and then all of them again, all passes have seen exactly what
+-- the first one had seen after the first round.
 abbrev pub SyncTwice : Type 0
 SyncTwice = (u v w : View) (xs ys zs : List View) → SyncInTurn u xs v ys → SyncInTurn v ys w zs
     → (w.seen ≡ v.seen) × AllSaw w.seen zs

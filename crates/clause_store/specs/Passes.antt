@@ -7,7 +7,7 @@ use Rattle.lrup_model.specs.Event.{History}
 use Rattle.lrup_model.specs.Formula.{Cnf}
 use Rattle.lrup_model.specs.Pass.{View, IsFair}
 
--- the name of the store's row, and the layout that the store was opened with
+-- the name of the store's row, and the layout with which the store was opened
 pub record StoreValue : Type 0 where
   pub row : Row
   pub layout : LayoutValue
@@ -21,7 +21,7 @@ pub record PassValue : Type 0 where
 abbrev pub store_of : PassValue → StoreValue
 store_of pass = record { row = pass.row; layout = pass.view.caller.layout }
 
--- This is the pass of stream s of this store and formula, and it has seen nothing and made no call.
+-- This is stream s's pass, for this store and formula, and it has seen nothing and made no call.
 pub record IsOpened (opened : StoreValue) (formula : Cnf) (s : ℕ) (pass : PassValue) : Type 0 where
   pub store : store_of pass ≡ opened
   pub caller : pass.view.caller ≡ record { formula = formula; layout = opened.layout; stream = s }

@@ -16,7 +16,7 @@ pub struct Desk<'a> {
 }
 
 impl<'a> Desk<'a> {
-    /// A desk of this pass, at the store that opened the pass.
+    /// Makes a desk from this pass and the store that opened the pass.
     pub fn new(store: &'a Store, pass: Pass) -> Desk<'a>
         requires { store_of pass ≡ store.now }
         ensures { result.pass ≡ pass }

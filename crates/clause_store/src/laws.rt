@@ -1,7 +1,7 @@
 //! Laws of passes that meet. Each function does nothing: its contract is the law.
 ghost use Rattle.clause_store.specs.Laws.{SyncTwice, MeetingKeeps};
 
-/// If a pass meets all others in turn, and then all again, and no calls are made in between, then
+/// If a pass meets all others in turn, and then all again, and no calls are made meanwhile, then
 /// all passes have seen the same history.
 pub fn sync_twice()
     ensures { SyncTwice }

@@ -1,5 +1,5 @@
-//! How all passes of a store come to have seen the same history. Used for contracts only: a meeting
-//! is a load that changes nothing.
+//! How all passes of a store come to have seen the same history. Only contracts need this: a
+//! meeting is a load that changes nothing.
 ghost use Rattle.std.specs.Prelude.{◌≡◌};
 ghost use Rattle.lrup_model.specs.Pass.{SyncInTurn, AreSynced, IsFair};
 ghost use Rattle.clause_store.specs.Passes.{store_of, views, AreOf, ShareHistory};

@@ -63,7 +63,7 @@ impl Store {
         &self.layout
     }
 
-    /// Whether this is an identity: 1 to the last one of the layout.
+    /// Whether this number is an identity: at least 1, and at most the layout's last one.
     pub fn covers(&self, id: Id) -> bool
         ensures { IsTrue result ↔ IsIdentity self.now.layout id }
     {
@@ -86,10 +86,10 @@ impl Store {
         pass.seat.room()
     }
 
-    /// Looks up an identity (1 to the last one) with one load of the identity's word, which holds
-    /// the state, the length and the start of the clause. The reply is what the store had there at
-    /// that moment. The call changes nothing; the pass is `&mut` since contracts record in it what
-    /// was seen.
+    /// Looks up an identity, at least 1 and at most the last one, with one load of its word, which
+    /// holds the state, the length and the start of the clause. The reply is what the store had
+    /// there at that moment. The call changes nothing; the pass is `&mut` since contracts record in
+    /// it what was seen.
     #[inline]
     #[tactic(auto, using(crate::proofs::LiteralsRead::start_read))]
     pub fn fetch(&self, pass: &mut Pass, id: Id) -> Fetched
@@ -110,8 +110,8 @@ impl Store {
         }
     }
 
-    /// Reads literal `k`, counted from 0, of a clause whose clip the pass has fetched, with one
-    /// load. The literals are in the order in which they were published or occur in the formula.
+    /// With one load, reads literal `k`, counted from 0, of a clause whose clip the pass has
+    /// fetched. The literals are in the order in which they were published or occur in the formula.
     /// The clause may be retired: its literals stay.
     #[inline]
     pub fn literal(&self, pass: &mut Pass, clip: &Clip, k: u32) -> Lit
@@ -126,7 +126,7 @@ impl Store {
         lit(self.row.word(&mut pass.seat, place), k % 2)
     }
 
-    /// Reads pair `i`, counted from 0, of a clause whose clip the pass has fetched, with one load:
+    /// With one load, reads pair `i`, counted from 0, of a clause whose clip the pass has fetched:
     /// literal `2 * i` and, if the clause has it, literal `2 * i + 1`.
     #[inline]
     pub fn pair(&self, pass: &mut Pass, clip: &Clip, i: u32) -> (Lit, Option<Lit>)
@@ -153,7 +153,7 @@ impl Store {
     /// Publishes a clause under an identity that the pass's stream owns. The clause must follow
     /// from the formula, have at most 65,535 literals and fit into the room left. The literals are
     /// written first, in the given order, two with each atomic store. Then one compare-exchange
-    /// makes the clause live. If a clause had already been published under the identity, the reply
+    /// makes the clause live. If a clause has already been published under the identity, the reply
     /// is `Taken`, and nothing changes.
     pub fn publish(&self, pass: &mut Pass, id: Id, clause: &[Lit]) -> Published
         requires store { store_of pass.old ≡ self.now }
@@ -193,8 +193,8 @@ impl Store {
     }
 
     /// Lets two passes share what they have seen: afterwards both have seen the same history, which
-    /// begins with what each had seen before. If one had seen all that the other had, what that one
-    /// has seen doesn't change. The call is not an event, and changes no clause.
+    /// begins with what each had seen before. A pass that had already seen all that the other had
+    /// keeps its history. The call is not an event, and changes no clause.
     pub fn meet(&self, first: &mut Pass, second: &mut Pass)
         requires first { store_of first.old ≡ self.now }
         requires second { store_of second.old ≡ self.now }

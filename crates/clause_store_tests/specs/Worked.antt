@@ -1,4 +1,4 @@
--- What the tests know of a pass.
+-- What the tests know about a pass.
 use Rattle.std.specs.Prelude.{◌≡◌, List, [], ◌∷◌}
 use Rattle.std.specs.List.{AllByRecursion}
 use Rattle.lrup_model.specs.Formula.{Cnf}
@@ -11,6 +11,7 @@ IsPassAt f store p = (store_of p ≡ store) × (p.view.caller.formula ≡ f)
 abbrev pub ArePassesAt : Cnf → StoreValue → List PassValue → Type 0
 ArePassesAt f store ps = AllByRecursion (IsPassAt f store) ps
 
--- the race's formula: only the empty clause, from which every clause follows
+-- the formula of the tests with races: it has only the empty clause, from which every clause
+-- follows
 abbrev pub raced : Cnf
 raced = record { vars = 40001; clauses = [] ∷ [] }

@@ -159,7 +159,7 @@ fn call_once(store: &Store, mut pass: Pass, call: Call) -> (Pass, Option<bool>)
     (pass, done)
 }
 
-/// Makes this call, if `apart` in a thread of its own, which is joined.
+/// Makes this call. If `apart`, this is done in a thread of its own, which is joined.
 fn call_by<R: Threads>(
     rt: &R,
     apart: bool,
@@ -226,7 +226,8 @@ fn retire_in_turn<R: Threads + Abort>(
     b
 }
 
-/// Does both in turn; afterwards the second pass can neither publish nor retire there again.
+/// Publishes and retires in turn; afterwards the second pass can neither publish under 6 nor retire
+/// it again.
 fn call_in_turn<R: Threads + Abort>(rt: &R, apart: bool, store: &Store, a: &mut Pass, b: Pass)
     requires first { IsPassAt four store.now a.old }
     requires second { IsPassAt four store.now b }
@@ -294,7 +295,7 @@ fn spend_room(rt: &impl Abort, store: &Store, pass: &mut Pass)
     same(rt, (again, store.room(pass)), (Some(Published::Taken), 0));
 }
 
-/// Reads these clauses and one of the formula back, literal by literal.
+/// Reads back the clauses that `spend_room` published and one of the formula, literal by literal.
 fn read_all(rt: &impl Abort, store: &Store, pass: &mut Pass)
     requires { IsPassAt four store.now pass.old }
 {
@@ -370,7 +371,7 @@ fn open_plain(alloc: Global) -> Result<PlainMap, Fail>
     Ok(PlainMap::open(alloc, &formula, &layout)?)
 }
 
-/// The client at the desk of a stream of that map.
+/// Runs the client through a stream's desk of the one-thread map.
 fn at_plain_desk(map: &mut PlainMap, stream: u64, own: Id, other: Id) -> ClientFound
     requires formula { formula_of map.old ≡ four }
     requires stream { IsStream map.old.layout stream }
@@ -380,7 +381,7 @@ fn at_plain_desk(map: &mut PlainMap, stream: u64, own: Id, other: Id) -> ClientF
     publish_and_read(&mut map.desk(stream), own, other)
 }
 
-/// The client at the desk of a pass.
+/// Runs the client through the desk of a pass.
 fn at_desk(store: &Store, pass: Pass, own: Id, other: Id) -> (Pass, ClientFound)
     requires { IsPassAt four store.now pass }
     ensures { IsPassAt four store.now result.0 }
@@ -472,7 +473,7 @@ fn publish_raced(store: &Store, pass: &mut Pass, id: Id) -> Option<Published>
     })
 }
 
-/// Whether this is the identity's clause of the race, in any order.
+/// Whether the clip has its identity's clause of the race, with the literals in any order.
 fn is_raced(store: &Store, pass: &mut Pass, clip: &Clip) -> bool
     requires store { store_of pass.old ≡ store.now }
     requires known { IsKnown (pass_caller_view pass.old.view) clip.now }

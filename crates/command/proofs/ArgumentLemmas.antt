@@ -14,7 +14,7 @@ use Rattle.run_files.specs.Faults.{error_text, status_of}
 use Rattle.command.specs.Rounds.{ProgramEnds}
 use Rattle.run_files.specs.declared.fault.CommandFault.TheVariants as faults
 
--- What holds for the words and a status holds for the arguments and for the exit status.
+-- If P holds of the words and a status, it holds of the arguments' words and the exit status.
 module _ {E : Type 0} (arguments : Result (IntoIter (String Global) Global) E) (given : IntoIter (String Global) Global) (words : List Text)
     (is : arguments ≡ Ok given) (same : words ≡ words_after_name given) where
   pub of_arguments : (P : List Text → ℕ → Type 0) (status shown : ℕ) → shown ≡ status → P words status
@@ -40,7 +40,7 @@ out_of_memory files words out err status untouched said is =
       status_is = is;
     })
 
--- ---- all errors of the system but one
+-- ---- all errors of the system but out of memory
 
 pub other_text : (kind : ErrorKind) → kind ≢ kinds.OutOfMemory → refusal_text kind ≡ not_utf8
 other_text kinds.OutOfMemory other = absurd (other refl)

@@ -1,4 +1,4 @@
--- From what a function read and ran to what the words and the files say.
+-- What follows for the words and the files from what a function read and ran.
 use Rattle.std.proofs.Common.{◌∙◌, ◌≡◌, Bool, Err, IfOk, IfSome, List, Ok, Option, Result, Some, false}
 use Rattle.std.proofs.Common.{inl, inr, refl, rules, subst, sym, ℕ}
 use Rattle.std.specs.Prelude.{◌↔◌}
@@ -69,7 +69,7 @@ has_layout p result outcome is layout fault refused =
 pub ask_for : (words : List Text) (given : CommandLine) → IsCommandLineOf words given → AskFor words given.formula.now (assumed_at given)
 ask_for words given line = record { good = line.good; formula_is = line.said.formula; assume_is = sym line.said.assume }
 
--- the bytes that were read are a text of a formula that no assignment satisfies
+-- if the bytes that were read are a text of an unsatisfiable formula, the words name one
 pub names_unsatisfiable : (files : FilesView) (words : List Text) (given : CommandLine) (bytes : List ℕ) (next : files.its.State)
     → IsCommandLineOf words given
     → WasReadIn files files.first given.formula.now bytes next → IsUnsatisfiableText bytes
@@ -77,7 +77,7 @@ pub names_unsatisfiable : (files : FilesView) (words : List Text) (given : Comma
 names_unsatisfiable files words given bytes next line read refuted =
     (given.formula.now, assumed_at given, bytes, refuted.0, next, ask_for words given line, read, refuted.1, refuted.2)
 
--- the same with the assumed literals, if what is known of the files' contents hasn't changed
+-- `names_unsatisfiable` with the assumed literals, if the known contents of files haven't changed
 pub names_unsatisfiable_under : (files : FilesView) (words : List Text) (given : CommandLine) (bytes : List ℕ) (next : files.its.State)
     (contents : Text → Option (List ℕ))
     → contents ≡ files.contents → IsCommandLineOf words given → WasReadIn files files.first given.formula.now bytes next
@@ -100,14 +100,14 @@ module _ (its : Effects) (serial : Bool) (f : Cnf) (run_params : RunParamsValue)
   layout_start (faults.Layout fault) cause = (cause, refl)
   layout_start fault cause = absurd cause
 
-  -- or the file wasn't created
+  -- another cause: the file wasn't created
   pub create_start : (fault : CommandFault) (after : its.State) → HasNoFault run_params.layout → IsNotCreated its before path fault after
       → Starts fault after
   create_start faults.NotCreated after none cause = (none, cause)
   create_start faults.Memory after none cause = inr (none, inl cause)
   create_start fault after none cause = absurd cause
 
-  -- or it was created and discarded, because the run had a fault
+  -- another cause: the run had a fault, and the file was created and discarded
   pub run_start : (fault : CommandFault) (after : its.State) → HasNoFault run_params.layout
       → IsRunCause its.reading serial f run_params readers fault → IsLeftUnused its before path after → Starts fault after
   run_start (faults.Layout fault) after none cause unused = absurd (none fault cause)
@@ -116,7 +116,7 @@ module _ (its : Effects) (serial : Bool) (f : Cnf) (run_params : RunParamsValue)
   run_start faults.Memory after none cause unused = inr (none, inr unused)
   run_start fault after none cause unused = absurd cause
 
--- the same for a round, from the values that the program has for it
+-- the cause for a round, from the values that the program has for the round
 pub round_start : (its : Effects) (given : CommandLine) (cube : CubeValue) (number : ℕ) (f : Cnf) (sizes : Sizes)
     (readers : List its.Reader) (before : its.State) (serial : Bool) (run_params : RunParamsValue) (path : Option Text)
     → serial ≡ given.serial → run_params ≡ run_params_by given cube f sizes → path ≡ created_path given.next number

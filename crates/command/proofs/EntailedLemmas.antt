@@ -1,4 +1,4 @@
--- What rounds saved follows from the first formula.
+-- The formulas that rounds saved follow from the first formula.
 use Rattle.std.proofs.Common.{◌≡◌, ◌∙◌, ◌+◌, ◌∷◌, ◌⊎◌, ℕ, List, [], Some, inl, inr, subst, sym}
 use Rattle.lrup_model.specs.Cube.{CubeValue}
 use Rattle.lrup_model.specs.Formula.{Cnf}
@@ -16,7 +16,7 @@ use Rattle.command.proofs.StatusLemmas.{IsOfReport, never_reported, open_is}
 
 module _ (itself : EntailsItself) (onward : EntailsOnward) {its : Effects} {given : CommandLine} {cube : CubeValue} (folder : Text)
     (asked : rounds_of given.next ≡ Some folder) (formula : Cnf) where
-  -- what a round saved follows from the first formula, if the round's formula does
+  -- if a round's formula follows from the first one, so does the formula that the round saved
   saves_entailed : (round : Round its given cube) → Entails formula round.formula
       → KeptAt its round.formula round.opened (formula_path folder (round.number + 1)) round.next round.after
       → SavesEntailed folder formula round
@@ -38,7 +38,7 @@ module _ (itself : EntailsItself) (onward : EntailsOnward) {its : Effects} {give
       onward formula b.formula round.formula (round_entailed first b more rounds.1)
       (carried_entails b round.formula rounds.0.goes_on)
 
-  -- so what each round but the last saved follows from the first formula
+  -- the formula that a round before the last one saved follows from the first formula
   save_entailed : (first : its.State) (round : Round its given cube) (before : List (Round its given cube))
       → AreRounds formula first (round ∷ before) → SaveEntailed folder formula before
   save_entailed first round [] rounds = tt

@@ -53,7 +53,7 @@ module _ (its : Effects) (given : CommandLine) (cube : CubeValue) (formula : Cnf
   abbrev SoFar : CheckedRound → Option Cnf → its.State → Type 0
   SoFar last next after = RoundsSoFar its given cube formula first last next after
 
-  -- after round 1
+  -- `SoFar` holds after round 1
   pub agrees_first : (last : CheckedRound) (next : Option Cnf) (opened after : its.State) (readers : List its.Reader) → last.number ≡ 1
       → StreamsOpened its first given.streams readers opened → WasFound its given cube formula readers opened last next after
       → last.sizes ≡ sizes_of given → SoFar last next after
@@ -71,7 +71,7 @@ module _ (its : Effects) (given : CommandLine) (cube : CubeValue) (formula : Cnf
   now {last} {next} {after} so_far =
       round_of so_far.current so_far.readers so_far.opened last next after so_far.is_found.was
 
-  -- after a later round
+  -- `SoFar` holds after a later round
   pub agrees_next : (last found : CheckedRound) (formula_now : Cnf) (next : Option Cnf) (before sized opened after : its.State)
       (readers : List its.Reader) (folder : Text) → rounds_of given.next ≡ Some folder
       → found.number ≡ last.number + 1 → SoFar last (Some formula_now) before
@@ -101,7 +101,7 @@ module _ (its : Effects) (given : CommandLine) (cube : CubeValue) (formula : Cnf
         );
       }
 
-  -- The rounds end:
+  -- the rounds end, for one of the reasons below
   ends_so : (last : CheckedRound) (next : Option Cnf) (before after : its.State) → (so_far : SoFar last next before)
       → RoundsEnd (now so_far) after → EndsAt its given cube formula first last after
   ends_so last next before after so_far finished = record {
@@ -112,16 +112,16 @@ module _ (its : Effects) (given : CommandLine) (cube : CubeValue) (formula : Cnf
     finished = finished;
   }
 
-  -- the words ask for no further rounds;
+  -- the rounds end if the words ask for none
   pub ends_alone : (last : CheckedRound) (next : Option Cnf) (after : its.State) → rounds_of given.next ≡ None → SoFar last next after
       → EndsAt its given cube formula first last after
   ends_alone last next after once so_far = ends_so last next after after so_far (inl (inl once, refl))
 
-  -- the run doesn't continue after the last one;
+  -- the rounds end if the run doesn't continue after the last one
   pub ends_barred : (last : CheckedRound) (after : its.State) → SoFar last None after → EndsAt its given cube formula first last after
   ends_barred last after so_far = ends_so last None after after so_far (inl (so_far.is_found.finished refl, refl))
 
-  -- there is no stream 1;
+  -- the rounds end if the next one has no stream 1
   pub ends_without : (last : CheckedRound) (next : Cnf) (before after : its.State) (folder : Text) → rounds_of given.next ≡ Some folder
       → SoFar last (Some next) before → IsAlone its folder last before after → EndsAt its given cube formula first last after
   ends_without last next before after folder asked so_far alone =
@@ -131,14 +131,14 @@ module _ (its : Effects) (given : CommandLine) (cube : CubeValue) (formula : Cnf
       ends_so last (Some next) before after so_far
       (inr (next, on, inl (subst (λ (f : Text). IsAlone its f last before after) same alone)))
 
-  -- the next round's number would be too high.
+  -- the rounds end if the next one's number would be too high
   pub ends_high : (last : CheckedRound) (next : Option Cnf) (after : its.State) → SoFar last next after
       → 2 ^ 64 < last.number + 3 → EndsAt its given cube formula first last after
   ends_high last None after so_far high = ends_barred last after so_far
   ends_high last (Some next) after so_far high =
       ends_so last (Some next) after after so_far (inr (next, so_far.is_found.goes_on next refl, inr (high, refl)))
 
-  -- The next round has no report.
+  -- the rounds end with a fault if the next one has no report
   pub fails_after : (last : CheckedRound) (next : Cnf) (before after : its.State) (failed : RoundFault) (folder : Text)
       → rounds_of given.next ≡ Some folder → SoFar last (Some next) before
       → IsRoundCause its given cube folder failed.round last.sizes next before failed.fault after → failed.round ≡ last.number + 1
@@ -189,7 +189,7 @@ run_params_same f given cube other options sizes count options_are cube_is count
     ap₂ (λ o n. run_params_of o other f n) options_are count_is
     ∙ ap (λ c. run_params_of (options_by given.tries sizes) c f sizes.streams) cube_is
 
--- the run doesn't continue, as the words, the verdict, the save or the reports say
+-- why the run doesn't continue: because of the words, the verdict, the save or the reports
 pub barred_by : (next : Next) (verdict : Verdict) (unsaved : Option SaveFault) (Ended : Type 0) (goes_on : Bool)
     → (IsTrue goes_on ↔ (IsTrue (is_some (rounds_of next)) × ((verdict ≡ Unknown) × Ended)))
     → ((folder : Text) → rounds_of next ≡ Some folder → goes_on ≡ true
@@ -213,7 +213,7 @@ folder_of Nothing asked = absurd (let no : false ≡ true = asked in cc)
 folder_of (Checkpoint path) asked = absurd (let no : false ≡ true = asked in cc)
 folder_of (Rounds folder) asked = (folder.now, refl)
 
--- the words ask for no rounds
+-- words without a folder of rounds ask for no rounds
 pub once_of : (next : Next) → ((folder : Bor Text) → next ≡ Rounds folder → ⊥) → rounds_of next ≡ None
 once_of Nothing other = refl
 once_of (Checkpoint path) other = refl

@@ -70,7 +70,7 @@ left_unused its before next after (Some path) None created discards = absurd cre
 left_unused its before next after (Some path) (Some first) created discards =
     record { output = first; next = next; created = created.0; empty = created.1; discarded = discards }
 
--- What holds for the layout and the dropped identities that a run left holds for the run's own.
+-- If P holds of the layout and the dropped identities in a result, it holds of the run's own.
 pub left_moved : {R : Type 0} {view : SourceView R} {serial : Bool} {f : Cnf} {run_params : RunParamsValue} {firsts : List R}
     {reports : List Report} {verdict : Verdict} {clauses : Clauses} {dropped : List DroppedIdsValue}
     (result_is : IsCheckResult view serial f run_params firsts reports verdict clauses dropped)
@@ -79,7 +79,7 @@ pub left_moved : {R : Type 0} {view : SourceView R} {serial : Bool} {f : Cnf} {r
 left_moved {run_params = run_params} {dropped = dropped} result_is P is =
     subst (P run_params.layout) result_is.dropped_is (subst (λ (p : LayoutValue). P p dropped) result_is.layout is)
 
--- with a path there is a file
+-- if there is a path, a file was created
 pub creates_some : (its : Effects) (before after : its.State) (path : Option Text) (output : Option its.Output) (at : Text)
     → CreatesCheckpoint its before path output after → path ≡ Some at → is_some output ≡ true
 creates_some its before after None output at created is = absurd (let no : None ≡ Some at = is in cc)

@@ -22,7 +22,7 @@ use Rattle.command_line.specs.lemmas.NextLemmas.{never_both}
 use Rattle.command.specs.lemmas.OneRound.{creates_checkpoint, is_over, were_one}
 use Rattle.command.specs.lemmas.SavedLemmas.{kept}
 
--- the verdict of a report with this status
+-- a report with status 0 has the verdict 'unsatisfiable'
 pub zero_is : (failed : Bool) (unsaved : Option SaveFault) (verdict : Verdict) → report_status failed unsaved verdict ≡ 0
     → verdict ≡ Unsatisfiable
 zero_is true unsaved verdict is = absurd (let no : Path ℕ 7 0 = is in cc)
@@ -54,7 +54,7 @@ neither : (n : ℕ) → (n ≡ 3 → ⊥) → (n ≡ 8 → ⊥) → (n ≡ 3) �
 neither n not_3 not_8 (inl three) = not_3 three
 neither n not_3 not_8 (inr eight) = not_8 eight
 
--- a report with this status was written, and its checkpoint was saved
+-- with status 3 or 8, the checkpoint was saved, and the verdict isn't 'unsatisfiable'
 pub open_is : (failed : Bool) (unsaved : Option SaveFault) (verdict : Verdict)
     → (report_status failed unsaved verdict ≡ 3) ⊎ (report_status failed unsaved verdict ≡ 8)
     → (unsaved ≡ None) × (verdict ≡ Unsatisfiable → ⊥)
@@ -66,7 +66,7 @@ open_is false None Unknown is = (refl, λ no. let never : Unknown ≡ Unsatisfia
 
 -- ---- the status of a fault
 
--- by cases: the statuses that a fault may have
+-- a proof by cases: the statuses that a fault may have
 by_status : (P : CommandFault → ℕ → Type 0) → ((n : ℕ) (f : CommandFault) → (n ≡ 2) ⊎ ((n ≡ 4) ⊎ ((n ≡ 5) ⊎ (n ≡ 6))) → P f n)
     → P faults.Unwritten 7 → ((unsaved : SaveFault) → P (faults.NotSaved unsaved) 9) → (fault : CommandFault) → P fault (status_of fault)
 by_status P low seven nine (faults.Usage text) = low 2 _ (inl refl)
@@ -120,14 +120,14 @@ seven_is fault =
     by_status (λ f n. n ≡ 7 → f ≡ faults.Unwritten) (λ n f low is. absurd (low_not_7 n low is)) (λ is. refl)
     (λ unsaved is. absurd (let no : Path ℕ 9 7 = is in cc)) fault
 
--- and only a checkpoint that wasn't saved has a status of a report
+-- of the faults, only a checkpoint that wasn't saved has a status of a report
 unsaved_is : (fault : CommandFault) → IsOfReport (status_of fault) → (unsaved : SaveFault) × (fault ≡ faults.NotSaved unsaved)
 unsaved_is fault =
     by_status (λ f n. IsOfReport n → (unsaved : SaveFault) × (f ≡ faults.NotSaved unsaved))
     (λ n f low is. absurd (low_unreported n low is))
     (λ is. absurd (not_of_report 7 (λ e. cc) (λ e. cc) (λ e. cc) (λ e. cc) is)) (λ unsaved is. (unsaved, refl)) fault
 
--- neither of these two faults is a cause for a round without a report
+-- a round never lacks its report because of `Unwritten` or `NotSaved`
 module _ (files : FilesView) (words : List Text) (after : files.its.State) where
   unassumed : (vars : ℕ) (before : files.its.State) (path : Option Text) → IsAssumeCause files vars before path faults.Unwritten after
       → ⊥
@@ -172,7 +172,7 @@ module _ (files : FilesView) (words : List Text) (after : files.its.State) where
   ]
 
 module _ (files : FilesView) (words : List Text) (after : files.its.State) (out err : SinkChange) (status : ℕ) where
-  -- so a program that ends without a report never has the status of a report
+  -- a program that ends without a report never has the status of a report
   pub never_reported : EndsWithFault files words after out err status → IsOfReport status → ⊥
   never_reported ends is =
       let fault = unsaved_is ends.fault (subst IsOfReport ends.status_is is) in
@@ -257,7 +257,7 @@ module _ (files : FilesView) (words : List Text) (after : files.its.State) (out 
       comes_last _ empty.2
 
 module _ (files : FilesView) (words : List Text) (after : files.its.State) (out err : SinkChange) (status : ℕ) where
-  -- with status 3 or 8 the checkpoint was saved
+  -- with status 3 or 8, the checkpoint was saved
   pub all_saved : ProgramEnds files words after out err status
       → CheckpointEntailed files.its.opens (WasReadIn files) (WasSavedBy files.its) files.first words after status
   all_saved (inl report) path ask is = report_saved files words after out err status report path ask is
@@ -265,7 +265,7 @@ module _ (files : FilesView) (words : List Text) (after : files.its.State) (out 
       absurd (never_reported files words after out err status fault
       (elim is [ inl three ↦ inr (inl three) | inr eight ↦ inr (inr (inl eight)) ]))
 
-  -- with status 0 no checkpoint was written
+  -- with status 0, no checkpoint was written
   pub all_empty : ProgramEnds files words after out err status → CheckpointLeftEmpty files words after status
   all_empty (inl report) path ask is = report_empty files words after out err status report path ask is
   all_empty (inr fault) path ask is = absurd (never_reported files words after out err status fault (inl is))

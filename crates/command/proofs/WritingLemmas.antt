@@ -16,7 +16,7 @@ use Rattle.run_files.specs.declared.fault.CommandFault.TheVariants as faults
 use Rattle.command.specs.Commands.{SaysOfRound, SinkChange, SinkTook, TakesUnlessFailed}
 use Rattle.command.specs.Rounds.{last_text, round_text}
 
--- a write after nothing was written
+-- a text that is written when nothing has been written yet is all that was written
 after_nothing : (a b c : Option (List ℕ)) (text : List ℕ) → Keeps a b → Appends b c text → Appends a c text
 after_nothing None b c text keeps appends = tt
 after_nothing (Some xs) None c text keeps appends = absurd keeps
@@ -61,7 +61,7 @@ says_both round a b c true failed (Some fault) said stays goes =
     subst (λ (f : Bool). TakesUnlessFailed f a c text) (sym same.1)
     (said.0, rest, is, subst (λ (o : Option (List ℕ)). Appends a o said.0) (sym same.0) said.3)
 
--- a text that is written after another one
+-- a text that is written after another one: both are written, or a prefix of both
 pub writes_after : {E : Type 0} (r : Result (Unit {0}) E) (a b c : Option (List ℕ)) (one two : List ℕ) → Appends a b one
     → WritesText r b c two → WritesText r a c (one ++ two)
 writes_after (Ok u) a b c one two first next = Appends-trans a b c one two first next
@@ -72,7 +72,7 @@ writes_after (Err e) a b c one two first next = (
   Appends-trans a b c one next.0 first next.3,
 )
 
--- a write that broke off before the second text
+-- if a write broke off in the first text, a prefix of both texts was written
 pub breaks_before : (a b : Option (List ℕ)) (one two : List ℕ) → (went rest : List ℕ) × (one ≡ went ++ rest) × Appends a b went
     → (went rest : List ℕ) × (one ++ two ≡ went ++ rest) × Appends a b went
 breaks_before a b one two broken =
@@ -87,7 +87,7 @@ pub last_of_more : (number : ℕ) (reports : List Report) (verdict : Verdict) �
     → last_text number reports verdict ≡ round_text number ++ report_text reports verdict
 last_of_more number reports verdict other = rw (ne_eqb number 1 other) refl
 
--- for a fault of round 1 only the fault is reported
+-- for a fault of round 1, only the fault is reported
 pub first_error : (fault : CommandFault) → round_error_text 1 fault ≡ error_text fault
 first_error (faults.Usage text) = refl
 first_error fault = refl

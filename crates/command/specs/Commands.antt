@@ -110,7 +110,7 @@ CheckpointLeftEmpty files words last status =
 
 -- The output.
 
--- a sink: what was written to it by the start and by the end, and whether it has failed at the end
+-- a sink: what had been written to it at the start and at the end, and whether it failed by then
 pub record SinkChange : Type 0 where
   pub before : Option (List ℕ)
   pub after : Option (List ℕ)

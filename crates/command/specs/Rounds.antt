@@ -28,8 +28,8 @@ use Rattle.command.specs.Commands.{AreChecked, IsUntouched, SaysOfRound, SinkCha
 abbrev pub HaveEnded : List Report → Type 0
 HaveEnded reports = AllByRecursion (λ report. report.ending ≡ endings.Ended) reports
 
--- A file was created at the path, saved to and closed. If its contents are known, it was empty at
--- first.
+-- The program created a file at the path, tried to save to it, and closed it. If its contents are
+-- known, it was empty at first.
 pub record LeavesFile (its : Effects)
     (Saves : Result (Option Cnf) SaveFault → its.Output → its.Output → Type 0) (before : its.State)
     (path : Text) (unsaved : Option SaveFault) (next : Option Cnf)
@@ -208,7 +208,7 @@ pub record EndsWithReport (files : FilesView) (words : List Text) (after : files
   pub status_is : status ≡ report_status out.failed last.unsaved last.verdict
 
 -- The words give a command line, and the round with this number, which follows others, has no
--- report for this cause.
+-- report because of this fault.
 pub record FailsLater (files : FilesView) (words : List Text) (number : ℕ) (fault : CommandFault)
     (after : files.its.State) : Type 0 where
   pub given : CommandLine
@@ -254,16 +254,16 @@ SavesEntailed {its} folder formula round =
     × WasSavedBy its round.opened (formula_path folder (round.number + 1)) bytes round.after
     × IsCheckpoint formula bytes
 
--- each of these rounds saved such a text
+-- `SavesEntailed` holds for each of these rounds
 abbrev pub SaveEntailed : {its : Effects} {given : CommandLine} {cube : CubeValue} → Text → Cnf
     → List (Round its given cube) → Type 0
 SaveEntailed folder formula [] = Unit {0}
 SaveEntailed folder formula (round ∷ before) =
     SavesEntailed folder formula round × SaveEntailed folder formula before
 
--- The program ends with a report after some rounds. Each round but the last saved, for the next
--- one, a text of a formula over the same variables, whose clauses all follow from FORMULA. With
--- status 3 or 8 the last round did so, too.
+-- The program ends with a report after some rounds. Each round before the last one saved, for the
+-- next round, a text of a formula over the same variables, whose clauses all follow from FORMULA.
+-- With status 3 or 8, the last round did so, too.
 pub record ReportsEntailed (files : FilesView) (words : List Text) (folder : Text)
     (after : files.its.State) (out err : SinkChange) (status : ℕ) : Type 0 where
   pub ending : EndsWithReport files words after out err status

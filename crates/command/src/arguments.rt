@@ -66,7 +66,7 @@ pub fn command_with_arguments<
         (⟦<F as Viewed>⟧.view files.old) (words_after_name given) files.new (exit_status result)) }
     ensures usage { IfOk arguments (λ given. HaveFault (words_after_name given)
         → (exit_status result ≡ 2) ⊎ (exit_status result ≡ 6)) }
-    // If it gives none, the program reports the cause,
+    // If the system gives no arguments, the program reports the cause,
     ensures refused { IfErr arguments (λ error. EndsWithoutArguments (error_kind error)
         (change O.Sink out.old out.new) (change E.Sink err.old err.new) (exit_status result)) }
     // and leaves the files unchanged.

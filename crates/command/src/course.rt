@@ -20,7 +20,7 @@ pub(crate) struct Course<'a> {
 }
 
 impl Course<'_> {
-    /// The options of a round of these sizes. There are such options, since the words allow no more
+    /// The options of a round with these sizes. Such options exist, since the words allow no more
     /// tries than `few` says.
     pub(crate) fn options(&self, sizes: Sizes) -> Options
         ensures { result ≡ options_by self.now.line.now.tries sizes }
@@ -52,8 +52,8 @@ pub(crate) struct CheckedRound {
     pub(crate) verdict: Verdict,
     /// Why the checkpoint wasn't saved, if it wasn't.
     pub(crate) unsaved: Option<SaveFault>,
-    /// When its streams finished, if rounds and `--watch` were asked for and the clock gave the
-    /// time.
+    /// When the round's streams finished, if rounds and `--watch` were asked for and the clock gave
+    /// the time.
     pub(crate) ended_at: Option<Instant>,
     ghost some: { 0 < sizes.streams },
 }

@@ -54,8 +54,8 @@ use std::time::Clock;
 /// - 4: the formula or the assumptions were refused for a cause other than memory.
 /// - 5: the file of the formula, of the assumptions or of a round's sizes couldn't be opened or
 ///   read; a stream's file couldn't be opened; the checkpoint's file couldn't be created.
-/// - 6: out of memory, unless a stream's report says so or it happened while saving; a thread
-///   couldn't be started; a stream's end got lost between its two threads.
+/// - 6: memory ran out, except in the check of a stream, whose report says so, and while saving; a
+///   thread couldn't be started; a stream's end got lost between its two threads.
 /// - 7: the report couldn't be written.
 /// - 8: the report says `s UNSATISFIABLE UNDER ASSUMPTIONS`.
 /// - 9: instead of 3 or 8, if the checkpoint couldn't be saved.
@@ -82,14 +82,15 @@ pub fn command<T: Threads + Wait + Sync, C: Clock + Sync, F: Machine, O: Sink, E
     // matches.
     ensures ends { ProgramEnds (⟦<F as Viewed>⟧.view files.old) (texts words.now) files.new
         (change O.Sink out.old out.new) (change E.Sink err.old err.new) result }
-    // With status 3 or 8, if the words ask for a checkpoint, what was saved there is a text of a
-    // formula whose clauses all follow from FORMULA.
+    // With status 3 or 8, if the words ask for a checkpoint, what was saved is a text of a formula
+    // whose clauses all follow from FORMULA.
     ensures saved { let read = WasRead F.opens F.Input.Source.reads (F.contents files.old) in
         let save = WasSaved F.creates F.Output.Sink.written F.keeps in
         CheckpointEntailed F.opens read save files.old (texts words.now) files.new result }
-    // If a report was written (status 0, 3, 8 or 9), and the words ask for rounds, each round but
-    // the last saved, for the next one, a text of a formula over the same variables, whose clauses
-    // all follow from FORMULA. With status 3 or 8 the last round did so, too.
+    // If a report was written (status 0, 3, 8 or 9), and the words ask for rounds, each round
+    // before the last one saved a text of a formula for the next round. This formula has the same
+    // variables, and its clauses all follow from FORMULA. With status 3 or 8 the last round saved
+    // one, too.
     ensures saved_rounds { RoundsEntailed (⟦<F as Viewed>⟧.view files.old) (texts words.now)
         files.new (change O.Sink out.old out.new) (change E.Sink err.old err.new) result }
     // With status 0, if the words ask for a checkpoint, none was written: its file was created
@@ -127,7 +128,7 @@ pub fn check_formula<T: Threads + Wait + Sync, C: Clock + Sync, F: Machine, O: S
 ) -> u8
     requires out { O.has_failed out.old ≡ false }
     requires err { E.has_failed err.old ≡ false }
-    // The words allow no larger number.
+    // The words allow no more tries.
     requires tries { asked.line.tries ≤ max_tries }
     // With status 0, the bytes are a text of a formula that no assignment satisfies.
     ensures sound { result ≡ 0 → IsUnsatisfiableText asked.entry.formula.items }
@@ -136,10 +137,10 @@ pub fn check_formula<T: Threads + Wait + Sync, C: Clock + Sync, F: Machine, O: S
     ensures sound_under { let read = WasRead F.opens F.Input.Source.reads (F.contents files.old) in
         result ≡ 8 → IsUnsatisfiableTextWith read asked.entry.formula.items files.old
         (assumed_at asked.entry.line) }
-    // If words give this command line, and the bytes were read from FORMULA, the first file to be
-    // opened, when the files were `first`, the program ends as `ProgramEnds` says for these words
-    // and files: with a report, or without one and with the cause; and the output and the status
-    // match.
+    // Suppose that words give this command line, and that the bytes were read from FORMULA, the
+    // first file to be opened, when the files were `first`. Then the program ends as `ProgramEnds`
+    // says for these words and files: with a report, or with the cause instead; and the output and
+    // the status match.
     ensures ends { (words : List Text) (first : F) →
         let view = from_first (⟦<F as Viewed>⟧.view files.old) first in
         IsCommandLineOf words asked.entry.line
@@ -172,7 +173,7 @@ fn report<O: Sink, E: Sink>(last: &CheckedRound, out: &mut O, err: &mut E) -> u8
     }
 }
 
-/// Writes the report of the last round, after the round's number if that isn't 1.
+/// Writes the report of the last round; the round's number comes first if it isn't 1.
 fn write_last<O: Sink>(last: &CheckedRound, out: &mut O) -> Result<(), WriteFault>
     requires running { O.has_failed out.old ≡ false }
     ensures text { WritesText result (O.written out.old) (O.written out.new)
@@ -211,7 +212,7 @@ fn say_unsaved<E: Sink>(round: u64, unsaved: Option<SaveFault>, err: &mut E)
     }
 }
 
-/// The status once the report was written.
+/// The status once the report has been written.
 fn written_status(last: &CheckedRound) -> u8
     ensures { result ≡ report_status false last.now.unsaved last.now.verdict }
 {
@@ -247,8 +248,8 @@ pub fn say<E: Sink>(fault: &CommandFault, err: &mut E) -> u8
     say_of_round(1, fault, err)
 }
 
-/// Reports a fault of a round, counted from 1, and returns its status, even if the message couldn't
-/// be written.
+/// Reports a fault of the round with this number (from 1), and returns its status, even if the
+/// message couldn't be written.
 fn say_of_round<E: Sink>(round: u64, fault: &CommandFault, err: &mut E) -> u8
     requires err { E.has_failed err.old ≡ false }
     ensures said { SinkTook (change E.Sink err.old err.new) (round_error_text round fault.now) }

@@ -1,4 +1,4 @@
-//! One round: the check of its streams, and what it saves of their clauses.
+//! One round: its streams are checked, and their clauses saved.
 ghost use Rattle.std.specs.Prelude.{◌≡◌, ◌↔◌, ◌<◌, ◌+◌, false, IfErr, IfOk, IsTrue, List, is_some, length, option_map, string_bytes};
 ghost use Rattle.std.specs.Cow.{cow_str_bytes};
 ghost use Rattle.std.specs.List.{AllByRecursion};
@@ -126,7 +126,7 @@ fn close_round<C: Clock + Sync, F: Machine>(
     requires streams { 0 < sizes.streams }
     requires ready { CanBeSaved run.clauses }
     requires output { ForSome output (λ sink. F.Output.Sink.has_failed sink ≡ false) }
-    // The clause holds for each round whose check had these results.
+    // This holds for each round whose check had these results.
     ensures found { let its = ⟦<F as Viewed>⟧.effects in
         let line = course.now.line.now in
         let cube = course.now.cube.now in

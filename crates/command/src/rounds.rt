@@ -1,4 +1,4 @@
-//! A run is a list of rounds: each starts from the clauses that the one before it saved.
+//! A run as a list of rounds, each of which starts from the clauses that the previous one saved.
 ghost use Rattle.std.specs.Prelude.{◌≡◌, ◌↔◌, ◌⊎◌, ◌<◌, ◌≤◌, ◌+◌, ◌∷◌, List, None, false, IfErr, IfOk, IfSome, IsTrue, Ok, Some, length, map, option_map, string_bytes};
 ghost use Rattle.std.specs.Cow.{cow_str_bytes};
 ghost use Rattle.std.specs.List.{AllByRecursion};
@@ -171,7 +171,7 @@ pub(crate) fn begin_and_check<T: Threads + Wait + Sync, C: Clock + Sync, F: Mach
         formula: bytes,
     } = asked;
     // Laws, with no effect at run time: if no assignment satisfies a checkpoint, none satisfies the
-    // formula before it.
+    // formula whose checkpoint it is.
     refutes_back();
     refutes_back_under();
     let begun = match begin(threads, alloc, &line, bytes, files) {

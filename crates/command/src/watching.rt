@@ -17,7 +17,7 @@ pub(crate) fn now_if<C: Clock + Sync>(clock: &C, asked: bool) -> Option<Instant>
     }
 }
 
-/// Reports to a watcher that a round begins, the size of its formula, and the pause since the
+/// Reports to a watcher that a round begins, with the size of its formula and the pause since the
 /// previous round ended. If the clock gives no time, the pause is left out; if memory runs out, the
 /// whole report is.
 pub(crate) fn report_begin<C: Clock + Sync, F: Machine>(
@@ -66,7 +66,7 @@ fn begin_line(
     format!(in alloc; "lrupd: round {number}: {clauses} clauses, {literals} literals\n")
 }
 
-/// The same line, with the pause before the round in milliseconds.
+/// The line of `begin_line` and the pause before the round, in milliseconds.
 fn paused_line(
     alloc: Global,
     number: u64,

@@ -9,7 +9,7 @@ use Rattle.clap.specs.Simple.{Shape, entered, names_of}
 use Rattle.clap.proofs.OnLiterals.{clap_on_literals}
 use Rattle.command_line.specs.CommandLine.{lrupd}
 
--- the result of `clap` is exactly that of a parse of the command
+-- the command is simple, so the result of `clap` is exactly that of a parse
 pub simple : is_simple lrupd ≡ true
 simple = refl
 

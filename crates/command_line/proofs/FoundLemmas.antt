@@ -103,7 +103,7 @@ text_passed d f id q is pass named parses plain text found = go (matched_of f id
 named : (x : ℕ) (xs : Text) → x ∷ xs ≡ [] → ⊥
 named x xs e = cc
 
--- an argument other than the one asked for
+-- nothing has to be shown for an argument other than the one asked for
 other : {A : Type 0} → false ≡ true → A
 other e = cc
 
@@ -254,7 +254,7 @@ pub fails_by : (words : List Text) (c : Command) (r : Result ArgMatches Error) �
 fails_by words c r is kinds =
     subst (λ (a : App). is_simple_and_free a ≡ true → FailsBy (fault_of a words) r) is kinds simple_and_free
 
--- and finds what the words contain if they have no fault
+-- a parse of `lrupd` finds what the words contain if they have no fault
 pub finds : (words : List Text) (c d : Command) (r : Result ArgMatches Error) → app_of c ≡ lrupd → BuildsOrBreaks c d
     → (is_broken d ≡ true → IsErrAnd r (λ e. kind_of e ≡ OutOfMemory))
     → IfOk r (λ m. BuildsTo c d × ((out-Command d).has_globals ≡ false → IsParsed d (found_of m) (has_subcommand m))

@@ -81,7 +81,7 @@ not_short (b ∷ rest) plain =
     let no : (b == 45) ≡ false = is_false (b == 45) plain in
     rw no refl
 
--- the word is no flag
+-- a word that doesn't begin with a hyphen isn't read as a flag
 met : (waiting : Waiting) (position : ℕ) (word : Text) (h : Held) → is_plain word ≡ true
     → word_met rules [] false waiting position word h ≡ plain_word rules waiting word h
 met idle position word h plain =
@@ -194,7 +194,7 @@ turn_good w word running is_value no_flag at =
     ∙ ap (λ f. or_else f (step_fault top w.position seen.0 seen.1)) no_flag
     ∙ ap (λ (p : Held × Step). step_fault top w.position p.0 p.1) is_value ∙ at
 
--- the faults of a walk from one word on
+-- a walk has no fault if neither its first step nor the rest has one
 next_good : (w after : Walk) (word : Text) (rest : List Text) → turn_fault top [] w word ≡ [] → walked rules [] w word ≡ after
     → walk_fault top [] after rest ≡ [] → walk_fault top [] w (word ∷ rest) ≡ []
 unfolding walk_fault
@@ -246,7 +246,7 @@ use_good again first rest rows few =
     ap (λ f. or_else f (values_fault streams_rule (first ∷ rest))) (range_good (length (first ∷ rest)) (omega arith) few)
     ∙ values_good (first ∷ rest)
 
--- what comes after the walk
+-- the faults of what comes after the walk
 abbrev tail : Walk → Kinds
 tail w = or_else (entered_fault (built lrupd) w.stopped) (or_else (settle_fault rules false w.held)
     (or_else (defaults_fault (settled rules w.held).rows rules)

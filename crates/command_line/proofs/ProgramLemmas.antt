@@ -36,7 +36,7 @@ program_simple d is = ready_simple d (ready is) (leaves is)
     leaves (inl e) = ap (λ (a : App). list_all is_ready_leaf a.subs) e ∙ refl
     leaves (inr e) = ap (λ (a : App). list_all is_ready_leaf a.subs) e ∙ refl
 
--- each rule of a list
+-- P holds of each rule of a list
 abbrev pub EachRule : (Rule → Type 0) → List Rule → Type 0
 EachRule P [] = Unit {0}
 EachRule P (r ∷ rs) = P r × EachRule P rs
@@ -47,7 +47,7 @@ rule_at P [] k x each lt at = absurd (omega arith)
 rule_at P (y ∷ ys) zero x each lt at = subst (λ z. P (rule_of z)) at each.0
 rule_at P (y ∷ ys) (suc k) x each lt at = rule_at P ys k x each.1 (omega arith) at
 
--- each argument's rule, before and after building
+-- P holds of each argument's rule, before and after building
 abbrev pub EachArgument : (Rule → Type 0) → Type 0
 EachArgument P = EachRule P lrupd.top.rules × EachRule P (built lrupd).top.rules
 

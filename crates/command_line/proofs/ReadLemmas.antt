@@ -50,7 +50,7 @@ flag_read (Some t) read none on off truth = elim (truth t refl) [
 pub same_length : {A : Type 0} {o : Option (List A)} {a b : List A} → o ≡ Some a → o ≡ Some b → 0 < length a → 0 < length b
 same_length {A} {o} {a} {b} one two some = subst (λ (r : Option (List A)). 0 < length (unwrap_or r [])) (sym one ∙ two) some
 
--- if the words' rows give no command line, the words give none, for the same cause
+-- if the words' rows give no command line, the words give none, for the same reason
 pub fault_of_rows : {A : Type 0} (words : List Text) (rows : List Row) → AreRowsOf words rows → (result : Result A WordsFault)
     → IfErr result (IsRowsFault rows) → IfErr result (IsWordsFault words)
 fault_of_rows words rows are (Ok line) is = is

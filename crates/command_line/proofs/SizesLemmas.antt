@@ -68,7 +68,7 @@ after_streams sizes = decimal sizes.lines ++ 32 ∷ (decimal sizes.room ++ 10 �
 abbrev pub after_lines : Sizes → List ℕ
 after_lines sizes = decimal sizes.room ++ 10 ∷ []
 
--- a text of sizes is three numbers, each followed by its character
+-- a text of sizes is three numbers, followed by a space, a space and LF
 pub record HasThreeNumbers (bytes : List ℕ) (sizes : Sizes) : Type 0 where
   pub streams : IsNumberBefore bytes 32 sizes.streams (after_streams sizes)
   pub lines : IsNumberBefore (after_streams sizes) 32 sizes.lines (after_lines sizes)
@@ -111,7 +111,7 @@ same_sizes bytes sizes streams lines room is one two three = record {
   small_room = omega (arith, three, is.within.small_room);
 }
 
--- a number before its character, in an equal text
+-- `IsNumberBefore` holds for an equal text, too
 pub along : {one two : List ℕ} (end number : ℕ) (rest : List ℕ) → one ≡ two → IsNumberBefore two end number rest
     → IsNumberBefore one end number rest
 along end number rest same is = subst (λ (text : List ℕ). IsNumberBefore text end number rest) (sym same) is

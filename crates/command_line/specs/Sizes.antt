@@ -3,7 +3,7 @@ use Rattle.std.specs.Prelude.{◌≡◌, ◌<◌, ◌≤◌, ℕ, List, ◌++◌
 use Rattle.std.specs.Fmt.{decimal}
 use Rattle.command_line.specs.declared.sizes.Sizes.{Sizes}
 
--- three numbers in decimal, a space between them, and a line feed
+-- three numbers in decimal, separated by spaces, and a line feed
 abbrev pub sizes_text : Sizes → List ℕ
 sizes_text sizes = decimal sizes.streams ++ codes " " ++ decimal sizes.lines ++ codes " "
     ++ decimal sizes.room ++ codes "\n"

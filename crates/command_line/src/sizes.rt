@@ -56,7 +56,7 @@ pub fn read_sizes(bytes: &[u8]) -> Option<Sizes>
     }
 }
 
-/// Whether the text begins with a digit, and has nothing after a leading 0.
+/// Whether the text is `0`, or begins with a digit from 1 to 9.
 fn begins_as_number(text: &str) -> bool
     ensures { IsTrue result ↔ BeginsAsNumber text.now }
 {

@@ -193,7 +193,7 @@ fn is_set(matches: &ArgMatches<'_>, name: &str) -> bool
     matches.get_flag(name)
 }
 
-/// What the clauses are saved for; `None` if the words have both options.
+/// What the clauses are saved for; `None` if the words have both `--checkpoint` and `--rounds`.
 fn next_of<'a>(matches: &ArgMatches<'a>) -> Option<Next<'a>>
     ensures checkpoint { IfSome result (λ next. checkpoint_of next
         ≡ first_of (codes "checkpoint") (rows_of (found_of matches.now))) }

@@ -282,7 +282,7 @@ static BOTH: [&[&str]; 2] = [
     &["--checkpoint=c", "--rounds=c", "f", "s"],
 ];
 
-/// Asking for both is a fault with a text of its own.
+/// Asking for both a checkpoint and rounds is a fault with a text of its own.
 #[test]
 fn a_checkpoint_excludes_rounds(rt: HostRuntime) -> Result<(), Fail> {
     for &words in &BOTH {
@@ -331,7 +331,7 @@ fn help_says_what_each_option_is(rt: HostRuntime) -> Result<(), Fail> {
 /// Words that ask for the version.
 static VERSION: [&[&str]; 3] = [&["--version"], &["-V"], &["f", "s", "--version"]];
 
-/// `make pages` and `make examples` compare the number with the file VERSION.
+/// `make pages` and `make examples` compare this version with the file VERSION.
 #[test]
 fn the_version_is_one_line(rt: HostRuntime) -> Result<(), Fail> {
     for &words in &VERSION {

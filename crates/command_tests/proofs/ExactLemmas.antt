@@ -59,7 +59,7 @@ nine_is faults.TwoCheckpoints is = absurd (let no : Path ℕ 2 9 = is in cc)
 nine_is faults.SizesUnread is = absurd (let no : Path ℕ 5 9 = is in cc)
 nine_is faults.Sizes is = absurd (let no : Path ℕ 2 9 = is in cc)
 
--- what a report with this status left
+-- what a report with status 9 left at the path
 left_unsaved : (its : Effects) (Saves : Result (Option Cnf) SaveFault → its.Output → its.Output → Type 0)
     (failed : Bool) (unsaved : Option SaveFault) (verdict : Verdict) (path : Text) (before : its.State) (next : Option Cnf)
     (after : its.State)
@@ -98,7 +98,7 @@ module _ (files : FilesView) (words : List Text) where
   never_assumed vars before None why after cause = cause
   never_assumed vars before (Some path) why after cause = cause
 
-  -- no cause is that saving failed
+  -- a failed save is never such a cause
   never_unsaved : (number : ℕ) (why : SaveFault) (after : files.its.State) → IsCauseIn files words number (faults.NotSaved why) after
       → ⊥
   never_unsaved number why after (inl (one, cause)) = elim cause.2 [
@@ -225,7 +225,7 @@ module _ {R W : Type 0} (left : R → List ℕ) (content : W → List ℕ) (read
     closed = closed ∙ ap (λ (files : ExactValue). record files { path = path; bytes = bytes; closing = closing }) stays;
   }
 
-  -- the same, if the file was created after the streams were opened
+  -- what lies at the path in the end, if the file was created after the streams were opened
   last_lies : (Holds : Cnf → List ℕ → Type 0) (words : List Text) (first : ExactValue) (Came : Cnf → ExactValue → ExactValue → Type 0)
       (after : ExactValue) (last : ComesLast exact_effects.opens (WasReadIn (exact_view first)) Came first words after)
       (path bytes : List ℕ) (closing : Closing) → Holds last.formula bytes

@@ -47,7 +47,7 @@ abbrev pub RefusesOpening : ExactValue → List ℕ → OpenFault → ExactValue
 RefusesOpening before path fault after =
     (fault ≡ open_faults.NotOpened) × HasNoFile before path after
 
--- a file is created at the path, which has none
+-- a file is created at the path, where there is none
 abbrev pub IsCreated : ExactValue → List ℕ → List ℕ → ExactValue → Type 0
 IsCreated before path bytes after = (text_at before path ≡ None) × (bytes ≡ [])
     × (after ≡ record before { path = path; bytes = []; closing = closings.Open })
@@ -85,7 +85,8 @@ IsKept words before after status = (path : List ℕ) → AskToSave words path
     → (status ≡ 3) ⊎ (status ≡ 8)
     → FileLies IsCheckpoint words before path closings.Kept after
 
--- With status 0 there is an empty file at that path, which was discarded.
+-- With status 0, if the words ask for a checkpoint, there is an empty file at its path, which was
+-- discarded.
 abbrev pub IsEmptied : List (List ℕ) → ExactValue → ExactValue → ℕ → Type 0
 IsEmptied words before after status = (path : List ℕ) → AskToSave words path → status ≡ 0
     → FileLies (λ formula bytes. bytes ≡ []) words before path closings.Discarded after
@@ -97,8 +98,8 @@ BeginsCheckpoint formula bytes =
     (entries : List Entry) × (rest : List ℕ)
     × (formula_text formula.vars entries ≡ bytes ++ rest)
 
--- With status 9 the file at that path can't be relied on: it is a whole checkpoint that couldn't be
--- kept, or a prefix of a checkpoint.
+-- With status 9, if the words ask for a checkpoint, the file at its path can't be relied on: it is
+-- a whole checkpoint that couldn't be kept, or a prefix of a checkpoint.
 abbrev pub IsUnsure : List (List ℕ) → ExactValue → ExactValue → ℕ → Type 0
 IsUnsure words before after status = (path : List ℕ) → AskToSave words path → status ≡ 9
     → (FileLies IsCheckpoint words before path closings.Lost after × (before.is_lossy ≡ true))

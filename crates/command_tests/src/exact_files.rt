@@ -1,6 +1,6 @@
 //! Files in memory whose contracts say exactly what each call does to them, and what follows for
-//! such files from the clauses of `command`: what is at the path of a checkpoint after the statuses
-//! 0, 3, 8 and 9, and, after 3 and 8, which file a round kept last.
+//! such files from the contract of `command`: what is at the path of a checkpoint after the
+//! statuses 0, 3, 8 and 9, and, after 3 and 8, which file a round kept last.
 ghost use Rattle.std.specs.Prelude.{◌≡◌, ℕ, Some, option_map, string_bytes, true, false};
 ghost use Rattle.clap.specs.Walk.{texts};
 ghost use Rattle.command_tests.specs.ExactFiles.{ExactValue, text_at, text_or_none, FindsText, HasNoFile, RefusesOpening, IsCreated, RefusesNew, ClosesFile};
@@ -178,8 +178,8 @@ impl<'a> Machine for ExactFiles<'a> {
     }
 }
 
-/// Runs the program over these files. What is at the path afterwards follows from nothing but the
-/// clauses of `command`.
+/// Runs the program over these files. What is at the path afterwards follows from only the contract
+/// of `command`.
 pub fn run_exactly<T: Threads + Wait + Sync + Clock>(
     threads: &T,
     alloc: Global,

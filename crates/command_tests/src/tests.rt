@@ -48,7 +48,7 @@ const DROPS: &str = "5 2 0 1 2 0\n7 d 1 0\n";
 
 /// The four clauses and the unit clause: each clause's position is its identity.
 const ALL: &str = "p cnf 2 5\n1 2 0\n-1 2 0\n1 -2 0\n-1 -2 0\n2 0\n";
-/// The same without the first clause.
+/// The clauses of `ALL` without the first.
 const LESS: &str = "p cnf 2 4
 c id 2
 -1 2 0

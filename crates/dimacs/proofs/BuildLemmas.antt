@@ -1,4 +1,4 @@
--- What was made from the tokens, token by token, and the faults at the next one.
+-- What has been made from the tokens, token by token, and the faults at the next token.
 use Rattle.std.proofs.Common.{◌≡◌, ◌+◌, ◌<◌, ◌≤◌, ℕ, ℤ, pos, nat_abs, List, [], ◌∷◌, ◌++◌, map, flat_map, length, Option, Some, None, refl}
 use Rattle.std.proofs.Common.{sym, ap, ◌∙◌, inl, inr, ⊎_elim, subst, arith, length-append}
 use Rattle.std.proofs.lemmas.List.{append-nil, append_assoc, map-append, flat_map_more, nil_from_length}
@@ -100,7 +100,8 @@ set_push w old new l set added = record {
 
 -- ## the reader's state
 
--- `left` is what is left of `all`; the builder has what was made from the tokens before `left`.
+-- `left` has the tokens of `all` that are still to be read; the builder has what was made from the
+-- tokens before them.
 pub record Reads (header : Header) (all left : List Token) (b : Builder) : Type 0 where
   pub before : List Token
   pub split : all ≡ before ++ left
@@ -189,7 +190,7 @@ read_whole {all = all} h none =
     let whole : all ≡ h.before = h.split ∙ ap (λ (x : List Token). h.before ++ x) none ∙ append-nil h.before in
     rw whole h.built.read
 
--- the clause being read has no literal yet
+-- if no literal has been written, the clause being read is still empty
 none_begun : {header : Header} {all left : List Token} {b : Builder} → (h : Reads header all left b) → b.written ≡ 0 → h.built.begun ≡ []
 none_begun h none = nil_from_length h.built.begun (omega (arith, h.built.written_is))
 

@@ -28,7 +28,7 @@ pub left_more : (text : List ℕ) (k : ℕ) → k < length text → is_separator
 left_more text k lt begins e =
     e ∙ ap after_run (drop_more text k 0 lt) ∙ after_run-begun (get_or text k 0) (drop (k + 1) text) begins
 
--- the run ends at this index
+-- at the index of a separator, the run has ended
 pub ended_within : (text : List ℕ) (k : ℕ) → k < length text → is_separator (get_or text k 0) ≡ true
     → (first_run (drop k text) ≡ []) × (after_run (drop k text) ≡ drop k text)
 ended_within text k lt separates =

@@ -68,7 +68,7 @@ within_at : (vars : ℕ) (before : List ℤ) (z : ℤ) (rest : List ℤ) → All
 within_at vars [] z rest all = all.0
 within_at vars (y ∷ before) z rest all = within_at vars before z rest all.1
 
--- a token that comes after tokens without a fault, and is followed by others without one
+-- after tokens without a fault, this one has none, either
 pub record IsFine (vars count : ℕ) (token : Token) (closed : List (List ℤ)) (begun : List ℤ) : Type 0 where
   pub number : ℤ
   pub spelled : number_of token.text ≡ Some number
@@ -133,7 +133,7 @@ somes-injective (x ∷ xs) (y ∷ ys) e =
     let tail : somes xs ≡ somes ys = cc in
     let below = somes-injective xs ys tail in cc
 
--- two readings have the same number of clauses, and of literals after them
+-- two readings of the same tokens have equal numbers of clauses, and of literals after them
 pub one_reading : (vars count : ℕ) (all : List Token) (closed closed' : List (List ℤ)) (begun begun' : List ℤ)
     → TokensSpell vars count all closed begun → TokensSpell vars count all closed' begun'
     → (length closed ≡ length closed') × (length begun ≡ length begun')

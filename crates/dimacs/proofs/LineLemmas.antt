@@ -66,19 +66,19 @@ split_at_line_end bs k h found =
     ap (slice_split ends_line) whole ∙ slice_split_at ends_line (take k bs) (get_or bs k 0) (drop (suc k) bs) none found
     ∙ ap (λ (m : ℕ). take k bs ∷ slice_split ends_line (drop m bs)) (sym (add-one k))
 
--- memchr found none
+-- memchr found no line end
 pub split_no_line_end : (bs : List ℕ) → Nowhere (Passes (is_byte 10) bs) 0 (length bs) → slice_split ends_line bs ≡ bs ∷ []
 split_no_line_end bs h =
     slice_split_none ends_line bs (λ i d lt.
     rw (get_or_default bs i d 0 lt) (⊎_elim (λ yes. absurd (h i (omega arith) lt yes)) (λ x. x) (cases_Bool (ends_line (get_or bs i 0)))))
 
--- a comment that ends with the file
+-- after a comment that ends with the file, there are no lines
 pub lines_at_start-last_comment : (n b : ℕ) (bs : List ℕ) → b ≡ 99 → Nowhere (Passes (is_byte 10) bs) 0 (length bs)
     → lines_at_start n (b ∷ bs) ≡ []
 unfolding lines_at_start
 lines_at_start-last_comment n b bs e none = rw (e, split_no_line_end bs none) refl
 
--- a comment before a line end
+-- a comment before a line end is skipped
 pub lines_at_start-comment : (n b : ℕ) (bs : List ℕ) (k : ℕ) → b ≡ 99 → NoneBefore (Passes (is_byte 10) bs) 0 (length bs) k
     → Passes (is_byte 10) bs k → lines_at_start n (b ∷ bs) ≡ lines_at_start (n + 1) (drop (k + 1) bs)
 unfolding lines_at_start
@@ -86,7 +86,7 @@ lines_at_start-comment n b bs k e h found = rw (e, split_at_line_end bs k h foun
 
 -- ## a token
 
--- the bytes go in front of the first part
+-- puts the bytes in front of the first part
 onto : List ℕ → List (List ℕ) → List (List ℕ)
 onto [] parts = parts
 onto (b ∷ bs) parts = onto_first b (onto bs parts)
@@ -215,7 +215,7 @@ pub after_run-nil : after_run [] ≡ []
 unfolding after_run
 after_run-nil = refl
 
--- a token has begun
+-- at the first byte of a token, the tokens are this one and those after it
 pub tokens_at-token : (n b : ℕ) (bs : List ℕ) → is_separator b ≡ false
     → tokens_at n (b ∷ bs) ≡ record { line = n; text = b ∷ first_run bs } ∷ tokens_at n (after_run bs)
 unfolding tokens_at lines_at
@@ -266,7 +266,7 @@ inside_line : (n : ℕ) (line : List ℕ) (lines : List (List ℕ)) → is_empty
     → lines_inside n (line ∷ lines) ≡ record { number = n; tokens = runs line } ∷ lines_from (n + 1) lines
 inside_line n line lines e = rw e refl
 
--- the lines from a line end on
+-- at a line end, the lines are those from the start of the next line on
 from_line_end : (n : ℕ) (bs : List ℕ) (k : ℕ) → k < length bs → Passes (is_byte 10) bs k
     → lines_at n (drop k bs) ≡ lines_from (n + 1) (slice_split ends_line (drop (k + 1) bs))
 unfolding lines_at lines_at_start

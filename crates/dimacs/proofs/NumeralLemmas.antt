@@ -45,11 +45,11 @@ number_more b n bs low = rw (first_run-begun b bs (digit_begins b low)) refl
 pub after_run_more : (b : ℕ) (bs : List ℕ) → 48 ≤ b → after_run (b ∷ bs) ≡ after_run bs
 after_run_more b bs low = after_run-begun b bs (digit_begins b low)
 
--- inside a number, a byte that isn't a digit
+-- a run that begins with a byte other than a digit isn't all digits
 pub digits_broken : (b : ℕ) (bs : List ℕ) → is_separator b ≡ false → is_digit b ≡ false → all_digits (first_run (b ∷ bs)) ≡ false
 digits_broken b bs begins none = rw (first_run-begun b bs begins, none) refl
 
--- one digit of a number being read
+-- reading one more digit of a number
 pub value_more : (rest : List ℕ) (b : ℕ) (after : List ℕ) (n d m : ℕ) → rest ≡ b ∷ after → 48 ≤ b → d ≡ b - 48
     → value_after n (first_run rest) ≡ m → value_after (10 * n + d) (first_run after) ≡ m
 value_more rest b after n d m whole low d_is h =
@@ -64,7 +64,7 @@ is_numeral-begun b bs low high = rw (first_run-begun b bs (digit_begins b (omega
 pub value-begun : (b : ℕ) (bs : List ℕ) → 49 ≤ b → value (first_run (b ∷ bs)) ≡ value_after (b - 48) (first_run bs)
 value-begun b bs low = rw (first_run-begun b bs (digit_begins b (omega arith))) (ap (λ (n : ℕ). value_after n (first_run bs)) (omega arith))
 
--- a first byte with which no number begins
+-- a numeral begins neither with 0 nor with a byte other than a digit
 not_numeral : (b : ℕ) (bs : List ℕ) → (b ≡ 48) ⊎ (is_digit b ≡ false) → is_numeral (b ∷ bs) ≡ false
 not_numeral b bs h =
     and_left (leb 49 b && leb b 57) (all_digits bs)
@@ -84,7 +84,7 @@ numeral_broken text b bs whole h =
 pub numeral_none : (text : List ℕ) → length text ≡ 0 → is_numeral (first_run text) ≡ false
 numeral_none text none = ap (λ (x : List ℕ). is_numeral (first_run x)) (nil_from_length text none) ∙ ap is_numeral first_run-nil
 
--- a later byte that isn't a digit
+-- a run with a later byte that isn't a digit is no numeral
 pub numeral_stops : (text : List ℕ) (b : ℕ) (after rest : List ℕ) (d : ℕ) (more : List ℕ) → text ≡ b ∷ after → 49 ≤ b → b ≤ 57
     → all_digits (first_run rest) ≡ all_digits (first_run after) → rest ≡ d ∷ more → is_separator d ≡ false → is_digit d ≡ false
     → is_numeral (first_run text) ≡ false
@@ -92,7 +92,7 @@ numeral_stops text b after rest d more whole low high same rest_is begins none =
     ap (λ (x : List ℕ). is_numeral (first_run x)) whole ∙ is_numeral-begun b after low high ∙ sym same
     ∙ ap (λ (x : List ℕ). all_digits (first_run x)) rest_is ∙ digits_broken d more begins none
 
--- the end of the number
+-- at the end of its digits, the numeral has been read
 pub numeral_read : (text : List ℕ) (b : ℕ) (after rest : List ℕ) (n first : ℕ) → text ≡ b ∷ after
     → 49 ≤ b → b ≤ 57 → first ≡ b - 48 → all_digits (first_run rest) ≡ all_digits (first_run after)
     → IsCapped (value_after n (first_run rest)) (value_after first (first_run after)) → 0 < n → after_run rest ≡ after_run after
@@ -108,7 +108,7 @@ numeral_read text b after rest n first whole low high first_is same number posit
   rest_is = sym here ∙ left ∙ sym (ap after_run whole ∙ after_run_more b after (omega arith));
 }
 
--- a number that is known to be too large before its end
+-- the number is known to be too large before the end of its digits
 pub numeral_large : (text : List ℕ) (b : ℕ) (after rest left : List ℕ) (n first : ℕ) → text ≡ b ∷ after → 49 ≤ b → b ≤ 57 → first ≡ b - 48
     → all_digits (first_run rest) ≡ all_digits (first_run after) → value_after n (first_run rest) ≡ value_after first (first_run after)
     → after_run rest ≡ after_run after → max_variable < n → all_digits (first_run rest) ≡ true → left ≡ after_run rest

@@ -36,7 +36,7 @@ IsMarked-read words p =
     let e = shr_and_one (get_or words (p / 64) 0) (p % 64) in
     (λ h. sym e ∙ eqb-true _ 1 h, λ h. eq-eqb _ 1 (e ∙ h))
 
--- one more bit: bit k of word i
+-- setting bit k of word i adds this bit and no other
 pub IsMarked-set : (words : List ℕ) (i k p : ℕ) → i < length words → k < 64
     → IsBitSet (set words i (bit_or (get_or words i 0) (1 * 2 ^ k % 2 ^ 64))) p ↔ (IsBitSet words p ⊎ ((p / 64 ≡ i) × (p % 64 ≡ k)))
 unfolding IsBitSet
@@ -64,7 +64,7 @@ IsMarked-set words i k p within small =
     (λ h. inl (sym same ∙ h), λ h. ⊎_elim (λ old. same ∙ old) (λ both. absurd (elsewhere both.0)) h))
     (cases_eq (p / 64) i)
 
--- one bit less
+-- clearing bit k of word i removes this bit and no other
 pub IsMarked-cleared : (words : List ℕ) (i k p : ℕ) → i < length words → k < 64
     → IsBitSet (set words i (bit_and (get_or words i 0) (bit_not w64 (1 * 2 ^ k % 2 ^ 64)))) p
     ↔ (IsBitSet words p × ((p / 64 ≡ i) × (p % 64 ≡ k) → ⊥))
@@ -95,7 +95,7 @@ IsMarked-cleared words i k p within small =
     (λ h. (sym same ∙ h, λ both. elsewhere both.0), λ h. same ∙ h.0))
     (cases_eq (p / 64) i)
 
--- words that are unchanged or 0 have no more marks
+-- if each word is unchanged or 0, no mark is new
 IsMarked-fewer : (old new : List ℕ) → ((k : ℕ) → (get_or new k 0 ≡ get_or old k 0) ⊎ (get_or new k 0 ≡ 0)) → (p : ℕ) → IsBitSet new p
     → IsBitSet old p
 unfolding IsBitSet

@@ -9,8 +9,8 @@ use Rattle.lrup_model.specs.Formula.{max_clause_literals}
 use Rattle.dimacs.specs.Lines.{Token}
 use Rattle.dimacs.specs.FormulaTokens.{IsWritten, TokensSpell, ended}
 
--- clauses that ended, literals of the clause begun, and the largest number of literals of any
--- clause
+-- the numbers of clauses that have ended and of literals in the clause begun, and the largest
+-- number of literals in any clause
 pub record Tally : Type 0 where
   pub ended_clauses : ℕ
   pub begun : ℕ
@@ -31,7 +31,7 @@ tally-append n k l (pos zero ∷ xs) ys = tally-append (n + 1) 0 l xs ys
 tally-append n k l (pos (suc m) ∷ xs) ys = tally-append n (k + 1) (max l (k + 1)) xs ys
 tally-append n k l (negsuc m ∷ xs) ys = tally-append n (k + 1) (max l (k + 1)) xs ys
 
--- the counts, which later numbers only increase
+-- later numbers only increase the counts
 record GoesOn (n k l : ℕ) (t : Tally) : Type 0 where
   further : (n < t.ended_clauses) ⊎ ((t.ended_clauses ≡ n) × (k ≤ t.begun))
   longer : l ≤ t.longest
@@ -54,7 +54,7 @@ goes_on n k l (negsuc m ∷ zs) =
       longer = omega (arith, next.longer);
     }
 
--- one more number
+-- one more number increases the counts
 pub further_by_one : (n k l : ℕ) (z : ℤ) (zs : List ℤ) → let t = tally n k l (z ∷ zs) in
     (n < t.ended_clauses) ⊎ ((t.ended_clauses ≡ n) × (k < t.begun))
 further_by_one n k l (pos zero) zs =
@@ -64,7 +64,7 @@ further_by_one n k l (pos (suc m)) zs =
 further_by_one n k l (negsuc m) zs =
     ⊎_elim (λ more. inl more) (λ same. inr (same.0, omega (arith, same.1))) (goes_on n (k + 1) (max l (k + 1)) zs).further
 
--- one more literal
+-- one more literal makes the largest number of literals exceed k
 pub longer_by_one : (n k l : ℕ) (z : ℤ) (zs : List ℤ) → 0 < nat_abs z → k < (tally n k l (z ∷ zs)).longest
 longer_by_one n k l (pos zero) zs some = absurd (omega arith)
 longer_by_one n k l (pos (suc m)) zs some = omega (arith, (goes_on n (k + 1) (max l (k + 1)) zs).longer)

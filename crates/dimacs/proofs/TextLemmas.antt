@@ -37,7 +37,7 @@ folds = record { empty = λ n. refl; more = λ n c cs k. ap (λ (m : ℕ). value
 own : IsNumeralModel (λ ds. all_digits ds ≡ true) value
 own = numerals_by_fold (λ ds. all_digits ds ≡ true) says value_after folds
 
--- digits, the first of which isn't 0
+-- digits that don't begin with 0 are a numeral
 numeral_from : (ds : List ℕ) → 48 < get_or ds 0 0 → all_digits ds ≡ true → (is_zero ds ≡ false) × (is_numeral ds ≡ true)
 numeral_from [] some all = absurd (omega (arith, some))
 numeral_from (b ∷ bs) some all =

@@ -16,7 +16,7 @@ pub tokens_from_lines : (n m : ℕ) (xs ys : List ℕ) → lines_at n xs ≡ lin
 unfolding tokens_at
 tokens_from_lines n m xs ys e = ap all_tokens e
 
--- the old tokens, read in line n from an index after separators and comments
+-- after separators and comments, the first of the old tokens begins here, in line n
 pub token_taken : (n m : ℕ) (old rest : List ℕ) (b : ℕ) (after : List ℕ) → lines_at n rest ≡ lines_at m old → IsAtToken rest
     → rest ≡ b ∷ after → tokens_at m old ≡ record { line = n; text = b ∷ first_run after } ∷ tokens_at n (after_run after)
 token_taken n m old rest b after same place whole =

@@ -1,5 +1,5 @@
 -- A text of a formula, read token by token: definitions for this crate's own functions, and for the
--- faults. `IsFormulaText` says what a text is, and a law says that both agree.
+-- faults. `IsFormulaText` says what a text is, and a law says that these definitions agree with it.
 use Rattle.std.specs.Prelude.{◌≡◌, ◌↔◌, ◌≤◌, ◌<◌, ℕ, ℤ, pos, IsTrue, Some, List, [], ◌∷◌, ◌++◌, codes, length, map, flat_map}
 use Rattle.std.specs.List.{AllByRecursion}
 use Rattle.lrup_model.specs.Literal.{IsLiteral, max_variable}
@@ -19,8 +19,8 @@ IsHeader (p ∷ cnf ∷ variables ∷ clauses ∷ []) vars count =
     (p ≡ codes "p") × (cnf ≡ codes "cnf") × IsCount variables vars × IsCount clauses count
 IsHeader _ vars count = ⊥
 
--- what holds after a header that is spelled right and within the limits, for its two counts and the
--- later tokens
+-- the header is spelled right and within the limits, and P holds for its two counts and the later
+-- tokens
 pub record AfterHeader (header : Line) (lines : List Line)
     (P : ℕ → ℕ → List Token → Type 0) : Type 0 where
   pub vars : ℕ
@@ -30,13 +30,13 @@ pub record AfterHeader (header : Line) (lines : List Line)
   pub few_clauses : count ≤ max_clauses
   pub later : P vars count (all_tokens lines)
 
--- The first of these lines, which aren't comments and have a token, is a header, and P holds for
--- its two counts and the tokens after it.
+-- The first of these lines, each of which has a token and isn't a comment, is a header, and P holds
+-- for its two counts and the tokens after it.
 abbrev pub InBodyOf : List Line → (ℕ → ℕ → List Token → Type 0) → Type 0
 InBodyOf [] P = ⊥
 InBodyOf (header ∷ lines) P = AfterHeader header lines P
 
--- the same for the lines of a whole file, given as bytes
+-- `InBodyOf` for the lines of a whole file, which has these bytes
 abbrev pub InBody : List ℕ → (ℕ → ℕ → List Token → Type 0) → Type 0
 InBody bytes P = InBodyOf (lines_of bytes) P
 
@@ -60,14 +60,14 @@ pub record TokensSpell (vars count : ℕ) (tokens : List Token) (closed : List (
   pub closed_count : length closed ≤ count
   pub begun_count : 0 < length begun → length closed < count
 
--- The clause is the set of the literals, and has each literal once, in the order of first
--- occurrence. The last field implies the other two, which are what textbooks say.
+-- The clause is the set of the literals, and has each literal once, in the order of their first
+-- occurrences. The last field implies the other two, which are what textbooks say.
 pub record IsSetOf (literals : List ℤ) (clause : Clause) : Type 0 where
   pub members : (l : ℤ) → Has clause l ↔ Has literals l
   pub each_once : EachOnce clause
   pub order : clause ≡ distinct literals
 
--- the same for each clause, in order
+-- each clause is the set of the literals at its index
 abbrev pub AreSetsOf : List (List ℤ) → List Clause → Type 0
 AreSetsOf [] [] = Unit {0}
 AreSetsOf (literals ∷ rest) (clause ∷ clauses) = IsSetOf literals clause × AreSetsOf rest clauses

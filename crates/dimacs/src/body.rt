@@ -28,7 +28,7 @@ struct Builder {
 }
 
 impl Builder {
-    /// Adds a literal to the clause. `line` is the number of its line.
+    /// Adds a literal to the clause. `line` is the number of the literal's line.
     fn literal(&mut self, l: Lit, line: u64) -> Result<(), DimacsFault>
         ensures formula { self.new.formula ≡ self.old.formula }
         ensures left { self.new.left ≡ self.old.left }
@@ -50,7 +50,7 @@ impl Builder {
         Ok(())
     }
 
-    /// Ends the clause. `line` is the number of the line with its 0.
+    /// Ends the clause. `line` is the number of the line with the clause's 0.
     fn end_clause(&mut self, line: u64) -> Result<(), DimacsFault>
         requires count { length self.old.formula.clauses + self.old.left ≤ max_clauses }
         requires clause { IsFormulaClause self.old.formula.vars self.old.clause }

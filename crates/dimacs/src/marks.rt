@@ -57,7 +57,7 @@ pub fn set_mark(words: &mut [u64], l: Lit)
     mark(words, place(l));
 }
 
-/// Marks the literals; no mark may be set before. The words have a bit for each literal.
+/// Marks the literals. Before the call no mark is set; the words have a bit for each literal.
 fn mark_all(words: &mut [u64], literals: &[Lit])
     requires marks { MarksAre words.old [] }
     requires words { all_words ≤ length words.old }
@@ -68,7 +68,7 @@ fn mark_all(words: &mut [u64], literals: &[Lit])
     }
 }
 
-/// Marks the literals; no mark may be set before. The first call allocates the marks of all
+/// Marks the literals. Before the call no mark is set. The first call allocates the marks of all
 /// literals.
 pub fn set_marks(words: &mut Vec<u64>, literals: &[Lit]) -> Result<(), AllocError>
     requires { MarksAre words.old.items [] }

@@ -11,7 +11,7 @@ use memchr::memchr;
 /// The first byte of a comment.
 const COMMENT: u8 = b'c';
 
-/// The rest of a file from an index on that isn't inside a token or a comment.
+/// The rest of a file, from an index that isn't inside a token or a comment.
 #[derive(Drop)]
 pub struct Tokens<'a> {
     rest: &'a [u8],
@@ -22,7 +22,7 @@ pub struct Tokens<'a> {
 /// The next token of a formula's clauses.
 #[derive(Clone, Copy)]
 pub enum Next {
-    /// There is none.
+    /// There is no token left.
     End,
     /// A token that can't occur in a clause.
     Bad,
@@ -116,7 +116,7 @@ pub(crate) fn numeral(text: &[u8]) -> Option<(u32, &[u8])>
     Some((value, rest))
 }
 
-/// The text after its sign, if it has one.
+/// The text, without its sign if it has one.
 fn after_sign(text: &[u8], signed: bool) -> &[u8]
     requires { IsTrue signed → 0 < length text.now }
     ensures { result.now ≡ (if signed then drop 1 text.now else text.now) }

@@ -19,7 +19,7 @@ number_begins : (z : ℤ) (b : ℕ) (bs : List ℕ) → nat_abs z < 2 ^ 64 → s
 number_begins (pos n) b bs fits e = count_begins n b bs fits e
 number_begins (negsuc n) b bs fits e = omega (arith, ap (λ (x : List ℕ). get_or x 0 0) e)
 
--- so no clauses are printed with a leading zero in their first number
+-- no clauses are printed with a leading zero in their first number
 clauses_begin : (vars : ℕ) (written : List (List ℤ)) (b : ℕ) (bs : List ℕ) (tokens : List (List ℕ))
     → vars ≤ max_variable → AllByRecursion (AllByRecursion (IsLiteral vars)) written
     → (48 ∷ b ∷ bs) ∷ tokens ≢ map signed_decimal (flat_map (λ clause. clause ++ pos 0 ∷ []) written)
@@ -57,7 +57,7 @@ text_of_two_lines = record {
   clauses = refl;
 }
 
--- the comment has no tokens
+-- a comment between two lines has no tokens
 pub text_of_comment : IsFormulaText (codes "p cnf 2 1\n1\nc 1 0\n2 0\n") (record { vars = 2; clauses = (pos 1 ∷ pos 2 ∷ []) ∷ [] })
 text_of_comment =
     let h = text_of_two_lines in

@@ -16,7 +16,7 @@ fn push_clause(text: &mut String, clause: &[Lit]) -> Result<(), AllocError> {
     write!(text, " 0")
 }
 
-/// The formula's variables, number of clauses, and clauses, as text.
+/// The formula's numbers of variables and clauses, and its clauses, as text.
 fn formula_shown(alloc: Global, formula: &Formula) -> Result<String, AllocError> {
     let vars = formula.vars();
     let clauses = formula.len();
@@ -27,7 +27,7 @@ fn formula_shown(alloc: Global, formula: &Formula) -> Result<String, AllocError>
     Ok(text)
 }
 
-/// The same for the formula of a text, or the fault's text.
+/// What `formula_shown` returns for the formula of a text, or the fault's text.
 fn shown(alloc: Global, bytes: &[u8]) -> Result<String, AllocError> {
     match parse(alloc, bytes) {
         Ok(formula) => formula_shown(alloc, &formula),

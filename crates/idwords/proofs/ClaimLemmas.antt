@@ -36,7 +36,7 @@ module _ (v : ThreadState) (seat id new : ℕ) (owns : Owns v.view.caller.layout
     (clause : IsPublishable v.view.caller.formula v.draft)
     (is : new ≡ identity_word 1 (length v.draft) v.top) (more : History) (words : List ℕ) (views : List (List ThreadState))
     (kept : OwnKeeps v more words views) (here : get_elem? views seat ≡ some (v ∷ [])) where
-  -- the row fits a history after this word is written at the identity, and the publish has its
+  -- after this word is written at the identity, the row fits a history in which the publish has its
   -- reply
   abbrev Claimed : ℕ → Type 0
   Claimed word = (w : ThreadState) × (log : History)

@@ -1,5 +1,4 @@
--- Lemmas about a step that changes no word: a fetch, and every other event that doesn't change the
--- map.
+-- Lemmas about steps that change no word: fetches, and all other events that don't change the map.
 use Rattle.std.proofs.Common.{◌≡◌, ℕ, ◌<◌, ◌≤◌, cond, eqb, List, [], ◌∷◌, ◌++◌, length, set, slice_index, slice_set, Option, None, Some}
 use Rattle.std.proofs.Common.{refl, sym, ap, subst, ◌∙◌, arith, append-nil, eq-eqb, ne_eqb}
 use mathlib.Core.Option.{some}
@@ -68,7 +67,7 @@ module _ (v : ThreadState) (more : History) (words : List ℕ) (views : List (Li
 
 -- A fetch
 
--- the reply of a fetch that finds this slot
+-- the reply to a fetch that finds this slot
 abbrev pub slot_reply : Slot → Reply
 slot_reply absent = events.vacant
 slot_reply (live c) = events.live c
@@ -108,7 +107,8 @@ short_option : (o o' : Option StoredClause) → o ≡ o' → ((stored : StoredCl
 short_option o None same all = tt
 short_option o (Some stored) same all = all stored same
 
--- the word of an identity shows what is stored for it, and determines the reply of a fetch
+-- the word of an identity shows what is stored for the identity, and determines the reply to a
+-- fetch
 pub shown : (f : Cnf) (p : LayoutValue) (log : History) (words : List ℕ) (views : List (List ThreadState)) (id : ℕ)
     → Keeps f p log words views
     → IsIdentity p id → ShowsStored (stored_in (spelling_of f p log) id) (slice_index words id)

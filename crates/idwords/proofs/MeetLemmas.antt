@@ -72,7 +72,7 @@ module _ {S : Type 0} where
             (arith, times-snoc t (set s.views id back) front, times-set t s.views id (front ++ back) back here, count-append t front back)),
       )
 
-  -- a new token gets the second part
+  -- a token's thread states are split, and a new token gets the second part
   pub splits_back : (f : Cnf) (p : LayoutValue) (id : ℕ) (front back : List ThreadState)
       → Splits {S = S} (HoldsRowInvariant f p) id (front ++ back) front back
   splits_back f p id front back s kept here =
@@ -90,7 +90,7 @@ module _ {S : Type 0} where
             )),
       )
 
-  -- a token takes over the thread states of another
+  -- a token takes over the thread states of another one
   pub joins : (f : Cnf) (p : LayoutValue) (id : ℕ) (vs : List ThreadState) (other : ℕ) (ws : List ThreadState)
       → Joins {S = S} (HoldsRowInvariant f p) id vs other ws (vs ++ ws) []
   joins f p id vs other ws s kept here apart there =
@@ -124,7 +124,7 @@ comparable (e ∷ g) (d ∷ h) k l same =
       | inr longer ↦ inr (longer.0, ap (λ (x : Event). x ∷ g) (sym first) ∙ ap (λ (x : History). d ∷ x) longer.1)
     ]
 
--- The thread state after it has seen this much more of the log
+-- A thread state after it has seen more of the log
 
 abbrev pub informed : ThreadState → History → ThreadState
 informed v rest = record {
@@ -144,7 +144,7 @@ own_all seen rest more mine s here all =
     own-append seen rest s ∙ ap (λ (h : History). own seen s ++ h) (front_nil (own rest s) (own more s) nothing)
     ∙ append-nil (own seen s) ∙ here
 
--- the new thread state agrees with the log, and has made no call
+-- the new thread state agrees with the log, has made no call, and has seen this history
 pub record Learns (f : Cnf) (p : LayoutValue) (log : History) (words : List ℕ) (v w : ThreadState) (h : History) : Type 0 where
   pub agrees : Agrees f p log words w
   pub moves : PassMoves v.view w.view []
@@ -321,17 +321,17 @@ module _ {S : Type 0} where
   splits_first f p id [] = splits_front f p id [] []
   splits_first f p id (v ∷ vs) = splits_front f p id (v ∷ []) vs
 
-  -- all thread states move
+  -- all thread states move to a new token
   pub splits_all : (f : Cnf) (p : LayoutValue) (id : ℕ) (vs : List ThreadState) → Splits {S = S} (HoldsRowInvariant f p) id vs [] vs
   splits_all f p id vs = splits_back f p id [] vs
 
-  -- all thread states except the first move
+  -- all thread states except the first move to a new token
   pub splits_thread : (f : Cnf) (p : LayoutValue) (id : ℕ) (vs : List ThreadState)
       → Splits {S = S} (HoldsRowInvariant f p) id vs (first_only vs) (others vs)
   splits_thread f p id [] = splits_back f p id [] []
   splits_thread f p id (v ∷ vs) = splits_back f p id (v ∷ []) vs
 
-  -- a token that has both thread states, from the two thread states
+  -- if two thread states have met, so has the token that has both
   pub joined : (step : Step S) (v v' : ThreadState) (n : ℕ) (w w' : ThreadState) → SyncThreads v v' w w'
       → Joined step (v ∷ v' ∷ [], []) n (w ∷ w' ∷ [], [])
   joined step v v' n w w' met u u' same =
@@ -344,7 +344,7 @@ module _ {S : Type 0} where
             (subst (λ (x : ThreadState). SyncThreads v x w w') both.1 met),
       )
 
-  -- what the two thread states know after the load, once each is back in its own token
+  -- after the load, once each thread state is back in its own token, the two have met
   pub parted : (step : Step S) (me met left right : Me S (List ThreadState)) (v v' : ThreadState) (n : ℕ) → me ≡ (v ∷ v' ∷ [], [])
       → Joined step me n met
       → left ≡ (first_only met.0, met.1) → right ≡ (others met.0, [])

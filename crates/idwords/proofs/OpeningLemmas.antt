@@ -1,4 +1,5 @@
--- Lemmas about the row at the opening: the loops that make its words, and the rule for these words.
+-- Lemmas about the row at the opening: the loops that make its words, and the rule that these words
+-- meet.
 use Rattle.std.proofs.Common.{◌≡◌, ℕ, zero, suc, ◌+◌, ◌-◌, ◌*◌, ◌<◌, ◌≤◌, cond, eqb, List, [], ◌∷◌, ◌++◌, length, get_or, take, replicate}
 use Rattle.std.proofs.Common.{slice_index, slice_get, Some, refl, sym, ap, subst, ◌∙◌, inl, inr, arith, append-nil, append_assoc}
 use Rattle.std.proofs.Common.{length-append, eq-eqb, ne_eqb}
@@ -35,7 +36,7 @@ words_in cs = sum_by (λ c. words_for (length c)) cs
 words_in-cons : (c : Clause) (cs : List Clause) → words_in (c ∷ cs) ≡ words_for (length c) + words_in cs
 words_in-cons c cs = sum_by-cons (λ d. words_for (length d)) c cs
 
--- no more words than there are literals
+-- clauses take at most as many words as they have literals
 pub words_in-le : (cs : List Clause) → words_in cs ≤ sum_by length cs
 words_in-le cs = sum_by-le-sum_by (λ d. words_for (length d)) length cs (λ d. omega arith)
 
@@ -58,7 +59,7 @@ literal_words-append [] ds = refl
 literal_words-append (c ∷ cs) ds = ap (λ (ws : List ℕ). packed c ++ ws) (literal_words-append cs ds)
     ∙ sym (append_assoc (packed c) (literal_words cs) (literal_words ds))
 
--- one more clause
+-- with the word of clause i appended, the words are those of the first i + 1 clauses
 pub clause_words_more : (first start i : ℕ) (cs : List Clause) (c : Clause) (new words old : List ℕ) (word : ℕ) → i < length cs
     → c ≡ get_or cs i []
     → start ≡ first + words_in (take i cs) → words ≡ old ++ clause_words first (take i cs) → new ≡ words ++ word ∷ []
@@ -101,7 +102,7 @@ length-literal_words [] = refl
 length-literal_words (c ∷ cs) =
     let rest = length-literal_words cs in omega (arith, length-append (packed c) (literal_words cs), length-packed c, words_in-cons c cs)
 
--- all words, from what each step of the loops leaves
+-- after all loops, the words are those of the opening
 pub opened_words : (f : Cnf) (p : LayoutValue) (first n k : ℕ) (w1 w2 w3 w4 w5 : List ℕ) → Fits p f → first ≡ last_identity p + 1
     → n ≡ last_identity p + 1 → k ≡ row_words p
     → w1 ≡ 0 ∷ [] → w2 ≡ w1 ++ clause_words first f.clauses → w3 ≡ take n w2 ++ replicate (n - length w2) 0
@@ -152,7 +153,7 @@ length-opening_words f p fits =
       fits.literals,
     )
 
--- a clause's word is the word of what is stored for the clause
+-- the word of a clause shows where the clause is stored, and how long it is
 clause_word_at : (id start : ℕ) (cs : List Clause) (back : List ℕ) (k : ℕ) → k < length cs
     → get_or (clause_words start cs ++ back) k 0 ≡ stored_word 1 (stored_in (clauses_spelling id start cs) (id + k))
 clause_word_at id start [] back k within = absurd (omega arith)
@@ -170,7 +171,7 @@ vacant_at : (n k : ℕ) (back : List ℕ) → k < n → get_or (replicate n 0 ++
 vacant_at n k back within = get_or_append_left (replicate n 0) back 0 k (omega (arith, length-replicate {A = ℕ} n 0))
     ∙ get_or-replicate n k 0 0 within
 
--- the row has words from an index on if they come after that many other words
+-- words that come after `place` other words are in the row from index `place` on
 agree_front : (pre back ws : List ℕ) (place : ℕ) → length pre ≡ place → OccurAt (pre ++ (ws ++ back)) place ws
 agree_front pre back [] place len = tt
 agree_front pre back (w ∷ ws) place len = (
@@ -330,7 +331,7 @@ first_next p i =
     let there : (i + 1 + 1 - 1) * p.room ≡ (i + 1) * p.room = ap (λ (n : ℕ). n * p.room) (omega arith) in
     omega arith
 
--- a new seat
+-- the seat of stream s, given out at the opening, is sound
 pub dealt : {S : Type 0} (f : Cnf) (p : LayoutValue) (s : ℕ) (table : TableId) (me : Me S (List ThreadState)) (top room : ℕ) → IsPlan f p
     → IsStream p s → table.words ≡ row_words p
     → me ≡ (opening_thread f p s ∷ [], []) → top ≡ first_place p s → room ≡ p.room → IsSeated {S = S} table me top 0 room

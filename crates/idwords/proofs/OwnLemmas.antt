@@ -1,5 +1,5 @@
--- Lemmas about a stream's own identities: what is stored there follows from its own calls, and only
--- its own steps change it.
+-- Lemmas about a stream's own identities: what is stored there depends only on the stream's own
+-- calls, and only its own steps change it.
 use Rattle.std.proofs.Common.{◌≡◌, ◌≢◌, ℕ, ◌+◌, ◌<◌, List, [], ◌∷◌, ◌++◌, length, slice_index, slice_set, Option, None, Some, refl, sym, ap}
 use Rattle.std.proofs.Common.{ap₂, ◌∙◌, inl, inr, arith, length-set, get_or-set_same, get_or-set_other}
 use mathlib.Core.Option.{some}
@@ -22,7 +22,7 @@ use Rattle.idwords.proofs.SpellingLemmas.{IsLodged, lodged, own_stored}
 use Rattle.idwords.proofs.WordLemmas.{lies-set, state-identity_word}
 use Rattle.idwords.proofs.RuleLemmas.{OwnKeeps, agrees_at}
 
--- What a word shows of its slot
+-- What a word shows about its slot
 
 pub absent_word : (slot : Slot) (o : Option StoredClause) → Spells slot o → word_of slot o ≡ 0 → slot ≡ absent
 absent_word absent o spells nil = refl
@@ -55,7 +55,7 @@ retired_word (retired c) o spells is = absurd is
 module _ (v : ThreadState) (more : History) (words : List ℕ) (views : List (List ThreadState)) (seat : ℕ)
     (kept : OwnKeeps v more words views)
     (here : get_elem? views seat ≡ some (v ∷ [])) where
-  -- what the map has at one of the stream's own identities is what the thread state's calls left
+  -- what the map has under one of the stream's own identities is what the thread state's calls left
   -- there
   pub own_slot : (id : ℕ) → Owns v.view.caller.layout (thread_stream v) id
       → state v.view.caller.formula (v.view.seen ++ more) id ≡ state v.view.caller.formula v.view.mine id
@@ -73,7 +73,7 @@ module _ (v : ThreadState) (more : History) (words : List ℕ) (views : List (Li
       (legal-front f p (opening f) v.view.seen more kept.legal.events) owns refl
       ∙ ap (λ (h : History). state f h id) (agrees_at v more words views seat kept here).seen
 
-  -- and so is what is stored for it
+  -- what is stored for one of the stream's own identities is what the thread state knows, too
   pub own_text : (id : ℕ) → Owns v.view.caller.layout (thread_stream v) id
       → stored_in (spelling_of v.view.caller.formula v.view.caller.layout (v.view.seen ++ more)) id ≡ stored_in v.view.spelt id
   own_text id owns =
@@ -87,7 +87,7 @@ module _ (v : ThreadState) (more : History) (words : List ℕ) (views : List (Li
       let who = owned v.view.caller.layout (thread_stream v) id (omega (arith, kept.plan.layout.some_stream)) owns in
       (omega (arith, who.derived), who.identity)
 
-  -- and so is its word
+  -- the word of an own identity is what the stream's own calls left there, too
   pub own_word : (id : ℕ) → Owns v.view.caller.layout (thread_stream v) id
       → slice_index words id ≡ word_of (state v.view.caller.formula v.view.mine id) (stored_in v.view.spelt id)
   own_word id owns = kept.slots id (own_identity id owns)

@@ -1,5 +1,5 @@
--- Lemmas about places in the row: a stream writes into words that neither other streams nor the
--- formula nor the identities use; and steps on literals.
+-- Lemmas about places in the row: a stream writes only into words that no other stream, clause of
+-- the formula or identity uses; and about steps on literals.
 use Rattle.std.proofs.Common.{◌≡◌, ◌≢◌, ℕ, ℤ, ◌+◌, ◌-◌, ◌*◌, ◌/◌, ◌%◌, ◌<◌, ◌≤◌, ◌⊎◌, List, [], ◌∷◌, ◌++◌, Option, length, set, slice_index}
 use Rattle.std.proofs.Common.{slice_set, refl, sym, ap, subst, ◌∙◌, inl, inr, arith, length-append, length-set, get_or-set_same}
 use Rattle.std.proofs.Common.{get_or-set_other}
@@ -30,13 +30,13 @@ use Rattle.idwords.proofs.StepLemmas.{OwnStep}
 
 -- Rooms are disjoint
 
--- an earlier stream's room ends before a later one's begins
+-- a stream's room ends before the room of a later stream begins
 rooms_apart : (p : LayoutValue) (s t : ℕ) → 0 < s → s < t → first_place p s + p.room ≤ first_place p t
 rooms_apart p s t positive less =
     let more : (s - 1 + 1) * p.room ≤ (t - 1) * p.room = mul-le-mul_right p.room (omega arith) in
     omega arith
 
--- an index in a stream's room is outside of every part of another stream's room
+-- an index in a stream's room is outside every part of another stream's room
 outside_room : (p : LayoutValue) (s t place from to : ℕ) → IsStream p s → IsStream p t → t ≢ s → first_place p s ≤ place
     → place < first_place p s + p.room → first_place p t ≤ from → to ≤ first_place p t + p.room → (place < from) ⊎ (to ≤ place)
 outside_room p s t place from to mine theirs other above below first last =
@@ -46,7 +46,7 @@ outside_room p s t place from to mine theirs other above below first last =
     ]
 
 module _ (f : Cnf) (p : LayoutValue) (log : History) (legal : IsLegal f p log) where
-  -- no stored clause has literals in a stream's room from the top on
+  -- in a stream's room, no stored clause has literals at the top or after it
   pub outside_text : (s place : ℕ) (stored : StoredClause) → IsStream p s → top_after p s log ≤ place → place < first_place p s + p.room
       → IsLodged p log stored → (place < stored.start) ⊎ (stored.start + words_for (length stored.literals) ≤ place)
   outside_text s place stored mine above below (inl formula) = inr (omega (arith, formula.last))
@@ -66,7 +66,7 @@ within_row p s place all mine count below =
     let more : (s - 1 + 1) * p.room ≤ p.streams * p.room = mul-le-mul_right p.room (omega (arith, mine.0, mine.1)) in
     omega arith
 
--- and so are the words of the stream's clauses, and of a draft that fits into the room left
+-- the words of a stream's clauses, and of a draft that fits into the room left, are inside the row
 pub top_within : (p : LayoutValue) (s top n room : ℕ) (mine : History) → IsStream p s → top ≡ top_after p s mine
     → room + spent s mine ≡ p.room → n ≤ room → top + n ≤ row_words p
 top_within p s top n room mine stream at left short =
@@ -159,7 +159,7 @@ written v seat l m even room first second more words views kept here small =
       λ k n code code' same. ap (λ (d : Clause). record v { draft = v.draft ++ d }) (word_injective l k m n first code second code' same),
     )
 
--- the same, with the index and the word given by equations
+-- a store of one or two literals, whose index and word are given by equations
 pub written_at : (v : ThreadState) (seat : ℕ) (l : ℤ) (m : Option ℤ) (place word : ℕ) → length v.draft % 2 ≡ 0
     → spent (thread_stream v) v.view.mine + length (v.draft ++ pair_of l m) ≤ v.view.caller.layout.room → HasCode l → IfSome m HasCode
     → v.top + length v.draft / 2 ≡ place → literal_word l m ≡ word → OwnStep v seat place (λ _. word) (λ n w. Writes word v w)

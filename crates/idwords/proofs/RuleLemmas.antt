@@ -1,4 +1,4 @@
--- Lemmas about the rule: a thread state and the others after one more event.
+-- Lemmas about the rule: after one more event, for the stream's own thread state and the others.
 use Rattle.std.proofs.Common.{◌≡◌, ◌≢◌, ℕ, ◌+◌, ◌≤◌, List, [], ◌∷◌, ◌++◌, length, set, slice_index, Some, refl, sym, ap, ap₂, subst, ◌∙◌}
 use Rattle.std.proofs.Common.{inl, inr, arith, append-nil, append_assoc, length-append}
 use Rattle.std.specs.List.{AllByRecursion, sum_by}
@@ -39,13 +39,13 @@ others_from_own (e ∷ h) s none =
       | inr other ↦ (other, others_from_own h s (sym (own-other e h s other) ∙ none))
     ]
 
--- after what a thread state has seen, its stream makes no call in the rest of the log
+-- in the rest of the log, after what a thread state has seen, its stream makes no call
 pub between : (seen more mine : History) (s : ℕ) → own seen s ≡ mine → own (seen ++ more) s ≡ mine
     → AllByRecursion (λ d. stream_of d ≢ s) more
 between seen more mine s here all =
     others_from_own more s (own_rest (own seen s) (own more s) mine (sym here) (sym (own-append seen more s) ∙ all))
 
--- a thread state's calls spent what its stream spent in the log
+-- a thread state's calls spent what its stream has spent in the whole log
 pub spent_log : (log mine : History) (s : ℕ) → own log s ≡ mine → spent s mine ≡ spent s log
 spent_log log mine s all = ap (λ (h : History). spent s h) (sym all) ∙ spent-own s log
 
@@ -112,7 +112,7 @@ legal_next f p log e legal answers allowed room = record {
   ];
 }
 
--- a thread state agrees with other words too, if they have its draft
+-- a thread state agrees with other words, too, if they have its draft
 pub agrees_words : (f : Cnf) (p : LayoutValue) (log : History) (words words' : List ℕ) (q : ThreadState) → Agrees f p log words q
     → LiesAt words' q.top q.draft → Agrees f p log words' q
 agrees_words f p log words words' q agrees lies = record {
@@ -128,7 +128,7 @@ agrees_words f p log words words' q agrees lies = record {
   draft = lies;
 }
 
--- another stream's thread state agrees with the log after the event
+-- another stream's thread state still agrees with the log after the event
 agrees_at_once : (f : Cnf) (p : LayoutValue) (log : History) (words words' : List ℕ) (e : Event) (q : ThreadState)
     → (stream_of e ≡ thread_stream q → ⊥)
     → Agrees f p log words q → LiesAt words' q.top q.draft → Agrees f p (log ++ e ∷ []) words' q
@@ -157,8 +157,8 @@ event_top p s mine e is =
     let one : words_spent s (e ∷ []) ≡ words_taken e = words_spent_one s e is in
     omega arith
 
--- The words fit the log with this event: they show each identity, and have the literals of each
--- clause and the drafts of other streams.
+-- The new words fit the log with this event: they show each identity's state, and have the literals
+-- of each clause and the drafts of other streams.
 pub record Serves (f : Cnf) (p : LayoutValue) (log : History) (words : List ℕ) (e : Event) (words' : List ℕ) : Type 0 where
   pub count : length words' ≡ row_words p
   pub first : slice_index words' 0 ≡ 0

@@ -1,4 +1,4 @@
--- Lemmas about seats: what a step requires of the token, from what contracts say of the seat.
+-- Lemmas about seats: from what contracts say about a seat to what a step requires of its token.
 use Rattle.std.proofs.Common.{◌≡◌, ◌≢◌, ◌+◌, ◌-◌, ◌<◌, ◌≤◌, ℕ, eqb, List, [], ◌∷◌, length, refl, sym, ap, ap₂, subst, ◌∙◌, arith, eq-eqb}
 use Rattle.std.proofs.Common.{ne_eqb, ◌++◌, length-append}
 use Rattle.std.proofs.lemmas.Bool.{cond-true, cond-false}
@@ -31,7 +31,7 @@ pub words_of : {S : Type 0} (table row : TableId) (me : Me S (List ThreadState))
 words_of table row me top drafted room seated same = ap (λ (t : TableId). t.words) (sym same) ∙ seated.words
 
 module _ {S : Type 0} where
-  -- from the token's one thread state
+  -- what a step requires of a token, from what it requires of the token's one thread state
   pub asks_thread : (f : Cnf) (p : LayoutValue) (slots id i : ℕ) (g : ℕ → ℕ) (known : ThreadState → ℕ → ThreadState → Type 0)
       (then : Me S (List ThreadState) → ℕ → Me S (List ThreadState) → Type 0)
       (table row : TableId) (me : Me S (List ThreadState)) (v : ThreadState)
@@ -64,14 +64,15 @@ module _ {S : Type 0} where
 -- A seat after a step
 
 module _ {S : Type 0} where
-  -- a token of one thread state, with the numbers that fit it
+  -- `IsSeated` holds for a token if it holds for the pair of the token's one thread state and no
+  -- slots
   pub seat_of : (table : TableId) (me : Me S (List ThreadState)) (w : ThreadState) (top drafted room : ℕ) → me.0 ≡ w ∷ [] → me.1 ≡ []
       → IsSeated {S = S} table (w ∷ [], []) top drafted room → IsSeated table me top drafted room
   seat_of table me w top drafted room one none seated =
       let whole : (w ∷ [], []) ≡ me = sym (ap₂ (λ (vs : List ThreadState) (slots : List (ℕ × S)). (vs, slots)) one none) in
       subst (λ (m : Me S (List ThreadState)). IsSeated table m top drafted room) whole seated
 
-  -- after a step in which the stream spent nothing, and its top and its draft stayed
+  -- the seat after a step in which the stream spent nothing and kept its top and its draft
   pub seated_on : (table table' : TableId) (me me' : Me S (List ThreadState)) (top drafted room : ℕ) (w : ThreadState) (es : History)
       → IsSeated table me top drafted room → table' ≡ table
       → me'.0 ≡ w ∷ [] → me'.1 ≡ [] → PassMoves (first_thread me.0).view w.view es → IsFair w.view
@@ -105,7 +106,7 @@ module _ {S : Type 0} where
         within = seated.within;
       })
 
-  -- after a call that uses none of the stream's room
+  -- the seat after a call that uses none of the stream's room
   pub seated_call : (table table' : TableId) (me me' : Me S (List ThreadState)) (top drafted room : ℕ) (w : ThreadState) (e : Event)
       → IsSeated table me top drafted room → table' ≡ table
       → me'.0 ≡ w ∷ [] → me'.1 ≡ me.1 → Calls (first_thread me.0).view w.view e → stream_of e ≡ thread_stream (first_thread me.0)
@@ -116,7 +117,7 @@ module _ {S : Type 0} where
       (slots ∙ ap (λ (m : Me S (List ThreadState)). m.1) seated.one) calls.moves calls.fair
       (spent_one (thread_stream (first_thread me.0)) e own ∙ nothing) top_stays draft_stays
 
-  -- after a store that added literals to the draft
+  -- the seat after a store that added literals to the draft
   pub seated_write : (table table' : TableId) (me me' : Me S (List ThreadState)) (top drafted room more : ℕ) (c : Clause) (w : ThreadState)
       → IsSeated table me top drafted room → table' ≡ table
       → me'.0 ≡ w ∷ [] → me'.1 ≡ me.1 → w ≡ record (first_thread me.0) { draft = (first_thread me.0).draft ++ c } → more ≡ length c
@@ -136,7 +137,7 @@ module _ {S : Type 0} where
         within = fits;
       })
 
-  -- after a publish whose compare-exchange found this word
+  -- the seat after a publish whose compare-exchange found this word
   pub seated_claim : (table table' : TableId) (me me' : Me S (List ThreadState)) (top drafted room found id : ℕ) (one : Step S)
       → IsSeated table me top drafted room → table' ≡ table → Changes Claims one me found me'
       → (found ≡ 0 → IsSeated table' me' (top + words_for drafted) 0 (room - drafted)) × (found ≢ 0 → IsSeated table' me' top 0 room)

@@ -37,7 +37,7 @@ words_spent_one s e is = ap (sum_by words_taken) (own-mine e [] s is) ∙ omega 
 pub words_spent-own : (log mine : History) (s : ℕ) → own log s ≡ mine → words_spent s mine ≡ words_spent s log
 words_spent-own log mine s all = ap (λ (h : History). words_spent s h) (sym all) ∙ ap (sum_by words_taken) (own-own log s)
 
--- the words are no more than the literals
+-- a history spends at most as many words as literals
 pub words_within : (s : ℕ) (h : History) → words_spent s h ≤ spent s h
 words_within s h = omega (arith, spent-sizes s h, sum_by-le-sum_by words_taken size_of (own h s) (λ e. omega arith))
 
@@ -63,7 +63,7 @@ pub spelling-snoc : (f : Cnf) (p : LayoutValue) (h : History) (e : Event)
 spelling-snoc f p h e =
     spelling-append f p h (e ∷ []) ∙ ap (λ (xs : List Spelling). spelling_of f p h ++ xs) (append-nil (event_spelling p h e))
 
--- What a list has stays when it grows
+-- What a list stores stays when the list grows
 
 past_some : (b : Bool) (a o o' : Option StoredClause) (k : StoredClause) → (o ≡ Some k → o' ≡ Some k) → cond b a o ≡ Some k
     → cond b a o' ≡ Some k
@@ -108,7 +108,7 @@ once-snoc (y ∷ ys) x once none =
 
 -- The clauses of the map are what is stored
 
--- for each slot its clause is stored, once
+-- each slot's clause is stored, once
 pub record SpellsState (m : State) (xs : List Spelling) : Type 0 where
   pub once : IsOncePerIdentity xs
   pub slots : (id : ℕ) → Spells (m id) (stored_in xs id)
@@ -409,7 +409,7 @@ pub short : (f : Cnf) (p : LayoutValue) (h : History) (j : ℕ) (stored : Stored
 short f p h j stored cnf legal here =
     short_either f p h j stored cnf legal here (stored_in (clauses_spelling 1 (1 + last_identity p) f.clauses) j) refl
 
--- What is stored for an identity stays through events that leave its slot as it was
+-- What is stored for an identity stays if events don't change the identity's slot
 
 own_either : (f : Cnf) (p : LayoutValue) (seen more : History) (id : ℕ) → IsSpelt f seen (spelling_of f p seen)
     → IsSpelt f (seen ++ more) (spelling_of f p (seen ++ more))

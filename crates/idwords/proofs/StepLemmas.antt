@@ -14,7 +14,7 @@ use Rattle.idwords.proofs.RuleLemmas.{OwnKeeps}
 use Rattle.idwords.proofs.ViewLemmas.{all_at}
 
 -- In every row that fits a log beginning with what this thread state has seen, and in which this is
--- the only thread state of token id: after the step on word i there is a new thread state with
+-- the only thread state of token id: after the step on word i, there is a new thread state with
 -- which the row fits a log, and for which `then` is true.
 abbrev pub OwnStep : ThreadState → ℕ → ℕ → (ℕ → ℕ) → (ℕ → ThreadState → Type 0) → Type 0
 OwnStep v id i f then =
@@ -61,7 +61,7 @@ module _ {S : Type 0} where
         tell (slice_index s.words i) done.0 done.3,
       )
 
-  -- a token that has one thread state, from the thread state
+  -- what holds for a thread state's change holds for the token that has only this thread state
   pub changes : (R : ℕ → ThreadState → ℕ → ThreadState → Type 0) (step : Step S) (v : ThreadState) (n : ℕ) (w : ThreadState)
       → R step.word v n w
       → Changes R step (v ∷ [], []) n (w ∷ [], [])

@@ -44,7 +44,7 @@ pub times-snoc : (s : ℕ) (views : List (List ThreadState)) (vs : List ThreadSt
 times-snoc s [] vs = omega arith
 times-snoc s (us ∷ views) vs = let rest = times-snoc s views vs in omega arith
 
--- if a thread state changes and keeps its stream, each stream still has one at most
+-- if a thread state changes but keeps its stream, each stream still has at most one thread state
 pub times-same : (views : List (List ThreadState)) (id : ℕ) (v w : ThreadState) → get_elem? views id ≡ some (v ∷ [])
     → thread_stream w ≡ thread_stream v
     → ((s : ℕ) → times s views ≤ 1) → (s : ℕ) → times s (set views id (w ∷ [])) ≤ 1
@@ -57,7 +57,8 @@ times-same views id v w here stream once s =
 one_of : (a b : ℕ) → a ≡ b → ◌≡◌ {A = ℕ} (cond (eqb a b) 1 0) 1
 one_of a b same = cond-true (eqb a b) 1 0 (eq-eqb a b same)
 
--- if none of the thread states is the stream's, what changes for all other streams changes for all
+-- if none of the thread states is stream s's, and those of other streams go from P to Q, all go
+-- from P to Q
 all_others : (P Q : ThreadState → Type 0) (s : ℕ) (vs : List ThreadState) → count_in s vs ≤ 0 → AllByRecursion P vs
     → ((q : ThreadState) → thread_stream q ≢ s → P q → Q q) → AllByRecursion Q vs
 all_others P Q s [] none all go = tt
@@ -72,7 +73,7 @@ none_others : (P Q : ThreadState → Type 0) (s : ℕ) (views : List (List Threa
 none_others P Q s [] none all go = tt
 none_others P Q s (vs ∷ views) none all go = (all_others P Q s vs (omega arith) all.0 go, none_others P Q s views (omega arith) all.1 go)
 
--- a thread state of a token is counted
+-- if a token has one thread state, its stream has at least one
 counted : (views : List (List ThreadState)) (id : ℕ) (v : ThreadState) → get_elem? views id ≡ some (v ∷ [])
     → 1 ≤ times (thread_stream v) views
 counted [] id v here = absurd (some-ne-none (v ∷ []) (sym here))
@@ -83,7 +84,8 @@ counted (us ∷ views) zero v here =
     omega arith
 counted (us ∷ views) (suc id) v here = let rest = counted views id v here in omega arith
 
--- one thread state of a token changes, and those of all other streams go from P to Q
+-- if a token's one thread state changes and then meets Q, and those of all other streams go from P
+-- to Q, all meet Q
 pub moved : (P Q : ThreadState → Type 0) (views : List (List ThreadState)) (id : ℕ) (v w : ThreadState) → get_elem? views id ≡ some (v ∷ [])
     → times (thread_stream v) views ≤ 1 → AllThreads P views
     → ((q : ThreadState) → thread_stream q ≢ thread_stream v → P q → Q q) → Q w → AllThreads Q (set views id (w ∷ []))

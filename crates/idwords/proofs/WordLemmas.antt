@@ -52,7 +52,7 @@ shows_slot (retired c) (Some stored) spells short = shows_word 2 stored (omega a
 
 -- Words in the row
 
--- words stay the same after a write elsewhere
+-- words in the row stay the same after a write elsewhere
 stand-set : (words : List ℕ) (place : ℕ) (ws : List ℕ) (at n : ℕ) → OccurAt words place ws → (at < place) ⊎ (place + length ws ≤ at)
     → OccurAt (slice_set words at n) place ws
 stand-set words place [] at n stand apart = tt
@@ -83,7 +83,7 @@ pub one_literal : (l : ℤ) (m : Option ℤ) → is_some m ≡ false → length 
 one_literal l None alone = refl
 one_literal l (Some m) alone = cc
 
--- the words of an even number of literals and one or two more
+-- after an even number of literals, one or two more literals take one more word
 pub packed-pair : (d : Clause) (l : ℤ) (m : Option ℤ) → length d % 2 ≡ 0 → packed (d ++ pair_of l m) ≡ packed d ++ literal_word l m ∷ []
 packed-pair [] l None even = refl
 packed-pair [] l (Some m) even = refl
@@ -112,7 +112,7 @@ half_zero half word is = cond-true (eqb half 0) (word % 4294967296) (word / 4294
 half_one : (half word : ℕ) → half ≢ 0 → half_of half word ≡ word / 4294967296
 half_one half word is = cond-false (eqb half 0) (word % 4294967296) (word / 4294967296) (ne_eqb half 0 is)
 
--- a half of a word, as the code reads it
+-- a half of a word can be read with a shift and a mask, as the code does
 pub half_read : (half word : ℕ) → half < 2 → word < 18446744073709551616 → bit_and (word / 2 ^ (32 * half)) 4294967295 ≡ half_of half word
 half_read zero word some small = and_mask (word / 1) 32 ∙ omega arith
 half_read (suc zero) word some small = and_mask (word / 4294967296) 32 ∙ omega arith
@@ -121,7 +121,7 @@ half_read (suc (suc half)) word some small = absurd (omega arith)
 code_small : (vars : ℕ) (l : ℤ) → vars ≤ max_variable → IsLiteral vars l → code_of l < 4294967296
 code_small vars l few is = let code = IsCode-code_of vars l is in omega (arith, code.1)
 
--- the halves of a word of literals
+-- half 0 of a word of literals is the code of the first literal
 first_half : (l : ℤ) (m : Option ℤ) (half word : ℕ) → half ≡ 0 → code_of l < 4294967296 → word ≡ literal_word l m
     → half_of half word ≡ code_of l
 first_half l None half word is small here = half_zero half word is ∙ omega arith

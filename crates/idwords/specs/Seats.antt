@@ -7,8 +7,8 @@ use Rattle.lrup_model.specs.Layout.{LayoutValue}
 use Rattle.lrup_model.specs.Pass.{View}
 use Rattle.idwords.specs.Spelling.{spelling_of, first_place}
 
--- The row of the seat, what its stream knows, the index of the first word of the stream's room
--- after its published clauses, and the literals stored from there on.
+-- The row of the seat; what its stream knows; the index of the first word of the stream's room
+-- after its published clauses; and the literals stored from there on.
 pub record SeatValue : Type 0 where
   pub table : TableId
   pub view : View
@@ -16,7 +16,7 @@ pub record SeatValue : Type 0 where
   pub draft : Clause
 
 -- What one stream knows: its view, its top, and its draft, i.e. the literals stored from the top
--- on. A seat has one thread state; while two seats meet, one of them has both, and at the opening
+-- on. A seat has one thread state; while two seats meet, one of them has both, and, at the opening,
 -- the first seat has all.
 pub record ThreadState : Type 0 where
   pub view : View

@@ -14,7 +14,7 @@ length_of word = word / 4 % 1048576
 abbrev pub start_of : ℕ → ℕ
 start_of word = word / 4194304
 
--- one literal and, if there is one, the second
+-- one literal, or two if there is a second one
 abbrev pub pair_of : ℤ → Option ℤ → Clause
 pair_of l None = l ∷ []
 pair_of l (Some other) = l ∷ other ∷ []
@@ -34,7 +34,7 @@ ShowsStored None word = word_state word ≡ 0
 ShowsStored (Some stored) word = (0 < word_state word) × (word_state word < 3)
     × (length_of word ≡ length stored.literals) × (start_of word ≡ stored.start)
 
--- the reply of a fetch that loads this word, if this is stored for the identity
+-- the reply to a fetch that loads this word, if `stored` is what is stored for the identity
 abbrev pub reply_in : Option StoredClause → ℕ → Reply
 reply_in stored word =
     if word_state word == 0 then vacant

@@ -1,4 +1,4 @@
-//! The words of the row at the opening.
+//! The words of a newly opened row.
 ghost use Rattle.std.specs.Prelude.{◌≡◌, ◌+◌, ◌^◌, ◌<◌, ◌++◌, IfOk, OnOk};
 ghost use Rattle.lrup_model.specs.Formula.{IsCnf, formula_literals};
 ghost use Rattle.lrup_model.specs.Layout.{Fits};

@@ -117,8 +117,8 @@ impl Row {
         Ok((Row { table }, seats))
     }
 
-    /// Loads the word of an identity, 1 to the last one. This load is the event of a fetch, and the
-    /// word determines the reply.
+    /// Loads the word of an identity, which is at least 1 and at most the last one. This load is
+    /// the event of a fetch, and the word determines the reply.
     #[inline]
     pub fn look(&self, seat: &mut Seat, id: u64) -> u64
         requires row { seat.old.table ≡ self.now }
@@ -148,7 +148,7 @@ impl Row {
         shared.load::<Read>(&mut seat.token, place as usize)
     }
 
-    /// Adds two literals to the draft, or one last literal, with one store. The word is in the
+    /// With one store, adds two literals to the draft, or one last literal. The word is in the
     /// stream's own room, after all clauses that the stream has published.
     #[inline]
     pub fn write(&self, seat: &mut Seat, first: Lit, second: Option<Lit>)
@@ -219,9 +219,9 @@ impl Row {
     }
 
     /// Lets two seats share what they have seen: afterwards both have seen the same history, which
-    /// begins with what each had seen before. If one had seen all that the other had, what that one
-    /// has seen doesn't change. Used for contracts only: the one load changes nothing in the row,
-    /// and is not an event.
+    /// begins with what each had seen before. A seat that had already seen all that the other had
+    /// keeps its history. Used for contracts only: the one load changes nothing in the row, and is
+    /// not an event.
     pub fn meet(&self, first: &mut Seat, second: &mut Seat)
         requires first { first.old.table ≡ self.now }
         requires second { second.old.table ≡ self.now }
@@ -237,7 +237,8 @@ impl Row {
             × (second.new.draft ≡ second.old.draft) }
     {
         // One token has the thread states of both streams while word 0 is loaded: at this load each
-        // learns what the other has seen. Then the second thread state goes back to its own token.
+        // stream learns what the other has seen. Then the second thread state goes back to its own
+        // token.
         let shared = &self.table.shared;
         let token = shared.split_seat::<SplitAll>(&mut second.token);
         shared.join_seat::<JoinAll>(&mut first.token, token);

@@ -47,7 +47,7 @@ impl TableRule<u8, Knowledge, Plan> for RowInvariant {
 /// The table of words. It uses none of the slots that `atomic_table` has for values of other types.
 pub type WordTable = Table<u8, Knowledge, Plan, RowInvariant, Global>;
 
-/// The right to take steps at the table, which `atomic_table` calls a seat. A `Seat` of this crate
+/// The right to take steps on the table, which `atomic_table` calls a seat. A `Seat` of this crate
 /// has such a token and a few numbers. The steps are calls of the table's field `shared`.
 pub type StepToken = atomic_table::Seat<u8, Knowledge>;
 

@@ -1,11 +1,11 @@
-//! A seat: a stream's right to take steps at the row.
+//! A seat: a stream's right to take steps on the row.
 ghost use Rattle.std.specs.Prelude.{◌≡◌};
 ghost use Rattle.lrup_model.specs.Pass.{pass_caller_view};
 
 use crate::rule::StepToken;
 use std::marker::Model;
 
-/// A stream's right to take steps at the row, and to write into its own room there. It can't be
+/// A stream's right to take steps on the row, and to write into its own room there. It can't be
 /// copied, so the steps of a stream have one caller. `top` is the index of the first word after the
 /// stream's last clause, `drafted` counts the literals that were stored from there on and aren't
 /// published yet, and `room` is how many literals the stream may still publish. Only a successful

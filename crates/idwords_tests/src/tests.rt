@@ -42,7 +42,7 @@ fn open_one(
     Ok((row, seat))
 }
 
-/// The same for the worked formula.
+/// A row of one stream over the worked formula, and its seat.
 fn open_worked(rt: &(impl Abort + AllocGlobal), layout: &Layout) -> Result<(Row, Seat), AllocError>
     requires { layout.now.streams ≡ 1 }
     ensures { IfOk result (λ opened. IsSeatAt four opened.0 layout.now 1 opened.1) }
@@ -70,7 +70,7 @@ fn open_two(
     Ok((row, first, second))
 }
 
-/// The same for the worked formula.
+/// A row of two streams over the worked formula, and their seats.
 fn open_worked_two(
     rt: &(impl Abort + AllocGlobal),
     layout: &Layout,
@@ -174,7 +174,8 @@ static OPENED: [u64; 16] = [
     0, 0, 0, 0,
 ];
 
-/// Checks this row after opening, after a publish, and after the published clause was retired.
+/// Checks the row of `OPENED` after opening, after a publish, and after the published clause was
+/// retired.
 fn check_words(rt: &impl Abort, row: &Row, layout: &Layout, seat: &mut Seat)
     requires { IsSeatAt four row.now layout.now 1 seat.old }
 {
@@ -298,7 +299,8 @@ fn spend_all(rt: &impl Abort, row: &Row, layout: &Layout, seat: &mut Seat)
     same(rt, seat.room(), 0);
 }
 
-/// The second stream retires a clause, and can neither retire nor publish there again.
+/// The second stream retires a clause, and can then neither retire nor publish under its identity
+/// again.
 fn retire_six(rt: &impl Abort, row: &Row, layout: &Layout, seat: &mut Seat)
     requires { IsSeatAt four row.now layout.now 2 seat.old }
 {
@@ -365,8 +367,8 @@ fn meet_and_look(rt: &impl Abort, row: &Row, layout: &Layout, first: &mut Seat, 
     row.meet(first, second);
 }
 
-/// Afterwards the first stream finds a retired clause of one literal, and the formula's first
-/// clause.
+/// After `meet_and_look`, the first stream finds a retired clause of one literal, and the formula's
+/// first clause.
 fn look_later(rt: &impl Abort, row: &Row, layout: &Layout, first: &mut Seat)
     requires { IsSeatAt four row.now layout.now 1 first.old }
 {

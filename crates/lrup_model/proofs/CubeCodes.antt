@@ -1,4 +1,4 @@
--- A cube, by the codes of its literals.
+-- Lemmas about cubes that are stored as the codes of their literals.
 use Rattle.std.proofs.Common.{◌≡◌, inl, inr, ℕ, zero, suc, ◌-◌, ◌/◌, ◌<◌, ◌≤◌, ℤ, pos, neg_ℤ, nat_abs, List, [], ◌∷◌, length, get_or, map}
 use Rattle.std.proofs.Common.{refl, sym, subst, ap, ◌∙◌, arith}
 use Rattle.std.specs.Prelude.{◌↔◌, IsTrue, Result, Ok, Err}
@@ -28,7 +28,7 @@ has_contains (x ∷ xs) l (inr h) =
 contains_has : (xs : List ℤ) (l : ℤ) → Contains xs l → Has xs l
 contains_has xs l h = Has-at xs h.0 l (slice_get_read xs (length xs) h.0 l refl h.1 (sym h.2))
 
--- the order of the literals doesn't matter
+-- the codes in any other order give a cube of the same literals
 pub reordered : (xs ys : List ℕ) (literals : List ℤ) → IsPermutation xs ys → map literal_of xs ≡ literals
     → IsCubeOf literals (map literal_of ys)
 reordered xs ys literals same is l =
@@ -41,7 +41,7 @@ reordered xs ys literals same is l =
           (has_contains (map literal_of xs) l (subst (λ (zs : List ℤ). Has zs l) (sym is) h)))),
     )
 
--- the literal of a code at an index, and the index of a literal's code
+-- From an index to the literal whose code is there, and back
 
 pub has_at : (codes : List ℕ) (k : ℕ) → k < length codes → Has (map literal_of codes) (literal_of (get_or codes k 0))
 has_at [] k lt = absurd (omega (arith, lt))
@@ -79,7 +79,7 @@ found codes l (Err i) are code searches =
           ]),
     )
 
--- the variable of a code
+-- the variable of a code's literal is half the code, rounded down
 variable_of : (code : ℕ) → nat_abs (literal_of code) ≡ code / 2
 variable_of code = elim (parity code) [
   | inl e ↦ ap nat_abs (literal_of-even code e)
@@ -90,7 +90,7 @@ variable_of code = elim (parity code) [
     abs_neg zero = refl
     abs_neg (suc v) = refl
 
--- the last code is for the largest variable
+-- a cube is over the variables 1 to n exactly if the variable of its last code is at most n
 pub greatest : (codes : List ℕ) (n : ℕ) → AreCubeCodes codes → 0 < length codes
     → IsCubeOver n (map literal_of codes) ↔ (get_or codes (length codes - 1) 0 / 2 ≤ n)
 greatest codes n are some =

@@ -42,7 +42,7 @@ entries_from-push from (d ∷ cs) c =
     ap (λ (es : List Entry). Live from (length d) ∷ es)
     (entries_from-push (from + length d) cs c ∙ ap (λ n. entries_from (from + length d) cs ++ Live n (length c) ∷ []) place)
 
--- one more clause
+-- with clause i appended, the entries and literals are those of the first i + 1 clauses
 pub stored_more : (cs : List Clause) (i : ℕ) (c : Clause) (start : ℕ) (ls more : List ℤ) (es grown first : List Entry) → i < length cs
     → c ≡ get_or cs i [] → ls ≡ flat (take i cs)
     → start ≡ length ls → more ≡ ls ++ c → es ≡ first ++ entries_from 0 (take i cs) → grown ≡ es ++ Live start (length c) ∷ []
@@ -57,13 +57,13 @@ stored_more cs i c start ls more es grown first within here lits from grows ents
       grows ∙ ap (λ (xs : List ℤ). xs ++ c) lits ∙ sym (flat-push (take i cs) c) ∙ ap flat (sym cut),
     )
 
--- the literals added so far and the literals of the next clause are at most all literals
+-- the first i clauses and the next one together have at most as many literals as all clauses
 pub stored_fits : (cs : List Clause) (i : ℕ) → i < length cs → length (flat (take i cs)) + length (get_or cs i []) ≤ sum_by length cs
 stored_fits cs i within = omega (arith, length-flat (take i cs), sum_by_more_le length cs i [] within)
 
 -- The map of these entries and literals
 
--- the slot of a live entry whose literals come after other literals
+-- the live entry of a clause inside the list gives a live slot with that clause
 entry_is : (front c back : List ℤ)
     → plain_slot_in (front ++ c ++ back) (Live (length front) (length c)) ≡ plain.live (record { start = length front; literals = c })
 entry_is front c back =
@@ -109,7 +109,7 @@ none_there zero i = refl
 none_there (suc n) zero = refl
 none_there (suc n) (suc i) = none_there n i
 
--- the slot at an identity above 0
+-- if i is the index of a clause, the slot at index i has this clause, live
 slot_here : (from : ℕ) (cs : List Clause) (n i : ℕ) → i < length cs
     → slot_of (get_or (plain_slot_from from cs ++ replicate n plain.vacant) i plain.vacant) ≡ slots.live (get_or cs i [])
 unfolding plain_slot_from
@@ -129,7 +129,7 @@ clause_after f i =
     let place : suc i - 1 ≡ i = omega arith in
     ap (λ n. get_or f.clauses n []) place
 
--- what the map has at each identity
+-- each identity has the slot that it has in the opening state
 opened_slot : (f : Cnf) (n id : ℕ)
     → slot_of (get_or (plain.vacant ∷ (plain_slot_from 0 f.clauses ++ replicate n plain.vacant)) id plain.vacant) ≡ opening f id
 opened_slot f n zero = refl
@@ -146,7 +146,7 @@ vacant_stored : (ls : List ℤ) (n : ℕ) → map (plain_slot_in ls) (replicate 
 vacant_stored ls zero = refl
 vacant_stored ls (suc n) = ap (λ (xs : List PlainSlot). plain.vacant ∷ xs) (vacant_stored ls n)
 
--- the slots of the entries of an opened map
+-- the entries of an opened map give the slots of the formula's clauses, and vacant slots
 opened_entries : (f : Cnf) (n : ℕ) → map (plain_slot_in (flat f.clauses)) (Vacant ∷ (entries_from 0 f.clauses ++ replicate n Vacant))
     ≡ plain.vacant ∷ (plain_slot_from 0 f.clauses ++ replicate n plain.vacant)
 opened_entries f n =
@@ -244,12 +244,12 @@ opened_sound f p n capacity cnf is fits rest enough =
           ));
     }
 
--- the entries, literals and rooms are those of an opened map
+-- the entries, literals and rooms make an opened map of this formula
 abbrev pub IsOpened : Cnf → LayoutValue → ℕ → List Entry → List ℤ → List ℕ → Type 0
 IsOpened f p capacity es ls free = IsPlainSound p es ls free capacity × (formula_of (plain_of p es ls free) ≡ f)
     × (plain_state (plain_of p es ls free) ≡ opening f)
 
--- the same, with the lists given by equations
+-- lists that satisfy these equations make an opened map of the formula
 pub opened : (f : Cnf) (p : LayoutValue) (n capacity : ℕ) (first kept all : List Entry) (ls : List ℤ) (free : List ℕ) → IsCnf f
     → IsLayout p → Fits p f → n ≡ last_identity p - length f.clauses → formula_literals f + p.streams * p.room ≤ capacity
     → first ≡ Vacant ∷ [] → kept ≡ first ++ entries_from 0 f.clauses → all ≡ kept ++ replicate n Vacant → ls ≡ flat f.clauses

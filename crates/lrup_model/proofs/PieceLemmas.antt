@@ -15,7 +15,7 @@ pub length-pieces : (ls : Clause) (from : ℕ) (ends : List ℕ) → length (pie
 length-pieces ls from [] = refl
 length-pieces ls from (end ∷ ends) = ap suc (length-pieces ls end ends)
 
--- the start is at most the last end
+-- the start is at most the end of the list
 pub AreEnds-le : (from : ℕ) (ends : List ℕ) (all : ℕ) → AreEnds from ends all → from ≤ all
 AreEnds-le from [] all h = omega (arith, h)
 AreEnds-le from (end ∷ ends) all h = omega (arith, h.0, AreEnds-le end ends all h.1)
@@ -67,7 +67,7 @@ pieces-at ls from [] i lt = absurd (omega (arith, lt))
 pieces-at ls from (end ∷ ends) zero lt = refl
 pieces-at ls from (end ∷ ends) (suc i) lt = pieces-at ls end ends i (omega (arith, lt))
 
--- a formula with one more clause at its end
+-- after one more clause is appended, the formula is within the limits and its ends are valid
 pub grown : (vars : ℕ) (ls xs : Clause) (ends : List ℕ)
     → IsCnf (record { vars = vars; clauses = pieces ls 0 ends }) × AreEnds 0 ends (length ls)
     → length (pieces ls 0 ends) < max_clauses → IsFormulaClause vars xs
@@ -82,7 +82,7 @@ grown vars ls xs ends h room clause =
       AreEnds-push 0 ends (length ls) (length ls + length xs) h.1 (omega arith),
     )
 
--- the same, with the lists given by equations
+-- lists that satisfy these equations are the formula after one more clause is appended
 pub grown_to : (f : Cnf) (vars : ℕ) (ls xs more : Clause) (ends new : List ℕ)
     → ◌≡◌ {A = Cnf} (record { vars = vars; clauses = pieces ls 0 ends }) f
     → IsCnf (record { vars = vars; clauses = pieces ls 0 ends }) × AreEnds 0 ends (length ls)

@@ -77,7 +77,7 @@ pub view_more : (p : LayoutValue) (es : List Entry) (ls c : List ℤ) (free : Li
 view_more p es ls c free id h =
     ap (λ (xs : List PlainSlot). record { layout = p; plain_slots = xs; free = free }) (stored_more ls c es id h)
 
--- the sum of the rooms after a stream used room for n literals
+-- if a stream uses room for n literals, the sum of all rooms decreases by n
 sum-less : (free : List ℕ) (i n : ℕ) → i < length free → n ≤ get_or free i 0 → sum (set free i (get_or free i 0 - n)) + n ≡ sum free
 sum-less free i n within fits =
     let step : sum (set free i (get_or free i 0 - n)) + get_or free i 0 ≡ sum free + (get_or free i 0 - n) =
@@ -173,7 +173,7 @@ sound_retired p es ls free capacity id start len sound derived within here =
 
 -- What is stored under an identity
 
--- the stored literals are in the list of literals, from the start on
+-- the list of literals has the stored literals, from the stored start on
 abbrev LiesAt : List ℤ → StoredClause → Type 0
 LiesAt ls stored = (len : ℕ) × (stored.start + len ≤ length ls) × (stored.literals ≡ slice_range ls stored.start (stored.start + len))
 
@@ -187,7 +187,7 @@ entry_text ls (Retired start len ∷ es) zero stored h e =
     subst (LiesAt ls) (same_Some (record { start = start; literals = slice_range ls start (start + len) }) stored e) (len, h.0, refl)
 entry_text ls (x ∷ es) (suc id) stored h e = entry_text ls es id stored h.1 e
 
--- one of the stored literals
+-- literal k of a stored clause is in the list, at the clause's start plus k
 pub literal_lies : (ls : List ℤ) (es : List Entry) (id k start : ℕ) (text : Clause) → AllByRecursion (LiesWithin (length ls)) es
     → stored_of (get_or (map (plain_slot_in ls) es) id plain.vacant) ≡ Some (record { start = start; literals = text }) → k < length text
     → (start + k < length ls) × (slice_get text k ≡ Some (get_or ls (start + k) (pos 0)))
@@ -203,7 +203,7 @@ literal_lies ls es id k start text h e lt =
           ∙ get_or-take lies.0 (drop start ls) k (pos 0) short ∙ get_or-drop start ls k (pos 0)),
     )
 
--- The same for the whole map and the entry that was read
+-- The whole map and the entry that was read
 
 within_count : (p : LayoutValue) (es : List Entry) (id : ℕ) → length es ≡ last_identity p + 1 → id ≤ last_identity p → id < length es
 within_count p es id count le = omega arith
@@ -211,7 +211,7 @@ within_count p es id count le = omega arith
 within_stored : (ls : List ℤ) (es : List Entry) (id : ℕ) → id < length es → id < length (map (plain_slot_in ls) es)
 within_stored ls es id h = omega (arith, h, length-map es (plain_slot_in ls))
 
--- what is stored under the identity whose entry was read
+-- the entry that was read gives what is stored under its identity
 stored_is : (ls : List ℤ) (es : List Entry) (id : ℕ) (e : Entry) → id < length es → e ≡ get_or es id e
     → get_or (map (plain_slot_in ls) es) id plain.vacant ≡ plain_slot_in ls e
 stored_is ls es id e within read = get_or-map (plain_slot_in ls) es id Vacant plain.vacant within
@@ -268,7 +268,7 @@ publish_done v p es ls c more free capacity grown i id n left e view sound =
       ),
     ))
 
--- a literal of a known clause is in the list
+-- literal k of a known clip's clause is in the list, at the clip's start plus k
 pub known_literal : (v : Plain) (p : LayoutValue) (es : List Entry) (ls : List ℤ) (free : List ℕ) (clip : ClipValue) (k : ℕ)
     → plain_of p es ls free ≡ v → AllByRecursion (LiesWithin (length ls)) es → IsKnown (plain_caller_view v 1) clip → k < clip.len
     → (clip.start + k < length ls) × (slice_get (clip_clause (plain_caller_view v 1) clip) k ≡ Some (get_or ls (clip.start + k) (pos 0)))

@@ -31,7 +31,7 @@ use Rattle.lrup_model.specs.internal.PlainInside.{IsFormulaLive, AfterPublish, A
 use Rattle.lrup_model.specs.declared.clause_map.Published.{Published}
 use Rattle.lrup_model.specs.declared.clause_map.Published.TheVariants as publishing
 
--- What is stored under one identity is replaced
+-- Replacing what is stored under one identity
 
 at_set : (xs : List PlainSlot) (id j : ℕ) (v : PlainSlot) (b : Bool) → eqb j id ≡ b → id < length xs
     → slot_of (get_or (set xs id v) j vacant) ≡ cond b (slot_of v) (slot_of (get_or xs j vacant))
@@ -101,7 +101,7 @@ follow-set m s id v free derived within new all = record {
 pub nothing_stored : {stored : StoredClause} → None ≡ Some stored → ⊥
 nothing_stored h = cc
 
--- an event that changes nothing
+-- an event that changes nothing, with the right reply, leads from a map to the same map
 stays : (m : Plain) (s : ℕ) (e : Event) → stream_of e ≡ s → size_of e ≡ 0 → after (plain_state m) e ≡ plain_state m
     → Answers (plain_state m) e → IsAllowed (formula_of m) m.layout e → PlainMoves m m s (e ∷ [])
 stays m s e by size same answers allowed = record {
@@ -120,7 +120,7 @@ pub moves_taken : (m : Plain) (s id : ℕ) (c : Clause) → Owns m.layout s id �
     → plain_state m id ≢ slots.absent → PlainMoves m m s (events.publish s id c publishing.Taken ∷ [])
 moves_taken m s id c owns clause taken = stays m s (events.publish s id c publishing.Taken) refl refl refl taken (owns, clause)
 
--- the room of a stream after it used up n literals
+-- if a stream uses room for n literals, the room that it has left is n less
 room_left : (free : List ℕ) (i n : ℕ) → i < length free → n ≤ get_or free i 0
     → get_or (set free i (get_or free i 0 - n)) i 0 + n ≡ get_or free i 0
 room_left free i n within fits = omega (arith, get_or-set_at free i i (get_or free i 0 - n) 0 refl within)
@@ -158,7 +158,7 @@ vacant_from vacant h = refl
 vacant_from (live stored) h = absurd (cc)
 vacant_from (retired stored) h = absurd (cc)
 
--- a publish, by its result
+-- a publish leads from the old map to the new one, whatever its result
 pub moves_publish : (old new : Plain) (i id : ℕ) (c : Clause) (r : Published) → Owns old.layout (i + 1) id
     → IsPublishable (formula_of old) c
     → length c ≤ free_at old (i + 1) → AfterPublish old new i id c r → PlainMoves old new (i + 1) (events.publish (i + 1) id c r ∷ [])
@@ -181,7 +181,7 @@ retired_state : (m : Plain) (id : ℕ) (stored : StoredClause) → plain_slot_at
     → retire_slot (plain_state m id) ≡ slots.retired stored.literals
 retired_state m id stored here = ap (λ (x : PlainSlot). retire_slot (slot_of x)) here
 
--- a retire, by its result
+-- a retire leads from the old map to the new one, whatever its result
 pub moves_retire : (old new : Plain) (s id : ℕ) (r : Retired) → Owns old.layout s id → AfterRetire old new id r
     → PlainMoves old new s (events.retire s id r ∷ [])
 moves_retire old new s id retiring.Done owns after =
@@ -223,7 +223,7 @@ pub fetch_fetched : (m : Plain) (s id : ℕ) (r : Fetched) → r ≡ fetched_of 
 fetch_fetched m s id r is =
     subst (λ (x : Fetched). IsFetched (plain_caller_view m s) id x) (sym is) (fetched_is m s id (plain_slot_at m id) refl)
 
--- the formula's clause is the one stored under its identity
+-- a clause of the formula is the one stored under its identity
 formula_stored : (m : Plain) (id : ℕ) → 0 < id → id ≤ m.layout.clauses → clause_at (formula_of m) id ≡ clause_of (plain_slot_at m id)
 formula_stored m id positive within =
     let i : id - 1 < m.layout.clauses = omega arith in

@@ -1,4 +1,4 @@
--- What a caller knows of a clause map (this project's own).
+-- What a caller knows about a clause map (this project's own).
 use Rattle.std.specs.Prelude.{◌≡◌, ◌+◌, ℕ, [], length, Option, None, Some}
 use Rattle.std.specs.List.{AllByRecursion}
 use Rattle.lrup_model.specs.Clause.{Clause}
@@ -8,7 +8,7 @@ use Rattle.lrup_model.specs.Layout.{LayoutValue, IsLayout, IsStream, Fits, Owns}
 use Rattle.lrup_model.specs.Event.{History, stream_of, spent}
 use Rattle.lrup_model.specs.State.{State, run, AreVacantAbove}
 
--- what never changes in a view: the formula and the layout of the run, and the stream that calls
+-- what never changes in a view: the formula and the layout of the run, and the calling stream
 pub record Caller : Type 0 where
   pub formula : Cnf
   pub layout : LayoutValue
@@ -28,7 +28,7 @@ pub record StoredClause : Type 0 where
   pub start : ℕ
   pub literals : Clause
 
--- What a caller knows: `own`, what the map has at the identities of the caller's stream; `room`,
+-- What a caller knows: `own`, what the map has under the identities of the caller's stream; `room`,
 -- how many literals that stream may still publish; and `spelt`, how the clauses that the caller has
 -- seen are stored.
 pub record CallerView : Type 0 where
@@ -64,7 +64,7 @@ pub record AllFollow (view : CallerView) : Type 0 where
   pub each : (id : ℕ) (stored : StoredClause) → view.spelt id ≡ Some stored
       → IsDerived view.caller.formula stored.literals
 
--- the caller's own identities above this one, the last that it published, are vacant
+-- the caller's own identities above `last` are vacant
 abbrev pub IsVacantAbove : CallerView → ℕ → Type 0
 IsVacantAbove view last = AreVacantAbove view.caller.layout view.caller.stream view.own last
 

@@ -1,4 +1,5 @@
--- A stream's desk, through which it calls the clause map of one thread (this project's own).
+-- A stream's desk, through which the stream calls the clause map of one thread (this project's
+-- own).
 use Rattle.std.specs.Prelude.{◌≡◌, ◌+◌, ℕ}
 use Rattle.std.specs.Borrow.{MutBor}
 use Rattle.lrup_model.specs.Event.{History}
@@ -6,7 +7,7 @@ use Rattle.lrup_model.specs.CallerView.{CallerView}
 use Rattle.lrup_model.specs.Plain.{Plain, plain_caller_view, PlainMoves}
 use Rattle.lrup_model.specs.declared.plain_map.PlainDesk.{PlainDesk}
 
--- the desk's stream, counted from 1
+-- the number of the desk's stream, counting from 1
 abbrev pub stream_at : PlainDesk → ℕ
 stream_at desk = desk.index + 1
 
@@ -14,7 +15,7 @@ stream_at desk = desk.index + 1
 abbrev pub map_of : PlainDesk → Plain
 map_of desk = desk.map.now
 
--- The desk is this stream's desk at this map, and borrows the map.
+-- The desk belongs to this stream, and borrows this map.
 pub record IsDesk (map : MutBor Plain) (s : ℕ) (desk : PlainDesk) : Type 0 where
   pub map_now : map_of desk ≡ map.now
   pub same : desk.map.ghost_name ≡ map.ghost_name

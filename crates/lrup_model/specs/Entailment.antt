@@ -26,7 +26,7 @@ pub record Follows (formula : Cnf) (clause : Clause) : Type 0 where
   pub holds : (assignment : Assignment) → SatisfiesAll assignment formula
       → Satisfies assignment clause
 
--- a clause over the formula's variables that follows from it
+-- a clause over the formula's variables that follows from the formula
 abbrev pub IsDerived : Cnf → Clause → Type 0
 IsDerived formula clause = IsClause formula.vars clause × Follows formula clause
 

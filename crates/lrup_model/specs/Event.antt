@@ -1,6 +1,6 @@
 -- Events of the clause map, one for each call of fetch, publish and retire, and histories, which
--- are lists of events (this project's own). An event has a clause as a list, in the order in which
--- the map stores the literals; the list is read as a set.
+-- are lists of events (this project's own). In an event, a clause is a list of literals in the
+-- order in which the map stores them; the list is read as a set.
 use Rattle.std.specs.Prelude.{◌==◌, ℕ, List, [], ◌∷◌, length}
 use Rattle.std.specs.List.{filter, sum_by}
 use Rattle.lrup_model.specs.Clause.{Clause}
@@ -43,7 +43,7 @@ published (publish s id clause publishing.Done ∷ history) = (id, clause) ∷ p
 published (publish s id clause publishing.Taken ∷ history) = published history
 published (retire s id reply ∷ history) = published history
 
--- the number of literals in the clauses that a stream published with `Done`
+-- the number of literals in the clauses that a stream published with the reply `Done`
 abbrev pub spent : ℕ → History → ℕ
 spent s history = sum_by (λ entry. length entry.1) (published (own history s))
 

@@ -13,7 +13,7 @@ pub record Cnf : Type 0 where
 abbrev pub max_clauses : ℕ
 max_clauses = 16777215
 
--- the largest number of literals of one clause
+-- the largest number of literals in one clause
 abbrev pub max_clause_literals : ℕ
 max_clause_literals = 1048575
 
@@ -27,10 +27,10 @@ pub record IsCnf (formula : Cnf) : Type 0 where
   pub count : length formula.clauses ≤ max_clauses
   pub clauses : AllByRecursion (IsFormulaClause formula.vars) formula.clauses
 
--- clause i of the formula, counted from 1
+-- clause i of the formula, counting from 1
 abbrev pub clause_at : Cnf → ℕ → Clause
 clause_at formula i = slice_index_or formula.clauses (i - 1) []
 
--- the number of literals of all clauses together
+-- the number of literals in all clauses together
 abbrev pub formula_literals : Cnf → ℕ
 formula_literals formula = sum_by length formula.clauses

@@ -7,7 +7,7 @@ use Rattle.lrup_model.specs.Layout.{LayoutValue, IsIdentity, Owns}
 use Rattle.lrup_model.specs.Event.{Event, fetch, publish, retire, History, spent}
 use Rattle.lrup_model.specs.State.{State, Answers, after, opening}
 
--- the largest number of literals of a derived clause
+-- the largest number of literals in a derived clause
 abbrev pub max_line_literals : ℕ
 max_line_literals = 65535
 
@@ -33,8 +33,8 @@ LegalFrom formula layout slots (event ∷ history) =
     Answers slots event × IsAllowed formula layout event
     × LegalFrom formula layout (after slots event) history
 
--- A legal history: starting with the formula's clauses, each event is allowed and has the reply of
--- the map of one thread; and each stream publishes at most as many literals as it has room for.
+-- A legal history: each event is allowed, and has the reply of a map of one thread that starts with
+-- the formula's clauses; and each stream publishes at most as many literals as it has room for.
 pub record IsLegal (formula : Cnf) (layout : LayoutValue) (history : History) : Type 0 where
   pub events : LegalFrom formula layout (opening formula) history
   pub room : (s : ℕ) → spent s history ≤ layout.room

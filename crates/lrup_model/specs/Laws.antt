@@ -18,7 +18,7 @@ use Rattle.lrup_model.specs.Pass.{View, PassMoves, pass_caller_view}
 -- Entailment
 
 -- if hints derive a clause, and all hinted clauses are over a formula's variables and follow from
--- the formula, then the clause follows from it
+-- the formula, then the clause follows from the formula
 abbrev pub PropagationSound : Type 0
 PropagationSound = (formula : Cnf) (clause : Clause) (hinted : List Clause)
     → AllByRecursion (IsDerived formula) hinted → Accepts clause hinted → Follows formula clause
@@ -32,7 +32,7 @@ WithinRefutes = (formula : Cnf) (clause : Clause) (cube : CubeValue) → IsDeriv
 -- What a history leaves at an identity
 
 -- every clause that a legal history of a formula leaves, live or retired, is over the formula's
--- variables and follows from it
+-- variables and follows from the formula
 abbrev pub ClausesFollow : Type 0
 ClausesFollow = (formula : Cnf) (layout : LayoutValue) (history : History) (id : ℕ)
     (clause : Clause) → IsCnf formula → LegalFrom formula layout (opening formula) history
@@ -44,8 +44,8 @@ OwnCallsDecide = (formula : Cnf) (layout : LayoutValue) (history : History) (s i
     → LegalFrom formula layout (opening formula) history → Owns layout s id
     → state formula history id ≡ state formula (own history s) id
 
--- the new slot is the old one, or a later one in the order absent, live, retired, with the same
--- clause
+-- the slot stays the same, or moves on in the order absent, live, retired, and keeps its clause if
+-- it has one
 abbrev pub Advances : Slot → Slot → Type 0
 Advances absent new = Unit {0}
 Advances (live c) absent = ⊥
@@ -68,7 +68,7 @@ KnownStays = (a b : CallerView) (es : History) (clip : ClipValue) → CallerStep
     → IsKnown a clip
     → IsKnown b clip × (clip_clause b clip ≡ clip_clause a clip)
 
--- what a pass's calls change in the caller's view
+-- if a pass makes these calls, its caller's view changes as `CallerStep` says
 abbrev pub PassSteps : Type 0
 PassSteps = (a b : View) (es : History) → PassMoves a b es
     → CallerStep (pass_caller_view a) (pass_caller_view b) es
@@ -81,7 +81,8 @@ IsFound events.vacant = ⊥
 IsFound (events.live c) = Unit {0}
 IsFound events.retired = Unit {0}
 
--- if a stream of the set fetches an identity and finds a clause, no stream outside the set owns it
+-- if a stream of the set fetches an identity and finds a clause, no stream outside the set owns the
+-- identity
 abbrev pub FindsWithin : LayoutValue → (ℕ → Bool) → Event → Type 0
 FindsWithin p set (events.fetch s id r) =
     IsTrue (set s) → IsFound r → (t : ℕ) → Owns p t id → IsTrue (set t)

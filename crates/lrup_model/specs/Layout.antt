@@ -34,7 +34,7 @@ layout_value vars clauses literals streams lines room =
 abbrev pub max_streams : ℕ
 max_streams = 64
 
--- the largest number of words of the shared row
+-- the largest number of words in the shared row
 abbrev pub max_row_words : ℕ
 max_row_words = 268435456
 
@@ -61,11 +61,11 @@ pub record Fits (layout : LayoutValue) (formula : Cnf) : Type 0 where
   pub clauses : layout.clauses ≡ length formula.clauses
   pub literals : layout.literals ≡ formula_literals formula
 
--- an identity: 1 to the last one
+-- a number from 1 to the last identity
 abbrev pub IsIdentity : LayoutValue → ℕ → Type 0
 IsIdentity layout id = (0 < id) × (id ≤ last_identity layout)
 
--- the streams, counted from 1, own the identities after the formula's in turn
+-- the streams, numbered from 1, own in turn the identities after the formula's
 abbrev pub owner : LayoutValue → ℕ → Owner
 owner layout id =
     if nat_eq id 0 then owners.Outside
@@ -82,7 +82,7 @@ Owns layout s id = owner layout id ≡ owners.Stream s
 abbrev pub IsStream : LayoutValue → ℕ → Type 0
 IsStream layout s = (0 < s) × (s ≤ layout.streams)
 
--- the fault is the first that holds, in the order of the faults
+-- this is the first fault that the layout has, in the order in which the faults are listed
 abbrev pub IsFault : LayoutValue → LayoutFault → Type 0
 IsFault layout faults.TooManyVariables = max_variable < layout.vars
 IsFault layout faults.TooManyClauses = (layout.vars ≤ max_variable) × (max_clauses < layout.clauses)

@@ -1,5 +1,5 @@
--- A pass, i.e. one stream's handle to the shared store, and what it means for a pass to be fair,
--- for a pass to move, and for passes to meet (this project's own).
+-- Passes, which are the streams' handles to the shared store, and what it means for a pass to be
+-- fair, for a pass to move, and for passes to meet (this project's own).
 use Rattle.std.specs.Prelude.{◌≡◌, ◌≢◌, ◌+◌, ◌-◌, ◌==◌, ◌++◌, ℕ, List, [], ◌∷◌, if◌then◌else◌, Option, None, Some}
 use Rattle.std.specs.List.{AllByRecursion}
 use Rattle.lrup_model.specs.Formula.{Cnf}
@@ -13,7 +13,7 @@ pub record Spelling : Type 0 where
   pub id : ℕ
   pub stored : StoredClause
 
--- what the list has for an identity
+-- what the list stores for an identity
 abbrev pub stored_in : List Spelling → ℕ → Option StoredClause
 stored_in [] id = None
 stored_in (entry ∷ spellings) id =
@@ -48,8 +48,8 @@ pub record View : Type 0 where
   pub mine : History
   pub spelt : List Spelling
 
--- The history that the pass has seen is legal, its calls by the pass's stream are exactly the calls
--- of the pass, in order, and exactly the clauses in it are stored.
+-- The history that the pass has seen is legal; its calls by the pass's stream are exactly the calls
+-- of the pass, in order; and exactly the clauses that this history leaves are stored.
 pub record IsFair (view : View) : Type 0 where
   pub caller : IsCaller view.caller
   pub legal : IsLegal view.caller.formula view.caller.layout view.seen
@@ -80,8 +80,8 @@ pub record PassMoves (old new : View) (history : History) : Type 0 where
   pub follow : AllFollow (pass_caller_view old) → AllFollow (pass_caller_view new)
 
 -- Two passes of one store have met: both have now seen the same history, which begins with what
--- each had seen before. If one had seen all that the other had, what that one has seen doesn't
--- change. Neither made a call, and both are fair.
+-- each had seen before. If one had already seen all that the other had, its history doesn't change.
+-- Neither made a call, and both are fair.
 pub record SyncViews (old old' new new' : View) : Type 0 where
   pub one : new'.seen ≡ new.seen
   pub first : PassMoves old new []

@@ -17,8 +17,8 @@ pub data PlainSlot : Type 0 where
   live : StoredClause → PlainSlot
   retired : StoredClause → PlainSlot
 
--- `plain_slots` has what is stored under each identity, from identity 0 on, which has nothing;
--- `free` has the room that each stream has left, in literals.
+-- Element i of `plain_slots` is what is stored under identity i (nothing under 0); `free` has the
+-- room that each stream has left, in literals.
 pub record Plain : Type 0 where
   pub layout : LayoutValue
   pub plain_slots : List PlainSlot
@@ -52,11 +52,11 @@ formula_of plain = record {
 abbrev pub plain_state : Plain → State
 plain_state plain = λ id. slot_of (plain_slot_at plain id)
 
--- the room that a stream, counted from 1, has left
+-- the room that stream s has left, counting streams from 1
 abbrev pub free_at : Plain → ℕ → ℕ
 free_at plain s = slice_index plain.free (s - 1)
 
--- what a stream's caller knows of the map
+-- what a stream's caller knows about the map
 abbrev pub plain_caller_view : Plain → ℕ → CallerView
 plain_caller_view plain s = record {
   caller = record { formula = formula_of plain; layout = plain.layout; stream = s };

@@ -21,7 +21,8 @@ IsFetched view id fetched.Vacant = view.spelt id ≡ None
 IsFetched view id (fetched.Live clip) = (clip.id ≡ id) × IsKnown view clip
 IsFetched view id fetched.Retired = (stored : StoredClause) × (view.spelt id ≡ Some stored)
 
--- for an identity that the caller's stream owns, the reply is what the caller's calls left there
+-- for an identity that the caller's stream owns, the reply matches what the caller's calls left
+-- there
 abbrev pub AnswersOwn : CallerView → ℕ → Reply → Type 0
 AnswersOwn view id reply =
     Owns view.caller.layout view.caller.stream id

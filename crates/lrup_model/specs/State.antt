@@ -1,4 +1,4 @@
--- The clause map of one thread: what it has at an identity, and how an event changes that (this
+-- The clause map of one thread: what it has under an identity, and how an event changes that (this
 -- project's own).
 use Rattle.std.specs.Prelude.{◌≡◌, ◌≢◌, ◌<◌, ◌==◌, ◌&&◌, ℕ, [], ◌∷◌, length, if◌then◌else◌, nat_le, nat_lt}
 use Rattle.lrup_model.specs.Clause.{Clause}
@@ -9,13 +9,13 @@ use Rattle.lrup_model.specs.Event.{Event, History}
 use Rattle.lrup_model.specs.declared.clause_map.Published.TheVariants as publishing
 use Rattle.lrup_model.specs.declared.clause_map.Retired.TheVariants as retiring
 
--- what the map has at an identity
+-- what the map has under an identity
 pub data Slot : Type 0 where
   absent : Slot
   live : Clause → Slot
   retired : Clause → Slot
 
--- what the map has at each identity
+-- what the map has under each identity
 abbrev pub State : Type 0
 State = ℕ → Slot
 
@@ -43,7 +43,7 @@ retire_slot absent = absent
 retire_slot (live clause) = retired clause
 retire_slot (retired clause) = retired clause
 
--- the formula's clauses are live, at the identities from 1 on, and all other identities are absent
+-- the formula's clauses are live, under the identities from 1 on, and all other slots are absent
 abbrev pub opening : Cnf → State
 opening formula =
     λ id. if nat_lt 0 id && nat_le id (length formula.clauses) then live (clause_at formula id)
@@ -78,6 +78,6 @@ Answers slots (events.publish s id clause publishing.Taken) = slots id ≢ absen
 Answers slots (events.retire s id retiring.Done) = IsLive (slots id)
 Answers slots (events.retire s id retiring.NotLive) = ¬ IsLive (slots id)
 
--- the stream's own identities above this one are absent
+-- the slots of the stream's own identities above `last` are absent
 abbrev pub AreVacantAbove : LayoutValue → ℕ → State → ℕ → Type 0
 AreVacantAbove layout s slots last = (id : ℕ) → Owns layout s id → last < id → slots id ≡ absent

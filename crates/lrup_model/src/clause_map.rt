@@ -32,7 +32,7 @@ impl Model for Clip {
 
 impl Clip {
     /// A clip with this identity, length and start. A map accepts only clips that its caller knows,
-    /// such as those that a fetch at this map returned.
+    /// such as those that fetches from this map returned.
     pub fn new(id: Id, len: u32, start: u32) -> Clip
         ensures { result ≡ record { id = id; len = len; start = start } }
     {
@@ -109,7 +109,7 @@ pub enum Retired {
     NotLive,
 }
 
-/// A clause map (the clause database) as one stream calls it. Each call of fetch, publish or retire
+/// A clause map (the clause database) as one stream uses it. Each call of fetch, publish or retire
 /// is one event; the other calls are not events. No call allocates memory.
 pub trait ClauseMap {
     /// What the caller knows of the map.
@@ -122,7 +122,7 @@ pub trait ClauseMap {
     fn stream(&self) -> u64
         ensures { result ≡ (caller_view self.now).caller.stream };
 
-    /// Whether this is an identity: 1 to the last one.
+    /// Whether this number is an identity: at least 1, and at most the last one.
     fn covers(&self, id: Id) -> bool
         ensures { IsTrue result ↔ IsIdentity (caller_view self.now).caller.layout id };
 
@@ -136,10 +136,10 @@ pub trait ClauseMap {
     fn room(&self) -> u64
         ensures { result ≡ (caller_view self.now).room };
 
-    /// Looks up what the map has at this moment under an identity, 1 to the last one. A clause of
-    /// the formula is always live, the caller's own identities have what the caller's calls left
-    /// there, and other streams may change theirs at any time. Each clause that a fetch finds
-    /// follows from the formula.
+    /// Looks up what the map has at this moment under an identity, which is at least 1 and at most
+    /// the last one. A clause of the formula is always live, the caller's own identities have what
+    /// the caller's calls left there, and other streams may change theirs at any time. Each clause
+    /// that a fetch finds follows from the formula.
     fn fetch(&mut self, id: Id) -> Fetched
         requires { IsIdentity (caller_view self.old).caller.layout id }
         ensures event { moves self.old self.new
@@ -154,8 +154,8 @@ pub trait ClauseMap {
             ≡ (caller_view self.new).caller.layout.vars }
         ensures follow { AllFollow (caller_view self.new) };
 
-    /// Reads literal `k`, counted from 0, of a clause whose clip is known here. The literals are in
-    /// the order in which the map stores them, which never changes.
+    /// Reads literal `k`, counted from 0, of a clause whose clip the caller knows. The literals are
+    /// in the order in which the map stores them, which never changes.
     fn literal(&mut self, clip: &Clip, k: u32) -> Lit
         requires known { IsKnown (caller_view self.old) clip.now }
         requires within { k < clip.now.len }
@@ -163,8 +163,8 @@ pub trait ClauseMap {
         ensures event { moves self.old self.new [] }
         ensures stays { caller_view self.new ≡ caller_view self.old };
 
-    /// Reads pair `i`, counted from 0, of a clause whose clip is known here: literal `2 * i` and,
-    /// if there is one, literal `2 * i + 1`, as two calls of `literal` would return them.
+    /// Reads pair `i`, counted from 0, of a clause whose clip the caller knows: literal `2 * i`
+    /// and, if there is one, literal `2 * i + 1`, as two calls of `literal` would return them.
     #[inline]
     fn pair(&mut self, clip: &Clip, i: u32) -> (Lit, Option<Lit>)
         requires known { IsKnown (caller_view self.old) clip.now }

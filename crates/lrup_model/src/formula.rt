@@ -36,7 +36,7 @@ impl Formula {
     /// The largest number of literals of one clause.
     pub const MAX_CLAUSE_LITERALS: u32 = 1_048_575;
 
-    /// A formula of this many variables, at most 16,777,215, without clauses. It allocates no
+    /// A formula without clauses, over this many variables, at most 16,777,215. It allocates no
     /// memory.
     pub fn new(alloc: Global, vars: u32) -> Self
         requires { vars ≤ max_variable }

@@ -32,7 +32,7 @@ pub fn known_stays()
     ensures { KnownStays }
 {}
 
-/// What a pass's calls change in the caller's view.
+/// A pass's calls change its caller's view only as `CallerStep` says.
 pub fn pass_steps()
     ensures { PassSteps }
 {}

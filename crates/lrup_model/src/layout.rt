@@ -14,7 +14,7 @@ use std::marker::Model;
 pub enum Owner {
     /// A clause of the formula; no stream owns it.
     Formula,
-    /// The stream of this number, counted from 1, owns it.
+    /// The stream with this number (from 1) owns it.
     Stream(u64),
     /// Not an identity: 0, or above the last one.
     Outside,
@@ -204,7 +204,7 @@ impl Layout {
         1 + self.last_identity() + self.literals as u64 + self.all_room()
     }
 
-    /// Whether this is an identity: 1 to the last one.
+    /// Whether this number is an identity: at least 1, and at most the last one.
     pub fn covers(&self, id: u64) -> bool
         ensures { IsTrue result ↔ IsIdentity self.now id }
     {

@@ -19,7 +19,7 @@ pub use layout::{Layout, LayoutFault, Owner};
 pub use lit::Lit;
 pub use plain_map::{PlainDesk, PlainMap};
 
-/// The identity of a clause: the formula's `m` clauses have 1 to `m` in the order of the file, and
-/// the streams own the identities above `m` in turn. 0 and all numbers above the last identity are
-/// not identities.
+/// The identity of a clause: the formula's `m` clauses have the identities 1 to `m`, in the order
+/// of the file, and the streams own the identities above `m` in turn. 0 and all numbers above the
+/// last identity are not identities.
 pub type Id = u64;

@@ -51,7 +51,7 @@ impl Lit {
         Some(Lit { code })
     }
 
-    /// The literal with this code, 2 to 33,554,431.
+    /// The literal with this code, which is at least 2 and at most 33,554,431.
     #[inline]
     pub fn from_code(code: u32) -> Lit
         requires { IsCode max_variable code }

@@ -52,7 +52,7 @@ const _: () = prove!(size_of::<Entry>() == 12);
 
 impl PlainMap {
     /// The result of a fetch of the identity. Each clause follows from the formula, whichever
-    /// stream looks, so the contract uses the view of stream 1.
+    /// stream fetches it, so the contract uses the view of stream 1.
     fn look(&self, id: Id) -> Fetched
         requires { id ≤ last_identity self.now.layout }
         ensures answer { result ≡ fetched_of id (plain_slot_at self.now id) }
@@ -96,7 +96,7 @@ impl PlainMap {
         Published::Done
     }
 
-    /// Retires the clause under an identity of stream `index + 1` if it is live.
+    /// Retires the clause under an identity of stream `index + 1` if the clause is live.
     fn retire_at(&mut self, index: u32, id: Id) -> Retired
         requires { Owns self.old.layout (index + 1) id }
         ensures { AfterRetire self.old self.new id result }
@@ -155,7 +155,7 @@ impl PlainMap {
         self.free.get(index as usize).copied().unwrap_or(0)
     }
 
-    /// The `ClauseMap` of stream `s`, counted from 1. It borrows this map.
+    /// The `ClauseMap` of the stream with number `s` (from 1). It borrows this map.
     pub fn desk(&mut self, s: u64) -> PlainDesk<'_>
         requires { IsStream self.old.layout s }
         ensures { IsDesk self.entry s result }
@@ -169,7 +169,7 @@ impl PlainMap {
     }
 }
 
-/// The room of each stream before it publishes anything, in literals.
+/// The initial room of each stream, in literals.
 fn rooms(alloc: Global, layout: &Layout) -> Result<Vec<u64>, AllocError>
     ensures rooms { IfOk result
         (λ free. free.items ≡ replicate layout.now.streams layout.now.room) }

@@ -75,7 +75,7 @@ const STREAMS: Option<LayoutFault> = Some(LayoutFault::BadStreamCount);
 
 const TOO_LONG: Option<LayoutFault> = Some(LayoutFault::RowTooLong);
 
-/// Six numbers, and why they give no layout.
+/// Six numbers, and why they give no layout, if they don't.
 static LAYOUTS: [([u64; 6], Option<LayoutFault>); 21] = [
     ([16_777_215, 4, 8, 1, 0, 0], None),
     ([16_777_216, 4, 8, 1, 0, 0], VARIABLES),
@@ -193,7 +193,7 @@ fn a_refused_push_changes_nothing(rt: HostRuntime) -> Result<(), Fail> {
     Ok(())
 }
 
-/// `make sweep` refuses each allocation of this test, too.
+/// `make sweep` refuses each allocation of this test in turn; the second attempt then succeeds.
 #[test]
 fn a_refused_open_can_be_made_again(rt: HostRuntime) -> Result<(), Fail> {
     let formula = Formula::new(rt.alloc(), 2);
@@ -267,7 +267,7 @@ fn cubes_refute_clauses(rt: HostRuntime) -> Result<(), Fail> {
     Ok(())
 }
 
-/// `make sweep` refuses each allocation of this test, too.
+/// `make sweep` refuses each allocation of this test in turn; the second attempt then succeeds.
 #[test]
 fn a_refused_cube_can_be_made_again(rt: HostRuntime) -> Result<(), Fail> {
     let cube = match Cube::of(rt.alloc(), &[lit(-2), lit(1)]) {
@@ -495,9 +495,9 @@ fn four_is_a_formula()
     ensures { IsCnf four }
 {}
 
-/// Only from the laws: clauses of a legal history follow from the formula, and so do clauses
-/// derived from them by hints; under the complement of such a clause no assignment is left. An
-/// identity under which its stream never published is vacant.
+/// Proved only from the laws: clauses of a legal history follow from the formula, and so do clauses
+/// derived from them by hints; no assignment satisfies both the formula and the complement of such
+/// a clause. An identity under which its stream never published is vacant.
 fn what_laws_say()
     ensures unit { Follows four unit }
     ensures empty { Follows four [] }

@@ -22,7 +22,7 @@ use Rattle.lrup_text.proofs.Steps.{literal_space}
 use Rattle.lrup_text.proofs.Bytes.{clause_more, list_more}
 use Rattle.lrup_text.proofs.TextLaws.{signed_word, decimal_word}
 
--- the same with the bytes and the spot given by equations
+-- `Tracks` holds for equal bytes and an equal spot, too
 pub tracks_as : {p q : List ℕ} {s t : Spot} → Tracks p s → p ≡ q → s ≡ t → Tracks q t
 tracks_as {p} {q} {s} {t} h e f = subst (λ x. Tracks x t) e (subst (λ x. Tracks p x) f h)
 
@@ -58,7 +58,7 @@ literal_digits p imports k n (c ∷ cs) h t =
     tracks_as (literal_digits (p ++ c ∷ []) imports (k + 1) n cs h.1 (tracks_more p _ _ c t (literal_digit imports k n c h.0)))
     (append_assoc p (c ∷ []) cs) (ap (λ x. InLiteral imports x n) (omega arith))
 
--- a literal's digits after the first, and the space after them
+-- after a literal's first digit, the other digits and a space lead to the spot before the next one
 tracks_rest : (p : List ℕ) (imports : Bool) (n c : ℕ) (cs : List ℕ) → AllByRecursion IsDigit cs → length cs < 18
     → Tracks (p ++ c ∷ []) (InLiteral imports 1 n) → Tracks (p ++ ((c ∷ cs) ++ space ∷ [])) (BeforeLiteral imports (n + 1))
 tracks_rest p imports n c cs h few t =
@@ -87,12 +87,12 @@ tracks_literals p imports n (z ∷ zs) h t =
     (tracks_literal p imports n (signed_decimal z) (signed_word z h.0) t))
     (append_assoc p (signed_decimal z ++ space ∷ []) (literals_text zs)) (ap (BeforeLiteral imports) (omega arith))
 
--- the texts of two lists, appended
+-- the text of two appended lists is the first one's text and then the second one's
 texts_append : {X : Type 0} (f : X → List ℕ) (xs ys : List X) → flat_map f (xs ++ ys) ≡ flat_map f xs ++ flat_map f ys
 texts_append f [] ys = refl
 texts_append f (x ∷ xs) ys = ap (λ t. f x ++ t) (texts_append f xs ys) ∙ sym (append_assoc (f x) (flat_map f xs) (flat_map f ys))
 
--- the number of elements after more were read
+-- after more elements have been read, the count has grown by their number
 count_is : {X : Type 0} (old new more : List X) (first count : ℕ) → first ≤ length old → count ≤ length new
     → take count new ≡ take first old ++ more → count ≡ first + length more
 count_is old new more first count first_in count_in is =
@@ -174,6 +174,6 @@ literals_ahead m v count used lits piece h at items size found =
     } in
     subst (λ p. ReadsAhead m piece used (record next { state = p })) (sym at) result
 
--- no byte is read
+-- `ReadsAhead` holds before any byte of the piece has been read
 pub nothing_ahead : (m : PartialLine) (piece : List ℕ) → IsPartialLine m → ReadsAhead m piece 0 m
 nothing_ahead m piece h = record { bound = omega arith; reads = h; is = sym (append-nil (pending m)) }

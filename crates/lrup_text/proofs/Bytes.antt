@@ -1,4 +1,4 @@
--- What each byte does, in each state, to a line that was read in part.
+-- What each byte does, in each state, to a line that has been read in part.
 use Rattle.std.proofs.Common.{unsigned_abs, ◌≡◌, ◌≢◌, ℕ, ℤ, ◌+◌, ◌-◌, ◌*◌, ◌^◌, ◌<◌, ◌≤◌, inl, inr, Bool, true, false, List, [], ◌∷◌, ◌++◌}
 use Rattle.std.proofs.Common.{length, take, map, refl, sym, ◌∙◌, ap, subst, arith}
 use Rattle.std.specs.Fmt.{decimal, signed_decimal}
@@ -70,7 +70,7 @@ use Rattle.lrup_text.proofs.Steps.{
   end_blocks,
 }
 
--- the same with the state given by an equation
+-- what has been read ends at the spot of the state, which an equation gives
 tracks_at : (m : PartialLine) (state : ParserState) → m.state ≡ state → IsPartialLine m → Tracks (pending_at state m) (spot_at state m)
 tracks_at m state e h = subst (λ p. Tracks (pending_at p m) (spot_at p m)) e h.tracks
 
@@ -101,7 +101,7 @@ module _ (m : PartialLine) (state : ParserState) (at : m.state ≡ state) (reads
   long_at exceeds =
       decides_long (pending m) (spot_at m.state m) b reads.tracks (bounded m reads) (subst (λ p. Exceeds (spot_at p m) b) (sym at) exceeds)
 
--- a line that was read in part, after one more byte
+-- a line that has been read in part, after one more byte
 module _ (m next : PartialLine) (state : ParserState) (at : m.state ≡ state) (reads : IsPartialLine m) (b : ℕ) where
   pub tracks_next : pending next ≡ pending_at state m ++ b ∷ [] → Moves (spot_at state m) b (spot_at next.state next)
       → Tracks (pending next) (spot_at next.state next)
@@ -135,11 +135,11 @@ decimal_next n k b h few digit =
 pub positive : (n k : ℕ) → FitsDigits n k → IsStreamNumber n
 positive n k h = (h.low, below_limit n k h)
 
--- one more element at the end of a list
+-- one more element at the end of a list appends its text
 pub text_more : {X : Type 0} (f : X → List ℕ) (xs : List X) (x : X) → flat_map f (xs ++ x ∷ []) ≡ flat_map f xs ++ f x
 text_more f xs x = sym (flat_map_more f [] xs x)
 
--- the end of a clause's text
+-- a clause's text is its words, each followed by a space, then 0 and what comes after it
 pub words_end : {A : Type 0} (spell : A → List ℕ) (words : List A) (after : List ℕ)
     → words_text spell words ++ zero_digit ∷ after ≡ clause_text (map spell words) after
 unfolding words_text
@@ -149,12 +149,12 @@ words_end spell (w ∷ ws) after =
     ∙ append_assoc (spell w) (space ∷ []) (words_text spell ws ++ zero_digit ∷ after)
     ∙ ap (λ t. spell w ++ space ∷ t) (words_end spell ws after)
 
--- a list has a space before its words, and then a space after each
+-- a list's text is a space, its words, each followed by a space, and then 0 and LF
 pub list_words : {A : Type 0} (spell : A → List ℕ) (words : List A)
     → space ∷ (words_text spell words ++ zero_digit ∷ line_feed ∷ []) ≡ list_text (map spell words)
 list_words spell words = ap (λ t. space ∷ t) (words_end spell words (line_feed ∷ [])) ∙ sym (list_is_clause (map spell words))
 
--- the whole text of a line, from its front
+-- a line's front and LF are its whole text
 list_end : (deletes : Bool) (lead : ℕ) (lits : List ℤ) (ids : List ℕ)
     → ((list_front deletes lead lits ++ space ∷ numbers_text ids) ++ zero_digit ∷ []) ++ line_feed ∷ []
     ≡ line_text (line_of_parts false deletes lead lits ids)
@@ -192,7 +192,7 @@ line_fits false false lead lits n ids j h n_in j_in = (
   record { count = omega (arith, length-take-le j ids j_in, h.few_identities); each = h.identities },
 )
 
--- the front of a clause after one more literal
+-- the front of a clause grows by the text of the literals that are added
 pub clause_more : (imports : Bool) (lead : ℕ) (lits longer : List ℤ) (x : List ℕ) → literals_text longer ≡ literals_text lits ++ x
     → clause_front imports lead longer ≡ clause_front imports lead lits ++ x
 clause_more true lead lits longer x is = ap (λ t. decimal lead ++ space ∷ letter_i ∷ space ∷ t) is
@@ -200,7 +200,7 @@ clause_more true lead lits longer x is = ap (λ t. decimal lead ++ space ∷ let
 clause_more false lead lits longer x is = ap (λ t. decimal lead ++ space ∷ t) is
     ∙ sym (append_assoc (decimal lead) (space ∷ literals_text lits) x)
 
--- the front of a list after one more word
+-- the front of a list grows by the text of the words that are added
 pub list_more : (front : List ℕ) (ids longer x : List ℕ) → numbers_text longer ≡ numbers_text ids ++ x
     → front ++ space ∷ numbers_text longer ≡ (front ++ space ∷ numbers_text ids) ++ x
 list_more front ids longer x is = ap (λ t. front ++ space ∷ t) is ∙ sym (append_assoc front (space ∷ numbers_text ids) x)
@@ -357,7 +357,7 @@ module _ (m : PartialLine) (b : ℕ) (h : IsPartialLine m) where
         pending_next m next states.Body at h b is,
       )
 
-  -- the front of a line that has no literals and is no import so far
+  -- the front of a line that has no literals so far and isn't an import
   lead_front : m.imports ≡ false → m.literal_count ≡ 0 → clause_front m.imports m.lead (literals_read m) ≡ decimal m.lead ++ space ∷ []
   unfolding words_text
   lead_front adds few = ap (λ i. clause_front i m.lead (literals_read m)) adds
@@ -483,7 +483,7 @@ module _ (m : PartialLine) (b : ℕ) (h : IsPartialLine m) where
 
   -- Literal
 
-  -- a literal after one more digit
+  -- one more digit extends the literal's text by its byte
   literal_more : (negative : Bool) (n k : ℕ) → FitsDigits n k → k < 18 → IsDigit b
       → literal_front negative (n * 10 + (b - 48)) ≡ literal_front negative n ++ b ∷ []
   literal_more true n k number few digit = ap (λ t. minus ∷ t) (decimal_next n k b number few digit)

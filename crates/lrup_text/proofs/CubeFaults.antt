@@ -78,14 +78,14 @@ module _ (read : List ℕ) (spot : Spot) (byte : ℕ) (after : List ℕ) (occurs
       none lines.TooLong (BeginsOneLifted IsCubeLine) h
       (h.why.0, h.why.2, begins_cube h.why.0 h.why.2 (read ++ byte ∷ []) (h.why.1, h.why.3))
 
--- the fault of the rest after a byte
+-- if a byte leads to the next spot, a fault of the rest after it is a fault of the rest with it
 pub rest_fault : (spot next : ℕ → Spot) (byte : ℕ) (after : List ℕ) (fault : CubeFault) → ((n : ℕ) → Moves (spot n) byte (next n))
     → IsRestFault next after fault → IsRestFault spot (byte ∷ after) fault
 rest_fault spot next byte after fault moves h read n few occurs =
     subst (λ t. IsTextFault IsCubeLine t fault) (append_assoc read (byte ∷ []) after)
     (h (read ++ byte ∷ []) n few (tracks_more (import_front ++ read) (spot n) (next n) byte occurs (moves n)))
 
--- the text ends before the line does
+-- a text that ends before its line does is misspelled
 pub too_short : (read : List ℕ) (spot : Spot) → EndsAtSpot read spot → IsBounded spot → IsTextFault IsCubeLine (read ++ []) Spelling
 too_short read spot occurs bounded =
     let line = import_front ++ read in
@@ -97,7 +97,7 @@ too_short read spot occurs bounded =
           (tracks_pending line spot occurs bounded).whole whole.0 [] whole.1.0 (whole.1.1 ∙ sym (append-nil _)),
     ))
 
--- bytes follow the LF
+-- a text with bytes after the LF is misspelled
 too_much : (read : List ℕ) (byte : ℕ) (after : List ℕ) → EndsAtSpot read AtEnd
     → IsTextFault IsCubeLine (read ++ line_feed ∷ byte ∷ after) Spelling
 too_much read byte after occurs = inr (record {
@@ -125,7 +125,7 @@ too_much read byte after occurs = inr (record {
         occurs.completes false limits lifted _ (subst (λ t. IsLine limits (import_front ++ t)) longer (line_of_cube limits lifted _ h)) in
         cc
 
--- the rest after the closing 0 isn't just LF
+-- a text in which anything but LF follows the closing 0 is misspelled
 pub wrong_end : (read : List ℕ) (n : ℕ) (after : List ℕ) → EndsAtSpot read (BeforeLiteral true n) → n ≤ 65535 → ¬ (after ≡ line_feed ∷ [])
     → IsTextFault IsCubeLine (read ++ zero_digit ∷ after) Spelling
 wrong_end read n after occurs few other =

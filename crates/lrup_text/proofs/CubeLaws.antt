@@ -12,7 +12,7 @@ text_is_line : (literals : List ℤ) (bytes : List ℕ) → IsLiteralsText liter
 text_is_line literals bytes text =
     (map signed_decimal literals, few_map 65535 signed_decimal IsStreamLiteral (SpellsLiteral 18) signed_word literals text.few, text.is)
 
--- each prefix of a cube's text begins a cube's text
+-- each prefix of a cube's text may still become a cube's text
 none_breaks : (bytes : List ℕ) (Shortest : List ℕ → Type 0) → IsCubeLine standard bytes → BeginsNone IsCubeLine bytes Shortest → ⊥
 none_breaks bytes Shortest line h =
     h.none (h.after, subst (IsCubeLine standard) (h.is ∙ sym (append_assoc h.read (h.byte ∷ []) h.after)) line)

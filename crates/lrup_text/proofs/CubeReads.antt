@@ -1,4 +1,4 @@
--- A cube's text, as far as it was read: a number, and literals.
+-- The part of a cube's text that has been read: a number, and literals.
 use Rattle.std.proofs.Common.{◌≡◌, ℕ, ℤ, ◌+◌, ◌-◌, ◌*◌, ◌^◌, ◌<◌, ◌≤◌, true, List, [], ◌∷◌, ◌++◌, length, Ok, Err, refl, sym, ◌∙◌, ap}
 use Rattle.std.proofs.Common.{subst, arith}
 use Rattle.std.specs.Prelude.{Result, IfOk, IfErr, MatchResult}
@@ -120,7 +120,7 @@ text_read text literals count rest so is = record {
   is = so.is ∙ ap (λ t. literals_text literals ++ t) is ∙ words_end signed_decimal literals (line_feed ∷ []);
 }
 
--- The literals of a whole text that are kept.
+-- Whether the literals of a whole text are kept.
 
 module _ {T : Type 0} (items : T → List ℤ) (vars : ℕ) (literals : List ℤ) (text : List ℕ) (is : IsLiteralsText literals text) where
   pub kept_text : (r : Result T CubeFault) → MatchResult r (λ kept. AreKept vars literals (items kept)) (AreNotKept vars literals)
@@ -141,7 +141,7 @@ module _ {T : Type 0} (items : T → List ℤ) (vars : ℕ) (literals : List ℤ
   kept_fault (Err Range) h = (literals, is, h)
   kept_fault (Err Memory) h = (literals, is, h)
 
--- A fault of the spelling is a fault of the cube.
+-- A fault of the spelling is a fault of the cube's text.
 pub spelling_fault : (vars : ℕ) (text : List ℕ) (fault : CubeFault) → IsTextFault IsCubeLine text fault → IsCubeFault vars text fault
 spelling_fault vars text Spelling h = h
 spelling_fault vars text TooLong h = h

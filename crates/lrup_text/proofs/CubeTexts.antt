@@ -1,4 +1,4 @@
--- The text that is printed for a cube is one that is read as its literals.
+-- The text that is printed for a cube is read back as the cube's literals.
 use Rattle.std.proofs.Common.{ℕ, ℤ, pos, negsuc, ◌<◌, ◌^◌, List, [], ◌∷◌, sym, ◌∙◌, arith}
 use Rattle.std.specs.Fmt.{signed_decimal}
 use Rattle.lrup_model.specs.Cube.{CubeValue, IsCubeOf, IsCubeOver}

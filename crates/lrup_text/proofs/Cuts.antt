@@ -1,5 +1,5 @@
--- Every list of bytes can be cut into lines: take bytes one by one, up to the end of a line or the
--- byte that decides that there is none.
+-- Every list of bytes can be cut into lines: take bytes one by one, up to the end of a line or to
+-- the byte that decides that there is no line.
 use Rattle.std.proofs.Common.{◌≡◌, ◌≢◌, ℕ, suc, zero, ◌+◌, ◌<◌, ◌≤◌, ◌⊎◌, inl, inr, Bool, true, false, List, [], ◌∷◌, ◌++◌, length, refl}
 use Rattle.std.proofs.Common.{sym, ◌∙◌, ap, subst, arith}
 use Rattle.std.specs.List.{flat_map}
@@ -47,7 +47,7 @@ digit_or_not b = elim (cases_lt b 48) [
   | inr low ↦ elim (cases_lt 57 b) [ inl high ↦ inr (λ l h. omega arith) | inr high ↦ inl (low, high) ]
 ]
 
--- a number that is at most another is less, or the same
+-- a number that is at most another is less than it, or equal
 less_or_same : (n most : ℕ) → n ≤ most → (n < most) ⊎ (n ≡ most)
 less_or_same n most few = elim (cases_lt n most) [ inl less ↦ inl less | inr many ↦ inr (omega arith) ]
 
@@ -170,7 +170,7 @@ data Front (bytes : List ℕ) : Type 0 where
   part : IsPending bytes → Front bytes
   faulty : (fault : LineFault) → HasTextFault bytes fault → Front bytes
 
--- from the spot after the bytes that were read
+-- how bytes begin, if those read so far end at this spot
 front_from : (read : List ℕ) (spot : Spot) → Tracks read spot → IsBounded spot → (bytes : List ℕ) → Front (read ++ bytes)
 front_from read spot tracks bounded [] = subst Front (sym (append-nil read)) (part (tracks_pending read spot tracks bounded))
 front_from read spot tracks bounded (b ∷ bytes) = elim (byte_at spot b bounded) [

@@ -1,4 +1,4 @@
--- Why a byte decides that a text is no line.
+-- Why a byte decides that a text isn't a line.
 use Rattle.std.proofs.Common.{ℕ, Bool, true, false, List, [], ◌∷◌, ◌++◌, refl, sym, subst}
 use Rattle.lrup_text.specs.declared.LineFault.TheVariants.{Spelling, TooLong, RatHint}
 use Rattle.lrup_text.specs.Faults.{IsRefused}

@@ -32,7 +32,7 @@ module _ (m next : PartialLine) (piece : List ℕ) (used : ℕ) where
       → Fed (Ok (pending m)) piece used (statuses.Fault fault) (Err fault)
   fed_fault fault h = record { reaches = refl; gives = h }
 
--- the same with the values given by equations
+-- `Fed` holds for equal states and an equal status, too
 pub fed_at : {old old' new new' : ReaderState} {status status' : ReaderStatus} (piece : List ℕ) (used : ℕ)
     → Fed old' piece used status' new'
     → old' ≡ old → status ≡ status' → new ≡ new' → Fed old piece used status new

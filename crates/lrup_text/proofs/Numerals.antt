@@ -11,7 +11,7 @@ use Rattle.std.proofs.Math.Nat.{pow-le-pow_right}
 use Rattle.std.proofs.lemmas.List.{map-append, length-map}
 use Rattle.lrup_text.specs.Grammar.{IsDigit, SpellsNumber}
 
--- a number with one more digit
+-- one more digit of a number appends its byte to the decimal text
 pub decimal_more : (n d : ℕ) → 0 < n → d < 10 → n * 10 + d < 2 ^ 64 → decimal (n * 10 + d) ≡ decimal n ++ (48 + d) ∷ []
 decimal_more n d some digit fits =
     let quotient : (n * 10 + d) / 10 ≡ n = omega arith in

@@ -23,11 +23,11 @@ use Rattle.lrup_text.proofs.TextLaws.{tracks_pending}
 use Rattle.lrup_text.proofs.Numerals.{number_word}
 use Rattle.lrup_text.proofs.Steps.{at_start}
 
--- what was read may become a line, and has no whole line in it
+-- what has been read may still become a line, and contains no whole one
 pub reads_pending : (m : PartialLine) → IsPartialLine m → IsPending (pending m)
 reads_pending m h = tracks_pending (pending m) (spot_at m.state m) h.tracks (bounded m h)
 
--- before the first byte
+-- in the state `Start` no byte has been read, and the invariant holds
 pub start_reads : (m : PartialLine) → m.state ≡ states.Start → HasRoom m.literals.items m.identities.items
     → CanOccurInLine m.lead m.literals.items m.literal_count m.identities.items m.identity_count
     → FitsDigits m.number m.digits → IsPartialLine m × (pending m ≡ [])
@@ -43,7 +43,7 @@ start_reads m at room kept number = (
   ap (λ p. pending_at p m) at,
 )
 
--- nothing of a line was read exactly if the state is `Start`
+-- a text with a byte in it isn't empty; so nothing of a line has been read exactly in state `Start`
 some_byte : (xs : List ℕ) (y : ℕ) (ys : List ℕ) → xs ++ y ∷ ys ≡ [] → ⊥
 some_byte [] y ys e = cc
 some_byte (x ∷ xs) y ys e = cc
@@ -89,18 +89,18 @@ pub is_empty : (m : PartialLine) → m.state ≡ states.Start → pending m ≡ 
 unfolding pending_at
 is_empty m at = ap (λ p. pending_at p m) at
 
--- one more byte of a piece
+-- what has been read grows by one byte of a piece
 pub read_more : (read before : List ℕ) (piece : List ℕ) (i : ℕ) (byte : ℕ) (now : List ℕ) → i < length piece → byte ≡ get_or piece i 0
     → before ≡ read ++ take i piece → now ≡ before ++ byte ∷ [] → now ≡ read ++ take (i + 1) piece
 read_more read before piece i byte now h is so step =
     step ∙ ap (λ t. t ++ byte ∷ []) so ∙ append_assoc read (take i piece) (byte ∷ []) ∙ ap (λ x. read ++ (take i piece ++ x ∷ [])) is
     ∙ ap (λ t. read ++ t) (sym (take_more piece i 0 h))
 
--- no literals and no identities are kept
+-- without literals and identities, the line only needs a first number
 pub kept_none : (first : ℕ) (lits : List ℤ) (ids : List ℕ) → IsStreamNumber first → CanOccurInLine first lits 0 ids 0
 kept_none first lits ids h = record { lead = h; few_literals = omega arith; few_identities = omega arith; literals = tt; identities = tt }
 
--- the same with the lists given by equations
+-- `start_reads` with the lists given by equations
 pub restarts : (next : PartialLine) (lits : List ℤ) (ids : List ℕ) → next.state ≡ states.Start → next.literals.items ≡ lits
     → next.identities.items ≡ ids → length lits ≡ 65535 → length ids ≡ 65536
     → CanOccurInLine next.lead lits next.literal_count ids next.identity_count → FitsDigits next.number next.digits
@@ -118,7 +118,7 @@ steps_from old other piece used Done new same h =
     (h.0, h.1, h.2, h.3, subst (λ t. LineText (line_so_far new) (t ++ take used piece)) same h.4)
 steps_from old other piece used (Refused fault) new same h = (h.0, h.1, subst (λ t. IsRefused (t ++ take used piece) fault) same h.2)
 
--- a part of a piece, and then a part of the rest
+-- reading a part of a piece, and then a part of the rest, is reading both parts of the piece
 pub ahead_then : (old mid new : PartialLine) (piece rest : List ℕ) (used more : ℕ) → ReadsAhead old piece used mid → rest ≡ drop used piece
     → ReadsAhead mid rest more new → ReadsAhead old piece (used + more) new
 ahead_then old mid new piece rest used more h is k = record {
@@ -128,7 +128,7 @@ ahead_then old mid new piece rest used more h is k = record {
       ∙ ap (λ t. pending old ++ (take used piece ++ take more t)) is ∙ ap (λ t. pending old ++ t) (sym (take-add used more piece));
 }
 
--- the next byte of a piece
+-- what has been read, with the next byte of a piece
 byte_after : (old mid : PartialLine) (piece : List ℕ) (used byte : ℕ) → pending mid ≡ pending old ++ take used piece → used < length piece
     → byte ≡ get_or piece used 0 → pending mid ++ byte ∷ [] ≡ pending old ++ take (used + 1) piece
 byte_after old mid piece used byte same inside is =

@@ -41,7 +41,7 @@ pub digits_from_space : (limits : Limits) (k : ℕ) (Next : List ℕ → Type 0)
     → DigitsFollow limits k Next (space ∷ rest)
 digits_from_space limits k Next rest few next = record { more = []; each = tt; count = omega arith; after = rest; is = refl; next = next }
 
--- the first digit of a number
+-- a number begins with a digit 1 to 9, and its other digits follow
 pub number_to : (limits : Limits) (Next : List ℕ → Type 0) (b : ℕ) (rest : List ℕ) → NumberFollows limits Next (b ∷ rest)
     → (49 ≤ b) × (b ≤ 57) × DigitsFollow limits 1 Next rest
 number_to limits Next b rest f =

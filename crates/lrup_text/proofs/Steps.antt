@@ -1,4 +1,4 @@
--- One byte at each spot: the spot that it leads to, or that nothing may follow it, and why.
+-- What a byte does at each spot: it leads to another spot, or nothing may follow it (and why).
 use Rattle.std.proofs.Common.{◌≡◌, ℕ, ◌+◌, ◌<◌, ◌≤◌, ◌≢◌, ◌⊎◌, ◌↔◌, inl, inr, Bool, true, false, List, [], ◌∷◌, ◌++◌, refl, sym, ◌∙◌, subst}
 use Rattle.std.proofs.Common.{arith}
 use Rattle.std.proofs.lemmas.List.{append_assoc}
@@ -28,7 +28,7 @@ start_digit b low high = record {
   from = λ signed limits lifted rest h. number_from limits _ b rest low high h;
 }
 
--- one more digit
+-- a digit after digits: the number continues
 more_digit : (limits : Limits) (k : ℕ) (Next : List ℕ → Type 0) (b : ℕ) (rest : List ℕ) → IsDigit b → DigitsFollow limits k Next (b ∷ rest)
     → DigitsFollow limits (k + 1) Next rest
 more_digit limits k Next b rest digit h = elim (digits_to limits k Next b rest h) [
@@ -36,7 +36,7 @@ more_digit limits k Next b rest digit h = elim (digits_to limits k Next b rest h
   | inr s ↦ let is : b ≡ 32 = s.0 in absurd (omega arith)
 ]
 
--- the space after the digits
+-- a space after digits: the number has ended
 end_digits : (limits : Limits) (k : ℕ) (Next : List ℕ → Type 0) (rest : List ℕ) → DigitsFollow limits k Next (space ∷ rest) → Next rest
 end_digits limits k Next rest h = elim (digits_to limits k Next space rest h) [
   | inl d ↦ let low : 48 ≤ 32 = d.0.0 in absurd (omega arith)
@@ -63,14 +63,14 @@ deletion_to limits b rest h = (rests.same_head h.is, subst (ListFollows limits t
 import_to : (limits : Limits) (b : ℕ) (rest : List ℕ) → ImportFollows limits (b ∷ rest) → (b ≡ letter_i) × LiteralsFollow limits rest
 import_to limits b rest h = (rests.same_head h.is, subst (LiteralsFollow limits) (sym (rests.same_tail h.is)) h.lits)
 
--- if a byte is no letter, the clause continues
+-- if a byte is neither d nor i, the clause continues
 no_letter : (limits : Limits) (imports : Bool) (n b : ℕ) (rest : List ℕ) → b ≢ letter_d → b ≢ letter_i
     → BodyFollows limits imports n (b ∷ rest) → rests.ClauseTo limits imports n b rest
 no_letter limits imports n b rest not_d not_i (inl h) = clause_to limits imports n b rest h
 no_letter limits imports n b rest not_d not_i (inr (_, _, inl h)) = absurd (not_d (deletion_to limits b rest h).0)
 no_letter limits imports n b rest not_d not_i (inr (_, _, inr h)) = absurd (not_i (import_to limits b rest h).0)
 
--- if it is a letter, the line is a deletion or an import
+-- if a byte is above the digits, the line is a deletion or an import
 letter_to : (limits : Limits) (imports : Bool) (n b : ℕ) (rest : List ℕ) → 57 < b → BodyFollows limits imports n (b ∷ rest)
     → DeletionFollows limits (b ∷ rest) ⊎ ImportFollows limits (b ∷ rest)
 letter_to limits imports n b rest high (inr h) = h.2
@@ -262,7 +262,8 @@ literal_blocks signed imports k n b never ne limits lifted rest h = no_digits li
 pub list_blocks : (signed deletes : Bool) (b : ℕ) → b ≢ space → Blocks signed (BeforeList deletes) b
 list_blocks signed deletes b ne limits lifted rest h = ne (list_to_space limits deletes 0 b rest h)
 
--- before an item: a byte other than 0, a digit 1 to 9, or a sign where hints may be signed
+-- before an item, nothing may follow a byte that isn't 0, a digit 1 to 9, or a sign where hints may
+-- be signed
 pub item_blocks : (signed deletes : Bool) (j b : ℕ) → b ≢ zero_digit → NoFirst b → (b ≡ minus → deletes ≡ false → signed ≡ true → ⊥)
     → Blocks signed (BeforeItem deletes j) b
 item_blocks signed deletes j b not_zero never not_minus limits lifted rest h = elim (item_to limits deletes j b rest h) [
@@ -301,7 +302,7 @@ empty_list : (signed deletes : Bool) (j : ℕ) → j ≤ 65537 → ListFollows (
 unfolding wider
 empty_list signed deletes j few = item_from_zero (wider signed) deletes j few
 
--- what may follow the 0 of a clause
+-- a text that may follow the 0 of a clause
 abbrev clause_tail : Bool → List ℕ
 clause_tail true = line_feed ∷ []
 clause_tail false = space ∷ zero_digit ∷ line_feed ∷ []
@@ -407,7 +408,7 @@ item_exceeds deletes b low high = record {
   };
 }
 
--- a sign before a hint
+-- a sign is allowed before a hint if hints may be signed
 pub hint_allows : (j : ℕ) → j ≤ 65536 → Allows true (BeforeItem false j) minus
 unfolding wider
 hint_allows j few = record {

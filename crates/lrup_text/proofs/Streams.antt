@@ -103,7 +103,7 @@ no_text_begins line other bytes others more a b e =
 
 -- A text that the grammar accepts is the text of a line.
 
--- a number has this decimal text
+-- the word is the decimal text of a number
 abbrev Spelled : List ℕ → Type 0
 Spelled word = (n : ℕ) × IsStreamNumber n × (decimal n ≡ word)
 
@@ -282,14 +282,14 @@ refused_stays bytes more fault h line rest fits e =
 refused_no_line : (bytes : List ℕ) (fault : LineFault) → IsRefused bytes fault → HasNoLine bytes
 refused_no_line bytes fault h = subst HasNoLine (append-nil bytes) (refused_stays bytes [] fault h)
 
--- the same lines, and a longer rest
+-- if more bytes complete no line, the lines are the same, and the rest is longer
 cut_longer : (stream : List ℕ) (lines : List StreamLine) (read more : List ℕ) → Cut stream lines read → HasNoLine (read ++ more)
     → Cut (stream ++ more) (lines ++ []) (read ++ more)
 cut_longer stream lines read more cut last =
     subst (λ ls. Cut (stream ++ more) ls (read ++ more)) (sym (append-nil lines))
     (record { bytes = ap (λ t. t ++ more) cut.bytes ∙ append_assoc (flat_map line_text lines) read more; each = cut.each; last = last })
 
--- one more line
+-- if more bytes complete a line, it is the next one, and the rest is empty
 cut_line : (stream : List ℕ) (lines : List StreamLine) (read more : List ℕ) (line : StreamLine) → Cut stream lines read
     → LineText line (read ++ more) → HasNoLine [] → Cut (stream ++ more) (lines ++ line ∷ []) []
 cut_line stream lines read more line cut text none = record {

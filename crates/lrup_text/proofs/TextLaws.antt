@@ -17,7 +17,7 @@ use Rattle.lrup_text.proofs.Numerals.{number_word}
 use Rattle.lrup_text.proofs.Rests.{same_head, same_tail, literal_of_number, list_rest, list_text-space, list_is_clause}
 use Rattle.lrup_text.proofs.Steps.{IsBounded, IsOpen, open_spot, standard_lifted, tracks_begins, at_start}
 
--- A word has no space, so the space after it ends it.
+-- A word contains no space, so it ends before the first one.
 
 abbrev NoSpace : List ℕ → Type 0
 NoSpace word = AllByRecursion (λ c. c ≢ space) word
@@ -64,7 +64,7 @@ literal_no_letter [] b x y letter h e = h
 literal_no_letter (c ∷ cs) b x y letter (inl h) e = let high : c ≤ 57 = h.1 in let e' : c ≡ b = same_head e in absurd (omega arith)
 literal_no_letter (c ∷ cs) b x y letter (inr h) e = let m : c ≡ minus = h.0 in let e' : c ≡ b = same_head e in absurd (omega arith)
 
--- a word, and then the text of a list
+-- after a word, a list's text begins with a space
 after_word : (w : List ℕ) (ws : List (List ℕ)) (x : List ℕ) → (w ++ list_text ws) ++ x ≡ w ++ space ∷ (list_rest ws ++ x)
 after_word w ws x = append_assoc w (list_text ws) x ∙ ap (λ t. w ++ (t ++ x)) (list_text-space ws)
 
@@ -121,7 +121,8 @@ text_parts (Adds id lits hints) x = append_assoc id (space ∷ clause_text lits 
 text_parts (Deletes lead ids) x = append_assoc lead (space ∷ letter_d ∷ list_text ids) x
 text_parts (Imports id lits) x = append_assoc id (space ∷ letter_i ∷ list_text lits) x
 
--- the literals of an import
+-- if the texts of two lists of literals, each with bytes after it, are equal, so are the lists, and
+-- so are the bytes after them
 lits_apart : (vs ws : List (List ℕ)) (x y : List ℕ) → AllByRecursion (SpellsLiteral 18) vs → AllByRecursion (SpellsLiteral 18) ws
     → list_text vs ++ x ≡ list_text ws ++ y → (vs ≡ ws) × (x ≡ y)
 lits_apart vs ws x y hv hw e =
@@ -154,7 +155,8 @@ rests_apart (Imports i ls) (Imports j ms) x y hv hw lead e =
     let list = lits_apart ls ms x y hv.1.each hw.1.each (same_tail e) in
     (ap (λ z. Imports z ls) lead ∙ ap (λ z. Imports j z) list.0, list.1)
 
--- the text of a line's words is no proper prefix of another's
+-- if the texts of two lines, each with bytes after it, are equal, so are the lines' words, and so
+-- are the bytes after them
 pub words_apart : (v w : Words) (x y : List ℕ) → AreWordsWithin standard v → AreWordsWithin standard w → text v ++ x ≡ text w ++ y
     → (v ≡ w) × (x ≡ y)
 words_apart v w x y hv hw e =
@@ -163,7 +165,7 @@ words_apart v w x y hv hw e =
     (sym (text_parts v x) ∙ e ∙ text_parts w y) in
     rests_apart v w x y hv hw one.0 one.1
 
--- The words of a line within the limits are within the limits.
+-- If a line is within the limits, so are its words.
 
 pub signed_word : (z : ℤ) → IsStreamLiteral z → SpellsLiteral 18 (signed_decimal z)
 signed_word (pos n) h = literal_of_number 18 (decimal n) (number_word n h.0 h.1)
@@ -192,7 +194,7 @@ fits_within (Deletion lead ids) h = (decimal_word lead h.0, few_map 65536 decima
 
 -- A text that may become a line, and isn't one yet, has no whole line in it.
 
--- since a longer text is a line
+-- a proper prefix of a line contains no whole line
 within_line : (read : List ℕ) (first : ℕ) (rest : List ℕ) → IsLine standard (read ++ first ∷ rest) → HasNoLine read
 within_line read first rest longer line more fits e =
     let same = words_apart (words_of line) longer.0 (more ++ first ∷ rest) [] (fits_within line fits) longer.1
@@ -209,6 +211,6 @@ tracks_pending read spot tracks bounded =
       whole = within_line read some.0 some.1 (tracks.line false standard standard_lifted (some.0 ∷ some.1) some.2);
     }
 
--- before the first byte
+-- the empty text may still become a line
 pub empty_pending : EmptyPending
 empty_pending = tracks_pending [] AtStart at_start tt

@@ -74,7 +74,7 @@ more_so_far line start number end next ends so low high is =
           );
     }
 
--- the number doesn't overflow as long as it has few digits
+-- if there are fewer than 18 digits, one more doesn't make the number overflow
 pub wrapped : (line : List ℕ) (start number end digit : ℕ) → SoFar line start number end → 48 ≤ get_or line end 0 → get_or line end 0 ≤ 57
     → digit ≡ get_or line end 0 - 48 → end - start < 18 → (number * 10 % 2 ^ 64 + digit) % 2 ^ 64 ≡ number * 10 + (get_or line end 0 - 48)
 wrapped line start number end digit so low high is few =
@@ -132,7 +132,7 @@ literal_read text start negative digits magnitude end z before sign number value
 }
 
 module _ {A : Type 0} (spell : A → List ℕ) (Fits : A → Type 0) (text : List ℕ) where
-  -- words, with a space after each, from one index up to another
+  -- `ReadsWords` holds before the first word has been read
   pub words_start : (start : ℕ) (words : List A) (first : ℕ) → start ≤ length text → first ≤ length words
       → ReadsWords spell Fits text start words first words first start
   unfolding words_text
@@ -145,7 +145,7 @@ module _ {A : Type 0} (spell : A → List ℕ) (Fits : A → Type 0) (text : Lis
     is = sym (append-nil (take start text));
   }
 
-  -- one more word, and a space
+  -- one more word, and the space after it
   pub words_next : (start : ℕ) (old words : List A) (first count at : ℕ) (word : A) (end : ℕ)
       → ReadsWords spell Fits text start old first words count at → ReadsWord spell Fits text at word end → get_or text end 0 ≡ space
       → count < length words → ReadsWords spell Fits text start old first (set words count word) (count + 1) (end + 1)

@@ -9,13 +9,13 @@ use Rattle.lrup_text.specs.declared.cube.CubeFault.TheVariants.{Spelling, TooLon
 use Rattle.lrup_text.specs.Grammar.{Limits, AreLifted, standard, AreFew, SpellsLiteral, clause_text}
 use Rattle.lrup_text.specs.Lines.{IsStreamLiteral}
 
--- the bytes are the text of these literals, as written
+-- the bytes are a cube's text with these literals, in this order
 pub record IsLiteralsText (literals : List ℤ) (bytes : List ℕ) : Type 0 where
   pub few : AreFew 65535 IsStreamLiteral literals
   pub is : bytes ≡ clause_text (map signed_decimal literals) (codes "\n")
 
--- The bytes are a text of the cube: literals over the variables 1 to vars, each with a space after
--- it, and then 0 and LF. The cube is their set.
+-- The bytes are a text of the cube: literals over the variables 1 to vars, each literal followed by
+-- a space, and then 0 and LF. The cube is the set of these literals.
 pub record IsCubeText (vars : ℕ) (bytes : List ℕ) (cube : CubeValue) : Type 0 where
   pub literals : List ℤ
   pub text : bytes ≡ flat_map (λ l. signed_decimal l ++ codes " ") literals ++ codes "0\n"
@@ -25,7 +25,7 @@ pub record IsCubeText (vars : ℕ) (bytes : List ℕ) (cube : CubeValue) : Type 
 
 -- Faults.
 
--- the bytes are a line of a cube within the limits
+-- the bytes are a cube's text within the limits
 abbrev pub IsCubeLine : Limits → List ℕ → Type 0
 IsCubeLine limits bytes = (words : List (List ℕ))
     × AreFew limits.literals (SpellsLiteral limits.digits) words
@@ -35,7 +35,7 @@ IsCubeLine limits bytes = (words : List (List ℕ))
 abbrev pub BeginsOne : (Limits → List ℕ → Type 0) → Limits → List ℕ → Type 0
 BeginsOne IsOne limits bytes = (rest : List ℕ) × IsOne limits (bytes ++ rest)
 
--- the bytes begin a text if the limits are lifted
+-- the bytes are a prefix of a text if the limits are lifted
 abbrev pub BeginsOneLifted : (Limits → List ℕ → Type 0) → List ℕ → Type 0
 BeginsOneLifted IsOne bytes =
     (limits : Limits) × AreLifted false limits × BeginsOne IsOne limits bytes
@@ -44,7 +44,8 @@ BeginsOneLifted IsOne bytes =
 abbrev pub BreaksOff : (Limits → List ℕ → Type 0) → List ℕ → Type 0
 BreaksOff IsOne bytes = BeginsOne IsOne standard bytes × ¬ IsOne standard bytes
 
--- the bytes begin no text, and `Shortest` holds for their shortest prefix that begins none
+-- no text begins with the bytes, and `Shortest` holds for their shortest prefix with which no text
+-- begins
 pub record BeginsNone (IsOne : Limits → List ℕ → Type 0) (bytes : List ℕ)
     (Shortest : List ℕ → Type 0) : Type 0 where
   pub read : List ℕ
@@ -64,7 +65,7 @@ IsTextFault IsOne bytes Range = ⊥
 IsTextFault IsOne bytes Memory = ⊥
 
 -- the first fault of the bytes, for a cube over the variables 1 to vars; memory runs out only if
--- they have no other
+-- the bytes have no fault
 abbrev pub IsCubeFault : ℕ → List ℕ → CubeFault → Type 0
 IsCubeFault vars bytes Spelling = IsTextFault IsCubeLine bytes Spelling
 IsCubeFault vars bytes TooLong = IsTextFault IsCubeLine bytes TooLong
@@ -80,7 +81,8 @@ abbrev pub TextHasNoFault : Type 0
 TextHasNoFault = (literals : List ℤ) (bytes : List ℕ) (fault : CubeFault)
     → IsLiteralsText literals bytes → ¬ IsTextFault IsCubeLine bytes fault
 
--- the text of a cube over variables of at most 18 digits is a text of its literals
+-- if variables have at most 18 digits, bytes are the text of a cube exactly if they are the text of
+-- literals over the variables, and the cube is the set of these literals
 abbrev pub CubeTextIsRead : Type 0
 CubeTextIsRead = (vars : ℕ) (bytes : List ℕ) (cube : CubeValue) → vars < 10 ^ 18
     → IsCubeText vars bytes cube

@@ -35,8 +35,8 @@ abbrev pub lines_given : List Call → List StreamLine
 lines_given [] = []
 lines_given (call ∷ calls) = line_given call.status ++ lines_given calls
 
--- the stream so far: its lines, and what was read of the next line; or, after a fault, a text that
--- no line begins with
+-- the stream so far: its lines, and what has been read of the next line; or, after a fault, a text
+-- with which no line begins
 abbrev pub IsCut : List ℕ → List StreamLine → ReaderState → Type 0
 IsCut stream lines (Ok read) = Cut stream lines read
 IsCut stream lines (Err fault) = (rest : List ℕ) × Cut stream lines rest × IsRefused rest fault

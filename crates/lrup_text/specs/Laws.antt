@@ -22,27 +22,27 @@ abbrev pub NoTextBegins : Type 0
 NoTextBegins = (line other : StreamLine) (bytes others more : List ℕ) → LineText line bytes
     → LineText other others → others ≡ bytes ++ more → more ≡ []
 
--- bytes begin with the text of at most one line, which also fixes the rest after it
+-- bytes begin with the text of at most one line, so the rest after that text is fixed, too
 abbrev pub OneFirstLine : Type 0
 OneFirstLine = (line other : StreamLine) (more after : List ℕ) → IsWithinLimits line
     → IsWithinLimits other
     → line_text line ++ more ≡ line_text other ++ after → (line ≡ other) × (more ≡ after)
 
--- what the grammar accepts within the limits of a stream is the text of a line
+-- the grammar accepts bytes within a stream's limits exactly if they are the text of a line
 abbrev pub TextsAreLines : Type 0
 TextsAreLines = (bytes : List ℕ) → IsLine standard bytes
     ↔ ((line : StreamLine) × LineText line bytes)
 
--- a stream is cut in one way
+-- a stream can be cut in only one way
 abbrev pub OneCut : Type 0
 OneCut = (stream : List ℕ) (lines others : List StreamLine) (rest left : List ℕ)
     → Cut stream lines rest → Cut stream others left → (lines ≡ others) × (rest ≡ left)
 
--- every list of bytes is cut into lines
+-- every list of bytes can be cut into lines and a rest
 abbrev pub EveryCut : Type 0
 EveryCut = (stream : List ℕ) → (lines : List StreamLine) × (rest : List ℕ) × Cut stream lines rest
 
--- the lines of a prefix of a stream are the stream's first lines, and the others are cut from the
+-- the lines of a prefix of a stream are the stream's first lines; its other lines are cut from the
 -- prefix's rest and the bytes that follow
 abbrev pub BeginningCut : Type 0
 BeginningCut = (bytes more : List ℕ) (lines all : List StreamLine) (rest left : List ℕ)
@@ -54,7 +54,7 @@ abbrev pub RefusedStays : Type 0
 RefusedStays = (bytes more : List ℕ) (fault : LineFault) → IsRefused bytes fault
     → HasNoLine (bytes ++ more)
 
--- a rest has at most one fault, and if it begins a line it has none
+-- a rest has at most one fault, and none if it is a prefix of a line
 abbrev pub OneFault : Type 0
 OneFault = (rest : List ℕ) (fault other : LineFault) → HasTextFault rest fault
     → (HasTextFault rest other → fault ≡ other) × ¬ Begins rest
@@ -63,12 +63,12 @@ OneFault = (rest : List ℕ) (fault other : LineFault) → HasTextFault rest fau
 abbrev pub EmptyPending : Type 0
 EmptyPending = IsPending []
 
--- the empty text is cut into no lines
+-- cutting the empty text gives no lines
 abbrev pub EmptyCut : Type 0
 EmptyCut = IsCut [] [] (Ok [])
 
--- However a stream is divided into pieces, the lines given are those that the bytes used are cut
--- into.
+-- However a stream is divided into pieces, the calls give the lines into which the bytes that they
+-- used are cut.
 abbrev pub CallsCut : Type 0
 CallsCut = (stream : List ℕ) (lines : List StreamLine) (old new : ReaderState) (calls : List Call)
     → IsCut stream lines old → AreCalls old calls new

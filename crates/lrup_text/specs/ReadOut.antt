@@ -1,4 +1,4 @@
--- What is known of sources of one type, and the reads of one of them up to the last.
+-- What is known of the sources of a type, and the reads of one source up to the last.
 use Rattle.std.specs.Prelude.{◌≡◌, ◌<◌, ℕ, Bool, true, false, List, [], Option, Some, None}
 use Rattle.std.specs.Io.KnownBytes.{IsAtEnd}
 use Rattle.lrup_text.specs.declared.device.StreamEnd.{StreamEnd}
@@ -18,8 +18,8 @@ abbrev pub source_view : {S : Type 0} → (S → Option (List ℕ)) → (S → B
 source_view left has_failed reads =
     record { left = left; has_failed = has_failed; reads = reads }
 
--- A stream with this end leaves its source like this: at its end no byte is left, and the source
--- has failed exactly if a failed read ended the stream.
+-- What is known of a source after a stream with this end: if the stream ended normally, no byte is
+-- left and the source hasn't failed; otherwise the source has failed.
 abbrev pub EndsSo : StreamEnd → Option (List ℕ) → Bool → Type 0
 EndsSo stream_ends.Ended left has_failed = IsAtEnd left × (has_failed ≡ false)
 EndsSo stream_ends.Failed left has_failed = has_failed ≡ true

@@ -3,7 +3,7 @@ use Rattle.std.specs.Prelude.{◌≡◌, ◌<◌, ◌≤◌, ℕ, List, [], leng
 use Rattle.std.specs.Io.KnownBytes.{Consumes, IsAtEnd, Keeps}
 use Rattle.std.specs.List.{FoldsTo, concat}
 
--- the effect of reads: the source before, the buffer's length, the bytes given, and the source
+-- the effect of a read: the source before, the buffer's length, the bytes given, and the source
 -- after
 abbrev pub ReadsOf : Type 0 → Type 1
 ReadsOf S = S → ℕ → Option (List ℕ) → S → Type 0
@@ -25,8 +25,8 @@ pub record Gave (S : Type 0) (reads : ReadsOf S) (first : S) (bytes : List ℕ)
       (room : ℕ) × reads source room (Some piece) after × (0 < length piece)) first pieces last
   pub whole : bytes ≡ concat pieces
 
--- Reads gave these bytes of a source, up to its first end: after them a read gave none, although
--- its buffer had room.
+-- Reads gave these bytes of a source, up to its first end: the next read gave none, although its
+-- buffer had room.
 pub record GaveAll (S : Type 0) (reads : ReadsOf S) (first : S) (bytes : List ℕ) : Type 0 where
   pub last : S
   pub given : Gave S reads first bytes last

@@ -15,7 +15,7 @@ pub record Breaks (before after : Option (List ℕ)) (held bytes : List ℕ) : T
   pub appends : Appends before after went
   pub is : held ++ bytes ≡ went ++ rest
 
--- the effect of a call that puts bytes and may fail
+-- the effect of a call that is to write bytes, and may fail
 abbrev pub PutsAll : {E : Type 0} → Result (Unit {0}) E → Option (List ℕ) → Option (List ℕ) → List ℕ
     → List ℕ → List ℕ → Type 0
 PutsAll result before after held holds bytes =

@@ -14,11 +14,11 @@ use lrup_model::{Cube, Lit};
 use std::alloc::{AllocError, Global};
 use thiserror::Error;
 
-/// Why a cube's text was refused: the first of these faults that it has.
+/// Why a cube's text was refused: the first of these faults that the text has.
 #[derive(Clone, Copy, Debug, PartialEq, Eq, Error)]
 pub enum CubeFault {
-    /// The text ends inside a line `*( lit SP ) "0" LF`, or its first wrong byte can't be there,
-    /// whatever the limits.
+    /// The text ends inside a line `*( lit SP ) "0" LF`, or its first wrong byte would be wrong
+    /// without the limits, too.
     #[error("spelling")]
     Spelling,
     /// Only a limit is exceeded: with longer numbers or more literals allowed, the text up to its
@@ -41,7 +41,7 @@ impl From<AllocError> for CubeFault {
     }
 }
 
-/// Reads the cube of a whole text, over the variables 1 to `vars`, at most 16,777,215. The text is
+/// Reads the cube of a whole text, over the variables 1 to `vars` (at most 16,777,215). The text is
 /// one line: literals, each with a space after it, then `0` and LF; at most 65,535 literals,
 /// repeats included, and at most 18 digits in a number.
 pub fn read_cube(alloc: Global, bytes: &[u8], vars: u32) -> Result<Cube, CubeFault>
@@ -102,14 +102,14 @@ fn after_most(byte: u8) -> CubeFault
     }
 }
 
-/// Whether the byte is a digit 1 to 9.
+/// Whether the byte is a digit from 1 to 9.
 fn begins_number(byte: u8) -> bool
     ensures { IsTrue result ↔ (49 ≤ byte) × (byte ≤ 57) }
 {
     matches!(byte, b'1'..=b'9')
 }
 
-/// Whether the byte is a digit 0 to 9.
+/// Whether the byte is a digit from 0 to 9.
 fn is_digit(byte: u8) -> bool
     ensures { IsTrue result ↔ IsDigit byte }
 {

@@ -17,7 +17,7 @@ pub struct ReadFault;
 /// How the reading of a stream ended.
 #[derive(Clone, Copy, Debug, PartialEq, Eq)]
 pub enum StreamEnd {
-    /// A read gave no more bytes: the end of the stream.
+    /// A read gave no bytes: the end of the stream.
     Ended,
     /// A read failed.
     Failed,

@@ -130,8 +130,8 @@ fn read_list<T: Word>(line: &[u8], start: usize, out: &mut [T]) -> Option<usize>
 }
 
 /// Reads a number of at most 18 digits. Returns it and the index of the byte after it, which may be
-/// any byte; there is one, since the text ends with a space or LF. A number with more digits wraps
-/// around, and is then refused for its count of digits.
+/// any byte; there is such a byte, since the text ends with a space or LF. A number with more
+/// digits wraps around, and is then refused for its count of digits.
 #[inline(always)]
 fn read_number(text: &[u8], start: usize) -> Option<(u64, usize)>
     requires ends { EndsWord text.now }

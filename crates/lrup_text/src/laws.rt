@@ -26,13 +26,13 @@ pub fn a_text_spells_one_line()
     ensures { OneLine }
 {}
 
-/// No line's text begins another line's text, so a written line is read back whatever follows
-/// it.
+/// No line's text is a proper prefix of another line's text, so a written line is read back
+/// whatever follows it.
 pub fn no_text_begins_another()
     ensures { NoTextBegins }
 {}
 
-/// Bytes begin with the text of at most one line, which also fixes the rest after it.
+/// Bytes begin with the text of at most one line, so the rest after that text is fixed, too.
 pub fn bytes_begin_with_one_line()
     ensures { OneFirstLine }
 {}
@@ -42,17 +42,17 @@ pub fn texts_are_lines()
     ensures { TextsAreLines }
 {}
 
-/// A stream is cut into lines in one way.
+/// A stream can be cut into lines in only one way.
 pub fn a_stream_is_cut_in_one_way()
     ensures { OneCut }
 {}
 
-/// Every list of bytes is cut into lines.
+/// Every list of bytes can be cut into lines and a rest.
 pub fn every_stream_is_cut()
     ensures { EveryCut }
 {}
 
-/// The lines of a prefix of a stream are the stream's first lines, and the others are cut from the
+/// The lines of a prefix of a stream are the stream's first lines; its other lines are cut from the
 /// prefix's rest and the bytes that follow.
 pub fn a_beginning_is_cut_alike()
     ensures { BeginningCut }
@@ -63,7 +63,7 @@ pub fn a_refused_text_holds_no_line()
     ensures { RefusedStays }
 {}
 
-/// A text has at most one fault, and none if it begins a line.
+/// A text has at most one fault, and none if it is a prefix of a line.
 pub fn a_text_has_one_fault()
     ensures { OneFault }
 {}
@@ -73,7 +73,7 @@ pub fn no_bytes_may_become_a_line()
     ensures { EmptyPending }
 {}
 
-/// The empty text is cut into no lines.
+/// Cutting the empty text gives no lines.
 pub fn no_bytes_have_no_lines()
     ensures { EmptyCut }
 {}

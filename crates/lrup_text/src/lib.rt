@@ -1,5 +1,5 @@
 //! Reads and writes the lines of a proof stream: the RUP part of LRAT text (Cruz-Filipe et al.,
-//! CADE 2017), in one exact spelling, and imports, which are this project's own.
+//! CADE 2017), in one exact spelling, and imports, a kind of line that only this project has.
 #![tactic(auto)]
 
 ghost use Rattle.std.specs.Prelude.{◌↔◌, IsTrue};
@@ -86,14 +86,15 @@ pub enum LineFault {
     /// No line begins like the text, whatever the limits, and a signed hint isn't the reason.
     #[error("spelling")]
     Spelling,
-    /// Without limits on digits, literals, hints and identities, the text would begin a line.
+    /// Without limits on digits, literals, hints and identities, the text would be the beginning of
+    /// a line.
     #[error("too long")]
     TooLong,
     /// The stream ended inside a line.
     #[error("truncated")]
     Truncated,
     /// A hint has a sign, as in RAT lines of LRAT. With signed hints allowed and without limits,
-    /// the text would begin a line.
+    /// the text would be the beginning of a line.
     #[error("rat hint")]
     RatHint,
 }

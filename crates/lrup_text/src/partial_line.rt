@@ -77,18 +77,18 @@ pub struct PartialLine {
     pub literal_count: usize,
     /// How many hints were read, or identities of a deletion, at most 65,536.
     pub identity_count: usize,
-    /// Room for all literals that a line can have, with those read at the front.
+    /// Room for all literals that a line can have; those already read are at the front.
     pub literals: Vec<i64>,
-    /// Room for all hints or identities that a line can have, with those read at the front.
+    /// Room for all hints or identities that a line can have; those already read are at the front.
     pub identities: Vec<u64>,
 }
 
 /// The effect of some bytes of a piece.
 #[derive(Clone, Copy)]
 pub struct BytesRead {
-    /// How many were used.
+    /// How many bytes were used.
     pub used: usize,
-    /// The effect of the last one.
+    /// The effect of the last byte used.
     pub step: ByteStep,
 }
 
@@ -149,8 +149,8 @@ impl PartialLine {
         }
     }
 
-    /// Takes bytes of a piece: through the end of the line, through the byte that shows that there
-    /// is no line, or all of them.
+    /// Takes bytes of a piece up to and including the end of the line, or the byte that shows that
+    /// there is no line; otherwise takes all of them.
     pub fn read(&mut self, piece: &[u8]) -> BytesRead
         requires { IsPartialLine self.old }
         ensures { StepsThrough self.old piece.now result.used result.step self.new }
@@ -326,8 +326,8 @@ impl PartialLine {
             b'0'..=b'9' => ByteStep::Refused(LineFault::TooLong),
             b' ' => {
                 self.lead = self.number;
-                // `deletes` may still be that of the line before: only a `0` or `d` sets it, and it
-                // isn't read before that.
+                // `deletes` may still have the previous line's value: only a `0` or `d` sets it,
+                // and it isn't read before.
                 self.imports = false;
                 self.literal_count = 0;
                 self.identity_count = 0;

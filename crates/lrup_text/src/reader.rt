@@ -20,7 +20,7 @@ pub struct Fed<'a> {
 /// The result for the bytes that a call of `feed` used.
 #[derive(Clone, Copy, Debug, PartialEq, Eq)]
 pub enum ReaderStatus<'a> {
-    /// They end this line, which is lent until the next call.
+    /// The bytes end this line, which is lent until the next call.
     Line(Line<'a>),
     /// All bytes were used, and no line ended.
     NeedMore,
@@ -71,8 +71,8 @@ impl LineReader {
         Ok(LineReader { line, fault: None })
     }
 
-    /// Takes bytes of a piece: through the LF of a line, through the first byte after which the
-    /// text can't become a line, or all of them. It allocates nothing.
+    /// Takes bytes of a piece up to and including the LF of a line, or the first byte after which
+    /// the text can't become a line; otherwise takes all of them. It allocates nothing.
     pub fn feed(&mut self, piece: &[u8]) -> Fed<'_>
         ensures gives { Feeds self.old piece.now result.used result.status }
         ensures bound { result.used ≤ length piece.now }

@@ -20,8 +20,8 @@ const WORD: usize = 22;
 /// The size of the array in which a word is spelled. `WORD` bytes of it are copied.
 const PLACES: usize = 44;
 
-/// Spells a number with its sign, up to the index of the space, and returns the index where it
-/// begins. Signs are unpredictable, so a minus is always written, and skipped if it isn't needed.
+/// Spells a number with its sign, up to the index of the space, and returns the index of its first
+/// byte. Signs are unpredictable, so a minus is always written, and skipped if it isn't needed.
 #[inline]
 fn spell(bytes: &mut [u8], negative: bool, magnitude: u64) -> usize
     requires { 21 ≤ length bytes.old }
@@ -134,7 +134,7 @@ impl WriteBuffer {
         Ok(())
     }
 
-    /// Puts a number in decimal, as `put` does for bytes.
+    /// Appends a number in decimal, as `put` does for bytes.
     pub fn put_number<W: Sink>(&mut self, number: u64, sink: &mut W) -> Result<(), WriteFault>
         requires { W.has_failed sink.old ≡ false }
         ensures puts { PutsAll result (W.written sink.old) (W.written sink.new)
@@ -145,7 +145,7 @@ impl WriteBuffer {
         self.put(itoa::Buffer::new().format(number).as_bytes(), sink)
     }
 
-    /// Puts a literal and a space, as `put` does for bytes.
+    /// Appends a literal and a space, as `put` does for bytes.
     #[inline]
     pub fn put_literal<W: Sink>(&mut self, literal: i64, sink: &mut W) -> Result<(), WriteFault>
         requires { W.has_failed sink.old ≡ false }
@@ -187,7 +187,7 @@ impl WriteBuffer {
         self.cut(start);
     }
 
-    /// Puts a word and a space, as `put` does for bytes.
+    /// Appends a word and a space, as `put` does for bytes.
     #[inline]
     fn put_word<T: Word, W: Sink>(&mut self, word: T, sink: &mut W) -> Result<(), WriteFault>
         requires { W.has_failed sink.old ≡ false }
@@ -204,7 +204,7 @@ impl WriteBuffer {
         Ok(())
     }
 
-    /// Puts words, and a space after each.
+    /// Appends words, and a space after each.
     fn put_words<T: Word, W: Sink>(&mut self, words: &[T], sink: &mut W) -> Result<(), WriteFault>
         requires { W.has_failed sink.old ≡ false }
         ensures puts { PutsAll result (W.written sink.old) (W.written sink.new)
@@ -217,7 +217,7 @@ impl WriteBuffer {
         Ok(())
     }
 
-    /// Puts the words of a list, a space after each, and the end of the line.
+    /// Appends the words of a list, a space after each, and the end of the line.
     fn put_list<T: Word, W: Sink>(&mut self, words: &[T], sink: &mut W) -> Result<(), WriteFault>
         requires { W.has_failed sink.old ≡ false }
         ensures puts { PutsAll result (W.written sink.old) (W.written sink.new)
@@ -228,7 +228,7 @@ impl WriteBuffer {
         self.put(b"0\n", sink)
     }
 
-    /// Puts a whole line.
+    /// Appends a whole line.
     fn put_line<W: Sink>(&mut self, line: &Line, sink: &mut W) -> Result<(), WriteFault>
         requires { W.has_failed sink.old ≡ false }
         ensures puts { PutsAll result (W.written sink.old) (W.written sink.new)

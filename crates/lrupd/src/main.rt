@@ -10,8 +10,9 @@ use std::fs::{File, OpenOptions};
 use std::io::{self, Stderr};
 use std::process::ExitCode;
 
-/// The machine's files, and its standard error for progress reports. Contracts know neither the
-/// contents of these files nor what the system does to them: each relation below allows everything.
+/// The machine's files, and its standard error for progress reports. Contracts say nothing about
+/// the contents of these files, or about what the system does to them: each relation below allows
+/// everything.
 #[derive(Drop)]
 struct MachineFiles<'a> {
     rt: &'a HostRuntime,

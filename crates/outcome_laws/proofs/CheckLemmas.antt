@@ -1,4 +1,4 @@
--- A check of streams: each round of an outcome has one.
+-- A check of streams: each round of an outcome has a check.
 use Rattle.std.proofs.Common.{◌≡◌, ◌⊎◌, ◌<◌, ◌≤◌, ◌-◌, ◌++◌, ℕ, eqb, ne_eqb, Bool, true, false, List, [], ◌∷◌, length, map, zero, suc, ◌+◌}
 use Rattle.std.proofs.Common.{Option, Some, refl, inl, inr, sym, ap, ap₂, subst, ◌∙◌, arith}
 use Rattle.std.specs.Prelude.{IsTrue, option_map, slice_get, ◌||◌, if◌then◌else◌}
@@ -35,8 +35,8 @@ use Rattle.run_files.specs.Files.{Effects}
 use Rattle.run_files.specs.Asked.{Text, run_params_by}
 use Rattle.command.specs.Rounds.{Round}
 
--- The streams at these paths were opened as these readers, which have what the files are known to
--- hold; and the streams were checked.
+-- The files at these paths were opened; their readers have what the files are known to hold; and
+-- the streams were checked.
 pub record Check {R : Type 0} (reading : SourceView R) : Type 0 where
   pub serial : Bool
   pub formula : Cnf
@@ -83,7 +83,7 @@ comes_to reports verdict s report is at says =
     is ∙ cond-true (list_any (λ r. r.empty) reports) Unsatisfiable
     (if list_any (λ r. r.within) reports then UnsatisfiableUnder else Unknown) (one_says reports (s - 1) report at.1 says)
 
--- what holds for the stream of each step holds for a stream that has a line
+-- what holds for the stream of each step holds for each stream that has a line among the steps
 pub of_some : (s : ℕ) (P : ℕ → Type 0) (steps : List Step) → AllByRecursion (λ step. P step.stream) steps
     → 0 < length (lines_by s steps) → P s
 of_some s P [] all some = absurd (omega (arith, some))
@@ -128,7 +128,7 @@ module _ {R : Type 0} (reading : SourceView R) (c : Check reading) where
   abbrev pub observed_of : List InputObservation
   observed_of = observations reading c.readers c.checked.lasts
 
-  -- something is observed of each stream's reader
+  -- there is one observation for each stream's path
   pub observed_length : length observed_of ≡ length c.paths
   observed_length =
       observed_as_many reading c.readers c.checked.lasts c.checked.ran.run.streams c.checked.ran.read
@@ -145,13 +145,13 @@ module _ {R : Type 0} (reading : SourceView R) (c : Check reading) where
       subst (λ (b : Bool). RanSo b c.formula c.run_params run_of.history run_of.streams c.reports) on_one c.checked.ran.way in
       way.0
 
-  -- without a cube no verdict is 'unsatisfiable under assumptions'
+  -- with an empty cube, the verdict is never 'unsatisfiable under assumptions'
   pub never_under : EmptyCubeReported → c.run_params.cube ≡ [] → ¬ (c.verdict ≡ UnsatisfiableUnder)
   never_under bare none under =
       let same = within_empty bare c.run_params none run_of.history 1 run_of.streams c.reports run_of.judged in
       not_under (list_any (λ r. r.empty) c.reports) (list_any (λ r. r.within) c.reports) same (sym c.checked.is_verdict ∙ under)
 
-  -- a file's reader had left at first what the file is known to hold
+  -- at the start, a stream's reader had what the file at its path is known to hold
   pub observation_of_file : (s : ℕ) (path : Text) (whole : List ℕ) → IsOfStream c.paths s path → c.contents path ≡ Some whole
       → (observation : InputObservation) × IsOfStream observed_of s observation × (observation.entry ≡ Some whole)
   observation_of_file s path whole at known =
@@ -170,14 +170,14 @@ module _ {R : Type 0} (reading : SourceView R) (c : Check reading) where
         | inr past ↦ absurd (omega (arith, past.0, within, observed_length))
       ]
 
-  -- the stream's reader had left at first what the file is known to hold
+  -- the entry of an observation is what the file at the stream's path is known to hold
   pub entry_at : (s : ℕ) (observation : InputObservation) (path : Text) (whole : List ℕ) → IsOfStream observed_of s observation
       → IsOfStream c.paths s path → c.contents path ≡ Some whole → observation.entry ≡ Some whole
   entry_at s observation path whole at names contents =
       let here = observation_of_file s path whole names contents in
       ap (λ (x : InputObservation). x.entry) (same_at observed_of s observation here.0 at here.1) ∙ here.2
 
-  -- With a valid refutation the verdict is 'unsatisfiable', or the stream was cut off in the
+  -- With a valid refutation, the verdict is 'unsatisfiable', or the stream was cut off in the
   -- refutation.
   pub refutation_says : ValidBegins → ValidEmpty → IsCnf c.formula → (s : ℕ) (path : Text) (bytes more : List ℕ)
       (lines : List StreamLine) → IsOfStream c.paths s path → c.contents path ≡ Some (bytes ++ more)

@@ -1,4 +1,4 @@
--- A stream under a cube, and without one.
+-- A stream under a cube, and the same stream without a cube.
 use Rattle.std.proofs.Common.{◌≡◌, ◌∙◌, ℕ, Bool, List, [], ◌∷◌, ◌++◌, Result, inl, inr, refl, sym, ap}
 use Rattle.lrup_model.specs.Clause.{Clause}
 use Rattle.lrup_model.specs.Event.{History, Reply}

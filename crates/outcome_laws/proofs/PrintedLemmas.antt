@@ -38,7 +38,7 @@ use Rattle.outcome_laws.proofs.StreamLemmas.{Cut}
 abbrev IsFlat : ℕ → List ℕ → Type 0
 IsFlat mark bytes = AllByRecursion (λ b. b ≢ mark) bytes
 
--- what comes after the first mark is the same
+-- if two lists are equal, so is what comes after the first mark in them
 cut_alike : (mark : ℕ) (front other rest more : List ℕ) → IsFlat mark front → IsFlat mark other
     → front ++ mark ∷ rest ≡ other ++ mark ∷ more → rest ≡ more
 cut_alike mark [] [] rest more flat plain same = cc
@@ -59,7 +59,7 @@ flat_so mark (b ∷ bytes) is = elim (cases_eq b mark) [
   | inr other ↦ (other, flat_so mark bytes (sym (cond-false (b == mark) false (is_flat mark bytes) (ne_eqb b mark other)) ∙ is))
 ]
 
--- digits
+-- a decimal digit has a code of at least 48, which is that of 0
 high_glyph : (n : ℕ) → 48 ≤ digit_glyph false (n % 10)
 high_glyph n =
     let small : n % 10 < 10 = omega arith in
@@ -116,7 +116,7 @@ flat_ending (endings.Bad line fault) =
 flat_ending (endings.ReadFailed line) = number (codes "read failed at line ") line refl
 flat_ending (endings.Memory line) = number (codes "out of memory at line ") line refl
 
--- a line without its LF
+-- a stream's line without its LF
 abbrev front_of : ℕ → Report → List ℕ
 front_of s report =
     codes "c stream " ++ decimal s ++ codes ": " ++ decimal report.added ++ codes " added, " ++ decimal report.deleted
@@ -137,14 +137,14 @@ flat_front s report =
     both (codes "c stream " ++ decimal s ++ codes ": " ++ decimal report.added ++ codes " added, " ++ decimal report.deleted
     ++ codes " deleted, ") (ending_text report.ending) last (flat_ending report.ending)
 
--- what comes after a stream's line is the same
+-- if two outputs that begin with lines of stream s are equal, so is what comes after these lines
 next_line : (s : ℕ) (report other : Report) (rest more : List ℕ)
     → stream_line s report ++ rest ≡ stream_line s other ++ more → rest ≡ more
 next_line s report other rest more same =
     cut_alike 10 (front_of s report) (front_of s other) rest more (flat_front s report) (flat_front s other)
     (sym (append_assoc (front_of s report) (10 ∷ []) rest) ∙ same ∙ append_assoc (front_of s other) (10 ∷ []) more)
 
--- a line, with what comes after each of its numbers
+-- what comes after each number of a stream's line
 abbrev after_deleted : Report → List ℕ → List ℕ
 after_deleted report rest = codes " deleted, " ++ (ending_text report.ending ++ (codes "\n" ++ rest))
 
@@ -156,7 +156,7 @@ opens_so : (s : ℕ) (report : Report) (rest : List ℕ)
     ≡ codes "c stream " ++ (decimal s ++ (codes ": " ++ (decimal report.added ++ after_added report rest)))
 opens_so s report rest = simp append_assoc
 
--- the line's ending is the same
+-- if two outputs that begin with lines of stream s are equal, so are the endings in these lines
 same_ending : (s : ℕ) (report other : Report) (rest more : List ℕ) → stream_line s report ++ rest ≡ stream_line s other ++ more
     → ending_text report.ending ++ (10 ∷ rest) ≡ ending_text other.ending ++ (10 ∷ more)
 same_ending s report other rest more same =
@@ -175,7 +175,7 @@ abbrev first_of : List ℕ → ℕ
 first_of [] = 0
 first_of (b ∷ bytes) = b
 
--- a stream that was cut off has no bad line
+-- the ending of a stream that was cut off isn't printed like that of a bad line
 never_bad : (report : Report) (ending : Ending) (line : ℕ) (fault : Fault) (rest more : List ℕ)
     → IsExcused CutOff report → ending ≡ endings.Bad line fault
     → ending_text report.ending ++ (10 ∷ rest) ≡ ending_text ending ++ (10 ∷ more) → ⊥
@@ -189,7 +189,7 @@ never_bad report ending line fault rest more cut bad same =
           let no : 114 ≡ 98 = ap first_of (ap (λ (e : Ending). ending_text e ++ (10 ∷ rest)) (sym failed) ∙ blames) in omega (arith, no)
     ]
 
--- After the lines of the streams before it, a report has the line of its own stream.
+-- If a report's text begins with lines for streams before s, its line for stream s comes next.
 same_place : (k s : ℕ) (others reports : List Report) (report : Report) (tail shown : List ℕ) → s ≡ k + length others
     → slice_get reports (length others) ≡ Some report
     → stream_lines k reports ++ tail ≡ stream_lines k others ++ shown
@@ -228,7 +228,7 @@ kept (Some xs) (Some ys) old shown keeps was is =
     let same : old ≡ old ++ shown = cc in
     append_cancel_left old [] shown (append-nil old ∙ same)
 
--- what is seen of the text is a prefix of it
+-- the part of the text that was written is a prefix of it
 went_out : (failed : Bool) (before after : Option (List ℕ)) (text old shown : List ℕ)
     → TakesUnlessFailed failed before after text → before ≡ Some old → after ≡ Some (old ++ shown)
     → (rest : List ℕ) × (text ≡ shown ++ rest)
@@ -241,7 +241,7 @@ module _ (s count : ℕ) (out : SinkChange) (shows : ShowsBadLine s out) where
   abbrev Shown : List ℕ
   Shown = stream_lines 1 shows.others ++ (stream_line s shows.blamed ++ shows.more)
 
-  -- what is shown isn't part of a report in which stream s was cut off
+  -- the bad line that is shown isn't part of a report in which stream s was cut off
   none_of_lost : (reports : List Report) (verdict : Verdict) → SinkTook out (report_text reports verdict)
       → (report : Report) → IsOfStream reports s report → ¬ IsExcused CutOff report
   none_of_lost reports verdict took report says cut =
@@ -256,7 +256,7 @@ module _ (s count : ℕ) (out : SinkChange) (shows : ShowsBadLine s out) where
       (same_ending s report shows.blamed here.0 (shows.more ++ seen.0)
       (here.1 ∙ append_assoc (stream_line s shows.blamed) shows.more seen.0))
 
-  -- if nothing was written, nothing is seen
+  -- what is shown isn't empty
   some_shown : 0 < length Shown
   some_shown = omega (
     arith,
@@ -270,12 +270,12 @@ module _ (s count : ℕ) (out : SinkChange) (shows : ShowsBadLine s out) where
       let none : [] ≡ Shown = kept out.before out.after shows.before Shown untouched.written shows.was shows.is in
       omega (arith, some_shown, ap length none)
 
-  -- in round 1 no number is printed
+  -- in round 1, no number is printed
   printed_so : (number : ℕ) (reports : List Report) (verdict : Verdict) → number ≡ 1 → SinkTook out (last_text number reports verdict)
       → SinkTook out (report_text reports verdict)
   printed_so number reports verdict is took = subst (λ (n : ℕ). SinkTook out (last_text n reports verdict)) is took
 
-  -- what is shown isn't part of the report of a round in which a stream stopped
+  -- the bad line that is shown isn't part of the report of a round in which a stream was stopped
   none_of_stopped : {its : Effects} {given : CommandLine} {cube : CubeValue} (round : Round its given cube) → 0 < round.number
       → SinkTook out (last_text round.number round.reports round.verdict) → ¬ HasStopped Cut s count 1 round
   none_of_stopped round some took stops = elim stops.place [

@@ -27,7 +27,7 @@ last_follows itself onward files bytes status run =
     let ends = run.ends in follows itself onward ends.were.formula ends.were.later ends.last ends.before ends.were.rounds
 
 module _ {F : Type 0} (view : F → FilesView) (IsLast : F → List ℕ → Type 0) where
-  -- the files of the runs are a chain of checkpoints, which ends with the last run
+  -- the bytes that the runs read are a chain of checkpoints
   are_checkpoints : EntailsItself → EntailsOnward → (bytes : List ℕ) (more : List (List ℕ)) → AreRuns view IsLast bytes more
       → AreCheckpoints bytes more
   are_checkpoints itself onward bytes [] runs = tt

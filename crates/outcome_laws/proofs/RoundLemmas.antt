@@ -46,7 +46,7 @@ use Rattle.outcome_laws.proofs.StreamLemmas.{stopped_is_open}
 
 -- Faults
 
--- causes that a fault of a later round doesn't have
+-- a fault of a later round doesn't have these causes
 module _ (its : Effects) (given : CommandLine) (cube : CubeValue) (folder : Text) (number : ℕ) (old : Sizes) (formula : Cnf)
     (before after : its.State) where
   abbrev Read : Sizes → its.State → Type 0
@@ -98,8 +98,8 @@ module _ (its : Effects) (given : CommandLine) (cube : CubeValue) (folder : Text
 
 -- Rounds
 
--- What is known of a round whose streams were checked: its formula is within the limits, and this
--- was required of its streams.
+-- What is known about a round whose streams were checked: its formula is within the limits, and its
+-- streams meet the requirement for this round.
 pub record IsAsked (Before Last : RoundAsk) (last : ℕ) {its : Effects} {given : CommandLine} {cube : CubeValue}
     (round : Round its given cube) : Type 0 where
   pub cnf : IsCnf round.formula
@@ -134,7 +134,7 @@ module _ (files : FilesView) (given : CommandLine) (cube : CubeValue) where
     rounds = were.rounds.1;
   }
 
-  -- rounds are counted from 1
+  -- the number of each round is at least 1
   pub some_number : (round : Round files.its given cube) (before : List (Round files.its given cube))
       → WereRounds files given cube round before → 0 < round.number
   some_number round [] were = omega (arith, were.rounds.number)
@@ -142,7 +142,7 @@ module _ (files : FilesView) (given : CommandLine) (cube : CubeValue) where
 
 -- What a round left.
 module _ (its : Effects) (Saves : Result (Option Cnf) SaveFault → its.Output → its.Output → Type 0) where
-  -- with 'unsatisfiable' there is nothing to save
+  -- with 'unsatisfiable', no save can fail
   all_saved : (verdict : Verdict) (before : its.State) (path : Option Text) (fault : SaveFault) (next : Option Cnf)
       (after : its.State) → verdict ≡ Unsatisfiable → ¬ LeavesAtPath its Saves verdict before path (Some fault) next after
   all_saved UnsatisfiableUnder before path fault next after is leaves = let no : UnsatisfiableUnder ≡ Unsatisfiable = is in cc
@@ -150,7 +150,7 @@ module _ (its : Effects) (Saves : Result (Option Cnf) SaveFault → its.Output �
   all_saved Unsatisfiable before None fault next after is leaves = let no : Some fault ≡ None = leaves.0 in cc
   all_saved Unsatisfiable before (Some path) fault next after is leaves = let no : Some fault ≡ None = leaves.0 in cc
 
-  -- if something wasn't saved, the words ask for it
+  -- if a save failed, there was a path to save to
   asked_for : (verdict : Verdict) (before : its.State) (path : Option Text) (fault : SaveFault) (next : Option Cnf) (after : its.State)
       → LeavesAtPath its Saves verdict before path (Some fault) next after → (asked : Text) × (path ≡ Some asked)
   asked_for verdict before None fault next after leaves = absurd (let no : Some fault ≡ None = leaves.0 in cc)
@@ -215,7 +215,7 @@ module _ (Mode : Bool → Type 0) (Before Last : RoundAsk) (Why : Reason) (at : 
   }
 
   module _ (given : CommandLine) (line : IsCommandLineOf words given) (cube : CubeValue) where
-    -- a round that was reached is as required
+    -- each round that was reached meets the requirement
     is_asked : (round : Round files.its given cube) (before : List (Round files.its given cube))
         → (were : WereRounds files given cube round before) → round.number ≤ last → IsAsked Before Last last round
     is_asked round [] were few =
@@ -252,7 +252,7 @@ module _ (Mode : Bool → Type 0) (Before Last : RoundAsk) (Why : Reason) (at : 
           asked = (provided.ready round.sizes comes.sized comes.sizes).2;
         }
 
-    -- what became of the round
+    -- the round comes before the last and its streams ended, or it refutes, or a stream was stopped
     fate : (round : Round files.its given cube) (before : List (Round files.its given cube))
         → WereRounds files given cube round before → round.number ≤ last
         → ((round.number < last) × HaveEnded round.reports) ⊎ ((round.verdict ≡ Unsatisfiable) ⊎ Stops round)
@@ -272,7 +272,7 @@ module _ (Mode : Bool → Type 0) (Before Last : RoundAsk) (Why : Reason) (at : 
               ]
         ]
 
-    -- if the run continues after a round, it isn't the last one
+    -- if the run continues after a round, that round comes before the last one
     goes_below : (round : Round files.its given cube) (before : List (Round files.its given cube))
         → WereRounds files given cube round before → round.number ≤ last → (next : Cnf) → CarriesOn round next → round.number < last
     goes_below round before were few next goes = elim (fate round before were few) [
@@ -281,7 +281,7 @@ module _ (Mode : Bool → Type 0) (Before Last : RoundAsk) (Why : Reason) (at : 
       | inr (inr lost) ↦ absurd (unended round lost goes.ended)
     ]
 
-    -- so there are no more rounds
+    -- no round has a number above `last`
     few_rounds : (round : Round files.its given cube) (before : List (Round files.its given cube))
         → WereRounds files given cube round before → round.number ≤ last
     few_rounds round [] were = omega (arith, ask.some, were.rounds.number)
@@ -290,7 +290,7 @@ module _ (Mode : Bool → Type 0) (Before Last : RoundAsk) (Why : Reason) (at : 
         let below = goes_below b more earlier (few_rounds b more earlier) round.formula were.rounds.0.goes_on in
         omega (arith, below, were.rounds.0.number)
 
-    -- the round after one of these is provided for
+    -- if a run continues after a round, the next round is provided for
     provided_for : (round : Round files.its given cube) (before : List (Round files.its given cube))
         → WereRounds files given cube round before → (next : Cnf) → (on : CarriesOn round next)
         → IsProvided Before Last last files.its on.folder (round.number + 1) round.sizes next round.after
@@ -298,7 +298,7 @@ module _ (Mode : Bool → Type 0) (Before Last : RoundAsk) (Why : Reason) (at : 
         let few = few_rounds round before were in
         ask.later given cube round before next line were (goes_below round before were few next on) on
 
-    -- without assumed literals no verdict is about them
+    -- if a verdict is about assumed literals, the words ask for some
     under_some : (round : Round files.its given cube) (before : List (Round files.its given cube))
         → (were : WereRounds files given cube round before) → (path : Option Text) → assumed_at given ≡ path
         → AreAssumed (WasReadIn files) were.formula.vars were.next path cube were.later
@@ -313,14 +313,14 @@ module _ (Mode : Bool → Type 0) (Before Last : RoundAsk) (Why : Reason) (at : 
         → (asked : Text) × (assumed_at given ≡ Some asked)
     asked_under round before were under = under_some round before were (assumed_at given) refl were.assumed under
 
-    -- if there are later rounds, the words ask for them
+    -- if a round comes before the last, the words ask for rounds
     rounds_asked : (round : Round files.its given cube) (before : List (Round files.its given cube))
         → WereRounds files given cube round before → round.number < last → ¬ (rounds_of given.next ≡ None)
     rounds_asked round before were below once =
         let asked = ask.rounds (omega (arith, below, some_number files given cube round before were)) in
         let no : Some asked.0 ≡ None = sym asked.1 ∙ ask.asks.command_line.said.rounds ∙ sym line.said.rounds ∙ once in cc
 
-    -- The rounds ended without an answer: a stream was stopped.
+    -- If the rounds ended without an answer and without a failed save, a stream was stopped.
     lost_in : (round : Round files.its given cube) (before : List (Round files.its given cube)) → WereRounds files given cube round before
         → (after : files.its.State) → RoundsEnd round after → round.verdict ≡ Unknown → round.unsaved ≡ None → Stops round
     lost_in round before were after finished unknown saved =
@@ -350,7 +350,8 @@ module _ (Mode : Bool → Type 0) (Before Last : RoundAsk) (Why : Reason) (at : 
     few_of : (ends : EndsWithReport files words after out err status) → ends.last.number ≤ last
     few_of ends = few_rounds ends.given ends.command_line ends.cube ends.last ends.before ends.were
 
-    -- what the report says about the streams
+    -- if the report doesn't say 'unsatisfiable', its round comes before the last and the streams
+    -- ended, or one was stopped
     streams_of : (ends : EndsWithReport files words after out err status) → ¬ (ends.last.verdict ≡ Unsatisfiable)
         → ((ends.last.number < last) × HaveEnded ends.last.reports)
         ⊎ HasStopped Why (at ends.last.reports).0 (at ends.last.reports).1 last ends.last
@@ -394,7 +395,7 @@ module _ (Mode : Bool → Type 0) (Before Last : RoundAsk) (Why : Reason) (at : 
           | inr falls ↦ inr (short ends written (subst (Short ends) (sym is) falls))
         ]
 
-    -- why there is no report
+    -- if there is no report, this is because of a fault of the machine
     failed_so : (ends : EndsWithFault files words after out err status) → IsCauseIn files words ends.number ends.fault after → Goal []
     failed_so ends (inl first) =
         let machine = of_machine one_formula no_fault alike files words ask.asks after ends.fault first.1 in

@@ -1,4 +1,4 @@
--- A run under a cube, and without one.
+-- A run under a cube, and the same run without a cube.
 use Rattle.std.proofs.Common.{◌≡◌, ◌-◌, ℕ, Bool, true, List, [], map, ap, subst, ◌∙◌}
 use Rattle.std.specs.Prelude.{option_map}
 use Rattle.std.proofs.lemmas.Option.{slice_get-map}

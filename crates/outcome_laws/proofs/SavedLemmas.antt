@@ -54,7 +54,7 @@ module _ (itself : EntailsItself) (onward : EntailsOnward) {its : Effects} {give
   follows round (b ∷ more) rounds =
       onward f b.formula round.formula (follows b more rounds.1) (carried_entails b round.formula rounds.0.goes_on)
 
-  -- so does what the round saved
+  -- what a round saved is a checkpoint for the formula of round 1
   pub saves_checkpoint : (round : Round its given cube) (before : List (Round its given cube)) → AreRounds f first (round ∷ before)
       → (saved : List ℕ) → saved_in round ≡ Some saved → IsCheckpoint f saved
   saves_checkpoint round before rounds saved is =

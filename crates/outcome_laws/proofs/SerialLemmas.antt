@@ -86,7 +86,7 @@ by_ending (endings.Bad line fault) report is = inr (λ cut. elim cut.1 [
 by_ending (endings.ReadFailed line) report is = inl (line, inr is)
 by_ending (endings.Memory line) report is = inl (line, inl is)
 
--- what became of one stream
+-- a report says that its stream was cut off, or doesn't
 pub said_of : (report : Report) → IsExcused CutOff report ⊎ ¬ IsExcused CutOff report
 said_of report = by_ending report.ending report refl
 
@@ -110,7 +110,7 @@ cut_at (r ∷ reports) = elim (said_of r) [
   ]
 ]
 
--- a stream that was cut off
+-- some stream was cut off
 abbrev pub SomeCut : List Report → Type 0
 SomeCut reports = (s : ℕ) × (report : Report) × IsOfStream reports s report × IsExcused CutOff report
 
@@ -122,7 +122,8 @@ some_cut reports = elim (cut_at reports) [
   | inr none ↦ inr (λ t report member at. none (t - 1) report at.1)
 ]
 
--- Lines in a valid order that takes the streams in turn, when no stream was cut off.
+-- Lines in a valid order that takes the streams in turn: if no stream was cut off, each has its
+-- valid report.
 module _ {R : Type 0} (reading : SourceView R) (c : Check reading) (cnf : IsCnf c.formula) (valid : ValidRoundRobin)
     (on_one : c.serial ≡ true)
     (steps : List Step) (order : IsValidOrder c.formula c.run_params.layout steps) (turns : IsRoundRobin (map (λ step. step.stream) steps))

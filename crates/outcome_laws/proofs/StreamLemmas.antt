@@ -30,11 +30,11 @@ use Rattle.outcome_laws.specs.Valid.{IsRefutedInOrder, RoundAsk}
 use Rattle.outcome_laws.proofs.CheckLemmas.{Check, have_texts, order_says, refutation_says, run_of, observation_of_file, observed_of}
 use Rattle.outcome_laws.proofs.SerialLemmas.{SomeCut, round_robin_refutes, valid_round_robin, said_of, some_cut}
 
--- with threads or on one thread
+-- the check runs with threads or on one thread
 abbrev pub Either : Bool → Type 0
 Either serial = Unit {0}
 
--- on one thread
+-- the check runs on one thread
 abbrev pub OnOne : Bool → Type 0
 OnOne serial = serial ≡ true
 
@@ -56,7 +56,7 @@ abbrev pub IsLost : Reason → RunParamsValue → List Report → Type 0
 IsLost Why run_params reports = (s : ℕ) × (report : Report) × IsOfStream reports s report
     × IsExcused (Why (stream_params run_params s)) report
 
--- streams for which this holds have ended, or some stream was stopped
+-- if the streams meet this requirement, all have ended, or some stream was stopped
 abbrev pub EndsSo : (Bool → Type 0) → RoundAsk → Reason → Type 1
 EndsSo Mode Before Why = (R : Type 0) (reading : SourceView R) (c : Check reading) → Mode c.serial → IsCnf c.formula
     → Before c.formula c.run_params.layout c.contents c.paths
@@ -66,13 +66,14 @@ EndsSo Mode Before Why = (R : Type 0) (reading : SourceView R) (c : Check readin
 abbrev pub Lines : Type 0
 Lines = ℕ × ℕ
 
--- the verdict is 'unsatisfiable', or the stream that `at` finds in the reports was stopped
+-- if the streams meet this requirement, the verdict is 'unsatisfiable', or the stream that `at`
+-- finds in the reports was stopped
 abbrev pub RefutesSo : (Bool → Type 0) → RoundAsk → Reason → (List Report → Lines) → Type 1
 RefutesSo Mode Last Why at = (R : Type 0) (reading : SourceView R) (c : Check reading) → Mode c.serial → IsCnf c.formula
     → Last c.formula c.run_params.layout c.contents c.paths
     → (c.verdict ≡ Unsatisfiable) ⊎ Lost Why c.run_params c.reports (at c.reports).0 (at c.reports).1
 
--- All streams ended, or one didn't.
+-- If each stream has ended or P holds for it, all have ended or P holds for one.
 all_ended : (P : ℕ → Report → Type 0) (reports : List Report)
     → ((k : ℕ) (report : Report) → slice_get reports k ≡ Some report → (report.ending ≡ endings.Ended) ⊎ P k report)
     → HaveEnded reports ⊎ ((k : ℕ) × (report : Report) × (slice_get reports k ≡ Some report) × P k report)
@@ -99,7 +100,7 @@ all_streams P reports each =
       | inr some ↦ inr (some.0 + 1, some.1, place reports some.0 some.1 some.2, some.3)
     ]
 
--- each of them ended
+-- if all streams have ended, so has the one with this report
 pub ended_at : (reports : List Report) (k : ℕ) (report : Report) → slice_get reports k ≡ Some report → HaveEnded reports
     → report.ending ≡ endings.Ended
 ended_at [] k report at all = absurd (cc)
@@ -157,7 +158,7 @@ module _ {R : Type 0} (reading : SourceView R) (c : Check reading) (cnf : IsCnf 
             ]
       ]
 
--- some stream was stopped, if not all ended
+-- if each stream has ended or was stopped, all have ended or one was stopped
 some_lost : (Why : Reason) (run_params : RunParamsValue) (reports : List Report)
     → ((s : ℕ) (report : Report) → IsOfStream reports s report
     → (report.ending ≡ endings.Ended) ⊎ IsExcused (Why (stream_params run_params s)) report)
@@ -198,7 +199,7 @@ ends_round_robin round_robin R reading c on_one cnf valid = elim (some_cut c.rep
       (valid_round_robin reading c cnf round_robin on_one valid.0.0 valid.0.1 valid.1 valid.0.2 fine s report says)))
 ]
 
--- the stream that was cut off, if there is one
+-- the stream that was cut off and the line, if there is one
 abbrev cut_lines : (reports : List Report) → SomeCut reports ⊎ NoneExcused (λ s. true) CutOff reports → Lines
 cut_lines reports (inl cut) = (cut.0, cut.3.0)
 cut_lines reports (inr fine) = (0, 0)

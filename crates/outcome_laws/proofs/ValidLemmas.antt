@@ -1,4 +1,4 @@
--- What a fault of round 1 can be if the words ask well.
+-- Which faults round 1 can have if the words ask well.
 use Rattle.std.proofs.Common.{◌≡◌, ◌≢◌, ◌⊎◌, ◌≤◌, ℕ, ℤ, List, [], ◌∷◌, length, map, Option, None, Some}
 use Rattle.std.proofs.Common.{inl, inr, refl, sym, ap, subst, ◌∙◌, arith}
 use Rattle.std.specs.Prelude.{IfSome}
@@ -50,14 +50,14 @@ text_cnf bytes f is = record {
 abbrev pub IsOfMachine : CommandFault → Type 0
 IsOfMachine fault = (status_of fault ≡ 5) ⊎ (status_of fault ≡ 6)
 
--- no text of a formula has a fault: the law of `dimacs`
+-- a text of a formula has no fault: the law of `dimacs`
 abbrev pub NoFormulaFault : Type 0
 NoFormulaFault = (bytes : List ℕ) (f : Cnf) (fault : DimacsFault) → IsFormulaText bytes f → ¬ IsFormulaFault bytes fault
 
 -- A fault of round 1
 
 module _ (one_formula : OneFormula) (no_fault : NoFormulaFault) (alike : SameWordsAskAlike) (files : FilesView) where
-  -- no file that was read has a fault
+  -- if FORMULA's file holds a formula, the formula isn't refused
   not_refused : (given : CommandLine) (text : List ℕ) (f : Cnf) (fault : DimacsFault) (after : files.its.State)
       → files.contents given.formula.now ≡ Some text → IsFormulaText text f → ¬ IsReadCause files given (faults.Refused fault) after
   not_refused given text f fault after known is cause =
@@ -73,7 +73,7 @@ module _ (one_formula : OneFormula) (no_fault : NoFormulaFault) (alike : SameWor
       let same = text_of (files.contents path) valid.0 cause.1.0 valid.1 cause.1.1.known in
       valid.2 fault cause.0 (subst (λ (b : List ℕ). IsCubeFault vars b fault) (sym same) cause.1.2)
 
-  -- if there are no assumed literals, they have no fault
+  -- if no file of assumed literals causes this fault, an optional one doesn't cause it, either
   some_assumed : (fault : CommandFault) (vars : ℕ) (before : files.its.State) (path : Option Text) (after : files.its.State)
       → ((at : Text) → IsAssumeCause files vars before (Some at) fault after → ⊥) → ¬ IsAssumeCause files vars before path fault after
   some_assumed fault vars before None after none cause = cause

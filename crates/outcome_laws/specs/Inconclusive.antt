@@ -16,8 +16,8 @@ use Rattle.run_files.specs.Asked.{Text, assumed_at, created_path, run_params_by}
 use Rattle.command.specs.Rounds.{EndsWithFault, EndsWithReport, HaveEnded, Round}
 
 -- Some stream of the round was stopped, for a reason that its parameters excuse. In a round before
--- the last, it is any stream in any line; in the last, it is stream s in one of its first `count`
--- lines.
+-- the last, this may be any stream, in any line; in the last, it is stream s, in one of its first
+-- `count` lines.
 pub record HasStopped {its : Effects} {given : CommandLine} {cube : CubeValue}
     (Why : StreamParams → Excuse) (s count last : ℕ) (round : Round its given cube) : Type 0 where
   pub stream : ℕ
@@ -57,8 +57,8 @@ pub data FallsShort {its : Effects} {given : CommandLine} {cube : CubeValue}
       → FallsShort Why s count last round status
 
 -- Why the program doesn't say 'unsatisfiable'. `ends` says what it wrote to `out` and `err`: to
--- `out` the report of the round with which the run ended, or a prefix of it if `out` failed;
--- without a report, nothing to `out` and the fault's message to `err`.
+-- `out` the report of the round with which the run ended, or a prefix of the report if `out`
+-- failed; without a report, nothing to `out` and the fault's message to `err`.
 pub data InconclusiveBecause (files : FilesView) (words : List Text)
     (Why : StreamParams → Excuse) (s count last : ℕ) (after : files.its.State)
     (out err : SinkChange) (status : ℕ) : Type 0 where

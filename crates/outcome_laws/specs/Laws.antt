@@ -24,8 +24,8 @@ use Rattle.dimacs.specs.FormulaText.{IsFormulaText}
 use Rattle.lrup_model.specs.Entailment.{IsUnsatisfiable}
 use Rattle.outcome_laws.specs.Outcomes.{bare_params, bare_report, layout_in, SayTheSame, ReportsOn}
 
--- a judgement of a stream under a cube is also one without a cube, with a report that says the same
--- except about clauses within the cube
+-- if a stream is judged under a cube, it is judged without a cube, too, with a report that says the
+-- same except about clauses within the cube
 abbrev pub NoCubeJudgesAlike : Type 0
 NoCubeJudgesAlike = (c : StreamParams) (bytes : List ℕ) (end : StreamEnd) (blocks : List History)
     (report : Report)
@@ -34,7 +34,7 @@ NoCubeJudgesAlike = (c : StreamParams) (bytes : List ℕ) (end : StreamEnd) (blo
 
 -- In two runs of one formula, with the same layout and tries, a stream that cites within itself has
 -- reports that say the same except about clauses within a cube, if its readers have the same bytes
--- left at first, and neither report says that memory ran out or a read failed. The cubes, the other
+-- at the start, and neither report says that memory ran out or a read failed. The cubes, the other
 -- streams and the use of threads make no difference.
 abbrev pub SameBytesSayTheSame : Type 0
 SameBytesSayTheSame =
@@ -78,7 +78,7 @@ OutcomesAgree files others =
     → ReportsOn others other_given other.reports s whole other_report
     → stream_line s report ≡ stream_line s other_report
 
--- With status 0 the ending of the program says that the words give a command line, and that the
+-- With status 0, the ending of the program says that the words give a command line, and that the
 -- bytes read from its FORMULA are a text of a formula that no assignment satisfies. So the clause
 -- `ends` says what the clause `sound` leaves out about the words.
 abbrev pub Status0HasACommandLine : FilesView → Type 0
@@ -90,7 +90,7 @@ Status0HasACommandLine files = (words : List Text) (after : files.its.State) (ou
     × IsFormulaText bytes f × IsUnsatisfiable f
 
 -- If the words ask for no rounds, either there is only one round, and nothing is done to the files
--- after it; or there is no report, and the cause is in round 1.
+-- after it; or there is no report, and the cause of the fault is in round 1.
 abbrev pub OneRoundAlone : FilesView → Type 0
 OneRoundAlone files = (words : List Text) (after : files.its.State) (out err : SinkChange)
     (status : ℕ) → ((folder : Text) → ¬ AskForRounds words folder)

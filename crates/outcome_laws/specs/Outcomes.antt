@@ -23,7 +23,7 @@ abbrev pub bare_params : StreamParams → StreamParams
 bare_params params =
     record { layout = params.layout; cube = []; stream = params.stream; tries = params.tries }
 
--- the report under the empty cube, within which there is only the empty clause
+-- the report under the empty cube; only the empty clause is within this cube
 abbrev pub bare_report : Report → Report
 bare_report report = record {
   added = report.added;

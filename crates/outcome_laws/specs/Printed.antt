@@ -27,7 +27,7 @@ pub record ShowsBadLine (s : ℕ) (sink : SinkChange) : Type 0 where
 
 -- If the words ask for a valid refutation as stream s in round 1, a bad line of stream s is shown
 -- only with status 0, or with 7 if the report says 'unsatisfiable': a line after the refutation may
--- be bad. With any other status, no bad line of it is shown.
+-- be bad. With any other status, no bad line of this stream is shown.
 abbrev pub NoBadLineShown : FilesView → Type 0
 NoBadLineShown files = (words : List Text) (s count : ℕ) (after : files.its.State)
     (out err : SinkChange) (status : ℕ)

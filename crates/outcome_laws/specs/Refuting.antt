@@ -36,7 +36,7 @@ abbrev pub written_bytes : {its : Effects} {formula : Cnf} {layout : LayoutValue
 written_bytes (Ok _) first last saves = Some saves.checkpoint.bytes
 written_bytes (Err fault) first last saves = None
 
--- the bytes that were saved as a checkpoint, if there is one
+-- the bytes that were saved as a checkpoint, if any were
 abbrev pub saved_bytes : (its : Effects) (formula : Cnf) (layout : LayoutValue) (history : History)
     (dropped : List DroppedIdsValue) (verdict : Verdict) (before : its.State) (path : Option Text)
     (unsaved : Option SaveFault) (next : Option Cnf) (after : its.State)
@@ -50,7 +50,7 @@ saved_bytes its formula layout history dropped verdict before (Some path) (Some 
 saved_bytes its formula layout history dropped verdict before (Some path) None next after leaves =
     written_bytes leaves.result leaves.first leaves.last leaves.saving
 
--- the same for a round
+-- the bytes that a round saved as a checkpoint, if any were
 abbrev pub saved_in : {its : Effects} {given : CommandLine} {cube : CubeValue}
     → Round its given cube
     → Option (List ℕ)
@@ -68,15 +68,15 @@ AreRuns {F = F} view IsLast bytes (next ∷ more) =
     ((first : F) × (status : ℕ) × (run : IsRunOn (view first) bytes status)
     × (saved_in run.ends.last ≡ Some next)) × AreRuns view IsLast next more
 
--- If the last of such runs ended with status 0, the first one read a text of a formula that no
+-- If the last of these runs ended with status 0, the first one read a text of a formula that no
 -- assignment satisfies.
 abbrev pub OutcomesRefute : {F : Type 0} → (F → FilesView) → Type 0
 OutcomesRefute view = (bytes : List ℕ) (more : List (List ℕ))
     → AreRuns view (λ first last. IsRunOn (view first) last 0) bytes more
     → IsUnsatisfiableText bytes
 
--- If the last run ended with status 8 under these assumed literals, no assignment satisfies that
--- formula together with these literals.
+-- If the last of these runs ended with status 8 under these assumed literals, the first one read a
+-- text of a formula that no assignment satisfies together with these literals.
 abbrev pub OutcomesRefuteUnder : {F : Type 0} → (F → FilesView) → Type 0
 OutcomesRefuteUnder view = (cube : CubeValue) (bytes : List ℕ) (more : List (List ℕ))
     → AreRuns view

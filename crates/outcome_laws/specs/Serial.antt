@@ -9,8 +9,8 @@ use Rattle.run_files.specs.Files.{FilesView}
 use Rattle.run_files.specs.Asked.{Text, sizes_of}
 use Rattle.command.specs.Rounds.{Round, WereRounds}
 
--- Two command lines ask for the same round 1 on one thread: with the same tries and sizes, and with
--- formulas and streams whose files are known to have the same bytes.
+-- Two command lines ask for the same round 1 on one thread: they have the same tries and sizes, and
+-- the files of their formulas and streams are known to have the same bytes.
 pub record AskForSameTurns (files : FilesView) (others : FilesView)
     (given other : CommandLine) : Type 0 where
   pub serial : given.serial ≡ true

@@ -53,8 +53,8 @@ AreValidAlone formula layout contents paths =
     → (bytes : List ℕ) × (lines : List StreamLine) × (contents path ≡ Some bytes)
     × IsValidProof formula layout s bytes lines
 
--- the file of stream s begins with a valid refutation of at most this many lines; nothing is
--- required of the other streams
+-- the file of stream s begins with a valid refutation of at most `count` lines; nothing is required
+-- of the other streams
 abbrev pub IsRefutedAlone : (s count : ℕ) → RoundAsk
 IsRefutedAlone s count formula layout contents paths =
     (path : Text) × (bytes : List ℕ) × IsOfStream paths s path × (contents path ≡ Some bytes)
@@ -68,21 +68,21 @@ AreValidInOrder formula layout contents paths =
     × ((s : ℕ) (path : Text) → IsOfStream paths s path
     → contents path ≡ Some (flat_map line_text (lines_by s steps)))
 
--- the same, with an order that takes the streams in turn
+-- `AreValidInOrder` holds, with an order that takes the streams in turn
 abbrev pub AreValidRoundRobin : RoundAsk
 AreValidRoundRobin formula layout contents paths =
     (valid : AreValidInOrder formula layout contents paths)
     × IsRoundRobin (map (λ step. step.stream) valid.0)
 
--- the same, with a line of stream s that adds the empty clause
+-- `AreValidRoundRobin` holds, and a line of stream s adds the empty clause
 abbrev pub IsRefutedRoundRobin : ℕ → RoundAsk
 IsRefutedRoundRobin s formula layout contents paths =
     (valid : AreValidRoundRobin formula layout contents paths)
     × Any AddsEmpty (lines_by s valid.0.0)
 
 -- lines of a set of streams have a valid order, the streams' files begin with the texts of these
--- lines, and some line of stream s, which has at most this many lines, adds the empty clause;
--- nothing is required of the other streams
+-- lines, and some line of stream s, which has at most `count` of these lines, adds the empty
+-- clause; nothing is required of the other streams
 abbrev pub IsRefutedInOrder : (s count : ℕ) → RoundAsk
 IsRefutedInOrder s count formula layout contents paths =
     (set : ℕ → Bool) × (steps : List Step) × IsValidOrder formula layout steps
@@ -112,10 +112,10 @@ pub record IsProvided (Before Last : RoundAsk) (last : ℕ) (its : Effects) (fol
       × IsAskedOf Before Last last number formula sizes (its.contents sized)
       (stream_paths folder number sizes.streams)
 
--- The words ask well, and for rounds in a folder unless round 1 is the last one. The last round has
--- a number from 1 to 2 ^ 64 - 2. The streams of round 1 are as required. And each later round up to
--- the last is provided for, whatever course a run of these words takes: with threads, the formula
--- of a round depends on how the threads ran.
+-- The words ask well, and for rounds in a folder unless round 1 is the last one. The number of the
+-- last round is from 1 to 2 ^ 64 - 2. The streams of round 1 are as required. And each later round
+-- up to the last is provided for, whatever course a run of these words takes: with threads, the
+-- formula of a round depends on how the threads ran.
 pub record AskForValidRounds (Before Last : RoundAsk) (files : FilesView) (words : List Text)
     (last : ℕ) : Type 0 where
   pub asks : AskWell files words

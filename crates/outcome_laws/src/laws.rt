@@ -17,16 +17,16 @@ use run_laws::turns::{bytes_decide, valid_round_robin};
 use run_laws::valid::{together_begins, valid_begins, valid_empty, valid_reported, valid_together};
 use stream_check::laws::empty_cube_reported;
 
-/// A judgement of a stream under a cube is also one without a cube, with a report that says the
-/// same except about clauses within the cube.
+/// If a stream is judged under a cube, it can also be judged without a cube, with a report that is
+/// the same except about clauses within the cube.
 pub fn no_cube_judges_alike()
     ensures { NoCubeJudgesAlike }
 {}
 
-/// In two runs of one formula, with the same layout and tries, a stream that cites within itself
-/// has reports that say the same except about clauses within a cube, if its readers have the same
-/// bytes left at first, and neither report says that memory ran out or a read failed. The cubes,
-/// the other streams and the use of threads make no difference.
+/// Take two runs of one formula with the same layout and tries, and a stream that cites within
+/// itself. If its readers have the same bytes left at first, and neither report says that memory
+/// ran out or a read failed, the two reports are the same except about clauses within a cube. The
+/// cubes, the other streams and the use of threads make no difference.
 pub fn same_bytes_say_the_same()
     ensures { SameBytesSayTheSame }
 {
@@ -39,17 +39,17 @@ pub fn same_words_ask_alike()
     ensures { SameWordsAskAlike }
 {}
 
-/// If the words ask for no rounds, either there is only one round, and nothing is done to the files
-/// after it; or there is no report, and the cause is in round 1. This follows from the clause
+/// If the words don't ask for rounds, either there is only one round, and nothing is done to the
+/// files after it; or there is no report, and the cause is in round 1. This follows from the clause
 /// `ends` of `command`.
 pub fn one_round_alone<F: Machine>(files: &F)
     ensures { OneRoundAlone (⟦<F as Viewed>⟧.view files.now) }
 {}
 
-/// In round 1 of two runs of the program, a stream that cites within itself has the same line if
-/// the tries and the sizes are the same, and the files of the formula and of the stream are known
-/// to have the same bytes before the runs, unless a report of the stream says that memory ran out
-/// or a read failed. A run without rounds consists of round 1.
+/// Take two runs of the program with the same tries and sizes, and a stream that cites within
+/// itself. If the files of the formula and of the stream are known to have the same bytes before
+/// both runs, the stream has the same line in round 1 of both, unless a report of the stream says
+/// that memory ran out or a read failed. A run without rounds consists of round 1.
 pub fn outcomes_agree<F: Machine, G: Machine>(files: &F, others: &G)
     ensures { OutcomesAgree (⟦<F as Viewed>⟧.view files.now) (⟦<G as Viewed>⟧.view others.now) }
 {
@@ -68,10 +68,10 @@ pub fn status_0_has_a_command_line<F: Machine>(files: &F)
     refutes_back();
 }
 
-/// In round 1 of two runs of the program on one thread, the reports and the verdicts are the same
-/// if the tries, the sizes and the assumed literals are the same, and the files of the formula and
-/// of each stream are known to have the same bytes before the runs, unless some report says that
-/// memory ran out or a read failed. A run without rounds consists of round 1.
+/// Take two runs of the program on one thread with the same tries, sizes and assumed literals. If
+/// the files of the formula and of each stream are known to have the same bytes before both runs,
+/// the reports and the verdicts of round 1 are the same, unless some report says that memory ran
+/// out or a read failed. A run without rounds consists of round 1.
 pub fn serial_outcomes_agree<F: Machine, G: Machine>(files: &F, others: &G)
     ensures { SerialOutcomesAgree (⟦<F as Viewed>⟧.view files.now)
         (⟦<G as Viewed>⟧.view others.now) }
@@ -101,10 +101,10 @@ pub fn valid_rounds_say<F: Machine>(files: &F)
     valid_empty();
 }
 
-/// If in each round before the last, lines of all streams have a valid order, and in the last round
-/// a stream of such an order adds the empty clause, the program ends in the same way; a stream may
-/// also have stopped because such a line cites another stream's clause that wasn't there yet or was
-/// no longer there.
+/// Suppose that in each round before the last one, lines of all streams have a valid order, and
+/// that in the last round a stream of such an order adds the empty clause. Then the program ends as
+/// `valid_rounds_say` says; but a stream may also have stopped because one of these lines cites
+/// another stream's clause that wasn't there yet or was no longer there.
 pub fn valid_orders_say<F: Machine>(files: &F)
     ensures { (last : ℕ) → ValidOrdersSay (⟦<F as Viewed>⟧.view files.now) last }
 {
@@ -117,10 +117,10 @@ pub fn valid_orders_say<F: Machine>(files: &F)
     valid_empty();
 }
 
-/// If the words ask for one thread, in each round lines of all streams have a valid order that
-/// takes the streams in turn, and in the last round some stream adds the empty clause, the program
-/// ends in the same way. If a stream was stopped, memory ran out in some stream or a read of some
-/// stream failed.
+/// Suppose that the words ask for one thread, that in each round lines of all streams have a valid
+/// order that takes the streams in turn, and that in the last round some stream adds the empty
+/// clause. Then the program ends as `valid_rounds_say` says, but in the last round, too, memory may
+/// have run out or a read may have failed in any stream.
 pub fn valid_turn_rounds_say<F: Machine>(files: &F)
     ensures { (last : ℕ) → ValidTurnsSay (⟦<F as Viewed>⟧.view files.now) last }
 {
@@ -143,9 +143,9 @@ pub fn valid_refutation_says<F: Machine>(files: &F)
 }
 
 /// If a stream of round 1 is a valid refutation, no bad line of that stream is printed, except with
-/// status 0, or with 7 if the report says 'unsatisfiable'. This follows from only the law
-/// `valid_refutation_says`: with status 5 or 6 nothing is printed, and each other report says that
-/// the machine stopped the stream.
+/// status 0, or with 7 if the report says 'unsatisfiable'. Only the law `valid_refutation_says` is
+/// needed for this: with status 5 or 6 nothing is printed, and each other report says that the
+/// machine stopped the stream.
 pub fn no_bad_line_shown<F: Machine>(files: &F)
     ensures { NoBadLineShown (⟦<F as Viewed>⟧.view files.now) }
 {
@@ -153,8 +153,9 @@ pub fn no_bad_line_shown<F: Machine>(files: &F)
 }
 
 /// If in round 1 lines of streams have a valid order, and one of the lines adds the empty clause,
-/// the program ends in the same way; or it ends with 3 or 8, or 9 in their place, because a line of
-/// that stream cites another stream's clause that wasn't there yet or was no longer there.
+/// the program ends as `valid_refutation_says` says; or it ends with 3 or 8, or 9 in their place,
+/// because one of these lines cites another stream's clause that wasn't there yet or was no longer
+/// there.
 pub fn valid_order_says<F: Machine>(files: &F)
     ensures { ValidOrdersSay (⟦<F as Viewed>⟧.view files.now) 1 }
 {
@@ -184,8 +185,8 @@ pub fn outcomes_refute<F: Machine>(_files: &F)
     files_refute();
 }
 
-/// If the last run ends with status 8, no assignment satisfies that formula together with the
-/// literals that the last run assumed.
+/// If the last run of such a sequence ends with status 8 instead, no assignment satisfies the first
+/// run's formula together with the literals that the last run assumed.
 pub fn outcomes_refute_under<F: Machine>(_files: &F)
     ensures { OutcomesRefuteUnder ⟦<F as Viewed>⟧.view }
 {

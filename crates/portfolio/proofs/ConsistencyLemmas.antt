@@ -1,4 +1,4 @@
--- The one history of a run with threads, and what it says of the reports.
+-- The one history of a run with threads, and what it says about the reports.
 use Rattle.std.proofs.Common.{◌≡◌, ℕ, zero, suc, ◌+◌, ◌-◌, ◌<◌, ◌≤◌, true, false, List, [], ◌∷◌, ◌++◌, length, map}
 use Rattle.std.proofs.Common.{take}
 use Rattle.std.proofs.Common.{Some, refl, sym, ap, ap₂, subst, ◌∙◌, arith, append-nil}
@@ -39,7 +39,7 @@ use Rattle.portfolio.proofs.DroppingLemmas.{job_drops}
 
 -- ---- the opening
 
--- the passes of the streams, counted from s, as the store opened them
+-- the passes of these streams, the first of which is stream s, as the store opened them
 abbrev pub AreOpened : StoreValue → Cnf → ℕ → List PassValue → Type 0
 AreOpened store f s [] = Unit {0}
 AreOpened store f s (p ∷ ps) = IsOpened store f s p × AreOpened store f (s + 1) ps
@@ -67,8 +67,8 @@ are_opened store f p ps count each = opened_from store f 1 ps (λ k pass at.
 
 -- the effect of a pass's calls
 
--- one stream's pass, from its opening to the meeting: it is the stream's, and its calls are those
--- that were made
+-- a pass from its opening to the meeting: it is the pass of stream s, and its calls are those that
+-- were made through it
 pub record Ends (f : Cnf) (p : LayoutValue) (s : ℕ) (es : History) (v : View) : Type 0 where
   pub caller : v.caller ≡ record { formula = f; layout = p; stream = s }
   pub mine : v.mine ≡ es
@@ -94,13 +94,13 @@ opened_room f p store s q same opened =
     whole ∙ sym (ap₂ (λ (c : Caller) (m : History). c.layout.room - spent c.stream m) opened.caller opened.mine
     ∙ ap (λ (l : LayoutValue). l.room - 0) same)
 
--- For the streams, counted from s: each report judges the observed stream and the calls of the
--- stream's pass.
+-- Each of these streams, the first of which is stream s, is judged as its report says, by the calls
+-- of its pass.
 abbrev pub AreJudgedBy : RunParamsValue → ℕ → List Stream → List View → List Report → Type 0
 AreJudgedBy run_params s streams vs reports =
     EachOfThree (λ t stream v report. IsJudgedBy (stream_params run_params t) stream v.mine report) s streams vs reports
 
--- these calls are the stream's events in the one history
+-- if the calls are the streams' own events in the one history, the streams are judged by these
 judged_in : (run_params : RunParamsValue) (h : History) (s : ℕ) (streams : List Stream) (vs : List View) (reports : List Report)
     → AreJudgedBy run_params s streams vs reports → ((k : ℕ) (v : View) → slice_get vs k ≡ Some v → v.mine ≡ own h (s + k))
     → AreJudgedIn run_params (λ t. true) h s streams reports
@@ -127,7 +127,7 @@ HasCalls f p h s v = (v.caller ≡ record { formula = f; layout = p; stream = s 
 abbrev pub HasReadyJobs : {S : Type 0} → StoreValue → Cnf → RunParamsValue → ℕ → S → StreamJobsValue S → Type 0
 HasReadyJobs store f run_params s first jobs = IsJob run_params s first jobs.pass jobs × IsOpened store f s jobs.pass
 
--- the ready jobs of the streams, counted from s
+-- the ready jobs of these streams, the first of which is stream s
 abbrev pub HaveReadyJobs : {S : Type 0} → StoreValue → Cnf → RunParamsValue → ℕ → List S → List (StreamJobsValue S) → Type 0
 HaveReadyJobs store f run_params s firsts all = Each (HasReadyJobs store f run_params) s firsts all
 
@@ -299,7 +299,7 @@ module _ {S : Type 0} (view : SourceView S) where
             (have_calls f run_params store (seen_by vs) same 1 firsts js fs vs ready all synced saw (s - 1) v at.1);
       }
 
-  -- the calls of the pass at each index
+  -- the calls of the pass at each index are its stream's events in the history
   mine_at : (f : Cnf) (p : LayoutValue) (vs : List View) → HaveOneHistory f p (seen_by vs) vs
       → (k : ℕ) (v : View) → slice_get vs k ≡ Some v → v.mine ≡ own (seen_by vs) (1 + k)
   mine_at f p vs one k v at =
@@ -471,8 +471,8 @@ module _ {S : Type 0} (view : SourceView S) where
         (first_run f run_params one.0 (e ∷ es) (j ∷ js) results vs so judged legal (λ k v at. (calls k v at).2)).0,
       )
 
-  -- the reader was read to its end, or to the read that failed, and a stream matches it; this is
-  -- true of each reader whose mark was missed
+  -- the reader was read to its end, or to the read that failed, and a stream matches what is
+  -- observed of it; this is true of each reader whose mark was missed
   abbrev WasReadOut : S → Type 0
   WasReadOut reader = (last : S) × (its : Stream) × IsSome its.end × IsStreamOf view reader last its
 
@@ -497,7 +497,7 @@ module _ {S : Type 0} (view : SourceView S) where
   some_within P (x ∷ xs) zero at = omega arith
   some_within P (x ∷ xs) (suc n) at = omega (arith, some_within P xs n at)
 
-  -- the ring of the stream after these stopped the run
+  -- the run stops at the ring of the stream after those that have results
   pub stops_at_ring : {f : Cnf} {run_params : RunParamsValue} {store : StoreValue} {firsts : List S} {js : List (StreamJobsValue S)}
       → IsBegun f run_params store firsts js → (results : StreamResultsValue S) (vs : List View)
       → AreSynced (views results.passes) vs → ShareHistory vs

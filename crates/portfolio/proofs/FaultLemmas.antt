@@ -19,13 +19,13 @@ use Rattle.run_outcome.specs.declared.outcome.RunFault.TheVariants.{Layout, Ring
 use Rattle.run_outcome.specs.lemmas.RunLemmas.{no_fault}
 use Rattle.portfolio.proofs.ConsistencyLemmas.{IsBegun, begin_take, can_begin, found_of, stops_at_ring, stream_within}
 
--- with a layout, a result that is no layout fault is right
+-- if there is a layout, a result that isn't a layout fault is right
 pub no_layout_fault : {T : Type 0} (p : LayoutValue) → IsLayout p → (result : Result T RunFault)
     → ((fault : LayoutFault) → result ≡ Err (Layout fault) → ⊥) → (fault : LayoutFault)
     → (result ≡ Err (Layout fault)) ↔ IsFault p fault
 no_layout_fault p is result other fault = ((λ e. absurd (other fault e)), (λ bad. absurd (no_fault p fault is bad)))
 
--- `?` returns the fault that occurred
+-- `?` returns only the fault that occurred
 pub no_other : {T U : Type 0} (result : Result T RunFault) (fault other : RunFault) → IsErrAnd result (λ e. e ≡ fault)
     → (Path (Result U RunFault) (Err fault) (Err other) → ⊥) → result ≡ Err other → ⊥
 no_other (Ok value) fault other is differ same = absurd is
@@ -33,7 +33,7 @@ no_other (Err e) fault other is differ same = let this : fault ≡ other = cc in
 
 -- The fault of a run, from the fault of its threads.
 module _ {S : Type 0} (view : SourceView S) where
-  -- the run's fault is no layout fault
+  -- the run's fault isn't a layout fault
   pub not_layout_of : (fault : ThreadFault S) (result : RunFault) (bad : LayoutFault)
       → ((stream : ℕ) → fault ≡ thread_faults.Spawn stream → result ≡ Spawn stream)
       → ((found : StreamResultsValue S) → fault ≡ thread_faults.Ring found → result ≡ Ring (length found.passes + 1))
@@ -53,7 +53,7 @@ module _ {S : Type 0} (view : SourceView S) where
       stream_within view begun stream (subst (λ s. (0 < s) × (s ≤ length js)) here so)
   spawn_within begun (thread_faults.Ring found) result stream so spawn ring is = absurd (let this = ring found refl in cc)
 
-  -- the passes of the streams before the one whose ring stopped the run
+  -- the passes of the streams before the one whose ring stopped the run belong to the store
   pub before_of : {f : Cnf} {run_params : RunParamsValue} {store : StoreValue} {firsts : List S} {js : List (StreamJobsValue S)}
       → IsBegun f run_params store firsts js → (fault : ThreadFault S) → IsFaultOf view js fault → (found : StreamResultsValue S)
       → fault ≡ thread_faults.Ring found → AreOf store found.passes

@@ -55,7 +55,7 @@ pub fn run_serial<W: Wait, R: Source + Drop, G: Gate + Drop>(
         × AreIsolated ran.run)) }
     ensures verdict { IfOk result (λ outcome.
         outcome.verdict ≡ verdict_of outcome.reports.items) }
-    // The clauses stay, to be saved.
+    // The outcome keeps the clauses, so that they can be saved.
     ensures kept { IfOk result (λ outcome. (formula_of outcome.map ≡ formula.now)
         × (outcome.map.layout ≡ layout_of options formula.now (length readers.items))) }
     // What a user relies on.
@@ -73,7 +73,7 @@ pub fn run_serial<W: Wait, R: Source + Drop, G: Gate + Drop>(
     Ok(outcome_of(map, found))
 }
 
-/// The outcome of the streams, which left this map.
+/// The outcome with these results of the streams and the map that they left.
 fn outcome_of<R: Drop>(map: PlainMap, found: StreamResults<R>) -> SerialOutcome<R>
     ensures reports { result.reports ≡ found.reports }
     ensures readers { result.readers ≡ found.readers }

@@ -41,7 +41,7 @@ use stream_threads::{
 /// All lists and buffers are made before the first thread starts. After that, only two things
 /// allocate: starting a thread, which fails without memory (`RunFault::Spawn`), and keeping dropped
 /// identities, which without memory ends the stream's check (`Ending::Memory`). No reader is read
-/// before all threads have started. The code does all this; no clause says it. `run` returns when
+/// before all threads have started. The code does all this; no contract says so. `run` returns when
 /// all threads have ended, so it blocks while a reader does. `RunFault` lists the faults; after a
 /// fault there are no reports.
 pub fn run<T: Threads + Wait + Sync, R: Source + Send + Drop, G: Gate + Send + Drop>(
@@ -61,8 +61,8 @@ pub fn run<T: Threads + Wait + Sync, R: Source + Send + Drop, G: Gate + Send + D
         ↔ IsFault (layout_of options formula.now (length readers.items)) fault }
     ensures spawn { (stream : ℕ) → result ≡ Err (RunFault.Spawn stream)
         → IsStream (layout_of options formula.now (length readers.items)) stream }
-    // With `Ring`, there are correct reports for the streams before this one, and this stream's
-    // reader was read to its end.
+    // With `Ring`, there are correct reports for the streams before the one that the fault names,
+    // and that stream's reader was read to its end.
     ensures ring { let run_params = run_params_of options cube.now formula.now
         (length readers.items) in
         (stream : ℕ) → result ≡ Err (RunFault.Ring stream)
@@ -82,7 +82,7 @@ pub fn run<T: Threads + Wait + Sync, R: Source + Send + Drop, G: Gate + Send + D
         × IsSerializable ran.run)) }
     ensures verdict { IfOk result (λ outcome.
         outcome.verdict ≡ verdict_of outcome.reports.items) }
-    // The clauses stay, to be saved.
+    // The outcome keeps the clauses, so that they can be saved.
     ensures store { IfOk result (λ outcome. AreOf outcome.store outcome.passes.items
         × (outcome.store.layout ≡ layout_of options formula.now (length readers.items))) }
     // What a user relies on.
@@ -167,8 +167,8 @@ fn outcome_of<R: Source + Drop>(store: Store, found: StreamResults<R>) -> Outcom
     }
 }
 
-/// The fault of a run whose threads had this fault. With `Ring`, the passes of the streams before
-/// the ring's stream meet.
+/// Turns a fault of the threads into the run's fault. For `Ring`, the passes of all streams before
+/// that ring's meet.
 fn fault_of<R: Source + Drop>(store: Store, fault: ThreadFault<R>) -> RunFault
     requires store { (found : StreamResultsValue R) → fault ≡ ThreadFault.Ring found
         → AreOf store found.passes }

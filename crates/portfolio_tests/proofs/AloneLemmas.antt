@@ -1,4 +1,4 @@
--- One stream of a run, only by the contract of the run.
+-- What the contract of a run implies for one of its streams.
 use Rattle.std.proofs.Common.{◌≡◌, ◌≤◌, ◌<◌, ◌^◌, ℕ, ℤ, zero, suc, ◌+◌, ◌-◌, Bool, true, false, Option, List, [], ◌∷◌, ◌++◌, length, map}
 use Rattle.std.proofs.Common.{Some, None, pos, negsuc, refl, sym, ap, subst, ◌∙◌, inl, inr, arith}
 use Rattle.std.specs.Fmt.{digits}
@@ -65,7 +65,7 @@ first_known view (first ∷ firsts) (last ∷ lasts) (stream ∷ streams) bytes 
 }
 first_known view _ _ _ bytes read entry fine = absurd read
 
--- the parameters of such a run are those of two streams over the four clauses
+-- a run of two streams over the four clauses, with default options, has these parameters
 of_two : (Holds : Cnf → RunParamsValue → Type 0) (options : OptionsValue) (cube : CubeValue) (f : Cnf) (count : ℕ)
     → options ≡ usual → cube ≡ [] → f ≡ four → count ≡ 2 → Holds f (run_params_of options cube f count) → Holds four two_terms
 of_two Holds options cube f count same none formula two holds =
@@ -74,7 +74,7 @@ of_two Holds options cube f count same none formula two holds =
     (subst (λ k. Holds f (run_params_of usual k f count)) none
     (subst (λ o. Holds f (run_params_of o cube f count)) same holds)))
 
--- what a run promises of its reports, whichever way its history is known
+-- what a run promises of its reports, whatever its history
 abbrev pub IsIsolated : {S : Type 0} → SourceView S → List S → List S → List Report → Cnf → RunParamsValue → Type 0
 IsIsolated {S} view firsts lasts reports f run_params =
     (run : IsRun f run_params (observations view firsts lasts) reports) × AreIsolated run × AreRead S view.reads firsts lasts run.streams
@@ -94,7 +94,7 @@ pub two_ordered : (known : List InputObservation) (reports : List Report) (h : H
     → HasOrdered known reports h f (run_params_of options cube f count) → HasOrdered known reports h four two_terms
 two_ordered known reports h options cube f count = of_two (HasOrdered known reports h) options cube f count
 
--- What a run promises implies that stream 1's report is the one that the stream may have alone.
+-- What a run promises implies that stream 1's report is the only one that it may have on its own.
 pub report_alone : ReadersClosed → MatchIsReading → {S : Type 0} (view : SourceView S) (firsts lasts : List S) (bytes : List ℕ)
     (reports : List Report) (report : Report)
     → IsIsolated view firsts lasts reports four two_terms → CiteWithin layout_of_two (one 1) bytes
@@ -236,7 +236,7 @@ import_is_cut = record {
   last = none_in_nothing;
 }
 
--- stream 2 doesn't own 5, so it isn't closed if it imports 5
+-- stream 2 doesn't own 5, so the set of only this stream isn't closed if it imports 5
 pub import_is_open : OneCut → ¬ CiteWithin layout_of_two (one 2) (codes "5 i 2 0\n")
 import_is_open law cites =
     let same = law (codes "5 i 2 0\n") cites.lines (Import 5 (pos 2 ∷ []) ∷ []) cites.rest [] cites.cut import_is_cut in

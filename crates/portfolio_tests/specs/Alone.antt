@@ -37,14 +37,14 @@ pub record IsOnlyReport (bytes : List ℕ) (report : Report) : Type 0 where
   pub only : (other : Report) → IsReportAlone four two_terms 1 bytes stream_ends.Ended other
       → other ≡ report
 
--- stream 1 has such a report if it has these bytes, cites within itself, no read of it failed and
--- memory didn't run out
+-- stream 1's report is the only one that it may have if it has these bytes and cites no other
+-- stream's clauses, no read of it failed, and memory didn't run out
 abbrev pub HasOnlyReport : List ℕ → List Report → List Bool → Type 0
 HasOnlyReport bytes reports failed = CiteWithin layout_of_two (one 1) bytes → (report : Report)
     → IsOfStream reports 1 report → IsOfStream failed 1 false → ¬ IsExcused OutOfMemory report
     → IsOnlyReport bytes report
 
--- if a report says that memory ran out, its stream has no room for one more dropped identity
+-- if a report says that memory ran out, its stream has no room for another dropped identity
 abbrev pub AreFullAtMemory : List Report → List DroppedIdsValue → Type 0
 AreFullAtMemory reports all = (s : ℕ) (report : Report) (dropped : DroppedIdsValue)
     → IsOfStream reports s report → IsOfStream all s dropped → IsExcused OutOfMemory report

@@ -111,7 +111,7 @@ fn run_in<T: Machine, R: Source + Send + Drop, G: Gate + Send + Drop>(
     })
 }
 
-/// The same without assumptions, with this gate for each stream.
+/// `run_in` without assumptions, and with this gate for each stream.
 fn run_with<T: Machine, R: Source + Send + Drop, G: Gate + Copy + Send + Drop>(
     rt: &T,
     mode: Mode,
@@ -202,7 +202,7 @@ const REFUTATION: &str = "5 2 0 1 2 0\n6 0 5 3 4 0\n";
 /// A refutation by two streams; the first cites the clause that the second derives.
 const CITING: [&str; 2] = ["5 2 0 1 2 0\n7 0 5 6 0\n", "6 -2 0 3 4 0\n"];
 
-/// The same, but neither cites the other.
+/// A refutation by two streams, neither of which cites the other.
 const APART: [&str; 2] = ["5 2 0 1 2 0\n7 0 5 3 4 0\n", "6 -2 0 3 4 0\n"];
 
 /// Checks that the run of this row has these reports, and the strongest of their verdicts.

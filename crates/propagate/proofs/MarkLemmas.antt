@@ -68,7 +68,7 @@ variable-lt vars (x ∷ ls) q all h =
       | inr t ↦ variable-lt vars ls q all.1 t
     ]
 
--- so there is at most one literal more than there are variables
+-- a list with no variable twice has at most one literal more than there are variables
 length-le_variables : (vars : ℕ) (ls : List ℤ) → AreApart ls → AllByRecursion (IsLiteral vars) ls → length ls ≤ vars + 1
 length-le_variables vars ls apart all =
     subst (λ n. n ≤ vars + 1) (length-map ls nat_abs)
@@ -116,7 +116,7 @@ cleared-at [] i = refl
 cleared-at (x ∷ marks) zero = refl
 cleared-at (x ∷ marks) (suc i) = cleared-at marks i
 
--- clearing a mark sets none
+-- if a mark is set after a mark was cleared, it was set before, too
 pub marked_before : (marks : List Bool) (i k : ℕ) → get_or (set marks i false) k false ≡ true → get_or marks k false ≡ true
 marked_before [] i k h = h
 marked_before (x ∷ marks) zero zero h = absurd (false≢true h)
@@ -140,7 +140,7 @@ pub IsLiteral-read : (vars more : ℕ) (d : List ℤ) (l : ℤ) → IsClause var
 IsLiteral-read vars more d l clause le h =
     let is : IsLiteral vars l = All-Has (IsLiteral vars) d l clause.literals h in (is.0, omega (arith, is.1))
 
--- a literal of a known clause is one over the formula's variables, and so over more variables
+-- a literal of a known clause is over the formula's variables, and so over more variables
 pub IsLiteral-known : (vars : ℕ) (view : CallerView) (clip : ClipValue) (k : ℕ) (l : ℤ) → AllFollow view → IsKnown view clip
     → view.caller.formula.vars ≤ vars → slice_get (clip_clause view clip) k ≡ Some l → IsLiteral vars l
 IsLiteral-known vars view clip k l follow known le at =

@@ -1,4 +1,4 @@
--- Lemmas about the literals of a clause that aren't false, as they are read.
+-- Lemmas about which literals of a clause aren't false, as the clause is read.
 use Rattle.std.proofs.Common.{arith, ◌≡◌, ◌≤◌, ◌⊎◌, inl, inr, ℕ, ◌+◌, ◌*◌, length, Option, None, refl, ℤ, neg_ℤ, List, [], ◌∷◌, ◌++◌, take}
 use Rattle.std.proofs.Common.{drop, Some, sym, ap, subst, ◌∙◌, add-one}
 use Rattle.std.specs.Prelude.{slice_get}
@@ -15,7 +15,7 @@ use Rattle.lrup_model.specs.lemmas.ClauseLemmas.{Has-append_left, Has-push, Has-
 pub IsConflict-nil : (n : List ℤ) → IsConflict n []
 IsConflict-nil n = λ l h. absurd h
 
--- if a clause is neither unit nor a conflict, it is neither with more literals
+-- if a clause is neither unit nor a conflict, it is still neither with more literals
 pub HasStatus-more : (n : List ℤ) (d e : Clause) → HasStatus n d More → HasStatus n (d ++ e) More
 HasStatus-more n d e more = (
   (λ conflict. more.0 (λ l h. conflict l (Has-append_left d e l h))),
@@ -47,7 +47,7 @@ HasStatus-false n d (One l) x unit is_false = record {
 }
 HasStatus-false n d More x more is_false = HasStatus-more n d (x ∷ []) more
 
--- with a true literal the clause is neither unit nor a conflict
+-- with a true literal, the clause is neither unit nor a conflict
 pub HasStatus-true : (n : List ℤ) (d : Clause) (x : ℤ) → (¬ Has n x) → Has n (neg_ℤ x) → HasStatus n (d ++ x ∷ []) More
 HasStatus-true n d x not_false is_true = (
   (λ conflict. not_false (conflict x (Has-push d x))),
@@ -57,7 +57,7 @@ HasStatus-true n d x not_false is_true = (
   ]),
 )
 
--- with a first literal that is neither false nor true the clause is unit
+-- with a first literal that is neither false nor true, the clause is unit
 pub HasStatus-one : (n : List ℤ) (d : Clause) (x : ℤ) → IsConflict n d → (¬ Has n x) → (¬ Has n (neg_ℤ x)) → IsUnit n (d ++ x ∷ []) x
 HasStatus-one n d x conflict not_false not_true = record {
   here = Has-push d x;
@@ -66,7 +66,7 @@ HasStatus-one n d x conflict not_false not_true = record {
   others = λ k h. elim (Has-push_cases d x k h) [ inl t ↦ inr (conflict k t) | inr same ↦ inl (sym same) ];
 }
 
--- with a second literal that isn't false the clause is neither
+-- with a second literal that isn't false, the clause is neither unit nor a conflict
 pub HasStatus-two : (n : List ℤ) (d : Clause) (l x : ℤ) → IsUnit n d l → (¬ Has d x) → (¬ Has n x) → HasStatus n (d ++ x ∷ []) More
 HasStatus-two n d l x unit other not_false = (
   (λ conflict. not_false (conflict x (Has-push d x))),
@@ -78,7 +78,7 @@ HasStatus-two n d l x unit other not_false = (
       ]),
 )
 
--- the next literal of a clause that has each literal once is read
+-- the status after the next literal of a clause that has each literal once
 pub HasStatus-next : (n : List ℤ) (d : Clause) (k : ℕ) (x : ℤ) (status after : ClauseStatus) → EachOnce d → slice_get d k ≡ Some x
     → HasStatus n (take k d) status → ((e : Clause) → HasStatus n e status → (¬ Has e x) → HasStatus n (e ++ x ∷ []) after)
     → HasStatus n (take (k + 1) d) after
@@ -91,7 +91,7 @@ HasStatus-next n d k x status after once at before step =
 pub HasStatus-whole : (n : List ℤ) (d : Clause) (k : ℕ) → HasStatus n (take k d) More → HasStatus n d More
 HasStatus-whole n d k more = subst (λ e. HasStatus n e More) (take-append-drop k d) (HasStatus-more n (take k d) (drop k d) more)
 
--- the second literal of a pair is read
+-- the status after the second literal of a pair
 pub HasStatus-second : (n : List ℤ) (d : Clause) (i : ℕ) (x : ℤ) (status after : ClauseStatus) → EachOnce d
     → slice_get d (2 * i + 1) ≡ Some x
     → HasStatus n (take (2 * i + 1) d) status → ((e : Clause) → HasStatus n e status → (¬ Has e x) → HasStatus n (e ++ x ∷ []) after)
@@ -100,11 +100,11 @@ HasStatus-second n d i x status after once at before step =
     let next : 2 * i + 1 + 1 ≡ 2 * (i + 1) = omega arith in
     subst (λ k. HasStatus n (take k d) after) next (HasStatus-next n d (2 * i + 1) x status after once at before step)
 
--- a list that has nothing at an index isn't longer than that
+-- a list that has nothing at an index isn't longer than that index
 ends-at : (d : List ℤ) (k : ℕ) → slice_get d k ≡ None → length d ≤ k
 ends-at d k past = elim (slice_get_cases d k).1 [ inl at ↦ absurd (none-some at.0 (sym past ∙ at.2)) | inr short ↦ short.0 ]
 
--- the last pair has only one literal
+-- the status after a last pair that has only one literal
 pub HasStatus-single : (n : List ℤ) (d : Clause) (i : ℕ) (status : ClauseStatus) → slice_get d (2 * i + 1) ≡ None
     → HasStatus n (take (2 * i + 1) d) status
     → HasStatus n (take (2 * (i + 1)) d) status
@@ -112,12 +112,12 @@ HasStatus-single n d i status past before =
     let short = ends-at d (2 * i + 1) past in
     subst (λ e. HasStatus n e status) (take_all (2 * i + 1) d short ∙ sym (take_all (2 * (i + 1)) d (omega (arith, short)))) before
 
--- all pairs were read
+-- the status of the whole clause, after all pairs
 pub HasStatus-all : (n : List ℤ) (d : Clause) (k : ℕ) (status : ClauseStatus) → length d ≤ k → HasStatus n (take k d) status
     → HasStatus n d status
 HasStatus-all n d k status short before = subst (λ e. HasStatus n e status) (take_all k d short) before
 
--- one more false literal is read
+-- one more false literal doesn't change the status
 HasStatus-passed : (n : List ℤ) (d : Clause) (k : ℕ) (x : ℤ) (status : ClauseStatus) → slice_get d k ≡ Some x → Has n x
     → HasStatus n (take k d) status
     → HasStatus n (take (k + 1) d) status

@@ -95,7 +95,7 @@ AreTaken-second before marks after d i x at are here one =
     let next : 2 * i + 1 + 1 ≡ 2 * (i + 1) = omega arith in
     subst (λ k. AreTaken before after (take k d)) next (AreTaken-next before marks after d (2 * i + 1) x at are here one)
 
--- the last pair has only one literal
+-- the marks of a last pair that has only one literal are cleared
 pub AreTaken-single : (before after : List Bool) (d : List ℤ) (i : ℕ) → slice_get d (2 * i + 1) ≡ None
     → AreTaken before after (take (2 * i + 1) d) → AreTaken before after (take (2 * (i + 1)) d)
 AreTaken-single before after d i past are =
@@ -111,8 +111,8 @@ pub unmarked-next : (before marks : List Bool) (d : List ℤ) (k : ℕ) (x : ℤ
 unmarked-next before marks d k x once at are none =
     (x, Has-at d k x at, λ b. none ((are.left x).1 (b, Has-before d k x once at)))
 
--- if the clause's literals were all marked, and clearing their marks leaves none of the list's,
--- both have the same literals
+-- if the clause's literals were all marked, and no mark of the list's is left after clearing
+-- theirs, the clause and the list have the same literals
 pub same-literals : (before marks : List Bool) (d ls : List ℤ) → AreTaken before marks d → ((l : ℤ) → Has d l → IsMarked before l
     → Has ls l) → ((l : ℤ) → Has ls l → IsMarked before l) → (¬ ((l : ℤ) × Has ls l × IsMarked marks l)) → (l : ℤ) → Has d l ↔ Has ls l
 same-literals before marks d ls are from to none l = (
@@ -120,13 +120,13 @@ same-literals before marks d ls are from to none l = (
   (λ h. elim (Has_cases d l) [ inl t ↦ t | inr missing ↦ absurd (none (l, h, (are.left l).1 (to l h, missing))) ]),
 )
 
--- the next literal is marked
+-- if the next literal is marked, some literal of the list is
 pub marked-read : (marks : List Bool) (ls : List ℤ) (k place : ℕ) (x : ℤ) → k < length ls → x ≡ get_or ls k x → place ≡ code_of x
     → get_or marks place false ≡ true → (l : ℤ) × Has ls l × IsMarked marks l
 marked-read marks ls k place x lt at e found =
     (x, Has-at ls k x (slice_get_read ls (length ls) k x refl lt at), ap (λ j. get_or marks j false) (sym e) ∙ found)
 
--- the next literal isn't marked
+-- if the next literal isn't marked either, no literal so far is
 pub unmarked-read : (marks : List Bool) (ls : List ℤ) (k place : ℕ) (x : ℤ) → k < length ls → x ≡ get_or ls k x → place ≡ code_of x
     → get_or marks place false ≡ false → ((l : ℤ) → Has (take k ls) l → ¬ IsMarked marks l) → (l : ℤ) → Has (take (k + 1) ls) l
     → ¬ IsMarked marks l
@@ -171,7 +171,7 @@ same-known before first marks d ls false set clean are asked = (
   (λ same. refl),
 )
 
--- a literal of the clause isn't marked, so the list doesn't have it
+-- if a literal of the clause isn't marked, the clause and the list have different literals
 pub other-known : (before first : List Bool) (d ls : List ℤ) → ((l : ℤ) → IsMarked first l ↔ (IsMarked before l ⊎ Has ls l))
     → ((l : ℤ) × Has d l × (¬ IsMarked first l)) → IsTrue false ↔ ((l : ℤ) → Has d l ↔ Has ls l)
 other-known before first d ls set missing = (

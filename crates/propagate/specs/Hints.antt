@@ -3,7 +3,7 @@ use Rattle.std.specs.Prelude.{◌≡◌, ◌++◌, ℤ, neg_ℤ, List, [], ◌�
 use Rattle.lrup_model.specs.Clause.{Clause}
 use Rattle.lrup_model.specs.Propagation.{IsUnit}
 
--- each clause is unit, one after the other, and they lead from these false literals to those
+-- the clauses are unit, one after the other, and lead from these false literals to those
 abbrev pub Leads : List ℤ → List Clause → List ℤ → Type 0
 Leads before [] after = before ≡ after
 Leads before (clause ∷ hinted) after =

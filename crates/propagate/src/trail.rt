@@ -57,7 +57,7 @@ impl Trail {
         self.marks[lit.code() as usize]
     }
 
-    /// Makes a literal false that is neither false nor true.
+    /// Makes a literal false. Before the call it is neither false nor true.
     #[inline]
     pub fn add(&mut self, lit: Lit)
         requires literal { IsLiteral self.old.vars lit }

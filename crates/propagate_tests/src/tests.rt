@@ -1,4 +1,4 @@
-//! Clauses that `begin` accepts, the text of its only fault, and hints at a plain map.
+//! Clauses that `begin` accepts, the text of its only fault, and hints over a plain map.
 ghost use Rattle.std.specs.Prelude.{◌≡◌, IfOk, IfSome, OnOk, IsTrue};
 ghost use Rattle.std.specs.List.{AllByRecursion};
 ghost use Rattle.lrup_model.specs.Literal.{IsLiteral};
@@ -98,7 +98,7 @@ fn formula_of_pairs(
     Ok(formula)
 }
 
-/// The map of that formula.
+/// The map of the formula of these two-literal clauses.
 fn map_of_pairs(rt: &(impl Abort + AllocGlobal), pairs: &[(i64, i64)]) -> Result<PlainMap, Fail>
     ensures formula { IfOk result (λ map. (formula_of map).vars ≡ 3) }
     ensures streams { IfOk result (λ map. map.layout.streams ≡ 1) }

@@ -1,4 +1,4 @@
--- A checkpoint's file that is saved to and closed.
+-- Saving to a checkpoint's file, and closing it.
 use Rattle.std.proofs.Common.{◌≡◌, Err, IfOk, IsTrue, List, Option, Result, subst, sym}
 use Rattle.std.specs.Prelude.{◌↔◌}
 use Rattle.lrup_model.specs.Event.{History}

@@ -47,7 +47,7 @@ was_read files before path reader after items (Ok bytes) opened left gave all =
     record { reader = reader; opened = opened; gave = gave; known = λ whole known. all whole (left ∙ known) }
 was_read files before path reader after items (Err fault) opened left gave all = tt
 
--- the same for the formula's file, and for the file of the assumed literals
+-- the cause for the formula's file, and for the file of the assumed literals
 pub formula_file_cause : (files : FilesView) (given : CommandLine) (fault : CommandFault) (after : files.its.State)
     → IsFileCause files files.first given.formula.now fault after → IsReadCause files given fault after
 formula_file_cause files given (faults.Refused fault) after cause = absurd cause
@@ -60,7 +60,7 @@ cube_file_cause files vars before path faults.Unread after cause = cause
 cube_file_cause files vars before path faults.Memory after cause = cause
 cube_file_cause files vars before path fault after cause = absurd cause
 
--- why the bytes that were read are no formula, or no text of literals
+-- why the bytes that were read aren't a formula, or a text of literals
 pub text_cause : (files : FilesView) (given : CommandLine) (bytes : List ℕ) (after : files.its.State)
     → WasReadIn files files.first given.formula.now bytes after
     → (fault : DimacsFault) → (fault ≢ formulas.Memory → IsFormulaFault bytes fault) → IsReadCause files given (of_formula fault) after
@@ -103,7 +103,7 @@ module _ (files : FilesView) (first : files.its.State) where
   moved_cause vars before (Some path) faults.Memory after cause = cause
   moved_cause vars before (Some path) fault after cause = absurd cause
 
--- all errors of the system but one
+-- all errors of the system but out of memory mean `NotOpened`
 pub other_fault : (kind : ErrorKind) → kind ≢ kinds.OutOfMemory → of_kind kind ≡ opens.NotOpened
 other_fault kinds.OutOfMemory other = absurd (other refl)
 other_fault kind other = refl

@@ -9,8 +9,8 @@ use Rattle.run_files.specs.Asked.{Text}
 use Rattle.run_files.specs.Causes.{WasRefused}
 use Rattle.run_files.specs.declared.files.OpenFault.{OpenFault}
 
--- if the readers so far have what the files at the paths so far hold, so do the readers with one
--- more
+-- if each reader so far has what the file at its path holds, this is still true with one more
+-- reader
 pub opened_more : {R B T : Type 0} {L : Type 0} (left : R → L) (contents later : T → L) (text : B → T) (before after : List R) (reader : R)
     (paths : List B) (k : ℕ) (d : B)
     → k < length paths → after ≡ before ++ reader ∷ [] → map left before ≡ map contents (take k (map text paths))
@@ -58,7 +58,7 @@ pub read_at : {B T : Type 0} (text : B → T) (paths : List B) (k : ℕ) (d : B)
     → slice_get (map text paths) k ≡ Some (text (get_or paths k d))
 read_at text paths k d inside = slice_get-map text paths k ∙ ap (option_map text) (slice_get-get_or paths k d inside)
 
--- the path that was refused, after the earlier ones were opened
+-- the earlier paths were opened, and this one was refused
 pub refused_at : (its : Effects) {B : Type 0} (text : B → Text) (first : its.State)
     (paths : List B) (readers : List its.Reader) (next : its.State) (k : ℕ) (d : B) (fault : OpenFault) (after : its.State)
     → k < length paths → AreOpened its.opens first (take k (map text paths)) readers next

@@ -4,7 +4,7 @@ use Rattle.std.proofs.KnownBytes.{Consumes-trans}
 use Rattle.std.specs.Io.KnownBytes.{Consumes}
 use Rattle.std.specs.Option.{ForSome}
 
--- one more read consumed the bytes after those consumed before
+-- one more read consumes the bytes after those that have been consumed
 pub consumed_more : (first mid last : Option (List ℕ)) (before piece after : List ℕ)
     → Consumes first mid before → Consumes mid last piece → after ≡ before ++ piece → Consumes first last after
 consumed_more first mid last before piece after consumed read is =

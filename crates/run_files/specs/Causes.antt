@@ -26,9 +26,9 @@ use Rattle.run_files.specs.declared.fault.CommandFault.TheVariants as faults
 use Rattle.run_files.specs.declared.files.OpenFault.{OpenFault}
 use Rattle.run_files.specs.declared.files.OpenFault.TheVariants as open_faults
 
--- Causes, and the files at that point: only the earlier openings and creations were done to them,
--- in order. Nothing shows afterwards that memory ran out or that a thread wasn't started, so these
--- are possible causes for any files.
+-- Causes, and the files when the fault arose: only the earlier openings and creations were done to
+-- them, in order. Nothing shows afterwards that memory ran out or that a thread wasn't started, so
+-- these are possible causes for any files.
 
 -- Reads of a file gave some bytes, and then a read failed. If what was left of the file is known,
 -- it began with these bytes.
@@ -210,7 +210,7 @@ pub record BrokeOff (its : Effects) (before : its.State) (path : Text)
   pub broken : HasBrokenOff its.reading reader
   pub few : length broken.bytes ≤ 64
 
--- memory ran out before, during or after the opening of the file at the path, which may be missing
+-- memory ran out before, during or after the opening of the file at the path, if there is one
 abbrev pub IsOutOfMemoryAt : (its : Effects) → its.State → Text → its.State → Type 0
 IsOutOfMemoryAt its before path after =
     (after ≡ before)
@@ -236,7 +236,7 @@ IsFirstCause its before path faults.Memory after =
 IsFirstCause its before path fault after = ⊥
 
 -- why not all streams of a round were opened: stream 1 wasn't; or it was, but one of the others
--- wasn't, for the causes of round 1
+-- wasn't, for the same causes as in round 1
 abbrev pub IsStreamCause : (its : Effects) → its.State → Text → ℕ → ℕ → CommandFault → its.State
     → Type 0
 IsStreamCause its before folder number streams fault after =

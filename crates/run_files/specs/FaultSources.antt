@@ -1,4 +1,4 @@
--- The causes that faults of lower crates become (this project's own).
+-- The cause that each fault of a lower crate is mapped to (this project's own).
 use Rattle.dimacs.specs.declared.fault.DimacsFault.{DimacsFault}
 use Rattle.dimacs.specs.declared.fault.DimacsFault.TheVariants as formulas
 use Rattle.lrup_text.specs.declared.cube.CubeFault.{CubeFault}

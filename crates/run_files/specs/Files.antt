@@ -119,7 +119,7 @@ effects_of {F = F} {R = R} {W = W} its more input output = record {
 }
 
 -- What is known of files: the effects of calls on them; their first state; and the contents of the
--- file at each path, if known, which stay the same while files are opened.
+-- file at each path, if known. These stay the same while files are opened.
 pub record FilesView : Type 1 where
   pub its : Effects
   pub first : its.State
@@ -131,7 +131,7 @@ abbrev pub files_view : {F R W M : Type 0} → Files.Ghosts F R → Machine.Ghos
 files_view its more input output first =
     record { its = effects_of its more input output; first = first; contents = its.contents first }
 
--- the same with another first state
+-- these files, with another first state
 abbrev pub from_first : (files : FilesView) → files.its.State → FilesView
 from_first files first = record { its = files.its; first = first; contents = files.contents }
 

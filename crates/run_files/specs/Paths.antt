@@ -14,7 +14,7 @@ formula_path folder number = round_path folder number (codes ".cnf")
 abbrev pub sizes_path : List ℕ → ℕ → List ℕ
 sizes_path folder number = round_path folder number (codes ".sizes")
 
--- the path of a round's stream, counted from 1
+-- the path of a round's stream with this number (from 1)
 abbrev pub stream_path : List ℕ → ℕ → ℕ → List ℕ
 stream_path folder number stream = round_path folder number (codes ".stream-" ++ decimal stream)
 

@@ -23,20 +23,20 @@ pub enum CommandFault {
     Usage(UsageText),
     /// The formula's file couldn't be opened, or couldn't be read to its end.
     Unread,
-    /// The formula's file holds no formula; never `DimacsFault::Memory`.
+    /// The formula's file was refused; the cause is never `DimacsFault::Memory`.
     Refused(DimacsFault),
     /// The file of the assumed literals couldn't be opened, or couldn't be read to its end.
     CubeUnread,
-    /// The file of the assumed literals holds no text of literals; never `CubeFault::Memory`.
+    /// The file of the assumed literals was refused; the cause is never `CubeFault::Memory`.
     CubeRefused(CubeFault),
-    /// The file of this stream, counted from 1, couldn't be opened.
+    /// The file of the stream with this number (from 1) couldn't be opened.
     NotOpened(u64),
     /// There is no layout for this formula, the options and this number of streams.
     Layout(LayoutFault),
-    /// A thread of this stream, counted from 1, couldn't be started.
+    /// A thread of the stream with this number (from 1) couldn't be started.
     Spawn(u64),
-    /// The ring between the two threads of this stream, counted from 1, lost the mark for its end,
-    /// although the stream was read to its end.
+    /// The ring between the two threads of the stream with this number (from 1) lost the mark for
+    /// the stream's end, although the stream was read to its end.
     Ring(u64),
     /// Out of memory.
     Memory,
@@ -50,7 +50,7 @@ pub enum CommandFault {
     TwoCheckpoints,
     /// The file of a round's sizes exists, but couldn't be opened, or couldn't be read to its end.
     SizesUnread,
-    /// The file of a round's sizes holds no text of sizes.
+    /// The file of a round's sizes was read, but isn't a text of sizes.
     Sizes,
 }
 
@@ -173,8 +173,8 @@ impl CommandFault {
         }
     }
 
-    /// Writes the message for this fault of a round, counted from 1, without allocating. If the
-    /// sink fails, a prefix of the message was written.
+    /// Writes the message for this fault in the round with this number (from 1), without
+    /// allocating. If the sink fails, a prefix of the message was written.
     pub fn write<W: Sink>(&self, round: u64, sink: &mut W) -> Result<(), WriteFault>
         requires running { W.has_failed sink.old ≡ false }
         ensures text { WritesText result (W.written sink.old) (W.written sink.new)
@@ -326,7 +326,7 @@ fn write_line<W: Sink>(round: u64, cause: &Cause<'_>, sink: &mut W) -> Result<()
     buffer.flush(sink)
 }
 
-/// Puts the prefix that names the round, unless its number is 1.
+/// Writes the prefix that names the round, unless its number is 1.
 fn put_round<W: Sink>(buffer: &mut WriteBuffer, round: u64, sink: &mut W) -> Result<(), WriteFault>
     requires running { W.has_failed sink.old ≡ false }
     ensures puts { PutsAll result (W.written sink.old) (W.written sink.new) buffer.old buffer.new
@@ -341,7 +341,7 @@ fn put_round<W: Sink>(buffer: &mut WriteBuffer, round: u64, sink: &mut W) -> Res
     buffer.put(b": ", sink)
 }
 
-/// Puts the cause.
+/// Writes the cause.
 fn put_cause<W: Sink>(
     buffer: &mut WriteBuffer,
     cause: &Cause<'_>,
@@ -357,7 +357,7 @@ fn put_cause<W: Sink>(
     buffer.put(cause.rest, sink)
 }
 
-/// Puts a number, if there is one.
+/// Writes a number, if there is one.
 fn put_if_any<W: Sink>(
     buffer: &mut WriteBuffer,
     number: Option<u64>,

@@ -9,8 +9,8 @@ use thiserror::Error;
 /// Why a file wasn't opened or created.
 #[derive(Clone, Copy, Debug, PartialEq, Eq, Error)]
 pub enum OpenFault {
-    /// Opening: there is no such file, or it can't be read. Creating: there is one already, or none
-    /// can be created.
+    /// Opening: there is no such file, or it can't be read. Creating: there is a file already, or
+    /// it can't be created.
     #[error("not opened")]
     NotOpened,
     /// Out of memory.
@@ -41,7 +41,7 @@ pub trait Files {
     /// A file that is open.
     type Input: Source + Send + Drop;
 
-    /// All bytes of the file at a path, if they are known; those of the machine's files aren't.
+    /// All bytes of the file at a path, if they are known; the bytes of the machine's files aren't.
     /// Opening a file doesn't change what is known.
     ghost contents: { Self → List ℕ → Option (List ℕ) };
 
@@ -99,7 +99,8 @@ pub trait Machine: Files {
     /// The effect of discarding a file: the files before, the file as written, and the files after.
     ghost discards: { Self → Self.Output → Self → Type 0 };
 
-    /// Opens the file at a path as `open` does, if there is one. `None` is no fault.
+    /// Opens the file at a path as `open` does, if there is one. Otherwise returns `None`, which
+    /// isn't a fault.
     fn open_if_there(&mut self, path: &str) -> Result<Option<Self::Input>, OpenFault>
         ensures left { IfOk result (λ found. IfSome found (λ input.
             Self.Input.Source.left input ≡ Self.contents self.old path.now)) }
@@ -119,7 +120,7 @@ pub trait Machine: Files {
         ensures creates { IfOk result (λ output. creates self.old path.now output self.new) }
         ensures refuses { IfErr result (λ fault. refuses_new self.old path.now fault self.new) };
 
-    /// Flushes a file that was created to disk, then closes it.
+    /// Flushes a created file to disk, and then closes it.
     fn keep(&mut self, output: Self::Output) -> Result<(), WriteFault>
         ensures keeps { IfOk result (λ _. keeps self.old output self.new) }
         ensures loses { IfErr result (λ _. loses self.old output self.new) };
@@ -141,7 +142,7 @@ pub trait Viewed {
     /// The effects of calls on files, and what is known of files.
     ghost effects: { Effects };
 
-    /// The same, with these files as the first ones.
+    /// The effects and what is known, with these files as a run's first ones.
     ghost view: { Self → FilesView };
 }
 

@@ -1,4 +1,4 @@
-//! Reads what the words ask for, and opens the streams.
+//! Reads the files that the words name, and opens the streams.
 ghost use Rattle.std.specs.Prelude.{◌≡◌, ◌≢◌, ◌<◌, false, IfErr, IfOk, List, Some, map};
 ghost use Rattle.std.specs.List.{AllByRecursion};
 ghost use Rattle.std.specs.Option.{ForSome};

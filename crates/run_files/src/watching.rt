@@ -68,7 +68,7 @@ pub(crate) fn open_watched_if_there<T: Threads + Wait + Sync, F: Machine>(
     )
 }
 
-/// Calls `opening`, which opens the file at `path`. Meanwhile another thread reports the opening, if
+/// Calls `opening`, which opens the file at `path`. Meanwhile another thread reports the opening if
 /// it takes a second. If that thread isn't started, nothing is reported.
 fn while_reporting<T: Threads + Wait + Sync, S: Sink + Send + Drop, O, G: FnMut() -> O>(
     threads: &T,

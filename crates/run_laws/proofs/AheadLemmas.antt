@@ -1,4 +1,4 @@
--- The blocks that streams still have ahead of them in a history.
+-- The blocks that the streams still have ahead of them in a history.
 use Rattle.std.proofs.Common.{◌≡◌, ◌⊎◌, ◌<◌, ◌≤◌, ℕ, zero, suc, cond, eqb, List, [], ◌∷◌, ◌++◌, map, refl, sym, ap, subst, ◌∙◌, inl, inr}
 use Rattle.std.proofs.Common.{ne_eqb, eq-eqb, arith, append-nil}
 use Rattle.std.specs.List.{AllByRecursion}
@@ -19,7 +19,7 @@ use Rattle.run_laws.proofs.SwapLemmas.{Settles}
 abbrev pub Lines : Type 0
 Lines = ℕ → List History
 
--- each stream's lines, with these for one stream
+-- each stream's lines, with the lines of stream s replaced by these
 abbrev pub with : Lines → ℕ → List History → Lines
 with rest s bs = λ t. cond (eqb t s) bs (rest t)
 
@@ -29,13 +29,13 @@ with-same rest s bs t same = cond-true (eqb t s) bs (rest t) (eq-eqb t s same)
 pub with-other : (rest : Lines) (s : ℕ) (bs : List History) (t : ℕ) → (t ≡ s → ⊥) → with rest s bs t ≡ rest t
 with-other rest s bs t other = cond-false (eqb t s) bs (rest t) (ne_eqb t s other)
 
--- these blocks are the events of each stream of the layout, and other streams have no events
+-- these blocks have the events of each stream; streams that aren't in the layout have none
 pub record Ahead (p : LayoutValue) (h : History) (rest : Lines) : Type 0 where
   pub own_events : (s : ℕ) → own h s ≡ joined (rest s)
   pub lines : (s : ℕ) → AllByRecursion IsLineBlock (rest s)
   pub outside : (s : ℕ) → (IsStream p s → ⊥) → rest s ≡ []
 
--- the same after one stream has advanced
+-- the blocks still have the streams' events after stream s alone has advanced
 pub ahead-with : (p : LayoutValue) (g h : History) (rest : Lines) (s : ℕ) (bs : List History) → Ahead p g rest → IsStream p s
     → own h s ≡ joined bs → ((t : ℕ) → (t ≡ s → ⊥) → own h t ≡ own g t) → AllByRecursion IsLineBlock bs → Ahead p h (with rest s bs)
 ahead-with p g h rest s bs ahead is here others lines = record {
@@ -50,7 +50,7 @@ ahead-with p g h rest s bs ahead is here others lines = record {
   outside = λ t none. with-other rest s bs t (λ same. none (subst (IsStream p) (sym same) is)) ∙ ahead.outside t none;
 }
 
--- a legal order of these lines, reduced, from this state
+-- an order of these lines, each one reduced, that is legal from this state on
 pub record Orders (f : Cnf) (p : LayoutValue) (final m : State) (rest : Lines) (blocks : List Block) : Type 0 where
   pub settled : AllByRecursion (IsSettled p final) blocks
   pub legal : LegalFrom f p m (events_in blocks)
@@ -62,7 +62,8 @@ HasOrder f p final m rest = (blocks : List Block) × Orders f p final m rest blo
 abbrev block_of : ℕ → History → Block
 block_of s es = record { stream = s; events = es }
 
--- one more line in front
+-- a stream's next line, reduced and put in front of an order of the other lines, gives an order of
+-- all lines
 pub lines-front : (rest : Lines) (s : ℕ) (b : History) (bs : List History) (es : History) (blocks : List Block)
     → rest s ≡ b ∷ bs → es ≡ reduced b → ((t : ℕ) → blocks_of t blocks ≡ map reduced (with rest s bs t))
     → (t : ℕ) → blocks_of t (record { stream = s; events = es } ∷ blocks) ≡ map reduced (rest t)
@@ -164,7 +165,7 @@ empty-events : (n : ℕ) (rest : Lines) → ((s : ℕ) → AreEmpty (rest s)) �
 empty-events zero rest none = refl
 empty-events (suc n) rest none = at-events (suc n) (rest (suc n)) (empty n rest) (none (suc n)) ∙ empty-events n rest none
 
--- lines without events come last
+-- if no events are left, the lines without events can be put in an order
 pub order-empty : (f : Cnf) (p : LayoutValue) (final m : State) (rest : Lines) → Ahead p [] rest → HasOrder f p final m rest
 order-empty f p final m rest ahead =
     let none : (s : ℕ) → AreEmpty (rest s) = λ s. joined_empty (rest s) (ahead.own_events s) in (

@@ -1,4 +1,4 @@
--- One stream alone.
+-- A stream that is a group by itself.
 use Rattle.std.proofs.Common.{◌≡◌, ℕ, eqb, Option, None, Some, List, [], ◌∷◌, ◌++◌, refl, sym, ap, subst, ◌∙◌, eq-eqb}
 use Rattle.std.specs.Prelude.{IsTrue, IfSome, MatchOption}
 use Rattle.std.specs.List.{AllByRecursion}
@@ -19,12 +19,12 @@ use Rattle.run_laws.specs.Groups.{one, IsGroup, IsReadingOf}
 use Rattle.run_laws.specs.GroupLaws.{AloneHasOneReport, BeginningsWithin}
 use Rattle.run_laws.proofs.Places.{judged_at}
 
--- a stream with these bytes, and the end `its`, if any, is a reading of the whole bytes with this
--- end
+-- a stream with these bytes, and with the end `its` if it has one, is a reading of the whole bytes
+-- with this end
 abbrev pub ReadsTo : Option StreamEnd → List ℕ → List ℕ → StreamEnd → Type 0
 ReadsTo its bytes whole end = MatchOption its ((more : List ℕ) × (whole ≡ bytes ++ more)) (λ e. (whole ≡ bytes) × (e ≡ end))
 
--- however much of a stream was read, the whole stream has this judgement
+-- if the bytes that were read have this judgement with every possible end, all bytes have it
 pub judged_whole : FinishedStays
     → (c : StreamParams) (its : Option StreamEnd) (bytes whole : List ℕ) (end : StreamEnd) (blocks : List History) (report : Report)
     → ReadsTo its bytes whole end → ((other : StreamEnd) → IfSome its (λ e. e ≡ other) → JudgesBlocks c bytes other blocks report)

@@ -49,7 +49,7 @@ use Rattle.run_laws.proofs.ValidLines.{ownership_by}
 use Rattle.run_laws.proofs.WalkLemmas.{own-calls}
 use Rattle.run_laws.proofs.RunLemmas.{EndsWith, fine_failure, fine_memory, observed_at}
 
--- an identity of another stream has an owner
+-- an identity of another stream has an owner t
 pub foreign_by : (c : StreamParams) (id : ℕ) (o : Owner) → owner c.layout id ≡ o → ownership_by c o ≡ ownerships.Foreign
     → (t : ℕ) × Owns c.layout t id
 foreign_by c id owners.Formula is foreign = absurd (let no : ownerships.Formula ≡ ownerships.Foreign = foreign in cc)
@@ -58,7 +58,7 @@ foreign_by c id owners.Outside is foreign = absurd (let no : ownerships.Outside 
 
 -- What a stream publishes
 
--- the stream published what a history has at one of the stream's own identities
+-- a clause that a legal history leaves at a stream's own identity was published by that stream
 own_has : (f : Cnf) (p : LayoutValue) (h : History) (t id : ℕ) (d : Clause) → Fits p f → IsLegal f p h → Owns p t id
     → HasClause (state f h id) d → IsIn (id, d) (published (own h t))
 own_has f p h t id d fits legal owns has =
@@ -69,7 +69,7 @@ own_has f p h t id d fits legal owns has =
       | inr later ↦ later
     ]
 
--- and what the stream published stays
+-- a clause that a stream published in a legal history stays at its identity, live or retired
 own_stays : (f : Cnf) (p : LayoutValue) (h : History) (t id : ℕ) (d : Clause) → IsLegal f p h → IsIn (id, d) (published (own h t))
     → HasClause (state f h id) d
 own_stays f p h t id d legal is =
@@ -95,8 +95,8 @@ in_more x a b on is =
 
 -- A stream in a run
 
--- an end that a stream had, and what its reader had left after the bytes by which it is judged:
--- nothing, if it ended
+-- an end that the stream may have had, and what its reader had left after the bytes that were
+-- judged: nothing if the stream ended
 pub record ReadSo (c : StreamParams) (bytes whole : List ℕ) (blocks : List History) (report : Report) : Type 0 where
   pub end : StreamEnd
   pub judges : JudgesBlocks c bytes end blocks report
@@ -131,7 +131,7 @@ read_so c None bytes unneeded whole (Some left) has_failed blocks report took en
   ended = λ is. absurd (let no : stream_ends.Failed ≡ stream_ends.Ended = is in cc);
 }
 
--- what a run says about the stream whose reader has these bytes left at first
+-- what a run says about the stream whose reader has these bytes at the start
 pub record IsReadIn (f : Cnf) (run_params : RunParamsValue) (observed : List InputObservation) (reports : List Report)
     (r : IsRun f run_params observed reports)
     (s : ℕ) (whole : List ℕ) (report : Report) : Type 0 where
@@ -162,15 +162,16 @@ read_in f run_params observed reports r s whole observation report here entry sa
           is.ends is.needed j.2;
     }
 
--- the readers of the set have the bytes of these streams left at first, and maybe more after them
+-- at the start, the readers of the set's streams have these streams' bytes, and maybe more after
+-- them
 abbrev pub HaveBytesOf : (ℕ → Bool) → List Stream → List InputObservation → Type 0
 HaveBytesOf set streams observed =
     (t : ℕ) (stream : Stream) (observation : InputObservation) → IsTrue (set t) → IsOfStream streams t stream
     → IsOfStream observed t observation → (more : List ℕ) × (observation.entry ≡ Some (stream.bytes ++ more))
 
 module _ (first : OneFirstLine) (refused : RefusedStays) (cited : CitedFetched) where
-  -- one history judges a closed set of streams; the readers of the other run begin with the
-  -- streams' bytes
+  -- one history judges a closed set of streams; in the other run, the readers' bytes begin with
+  -- those of the streams
   module _ (f : Cnf) (run_params : RunParamsValue) (set : ℕ → Bool) (g : History) (streams : List Stream) (reports : List Report)
       (observed : List InputObservation)
       (others : List Report) (fits : Fits run_params.layout f) (count : length streams ≡ run_params.layout.streams)
@@ -206,7 +207,7 @@ module _ (first : OneFirstLine) (refused : RefusedStays) (cited : CitedFetched) 
           judges = way.1;
         }
 
-    -- the same stream in the run, whose reader has these bytes after the stream's bytes
+    -- stream s in the run, where its reader has the bytes `more` after the stream's bytes
     record Other (s : ℕ) (w : Part s) (more : List ℕ) : Type 0 where
       report : Report
       says : IsOfStream others s report
@@ -240,7 +241,7 @@ module _ (first : OneFirstLine) (refused : RefusedStays) (cited : CitedFetched) 
         let entry = bytes s w.stream observation.0 is.0 w.at observation.1 in
         (entry.0, other_of s member w observation.0 entry.0 observation.1 entry.1)
 
-    -- at an identity of the set both have the same clause
+    -- if both histories leave a clause at an identity of the set, it is the same clause
     one_clause : (t id : ℕ) (x d : Clause) → IsTrue (inside run_params.layout set t) → Owns run_params.layout t id
         → HasClause (state f g id) x → HasClause (state f r.history id) d → x ≡ d
     one_clause t id x d member owns mine theirs =
@@ -267,7 +268,7 @@ module _ (first : OneFirstLine) (refused : RefusedStays) (cited : CitedFetched) 
               (own_stays f p g t id d legal (subst (IsIn (id, d)) (sym published_here) (in_more (id, d) also lines on there)))
         ]
 
-    -- what the history finds of other streams, and what the run finds
+    -- what the history finds from other streams, and what the run finds
     abbrev Mine : ℕ → Clause → Type 0
     Mine id d = HasClause (state f g id) d × ((t : ℕ) → Owns run_params.layout t id → IsTrue (inside run_params.layout set t))
 

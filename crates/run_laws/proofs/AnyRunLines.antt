@@ -1,5 +1,5 @@
--- One line in two histories: if it is good in one, it is good in the other, or lacks a clause of
--- another stream.
+-- One line in two histories: if it is good in one, then in the other it is good or lacks a clause
+-- of another stream.
 use Rattle.std.proofs.Common.{◌≡◌, ◌⊎◌, ◌++◌, ℕ, zero, suc, ℤ, neg_ℤ, Bool, List, [], ◌∷◌, length, replicate, Result, Ok, Err, inl, inr}
 use Rattle.std.proofs.Common.{refl, sym, ap, subst, ◌∙◌, append_assoc, append-nil}
 use Rattle.std.specs.Prelude.{◌↔◌}
@@ -35,14 +35,14 @@ use Rattle.run_laws.proofs.SwapLemmas.{identity_of}
 
 -- Fair events
 
--- the formula's, or the stream's own
+-- the identity is the formula's or the stream's own
 abbrev pub IsNear : Ownership → Type 0
 IsNear ownerships.Formula = Unit {0}
 IsNear ownerships.Own = Unit {0}
 IsNear ownerships.Foreign = ⊥
 IsNear ownerships.Outside = ⊥
 
--- if the event found a clause of another stream, this holds for the clause and its identity
+-- if the event found a clause of another stream, `Found` holds for its identity and the clause
 abbrev pub IsFoundIn : StreamParams → (ℕ → Clause → Type 0) → Event → Type 0
 IsFoundIn c Found (events.fetch s id events.vacant) = Unit {0}
 IsFoundIn c Found (events.fetch s id (events.live d)) = ownership_of c id ≡ ownerships.Foreign → Found id d
@@ -50,17 +50,18 @@ IsFoundIn c Found (events.fetch s id events.retired) = Unit {0}
 IsFoundIn c Found (events.publish s id d r) = Unit {0}
 IsFoundIn c Found (events.retire s id r) = Unit {0}
 
--- from this state on, each event at an identity of the formula or of the stream has the reply of
--- the state after the earlier events, and this holds for what is found of other streams
+-- starting from this state, each event with an identity of the formula or of the stream has the
+-- reply that the state after the earlier events gives, and `Found` holds for what is found from
+-- other streams
 abbrev pub AreFair : StreamParams → (ℕ → Clause → Type 0) → State → History → Type 0
 AreFair c Found m [] = Unit {0}
 AreFair c Found m (e ∷ es) = (IsNear (ownership_of c (identity_of e)) → Answers m e) × IsFoundIn c Found e × AreFair c Found (after m e) es
 
--- at one identity, both histories find the same clause of another stream
+-- under one identity, both histories find the same clause of another stream
 abbrev pub FindAlike : StreamParams → (ℕ → Clause → Type 0) → (ℕ → Clause → Type 0) → Type 0
 FindAlike c Mine Theirs = (id : ℕ) (d e : Clause) → ownership_of c id ≡ ownerships.Foreign → Mine id d → Theirs id e → d ≡ e
 
--- what a hint found, and what follows
+-- the fetch of hint h had this reply, and the later events are fair, too
 pub record IsAsked (c : StreamParams) (Found : ℕ → Clause → Type 0) (m : State) (h : ℕ) (r : Reply) (rest : History) : Type 0 where
   pub near : IsNear (ownership_of c h) → Answers m (events.fetch c.stream h r)
   pub found : IsFoundIn c Found (events.fetch c.stream h r)
@@ -87,7 +88,7 @@ asked_fair ownerships.Outside c Found m h asked rest r is asks fair = record {
   later = subst (λ (a : History). AreFair c Found m (a ++ rest)) asks.0 fair;
 }
 
--- every fetch finds a live clause
+-- if the state has a live clause at the identity, the reply to a fetch is this clause
 fetch_live : (m : State) (s id : ℕ) (d : Clause) (r : Reply) → Answers m (events.fetch s id (events.live d))
     → Answers m (events.fetch s id r) → r ≡ events.live d
 fetch_live m s id d events.vacant is answers = absurd (let no : live d ≡ absent = sym is ∙ answers in cc)
@@ -99,12 +100,12 @@ same_clause absent d e a b = absurd a
 same_clause (live x) d e a b = sym a ∙ b
 same_clause (retired x) d e a b = sym a ∙ b
 
--- the fault is that a clause of another stream, found in the one history, isn't there yet, or is no
--- longer there
+-- the fault is that another stream's clause, which the first history finds, isn't there yet in the
+-- second, or has been retired there
 abbrev IsLackOf : StreamParams → (ℕ → Clause → Type 0) → ℕ → Clause → Fault → Type 0
 IsLackOf c Mine h d fault = (ownership_of c h ≡ ownerships.Foreign) × Mine h d × ((fault ≡ faults.Missing h) ⊎ (fault ≡ faults.Retired h))
 
--- the look-up finds this clause, or lacks it
+-- the look-up finds this clause, or fails because the clause isn't there
 abbrev IsThatOrLacks : StreamParams → (ℕ → Clause → Type 0) → ℕ → Clause → Result Clause Fault → Type 0
 IsThatOrLacks c Mine h d answer = (answer ≡ Ok d) ⊎ ((fault : Fault) × (answer ≡ Err fault) × IsLackOf c Mine h d fault)
 
@@ -136,7 +137,8 @@ replies_agree ownerships.Foreign c Mine Theirs m h rest left d r asked alike is 
 replies_agree ownerships.Outside c Mine Theirs m h rest left d r asked alike is asks mine theirs =
     absurd (let no : events.live d ≡ events.vacant = asks.1 in cc)
 
--- a clause that a look-up found in the one history, and the same look-up in the other
+-- the first history's look-up found this clause; the second one's finds it or lacks it, and the
+-- events after both are fair
 record LooksAlike (c : StreamParams) (Mine Theirs : ℕ → Clause → Type 0) (m : State) (h : ℕ) (d : Clause) (answer : Result Clause Fault)
     (rest left : History) : Type 0 where
   that : IsThatOrLacks c Mine h d answer
@@ -163,7 +165,8 @@ looks_agree c Mine Theirs m is_dropped h fs asked rest es also left d answer ali
 
 -- Hints
 
--- the fault is the lack of another stream's clause that was found
+-- the fault is that another stream's clause, which the first history found, isn't there yet or has
+-- been retired
 abbrev pub Lacks : StreamParams → (ℕ → Clause → Type 0) → Fault → Type 0
 Lacks c Mine fault = (h : ℕ) × (d : Clause) × (ownership_of c h ≡ ownerships.Foreign) × Mine h d
     × ((fault ≡ faults.Missing h) ⊎ (fault ≡ faults.Retired h))
@@ -235,7 +238,8 @@ import_agrees c Mine Theirs m st id lits fs es deleted fault alike good mine the
 
 -- Deletions
 
--- a deletion that is good in one history is good in the other, with the same events
+-- deleting one identity, if good in one history, is good in the other with the same events,
+-- provided that the rest is
 at_agrees : (ownership : Ownership) (c : StreamParams) (Mine Theirs : ℕ → Clause → Type 0) (m : State) (is_dropped : ℕ → Bool)
     (earlier : List ℕ) (id : ℕ)
     (fs es : History) (v : LineVerdict) (A B : History → Type 0)

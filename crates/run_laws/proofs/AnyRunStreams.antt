@@ -45,7 +45,7 @@ use Rattle.run_laws.proofs.JudgedLemmas.{parts}
 use Rattle.run_laws.proofs.ValidLines.{ownership_by}
 use Rattle.run_laws.proofs.SwapLemmas.{identity_of, answers-agree}
 
--- Fair events, from legal histories
+-- Legal histories have fair events
 
 near_owner : (c : StreamParams) (id t : ℕ) → IsNear (ownership_of c id) → Owns c.layout t id → t ≡ c.stream
 near_owner c id t near owns = elim (cases_eq t c.stream) [
@@ -55,7 +55,8 @@ near_owner c id t near owns = elim (cases_eq t c.stream) [
       (ap (ownership_by c) owns ∙ cond-false (eqb t c.stream) ownerships.Own ownerships.Foreign (ne_eqb t c.stream other)) near)
 ]
 
--- a stream's calls in a legal history are fair if the condition holds for what it finds
+-- a stream's calls in a legal history are fair if `Found` holds for what they find from other
+-- streams
 pub near_fair : (f : Cnf) (c : StreamParams) (Found : ℕ → Clause → Type 0) (m n : State) (h : History) → LegalFrom f c.layout m h
     → ((id : ℕ) → IsNear (ownership_of c id) → n id ≡ m id) → AllByRecursion (IsFoundIn c Found) (own h c.stream)
     → AreFair c Found n (own h c.stream)
@@ -135,7 +136,7 @@ in_all P x [] all is = absurd is
 in_all P x (y ∷ xs) all (inl here) = subst P here all.0
 in_all P x (y ∷ xs) all (inr later) = in_all P x xs all.1 later
 
--- the history published what one stream published
+-- what one of its streams published, the history published
 pub own_published : (h : History) (s : ℕ) (x : ℕ × Clause) → IsIn x (published (own h s)) → IsIn x (published h)
 own_published [] s x is = is
 own_published (e ∷ h) s x is =
@@ -217,7 +218,7 @@ module _ (c : StreamParams) where
 
 -- A stream that ended
 
--- nothing of the stream is left
+-- the stream has no bytes left, and its report says that it ended
 pub record HasEnded (c : StreamParams) (lines : List StreamLine) (rest : List ℕ) (report : Report) : Type 0 where
   pub none : rest ≡ []
   pub says : report ≡ report_of c lines 0 endings.Ended
@@ -249,7 +250,7 @@ pub fair_back : (c : StreamParams) (Found : ℕ → Clause → Type 0) (m : Stat
 fair_back c Found m [] b fair = fair
 fair_back c Found m (e ∷ a) b fair = fair_back c Found (after m e) a b fair.2
 
--- one of the first `count` lines lacks a clause of another stream, which was found
+-- one of the first `count` lines lacks another stream's clause, which the first history found
 abbrev pub LacksFound : StreamParams → (ℕ → Clause → Type 0) → ℕ → Report → Type 0
 LacksFound c Mine count report = (d : Clause) × (line h : ℕ) × Mine h d × (line ≤ count) × (ownership_of c h ≡ ownerships.Foreign)
     × ((report.ending ≡ endings.Bad line (faults.Missing h)) ⊎ (report.ending ≡ endings.Bad line (faults.Retired h)))
@@ -275,7 +276,7 @@ module _ (first : OneFirstLine) (refused : RefusedStays) (c : StreamParams) (Min
   lacks n count fault report below says (h, d, foreign, was, inr is_dropped) =
       (d, n, h, was, below, foreign, inr (says ∙ ap (λ (x : Fault). endings.Bad n x) is_dropped))
 
-  -- if a whole line is left, the stream didn't come to its end
+  -- if a whole line is left, a read failed before the stream came to its end
   at_its_end : (line : StreamLine) (later rest left : List ℕ) (end : StreamEnd) (before : List StreamLine) (n count : ℕ) (report : Report)
       → n ≤ count → IsWithinLimits line → rest ++ left ≡ line_text line ++ later → (end ≡ stream_ends.Ended → left ≡ []) → IsPending rest
       → report ≡ report_of c before 0 (ending_at end rest n) → IsCutIn count report
@@ -310,8 +311,8 @@ module _ (first : OneFirstLine) (refused : RefusedStays) (c : StreamParams) (Min
       inl (at_its_end line later rest left end before (capped (length before + 1)) count report
       (omega (arith, below)) limits is none pending says)
 
-  -- if a stream's bytes begin with lines that are good in the one history, its good lines in the
-  -- other begin with these lines, or it ends in these lines without blame
+  -- if a stream's bytes begin with lines that are good in the first history, its good lines in the
+  -- second begin with these lines, or it ends in these lines without blame
   pub lines_go_on : (before lines others : List StreamLine) (fs front back : List History) (m : State) (rest left more : List ℕ)
       (end : StreamEnd)
       (count : ℕ) (report : Report) → length before + length lines ≤ count
@@ -375,7 +376,7 @@ more_observed c lines later deleted ending report says =
           ∙ or_left (list_any is_cubes (additions_of lines)) (list_any is_cubes (additions_of later)) test;
     })
 
--- the report says at least what the report of these lines says
+-- if more lines follow these, the report says at least what the report of these lines says
 pub goes_on_says : (c : StreamParams) (lines later : List StreamLine) (rest : List ℕ) (end : StreamEnd) (back : List History)
     (report : Report)
     → EndsAfter c (lines ++ later) rest end back report → SaysAtLeast report (report_of c lines 0 endings.Ended)
@@ -394,7 +395,7 @@ module _ (one_fault : OneFault) (empty : EmptyPending) (c : StreamParams) where
   by_end lines stream_ends.Ended n report failure says = says
   by_end lines stream_ends.Failed n report failure says = absurd (failure (n, ap (λ (r : Report). r.ending) says))
 
-  -- if nothing is left, the stream ended
+  -- if no bytes are left, and memory and reads didn't fail, the stream ended
   at_nothing : (lines : List StreamLine) (rest : List ℕ) (end : StreamEnd) (back : List History) (report : Report) → rest ≡ []
       → ¬ IsExcused OutOfMemory report → ¬ IsExcused ReadFailed report → EndsAfter c lines rest end back report
       → report ≡ report_of c lines 0 endings.Ended
@@ -415,7 +416,7 @@ module _ (one_fault : OneFault) (empty : EmptyPending) (c : StreamParams) where
   none_after (line ∷ later) rest left limits is =
       absurd (empty.whole line (flat_map line_text later ++ (rest ++ left)) limits.0 (sym is ∙ split_first line later (rest ++ left)))
 
-  -- the stream also ended if its bytes have only these lines
+  -- if the stream's bytes have only these lines, and memory and reads didn't fail, the stream ended
   pub whole_observed : (lines all : List StreamLine) (rest left : List ℕ) (end : StreamEnd) (back : List History) (report : Report)
       → GoesOn lines all → AllByRecursion IsWithinLimits all → flat_map line_text all ++ (rest ++ left) ≡ flat_map line_text lines
       → ¬ IsExcused OutOfMemory report → ¬ IsExcused ReadFailed report

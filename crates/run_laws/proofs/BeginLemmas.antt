@@ -28,13 +28,13 @@ use Rattle.run_laws.proofs.AnyRunStreams.{lines_go_on, goes_on_says}
 use Rattle.run_laws.proofs.ValidLemmas.{all_others, valid_judged}
 use Rattle.run_laws.proofs.ValidLines.{own_ownership}
 
--- What a stream alone finds of others
+-- What a stream that is alone finds from others
 
--- nothing is found
+-- no clause of another stream is found
 abbrev Nothing : ℕ → Clause → Type 0
 Nothing id d = ⊥
 
--- in a history of this stream alone, an identity of another stream has no clause
+-- in a history of only this stream, an identity of another stream has no clause
 none_there : (f : Cnf) (c : StreamParams) (h : History) (id : ℕ) (d : Clause) → Fits c.layout f → IsLegal f c.layout h
     → AllByRecursion (λ e. stream_of e ≡ c.stream) h → ownership_of c id ≡ ownerships.Foreign → HasClause (state f h id) d → ⊥
 none_there f c h id d fits legal calls foreign has =

@@ -19,7 +19,7 @@ use Rattle.run_laws.proofs.SwapLemmas.{Settles, goes-following, comes-before}
 
 -- Blocks
 
--- what is known of a block in an order: whose events it has, and what they say about retired
+-- what is known about a block in an order: whose events it has, and what they say about retired
 -- identities
 pub record IsSettled (p : LayoutValue) (final : State) (block : Block) : Type 0 where
   pub stream : IsStream p block.stream
@@ -45,7 +45,7 @@ join-other : (e : Event) (block : Block) (blocks : List Block) → (block.stream
 join-other e block blocks other = cond-false (eqb block.stream (stream_of e)) (joined_block e block ∷ blocks) (block ∷ join e blocks)
     (ne_eqb block.stream (stream_of e) other)
 
--- the event's stream then has the same blocks, except that the first begins with the event
+-- after `join`, the event's stream has the same blocks, except that the first begins with the event
 pub join-own : (e : Event) (blocks : List Block) (b : History) (more : List History) → blocks_of (stream_of e) blocks ≡ b ∷ more
     → blocks_of (stream_of e) (join e blocks) ≡ (e ∷ b) ∷ more
 join-own e [] b more is = absurd (cc)
@@ -66,7 +66,7 @@ join-own e (block ∷ blocks) b more is =
           ∙ join-own e blocks b more (sym (blocks-other block blocks s other) ∙ is)
     ]
 
--- and the blocks of other streams stay
+-- `join` doesn't change the blocks of other streams
 pub join-others : (e : Event) (blocks : List Block) (t : ℕ) → (stream_of e ≡ t → ⊥) → blocks_of t (join e blocks) ≡ blocks_of t blocks
 join-others e [] t apart = refl
 join-others e (block ∷ blocks) t apart =
@@ -97,7 +97,7 @@ join-settled p final e (block ∷ blocks) settles all =
           (all.0, join-settled p final e blocks settles all.1)
     ]
 
--- a fetch that found something goes to its stream's next block
+-- an order stays legal if a fetch that found something is moved into its stream's next block
 pub join-legal : (f : Cnf) (p : LayoutValue) (final m : State) (e : Event) (blocks : List Block) (b : History) (more : List History)
     → IsFetch e → is_vacant e ≡ false → Settles p final e → AllByRecursion (IsSettled p final) blocks
     → blocks_of (stream_of e) blocks ≡ b ∷ more → LegalFrom f p m (e ∷ events_in blocks) → LegalFrom f p m (events_in (join e blocks))
@@ -117,7 +117,7 @@ join-legal f p final m e (block ∷ blocks) b more early some settles all is leg
           (legal-back f p m block.events (e ∷ events_in blocks) following)))
     ]
 
--- a fetch that found nothing goes before the same fetch
+-- an order stays legal if a fetch that found nothing is put before a repetition of itself
 pub join-again : (f : Cnf) (p : LayoutValue) (m : State) (s id : ℕ) (blocks : List Block) (b : History) (more : List History)
     → blocks_of s blocks ≡ (events.fetch s id events.vacant ∷ b) ∷ more
     → LegalFrom f p m (events_in blocks) → LegalFrom f p m (events_in (join (events.fetch s id events.vacant) blocks))
@@ -139,7 +139,7 @@ join-again f p m s id (block ∷ blocks) b more is legal =
           (legal-back f p m block.events (events_in blocks) legal)))
     ]
 
--- Without the first block of a stream
+-- An order without the first block of a stream
 
 abbrev pub without : ℕ → List Block → List Block
 without s [] = []
@@ -193,7 +193,7 @@ without-settled p final s (block ∷ blocks) all =
           (all.0, without-settled p final s blocks all.1)
     ]
 
--- what is known of a stream's first block
+-- what is known about all blocks is known about a stream's first one
 pub first-settled : (p : LayoutValue) (final : State) (s : ℕ) (blocks : List Block) (b : History) (more : List History)
     → AllByRecursion (IsSettled p final) blocks → blocks_of s blocks ≡ b ∷ more → IsSettled p final (record { stream = s; events = b })
 first-settled p final s [] b more all is = absurd (cc)
@@ -207,7 +207,7 @@ first-settled p final s (block ∷ blocks) b more all is =
       | inr other ↦ first-settled p final s blocks b more all.1 (sym (blocks-other block blocks s other) ∙ is)
     ]
 
--- a block of retires comes first
+-- an order stays legal if a stream's first block, which has only retires, is moved to the front
 pub retires-first : (f : Cnf) (p : LayoutValue) (final m : State) (s : ℕ) (blocks : List Block) (b : History) (more : List History)
     → AllByRecursion IsRetire b → AllByRecursion (λ e. stream_of e ≡ s) b → AllByRecursion (Settles p final) b
     → AllByRecursion (IsSettled p final) blocks → blocks_of s blocks ≡ b ∷ more

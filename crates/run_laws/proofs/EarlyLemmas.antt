@@ -1,4 +1,4 @@
--- A report that is right for both ends of a stream names neither.
+-- If a stream was stopped early, its report names neither possible end.
 use Rattle.std.proofs.Common.{◌≡◌, ℕ, List, [], ◌∷◌, Option, None, sym, ap, subst, ◌∙◌}
 use Rattle.std.specs.Prelude.{IfSome}
 use Rattle.lrup_model.specs.Event.{History}

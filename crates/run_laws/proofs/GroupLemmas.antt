@@ -47,7 +47,7 @@ inside_is p set s member =
 
 -- What is fetched
 
--- no stream outside the set has this owner's identities
+-- this owner isn't a stream outside the set
 owned_by : (ℕ → Bool) → Owner → Bool
 owned_by set owners.Formula = true
 owned_by set (owners.Stream t) = set t
@@ -107,7 +107,8 @@ fetches_within law p set c stream blocks report some cites judged =
 
 -- The history
 
--- what holds for each event of the set's streams, and for every event of others, holds for all
+-- what holds for each event of the set's streams and each event of other streams holds for all
+-- events
 each_stream : (P : Event → Type 0) (set : ℕ → Bool) (h : History)
     → ((s : ℕ) → IsTrue (set s) → AllByRecursion P (own h s)) → ((e : Event) → set (stream_of e) ≡ false → P e) → AllByRecursion P h
 each_stream P set [] mine theirs = tt
@@ -127,7 +128,7 @@ finds_outside p set (events.fetch s id r) out = λ member. absurd (true≢false 
 finds_outside p set (events.publish s id c r) out = tt
 finds_outside p set (events.retire s id r) out = tt
 
--- a history that judges the streams of a closed set finds within the set
+-- if a history judges the streams of a closed set, their fetches find only what is within the set
 pub closed_finds : CitedFetched
     → (run_params : RunParamsValue) (set : ℕ → Bool) (h : History) (streams : List Stream) (reports : List Report)
     → length streams ≡ run_params.layout.streams → AreJudgedIn run_params set h 1 streams reports → IsClosed run_params.layout set streams

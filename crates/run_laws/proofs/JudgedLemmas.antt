@@ -55,9 +55,9 @@ judged_blocks early_events vacant_tries_again c bytes end blocks report j =
     (good_blocks early_events vacant_tries_again c [] j.lines j.front j.good)
     (end_blocks early_events vacant_tries_again c j.lines j.rest end j.back report j.ends))
 
--- The judged lines among those that the bytes are cut into
+-- The judged lines are the first lines that the bytes are cut into
 
--- the whole lines found at the front of some bytes are the first lines that the bytes are cut into
+-- `lines` are the first of all the lines that the bytes are cut into, and `left` has the others
 pub record AreFirst (lines all : List StreamLine) (left rest : List ℕ) : Type 0 where
   pub more : List StreamLine
   pub is : all ≡ lines ++ more

@@ -1,4 +1,4 @@
--- What kinds of events a line has: a deletion only retires, and no other line retires.
+-- The kinds of events that a line has: a deletion has only retires, and other lines have none.
 use Rattle.std.proofs.Common.{ℕ, Bool, List, [], ◌∷◌}
 use Rattle.std.specs.Prelude.{IsTrue}
 use Rattle.std.specs.List.{AllByRecursion}
@@ -15,7 +15,7 @@ use Rattle.stream_check.specs.Judging.{JudgesLine}
 use Rattle.run_laws.specs.Lines.{RetiresLast}
 use Rattle.run_laws.specs.OrderLaws.{RetiresOnly}
 
--- what holds for the retires of a deletion's identities holds for its events
+-- what holds for all retires of a deletion's identities holds for all events of the deletion
 pub identities_all : (c : StreamParams) (P : Event → Type 0) (is_dropped : ℕ → Bool) (earlier ids : List ℕ) (es : History) (v : LineVerdict)
     → AllByRecursion (λ id. (r : Retired) → P (events.retire c.stream id r)) ids → JudgesDeletion c is_dropped earlier ids es v
     → AllByRecursion P es

@@ -47,7 +47,8 @@ waits before (s ∷ order) t turns some = elim (cases_eq s t) [
       )
 ]
 
--- the same if the next line is another stream's, which is then ahead
+-- if the next line is stream s's and stream t has a line left, s has had at most as many turns as
+-- t, and fewer if t comes before s
 waits_for : (before order : List ℕ) (s t : ℕ) → AreTurns before (s ∷ order) → s ≢ t → 0 < line_count t (s ∷ order)
     → (t ≤ s → line_count s before + 1 ≤ line_count t before) × (s < t → line_count s before ≤ line_count t before)
 waits_for before order s t turns other some =
@@ -58,7 +59,7 @@ waits_for before order s t turns other some =
       λ ahead. omega (arith, later.1 ahead, mine, own),
     )
 
--- two orders continue with the same stream, if each of the two streams has a line left in both
+-- two orders continue with the same stream, if the next stream of each has a line left in the other
 same_turn : (before xs ys : List ℕ) (s t : ℕ) → AreTurns before (s ∷ xs) → AreTurns before (t ∷ ys)
     → 0 < line_count t (s ∷ xs) → 0 < line_count s (t ∷ ys) → s ≡ t
 same_turn before xs ys s t turns others left too = elim (cases_eq s t) [
@@ -115,7 +116,7 @@ pub record JudgedTwice (c : StreamParams) (xs ys : List History) : Type 0 where
 
 module _ (alike : BlocksGoAlike) (forks : LegalNeverFork) (f : Cnf) (run_params : RunParamsValue) (ps qs : List Block)
     (both : (s : ℕ) → IsStream run_params.layout s → JudgedTwice (stream_params run_params s) (blocks_of s ps) (blocks_of s qs)) where
-  -- after the same lines each stream continues alike
+  -- after the same lines, each stream continues alike in both orders
   alike_at : (before xs ys : List Block) (s : ℕ) → IsStream run_params.layout s → ps ≡ before ++ xs → qs ≡ before ++ ys
       → GoAlike (blocks_of s xs) (blocks_of s ys)
   alike_at before xs ys s stream is also =
@@ -140,7 +141,7 @@ module _ (alike : BlocksGoAlike) (forks : LegalNeverFork) (f : Cnf) (run_params 
       go (events_in xs) (events_in ys) (forks f run_params.layout m (x.events ++ events_in xs) (y.events ++ events_in ys) legal lawful) in
       ap₂ (λ (t : ℕ) (es : History). record { stream = t; events = es }) same events
 
-  -- if the stream of a line of one order has a line left, it has one in the other
+  -- if a stream has a line left in one of the orders, it has one in the other
   left_in_both : (before xs ys : List Block) (s : ℕ) → IsStream run_params.layout s → ps ≡ before ++ xs → qs ≡ before ++ ys
       → (0 < line_count s (streams_of xs) → 0 < line_count s (streams_of ys))
       × (0 < line_count s (streams_of ys) → 0 < line_count s (streams_of xs))

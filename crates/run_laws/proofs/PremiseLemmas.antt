@@ -31,7 +31,7 @@ use Rattle.run_laws.proofs.SwapLemmas.{gone_stays}
 use Rattle.run_laws.proofs.WalkLemmas.{own-calls}
 use Rattle.run_laws.proofs.StreamLemmas.{IsJudgedStream, judged_stream, is_inside, inside_owner, fetched_inside}
 
--- A history retires what it leaves retired
+-- What a history leaves retired, it has retired
 
 gone_back : (m : State) (e : Event) (id : ℕ) → IsRetired (after m e id) → IsRetired (m id) ⊎ IsRetireOf id e
 gone_back m (events.fetch s j r) id is_dropped = inl is_dropped
@@ -75,7 +75,7 @@ opening_retires f h id is_dropped =
       | inr retires ↦ retires
     ]
 
--- A legal history leaves retired what it retires
+-- What a legal history retires, it leaves retired
 
 retired_at : (f : Cnf) (p : LayoutValue) (m : State) (e : Event) (id : ℕ) (h : History)
     → LegalFrom f p m (e ∷ h) → IsRetireOf id e → IsRetired (after m e id)
@@ -102,7 +102,7 @@ kept_by_events f p h legal (events.fetch s id events.retired) = ((λ kept. tt), 
 kept_by_events f p h legal (events.publish s id c r) = ((λ kept. tt), (λ kept. tt))
 kept_by_events f p h legal (events.retire s id r) = ((λ kept. tt), (λ kept. tt))
 
--- Only the owners
+-- Only owners retire
 
 less_found : (p : LayoutValue) (h : History) (e : Event) → MeetsUnretired p h e → FindsUnretired p h e
 less_found p h (events.fetch s id events.vacant) meets = tt
@@ -135,7 +135,8 @@ retires_more e h t id retires =
       | inr other ↦ subst (λ (g : History). HistoryRetires g id) (sym (own-other e h t other)) retires
     ]
 
--- the stream that owns the identity, with a call of its own
+-- if a legal history retires an identity, a stream that owns the identity retires it in its own
+-- calls
 retirer : (f : Cnf) (p : LayoutValue) (m : State) (h : History) (id : ℕ) → LegalFrom f p m h → HistoryRetires h id
     → (t : ℕ) × Owns p t id × HistoryRetires (own h t) id
 retirer f p m [] id legal retires = absurd retires
@@ -203,7 +204,7 @@ module _ (named : StreamLine → List ℕ) where
       list_any-append (λ line. is_among (named line) id) lines others
       ∙ or_left (is_named lines id) (is_named others id) is
 
--- What is shared stays
+-- Shared clauses stay
 
 shared_each : (p : LayoutValue) (final : State) (s : ℕ) (lines : List StreamLine) (inside : ℕ → Bool)
     → ((id : ℕ) → IsTrue (cites lines id) → IsTrue (inside id) → ¬ Owns p s id → ¬ IsRetired (final id))

@@ -52,7 +52,7 @@ readers_closed law p set observed streams match_inputs closed s stream member at
     let known = closed s was.observation member (at.0, was.at) in
     observed_within law p set was.observation known.0 stream was.matches_input known.1 known.2
 
--- how the reader of a stream with this end, if any, ends
+-- how the reader ends if the stream has this end, or none
 abbrev pub EndsWith : Option StreamEnd → Option (List ℕ) → Bool → Type 0
 EndsWith its left has_failed = MatchOption its (has_failed ≡ false) (λ end. EndsSo end left has_failed)
 
@@ -94,7 +94,7 @@ failed_is_reading observed streams s observation stream whole left match_inputs 
 
 -- A run
 
--- a closed set of a run's streams is a group
+-- a closed set of a run's streams is a group, unless memory ran out
 closed_group : ClosedIsGroup → (f : Cnf) (run_params : RunParamsValue) (observed : List InputObservation) (reports : List Report)
     → Fits run_params.layout f
     → (run : IsRun f run_params observed reports) (set : ℕ → Bool) → IsClosed run_params.layout set run.streams
@@ -123,7 +123,7 @@ run_isolated law alone f run_params observed reports fits run = record {
 
 -- Two runs
 
--- a stream that cites within itself is a group of its own
+-- a stream that cites within itself is a group of its own, unless memory ran out
 run_alone : ClosedIsGroup → (f : Cnf) (run_params : RunParamsValue) (s : ℕ) (observed : List InputObservation) (reports : List Report)
     (stream : Stream) (report : Report) → Fits run_params.layout f → (a : IsRun f run_params observed reports)
     → IsOfStream a.streams s stream → IsOfStream reports s report → CiteWithin run_params.layout (one s) stream.bytes
@@ -153,7 +153,7 @@ same_reading_agrees within group alone f run_params s whole end observed other_o
     (reading_within within p (one s) other.end other.bytes whole end also cites) none)
     at there reads also says too
 
--- if a report isn't that of a cut-off stream, memory didn't run out and no read failed
+-- if a report doesn't say that its stream was cut off, it doesn't say that memory ran out
 pub fine_memory : (report : Report) → ¬ IsExcused CutOff report → ¬ IsExcused OutOfMemory report
 fine_memory report fine memory = fine (memory.0, inl memory.1)
 
@@ -178,7 +178,7 @@ judged_to law c None bytes unneeded whole (Some left) has_failed blocks report t
     subst (λ b. JudgesBlocks c b stream_ends.Ended blocks report) (sym (took ∙ append_assoc bytes unneeded left))
     (law c bytes (unneeded ++ left) stream_ends.Ended blocks report machine (j stream_ends.Failed tt))
 
--- a legal history gives all these bytes this judgement
+-- in a legal history, all these bytes are judged as this report says
 pub record IsJudgedWhole (f : Cnf) (run_params : RunParamsValue) (s : ℕ) (whole : List ℕ) (report : Report) : Type 0 where
   pub history : History
   pub legal : IsLegal f run_params.layout history

@@ -37,7 +37,7 @@ reduced_judged : ReducedStream → (c : StreamParams) (stream : Stream) (blocks 
 reduced_judged law c stream blocks report judged = λ end its. law c stream.bytes end blocks report (judged end its)
 
 module _ (run_params : RunParamsValue) (set : ℕ → Bool) (h : History) where
-  -- if the stream is in the set, these blocks are its own events, and judge it
+  -- if stream s is in the set, these blocks are its own events and judge it
   abbrev IsJudgedWith : ℕ → Stream → Report → List History → Type 0
   IsJudgedWith s stream report bs = IsTrue (set s) → (own h s ≡ joined bs) × JudgesStream (stream_params run_params s) stream bs report
 
@@ -49,7 +49,7 @@ module _ (run_params : RunParamsValue) (set : ℕ → Bool) (h : History) where
         | inr out ↦ ([], (λ member. absurd (true≢false (sym member ∙ out))))
       ]
 
-  -- the same for each stream, counted from s
+  -- each stream of the set, from stream s on, is judged by its blocks, which are its own events
   abbrev AreJudgedWith : (ℕ → List History) → ℕ → List Stream → List Report → Type 0
   AreJudgedWith blocks s streams reports = Each (λ t stream report. IsJudgedWith t stream report (blocks t)) s streams reports
 
@@ -93,7 +93,7 @@ module _ (run_params : RunParamsValue) (set : ℕ → Bool) (h : History) where
       let mine = each_at _ streams reports judged s stream.0 report.0 stream.1 report.1 member in
       record { stream = stream.0; report = report.0; at = stream.1.1; own_events = mine.0; judges = mine.1 }
 
-  -- in an order of these lines, reduced, each stream is judged the same
+  -- in an order of these lines, each one reduced, each stream is judged as before
   are_judged : ReducedStream → (blocks : ℕ → List History) (order : List Block) (s : ℕ) (streams : List Stream) (reports : List Report)
       → ((t : ℕ) → IsStream run_params.layout t → IsTrue (set t) → blocks_of t order ≡ map reduced (blocks t))
       → 0 < s → s + length streams ≤ run_params.layout.streams + 1
@@ -107,7 +107,7 @@ module _ (run_params : RunParamsValue) (set : ℕ → Bool) (h : History) where
 
 -- Each stream of a set, and its own events
 
--- what is known of a stream of the set that one history judges
+-- what is known about a stream of the set that one history judges
 pub record IsJudgedStream (run_params : RunParamsValue) (h : History) (streams : List Stream) (s : ℕ) : Type 0 where
   pub stream : Stream
   pub report : Report
@@ -139,7 +139,7 @@ judged_stream run_params set h streams reports count judged s is member =
 
 -- Closed sets
 
--- no stream outside the set has this owner's identities
+-- this owner isn't a stream outside the set
 pub inside_for : (ℕ → Bool) → Owner → Bool
 inside_for set owners.Formula = true
 inside_for set (owners.Stream t) = set t
@@ -252,7 +252,7 @@ all_closed every_cut p streams s stream member at =
 
 -- Runs
 
--- if all streams have these judgements, so do the streams of a set
+-- if all streams are judged by this history, so are the streams of a set
 judged_members : (run_params : RunParamsValue) (set : ℕ → Bool) (h : History) (s : ℕ) (streams : List Stream) (reports : List Report)
     → AreJudgedIn run_params (λ t. true) h s streams reports → AreJudgedIn run_params set h s streams reports
 judged_members run_params set h s streams reports judged = each_more s streams reports judged (λ t stream report j member. j refl)

@@ -1,4 +1,5 @@
--- An event that may come before others of its line moves to after an event of another stream.
+-- Swapping events of two streams: a fetch that found something, with later events of another
+-- stream; and retires, with earlier ones.
 use Rattle.std.proofs.Common.{◌≡◌, ◌⊎◌, ℕ, false, [], ◌∷◌, ◌++◌, refl, sym, subst, ◌∙◌, inl, inr}
 use Rattle.std.specs.List.{AllByRecursion}
 use Rattle.std.proofs.lemmas.Bool.{cases_eq, true≢false}
@@ -20,7 +21,8 @@ use Rattle.lrup_model.specs.declared.layout.Owner.{Owner}
 use Rattle.lrup_model.specs.declared.layout.Owner.TheVariants as owners
 use Rattle.stream_check.specs.Reducing.{is_vacant}
 
--- what an event says about the identities that are retired in the end
+-- the event fits the final state: what a stream found live from another stays, and what it retired
+-- is retired there
 abbrev pub Settles : LayoutValue → State → Event → Type 0
 Settles p final (events.fetch s id events.vacant) = Unit {0}
 Settles p final (events.fetch s id (events.live c)) = (Owns p s id → ⊥) → IsRetired (final id) → ⊥
@@ -110,7 +112,7 @@ live_stays f p final m s id c (events.retire t j retiring.Done) other also settl
     (subst (λ (i : ℕ). IsRetired (final i)) (sym same) too)) ∙ is
 live_stays f p final m s id c (events.retire t j retiring.NotLive) other also settles too is answers = is
 
--- the fetch has the same reply after the other event
+-- a fetch that found something has the same reply after another stream's event
 then-answers : (f : Cnf) (p : LayoutValue) (final m : State) (e d : Event)
     → IsFetch e → is_vacant e ≡ false → (stream_of e ≡ stream_of d → ⊥) → IsAllowed f p d → Settles p final e → Settles p final d
     → Answers m e → Answers m d → Answers (after m d) e
@@ -141,7 +143,8 @@ swap f p final m e d h fetches some other settles too legal =
       ),
     )
 
--- a fetch that found something moves to after a whole block of another stream
+-- a history stays legal if a fetch that found something is moved past the following block of
+-- another stream
 pub goes-following : (f : Cnf) (p : LayoutValue) (final m : State) (e : Event) (t : ℕ) (block h : History)
     → IsFetch e → is_vacant e ≡ false → (stream_of e ≡ t → ⊥) → Settles p final e
     → AllByRecursion (λ d. stream_of d ≡ t) block → AllByRecursion (Settles p final) block
@@ -155,14 +158,14 @@ goes-following f p final m e t (d ∷ block) h fetches some other settles theirs
       goes-following f p final (after m d) e t block h fetches some other settles theirs.1 settled.1 swapped.2,
     )
 
--- Retires move to before events of other streams
+-- Retires move ahead of other streams' events
 
 alive_some : (x : Slot) → IsLive x → x ≡ absent → ⊥
 alive_some absent alive is = absurd alive
 alive_some (live c) alive is = absurd (cc)
 alive_some (retired c) alive is = absurd alive
 
--- a fetch has the same reply after another stream's retire, if what it finds stays
+-- a fetch has the same reply after another stream's retire, if what the fetch finds stays
 fetch-after : (p : LayoutValue) (final m : State) (s id t j : ℕ) (r : Reply)
     → (s ≡ t → ⊥) → Owns p s id → IsRetired (final id) → Settles p final (events.fetch t j r)
     → IsLive (m id) → Answers m (events.fetch t j r) → Answers (after m (events.retire s id retiring.Done)) (events.fetch t j r)
@@ -223,7 +226,8 @@ one-before f p final m e t (d ∷ block) h retires other settles theirs settled 
     swap-back f p final m e d (block ++ h) retires (λ same. other (same ∙ theirs.0)) settles settled.0
     (legal.0, legal.1, one-before f p final (after m d) e t block h retires other settles theirs.1 settled.1 legal.2)
 
--- retires of a stream move to before a whole block of another stream
+-- a history stays legal if retires of a stream are moved ahead of the preceding block of another
+-- stream
 pub comes-before : (f : Cnf) (p : LayoutValue) (final m : State) (s : ℕ) (g : History) (t : ℕ) (block h : History)
     → (s ≡ t → ⊥) → AllByRecursion IsRetire g → AllByRecursion (λ e. stream_of e ≡ s) g → AllByRecursion (Settles p final) g
     → AllByRecursion (λ d. stream_of d ≡ t) block → AllByRecursion (Settles p final) block

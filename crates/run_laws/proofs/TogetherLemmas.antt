@@ -42,7 +42,7 @@ use Rattle.run_laws.proofs.ValidLines.{Agrees, Goes, line_goes, left, not_caller
 
 -- Each stream, one more line
 
--- a stream as far as it was checked: its bytes, their blocks, and what they lead to
+-- the checked part of a stream: its bytes, their blocks, and the state that they lead to
 record Track : Type 0 where
   bytes : List ℕ
   blocks : List History
@@ -65,7 +65,7 @@ record GoesOn (run_params : RunParamsValue) (t : ℕ) (base : Database) (track :
   reaches : ReachesState (stream_params run_params t) (track.bytes ++ flat_map line_text (lines_by t steps)) (track.blocks ++ more)
       (Going going)
 
--- what holds in either case of a test holds for its result
+-- what holds for both cases of a test holds for the case that is chosen
 on_either : {A B : Type 0} (P : A → B → Type 0) (b : Bool) (x y : A) (v w : B) → (b ≡ true → P x v) → (b ≡ false → P y w)
     → P (cond b x y) (cond b v w)
 on_either P true x y v w holds fails = holds refl
@@ -91,7 +91,7 @@ not_eqb a b test same = true≢false (sym (eq-eqb a b same) ∙ test)
 
 module _ (taken : GoodLineTaken) (f : Cnf) (run_params : RunParamsValue)
     (fits : Fits run_params.layout f) where
-  -- the stream that wrote the line
+  -- `IsOn` still holds for the stream that wrote the line
   on_with : (step : Step) (base : Database) (m : State) (track : Track) → 0 < run_params.layout.streams → IsWithinLimits step.line
       → IsOn f run_params step.stream base m track
       → (g : Goes f (stream_params run_params step.stream) base track.going.context m step.line)
@@ -106,7 +106,7 @@ module _ (taken : GoodLineTaken) (f : Cnf) (run_params : RunParamsValue)
         (record { tally = refl; context = record { last = refl; free = refl; is_dropped = λ id. refl }; pending = refl; line = refl });
   }
 
-  -- and any other stream
+  -- `IsOn` still holds for every other stream, too
   on_beside : (step : Step) (base its : Database) (m : State) (track other : Track) (t : ℕ) → t ≢ step.stream
       → IsOn f run_params t its m other
       → (g : Goes f (stream_params run_params step.stream) base track.going.context m step.line)
@@ -117,7 +117,7 @@ module _ (taken : GoodLineTaken) (f : Cnf) (run_params : RunParamsValue)
     reaches = on.reaches;
   }
 
-  -- if a stream continues after a line, it does so from before the line
+  -- if the line's stream continues after the line, it also continues from before it
   goes_with : (step : Step) (base : Database) (m : State) (track : Track) (steps : List Step) (order : List Block)
       → (g : Goes f (stream_params run_params step.stream) base track.going.context m step.line)
       → GoesOn run_params step.stream (after_line base step.line) (further run_params step g.block step.stream track) steps order
@@ -383,15 +383,15 @@ each_own run_params own (suc n) k streams reports judged =
 
 -- All together
 
--- the stream that has the texts of its lines, and ends
+-- the stream that consists of the texts of its lines, and then ends
 abbrev pub text_stream : List Step → ℕ → Stream
 text_stream steps t = record { bytes = flat_map line_text (lines_by t steps); unneeded = []; end = Some stream_ends.Ended }
 
--- the report of these lines
+-- the valid report of a stream's lines
 its_report : RunParamsValue → List Step → ℕ → Report
 its_report run_params steps t = valid_report run_params t (lines_by t steps)
 
--- a legal history gives all streams this judgement
+-- a legal history judges all streams as the reports of their lines say
 record AreJudgedTogether (f : Cnf) (run_params : RunParamsValue) (set : ℕ → Bool) (steps : List Step) : Type 0 where
   history : History
   legal : IsLegal f run_params.layout history
@@ -399,7 +399,7 @@ record AreJudgedTogether (f : Cnf) (run_params : RunParamsValue) (set : ℕ → 
       (each_from run_params.layout.streams 1 (its_report run_params steps))
   closed : IsClosed run_params.layout set (each_from run_params.layout.streams 1 (text_stream steps))
 
--- the readers begin with the streams' bytes
+-- the bytes of the readers begin with those of the streams
 have_bytes : (p : LayoutValue) (set : ℕ → Bool) (steps : List Step) (observed : List InputObservation) → HaveTexts set steps observed
     → HaveBytesOf set (each_from p.streams 1 (text_stream steps)) observed
 have_bytes p set steps observed texts t x observation member at here =
@@ -421,7 +421,7 @@ each_place n s of first last =
     let place : 1 + (s - 1) ≡ s = omega (arith, first) in
     (first, each_get n 1 (s - 1) of (omega (arith, first, last)) ∙ ap (λ (j : ℕ). Some (of j)) place)
 
--- a legal order of valid lines, which judges each stream accordingly
+-- a legal order of valid lines, in which each stream has its valid report
 pub record IsOrderOf (f : Cnf) (run_params : RunParamsValue) (steps : List Step) (order : List Block) : Type 0 where
   pub streams : streams_of order ≡ map (λ step. step.stream) steps
   pub within : AllByRecursion (IsBlockWithin run_params.layout (λ t. true)) order

@@ -24,7 +24,7 @@ use Rattle.run_laws.proofs.ValidLemmas.{is_first}
 
 -- What is cited
 
--- each clause of the database is at an identity of the formula or of the stream
+-- each clause of the database has an identity of the formula or of the stream
 abbrev AreNear : LayoutValue → ℕ → Database → Type 0
 AreNear p s base = (id : ℕ) (d : Clause) → base.clauses id ≡ Some d → IsOwnedWithin p (one s) id
 

@@ -1,4 +1,4 @@
--- A stream that ends when alone is valid.
+-- A stream that ends when it is alone is valid.
 use Rattle.std.proofs.Common.{◌≡◌, ◌≢◌, ◌⊎◌, ◌++◌, ℕ, ℤ, Bool, true, false, cond, eqb, List, [], ◌∷◌, length, Option, Some, None, inl, inr}
 use Rattle.std.proofs.Common.{refl, sym, ap, subst, ◌∙◌, arith, append_assoc, append-nil, eq-eqb, ne_eqb, ltb, leb}
 use Rattle.std.specs.Prelude.{IsSome, ◌||◌, ◌&&◌, ◌==◌}
@@ -78,7 +78,8 @@ formula_or_own c id near = by_ownership c id (owner c.layout id) refl near
 
 -- What lines leave
 
--- the database of some lines has each clause of the formula and of the stream that can be cited
+-- the database after some lines has each clause of the formula and of the stream that can still be
+-- cited
 pub record Mirrors (f : Cnf) (c : StreamParams) (base : Database) (st : StreamContext) (m : State) : Type 0 where
   pub last : st.last ≡ base.last
   pub free : st.free ≡ base.free
@@ -180,13 +181,14 @@ addition_mirrors f c m base before id lits hints es a judged =
 
 -- Deletions
 
--- the identity can be deleted: the stream's own is live, and one of the formula isn't dropped
+-- the identity can be deleted: it is the stream's own, and live; or it is the formula's, and not
+-- dropped
 abbrev CanGo : StreamParams → (ℕ → Bool) → List ℕ → State → ℕ → Type 0
 CanGo c is_dropped earlier m id =
     ((ownership_of c id ≡ ownerships.Own) × IsLive (m id))
     ⊎ ((ownership_of c id ≡ ownerships.Formula) × ((is_dropped id || is_among earlier id) ≡ false))
 
--- what a good deletion of near identities says about them
+-- what a good deletion of the formula's and the stream's own identities says about them
 record HasGone (c : StreamParams) (is_dropped : ℕ → Bool) (earlier ids : List ℕ) (m after_it : State) : Type 0 where
   can : AllByRecursion (CanGo c is_dropped earlier m) ids
   once : AreDistinct ids
@@ -206,7 +208,7 @@ among_last (i ∷ earlier) id = elim (cases_Bool (i == id)) [
   | inr other ↦ ap (λ (b : Bool). b || is_among (earlier ++ id ∷ []) id) other ∙ among_last earlier id
 ]
 
--- if this identity can no longer be deleted, it isn't among the others
+-- if this identity can no longer be deleted but all the others can, it isn't among them
 none_same : (c : StreamParams) (is_dropped : ℕ → Bool) (earlier ids : List ℕ) (n : State) (id : ℕ) → ¬ CanGo c is_dropped earlier n id
     → AllByRecursion (CanGo c is_dropped earlier n) ids → is_among ids id ≡ false
 none_same c is_dropped earlier [] n id cannot can = refl
@@ -215,7 +217,7 @@ none_same c is_dropped earlier (j ∷ ids) n id cannot can =
     (ne_eqb j id (λ same. cannot (subst (CanGo c is_dropped earlier n) same can.0)))
     (none_same c is_dropped earlier ids n id cannot can.1)
 
--- the others that can be deleted after this one can be deleted before it
+-- if the others can be deleted after this one, they can be deleted before it
 others_can : (c : StreamParams) (is_dropped : ℕ → Bool) (earlier ids : List ℕ) (id : ℕ) (m n : State) → is_among ids id ≡ false
     → ((j : ℕ) → j ≢ id → n j ≡ m j) → AllByRecursion (CanGo c is_dropped (earlier ++ id ∷ []) n) ids
     → AllByRecursion (CanGo c is_dropped earlier m) ids
@@ -375,7 +377,7 @@ valid_deletion f c Found m base st ids es a within fair judged =
     let is_dropped = has_gone c Found st.is_dropped [] ids m es (near_all c ids within) fair judged in
     record { there = all_have f c m base st ids a is_dropped.can; once = is_dropped.once }
 
--- a shared identity that is deleted is dropped
+-- if a deletion leaves an identity of the formula undropped, the identity isn't among those deleted
 kept_apart : (ownership : Ownership) (among : Bool) → ownership ≡ ownerships.Formula → (is_shared ownership && among) ≡ false
     → among ≡ false
 kept_apart ownership among is kept = sym (ap (λ (x : Ownership). is_shared x && among) is) ∙ kept

@@ -50,7 +50,7 @@ both_true : (a b : Bool) → (a && b) ≡ true → (a ≡ true) × (b ≡ true)
 both_true true b is = (refl, is)
 both_true false b is = absurd (true≢false (sym is))
 
--- an identity that has a clause at first is the formula's
+-- the identity is one of the formula's, and has this clause
 pub record IsFirst (f : Cnf) (id : ℕ) (d : Clause) : Type 0 where
   pub positive : 0 < id
   pub within : id ≤ length f.clauses
@@ -82,9 +82,9 @@ first_agrees f c cnf fits = record {
   vacant = λ id owns above. opening-owned f c.layout c.stream id fits owns;
 }
 
--- The lines one after the other
+-- Line after line
 
--- these further blocks are legal here, use no more room than is left, and leave the checker
+-- these additional blocks are legal here, use no more room than is left, and leave the checker
 -- unfinished
 record LinesGo (f : Cnf) (c : StreamParams) (base : Database) (m : State) (bytes : List ℕ) (blocks : List History)
     (lines : List StreamLine) : Type 0 where
@@ -148,7 +148,7 @@ pub all_others : (s t : ℕ) (h : History) → s ≢ t → AllByRecursion (λ e.
 all_others s t [] other all = tt
 all_others s t (e ∷ h) other all = (λ same. other (sym all.0 ∙ same), all_others s t h other all.1)
 
--- the room that a history of one stream uses
+-- if all events of a history are one stream's and use at most its room, no stream uses more room
 all_spent : (p : LayoutValue) (s : ℕ) (h : History) → AllByRecursion (λ e. stream_of e ≡ s) h → sum_by size_of h ≤ p.room
     → (t : ℕ) → spent t h ≤ p.room
 all_spent p s h callers room t = elim (cases_eq s t) [
@@ -185,11 +185,11 @@ all_members : (s : ℕ) (h : History) → AllByRecursion (λ e. stream_of e ≡ 
 all_members s [] all = tt
 all_members s (e ∷ h) all = (eq-eqb (stream_of e) s all.0, all_members s h all.1)
 
--- a count that is small is shown exactly
+-- capping a small count doesn't change it
 all_counted : (n most : ℕ) → capped (n + 0) ≤ most → most ≤ 268435456 → capped (n + 0) ≡ n
 all_counted n most shown few = omega (arith, shown, few)
 
--- a stream whose lines were all taken, and of which nothing is left, has its valid report
+-- a stream whose lines were all taken, and that has no bytes left, has its valid report
 pub ended_report : EndJudged → EmptyCut → OneCut
     → (run_params : RunParamsValue) (s : ℕ) (lines : List StreamLine) (more : List History) (going : GoingState)
     → going.pending ≡ [] → AllByRecursion IsWithinLimits lines
@@ -208,7 +208,7 @@ ended_report ends empty_cut one_cut run_params s lines more going pending limits
 
 module _ (taken : GoodLineTaken) (fresh : FreshLeft) (ends : EndJudged)
     (empty_cut : EmptyCut) (one_cut : OneCut) where
-  -- a legal history of the stream's own calls gives the stream this judgement
+  -- in a legal history of only the stream's own calls, the stream has its valid report
   pub valid_judged : (f : Cnf) (run_params : RunParamsValue) (s : ℕ) (bytes : List ℕ) (lines : List StreamLine)
       → IsCnf f → Fits run_params.layout f → IsStream run_params.layout s → IsValidProof f run_params.layout s bytes lines
       → (j : IsJudgedWhole f run_params s bytes (valid_report run_params s lines)) × AllByRecursion (λ e. stream_of e ≡ s) j.history

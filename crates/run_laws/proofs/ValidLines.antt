@@ -42,7 +42,7 @@ use Rattle.run_laws.specs.Valid.{is_own, beside_line}
 use Rattle.run_laws.proofs.SwapLemmas.{mine_or_not}
 use Rattle.run_laws.specs.Valid.{Database, after_line, after_step, AreDistinct, AreValidTogether, IsValidDeletion, IsValidLine, Step}
 
--- One stream alone as an order of lines
+-- Lines of only one stream as an order of lines
 
 -- each line is valid after those before it
 abbrev pub AreValid : LayoutValue → ℕ → Database → List StreamLine → Type 0
@@ -76,7 +76,7 @@ order_of_one p s (line ∷ lines) bases valid = (
 
 -- Who owns an identity
 
--- the formula's or a stream's
+-- the identity belongs to the formula or to a stream
 abbrev pub IsOneOf : LayoutValue → ℕ → Type 0
 IsOneOf p id = (owner p id ≡ owners.Formula) ⊎ ((t : ℕ) × Owns p t id)
 
@@ -110,8 +110,7 @@ formulas_within false false false s is = absurd (let no : owners.Outside ≡ own
 
 -- What lines leave
 
--- what the database of some lines of stream s, their context and the map after all events have in
--- common
+-- how the database after some lines of stream s, their context, and the map after all events agree
 pub record Agrees (f : Cnf) (p : LayoutValue) (s : ℕ) (base : Database) (st : StreamContext) (m : State) : Type 0 where
   pub last : st.last ≡ base.last
   pub free : st.free ≡ base.free
@@ -123,7 +122,7 @@ pub record Agrees (f : Cnf) (p : LayoutValue) (s : ℕ) (base : Database) (st : 
   pub unseen : (id : ℕ) → m id ≡ absent → st.is_dropped id ≡ false
   pub vacant : AreVacantAbove p s m base.last
 
--- this block judges the line good, is legal here, and uses no more room than the line
+-- this block judges the line good, is legal here, and uses exactly as much room as the line
 pub record Goes (f : Cnf) (c : StreamParams) (base : Database) (st : StreamContext) (m : State) (line : StreamLine) : Type 0 where
   pub block : History
   pub judged : JudgesLine c st line block Good
@@ -136,7 +135,7 @@ pub record Goes (f : Cnf) (c : StreamParams) (base : Database) (st : StreamConte
 
 -- Additions
 
--- the hints' fetches, which find these clauses
+-- the fetches of the hints, which find these clauses
 record Finds (f : Cnf) (c : StreamParams) (is_dropped : ℕ → Bool) (m : State) (hints : List ℕ) (ds : List Clause) : Type 0 where
   fetches : History
   found : AreFound c is_dropped hints ds fetches
@@ -356,7 +355,7 @@ among_snoc (i ∷ earlier) id j none other =
     let parts = not_or (i == j) (is_among earlier j) none in
     or_none (i == j) (is_among (earlier ++ id ∷ []) j) parts.0 (among_snoc earlier id j parts.1 other)
 
--- the others can still be deleted
+-- after one identity has been deleted, the others can still be deleted
 still : (c : StreamParams) (is_dropped : ℕ → Bool) (earlier ids : List ℕ) (id : ℕ) (m n : State)
     → ((j : ℕ) → j ≢ id → n j ≡ m j) → is_among ids id ≡ false
     → AllByRecursion (CanDelete c is_dropped earlier m) ids → AllByRecursion (CanDelete c is_dropped (earlier ++ id ∷ []) n) ids
@@ -373,7 +372,7 @@ still c is_dropped earlier (j ∷ ids) id m n same once all =
       still c is_dropped earlier ids id m n same parts.1 all.1,
     )
 
--- an identity of the formula or of another stream is dropped, without an event
+-- a deletion starts by dropping an identity of the formula or of another stream, without an event
 dropped : (f : Cnf) (c : StreamParams) (is_dropped : ℕ → Bool) (earlier ids : List ℕ) (id : ℕ) (m : State)
     → CanDelete c is_dropped earlier m id → AllByRecursion (CanDelete c is_dropped earlier m) ids → is_among ids id ≡ false
     → ((n : State) → AllByRecursion (CanDelete c is_dropped (earlier ++ id ∷ []) n) ids
@@ -443,7 +442,7 @@ deletes f c is_dropped earlier (id ∷ ids) m all once =
     deletes_one f c is_dropped earlier ids id m all.0 all.1 once.0
     (λ n can. deletes f c is_dropped (earlier ++ id ∷ []) ids n can once.1) all.0.known
 
--- what is deleted was there
+-- an identity that is deleted had a live clause
 deleted_there : (c : StreamParams) (is_dropped : ℕ → Bool) (m : State) (ids : List ℕ) (j : ℕ)
     → AllByRecursion (CanDelete c is_dropped [] m) ids → is_among ids j ≡ true → IsLive (m j)
 deleted_there c is_dropped m [] j all among = absurd (true≢false (sym among))
@@ -471,7 +470,7 @@ can_delete f c base st m (id ∷ ids) a all =
       can_delete f c base st m ids a all.1,
     )
 
--- what is left of the database was there, and wasn't deleted
+-- a clause that is left in the database was there before, and wasn't deleted
 pub left : (b : Bool) (o : Option Clause) (d : Clause) → cond b None o ≡ Some d → (b ≡ false) × (o ≡ Some d)
 left true o d is = absurd (let no : None ≡ Some d = is in cc)
 left false o d is = (refl, is)
@@ -486,7 +485,7 @@ not_among : (is_dropped shared among : Bool) → is_dropped ≡ false → among 
 not_among is_dropped true among kept out = or_none is_dropped among kept out
 not_among is_dropped false among kept out = or_none is_dropped false kept refl
 
--- what is absent isn't deleted
+-- an absent identity isn't among those deleted
 not_there : (c : StreamParams) (is_dropped : ℕ → Bool) (m : State) (ids : List ℕ) (j : ℕ) → AllByRecursion (CanDelete c is_dropped [] m) ids
     → m j ≡ absent
     → is_among ids j ≡ false
@@ -495,7 +494,7 @@ not_there c is_dropped m ids j can is = elim (cases_Bool (is_among ids j)) [
   | inr out ↦ out
 ]
 
--- the test says whether the identity is the stream's own
+-- if the identity is the stream's own, the test `is_own` says so
 own_tested : (p : LayoutValue) (s id : ℕ) → Owns p s id → is_own p s id ≡ true
 own_tested p s id owns = ap (λ (o : Owner). elim o [
   | owners.Formula ↦ false
@@ -596,7 +595,7 @@ import_goes f c base st m id lits some a valid =
       beside = λ t its also other b. subst (Agrees f c.layout t its also) (sym found.still) b;
     }
 
--- an order continues with a valid line
+-- a legal history may continue with a valid line, which is judged good
 pub line_goes : (f : Cnf) (c : StreamParams) (base : Database) (st : StreamContext) (m : State) (line : StreamLine)
     → Fits c.layout f → 0 < c.layout.streams → Agrees f c.layout c.stream base st m → IsWithinLimits line
     → IsValidLine c.layout c.stream base line → Goes f c base st m line

@@ -1,4 +1,4 @@
--- Streams that are valid together, in turn, on one thread.
+-- Streams that are valid together, in an order that takes them in turn, on one thread.
 use Rattle.std.proofs.Common.{◌≡◌, ℕ, ◌-◌, List, [], ◌++◌, length, map, Option, refl, sym, ap, subst, ◌∙◌, arith}
 use Rattle.std.specs.List.{flat_map}
 use Rattle.std.specs.Io.KnownBytes.{Consumes}
@@ -33,7 +33,7 @@ not_memory : (run_params : RunParamsValue) (steps : List Step) (t : ℕ) (report
 not_memory run_params steps t report is memory =
     let no : endings.Ended ≡ endings.Memory memory.0 = ap (λ (r : Report). r.ending) is ∙ memory.1 in cc
 
--- valid lines have an order that takes the streams in turn
+-- if valid lines take the streams in turn, so does their order
 valid_order_round_robin : (f : Cnf) (run_params : RunParamsValue) (steps : List Step) (order : List Block)
     → IsOrderOf f run_params steps order
     → IsRoundRobin (map (λ step. step.stream) steps)

@@ -64,7 +64,7 @@ adds_empty a = length a.1 == 0
 abbrev adds_within : CubeValue → ℕ × Clause → Bool
 adds_within cube a = is_within cube a.1
 
--- for the empty clause
+-- the tests for the empty clause agree
 empty_says : (c : StreamParams) → CallerStep c publishes_empty adds_empty (λ report. report.empty)
 empty_says c = record {
   fetches_none = λ id r. refl;
@@ -73,7 +73,7 @@ empty_says c = record {
   of_good = said_empty c;
 }
 
--- and for a clause within the cube
+-- the tests for a clause within the cube agree
 within_says : (c : StreamParams) → CallerStep c (publishes_within c.cube) (adds_within c.cube) (λ report. report.within)
 within_says c = record {
   fetches_none = λ id r. refl;
@@ -179,7 +179,7 @@ module _ (c : StreamParams) (passes : Event → Bool) (adds : ℕ × Clause → 
 -- The blocks of an order
 
 module _ (passes : Event → Bool) where
-  -- the order publishes what a block of a stream publishes
+  -- if a block of a stream publishes something that passes, so does the order
   in_order : (s : ℕ) (order : List Block) → list_any passes (joined (blocks_of s order)) ≡ true
       → list_any passes (events_in order) ≡ true
   in_order s [] is = is
@@ -206,7 +206,7 @@ module _ (passes : Event → Bool) where
         | inr other ↦ ap (λ (bs : List History). list_any passes (joined bs)) (blocks-other block order s other) ∙ is
       ]
 
-  -- a block of one of the streams publishes what the order publishes
+  -- if the order publishes something that passes, so does a block of one of the streams
   by_stream : (p : LayoutValue) (set : ℕ → Bool) (order : List Block) → AllByRecursion (IsBlockWithin p set) order
       → list_any passes (events_in order) ≡ true
       → (s : ℕ) × IsStream p s × (list_any passes (joined (blocks_of s order)) ≡ true)

@@ -33,7 +33,8 @@ reduced-one (events.fetch s id events.retired) = refl
 reduced-one (events.publish s id c r) = refl
 reduced-one (events.retire s id r) = refl
 
--- a vacant fetch of a stream and of an identity
+-- if a line repeats a fetch of an identity, and all its events are vacant fetches, the first is
+-- this fetch
 same_fetch : (s id : ℕ) (d : Event) (es : History) → stream_of d ≡ s → StartsWithFetchOf id (d ∷ es) → list_all is_vacant (d ∷ es) ≡ true
     → d ≡ events.fetch s id events.vacant
 same_fetch s id (events.fetch t j events.vacant) es caller is all = ap (λ (i : ℕ). events.fetch i j events.vacant) caller
@@ -63,7 +64,7 @@ again-tail (events.retire s id r) es again = again
 -- An event that is the first of a longer line
 
 module _ (f : Cnf) (p : LayoutValue) (final m : State) where
-  -- it is left out, or joins the events after it
+  -- if the line's first event is kept, the order's lines have it in front of the events after it
   lines-join : (rest : Lines) (e d : Event) (b : History) (more : List History) (blocks : List Block)
       → rest (stream_of e) ≡ (e ∷ d ∷ b) ∷ more → reduced (e ∷ d ∷ b) ≡ e ∷ reduced (d ∷ b)
       → ((t : ℕ) → blocks_of t blocks ≡ map reduced (with rest (stream_of e) ((d ∷ b) ∷ more) t))
@@ -95,7 +96,7 @@ module _ (f : Cnf) (p : LayoutValue) (final m : State) where
         | inr other ↦ lines t ∙ ap (map reduced) (with-other rest s ((d ∷ b) ∷ more) t (λ same. other (sym same)))
       ]
 
-  -- it found something
+  -- the first event is a fetch that found something
   goes-on : (rest : Lines) (e d : Event) (b : History) (more : List History)
       → rest (stream_of e) ≡ (e ∷ d ∷ b) ∷ more → IsFetch e → is_vacant e ≡ false → Settles p final e → Answers m e → IsAllowed f p e
       → HasOrder f p final (after m e) (with rest (stream_of e) ((d ∷ b) ∷ more)) → HasOrder f p final m rest
@@ -112,7 +113,7 @@ module _ (f : Cnf) (p : LayoutValue) (final m : State) where
         },
       )
 
-  -- it found nothing
+  -- the first event is a fetch that found nothing, and the next one repeats it
   tries-on : (rest : Lines) (s id : ℕ) (d : Event) (b : History) (more : List History)
       → rest s ≡ (events.fetch s id events.vacant ∷ d ∷ b) ∷ more → stream_of d ≡ s → StartsWithFetchOf id (d ∷ b)
       → HasOrder f p final m (with rest s ((d ∷ b) ∷ more)) → HasOrder f p final m rest
@@ -142,7 +143,7 @@ module _ (f : Cnf) (p : LayoutValue) (final m : State) where
         )
       ]
 
-  -- it is the first of some retires
+  -- an order without a stream's first block has the lines without the stream's first line
   lines-without : (rest : Lines) (s : ℕ) (b : History) (more : List History) (blocks : List Block)
       → ((t : ℕ) → blocks_of t blocks ≡ map reduced (with rest s (b ∷ more) t)) → (t : ℕ)
       → blocks_of t (without s blocks) ≡ map reduced (with rest s more t)
@@ -210,7 +211,7 @@ module _ (f : Cnf) (p : LayoutValue) (final m : State) where
   goes rest (events.retire s id r) d b more is stream early again apart caller settles answers allowed made =
       retires-on rest s id r d b more is stream (apart.0 tt) settles answers allowed made
 
-  -- a line of only this event
+  -- the event is a line by itself, which begins the order
   begins : (rest : Lines) (e : Event) (more : List History)
       → rest (stream_of e) ≡ (e ∷ []) ∷ more → IsStream p (stream_of e) → Settles p final e → Answers m e → IsAllowed f p e
       → HasOrder f p final (after m e) (with rest (stream_of e) more) → HasOrder f p final m rest
@@ -223,7 +224,7 @@ module _ (f : Cnf) (p : LayoutValue) (final m : State) where
     },
   )
 
-  -- a line without events
+  -- a line without events begins the order
   waits : (rest : Lines) (s : ℕ) (bs : List History) → rest s ≡ [] ∷ bs → IsStream p s → HasOrder f p final m (with rest s bs)
       → HasOrder f p final m rest
   waits rest s bs is stream made = (
@@ -243,7 +244,7 @@ IsWalked f p final h = (m : State) (rest : Lines) → LegalFrom f p m h → Ahea
 module _ (f : Cnf) (p : LayoutValue) (final m : State) (e : Event) (h : History) (stream : IsStream p (stream_of e))
     (settles : Settles p final e)
     (legal : LegalFrom f p m (e ∷ h)) (walked : IsWalked f p final h) where
-  -- the blocks after the event
+  -- after the event, the blocks still have the events of each stream
   after-it : (rest : Lines) (bs : List History) → Ahead p (e ∷ h) rest → own h (stream_of e) ≡ joined bs → AllByRecursion IsLineBlock bs
       → Ahead p h (with rest (stream_of e) bs)
   after-it rest bs ahead here lines =
@@ -266,8 +267,7 @@ module _ (f : Cnf) (p : LayoutValue) (final m : State) (e : Event) (h : History)
         lines.1,
       )))
 
-  -- its stream's blocks begin with lines without events, and then with the line that the event
-  -- begins
+  -- the stream's blocks are lines without events, and then the line that begins with the event
   passes : (bs : List History) (rest : Lines) → rest (stream_of e) ≡ bs → e ∷ own h (stream_of e) ≡ joined bs → Ahead p (e ∷ h) rest
       → HasOrder f p final m rest
   passes [] rest is events ahead = absurd (cc)

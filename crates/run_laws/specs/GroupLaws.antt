@@ -23,7 +23,7 @@ abbrev pub BeginningsWithin : Type 0
 BeginningsWithin = (p : LayoutValue) (set : ℕ → Bool) (bytes more : List ℕ)
     → CiteWithin p set (bytes ++ more) → CiteWithin p set bytes
 
--- so a set is closed if all bytes that its readers have left at first cite within it
+-- a set is closed if all bytes that its readers have at the start cite within the set
 abbrev pub ReadersClosed : Type 0
 ReadersClosed =
     (p : LayoutValue) (set : ℕ → Bool) (observed : List InputObservation) (streams : List Stream)
@@ -32,7 +32,7 @@ ReadersClosed =
 
 -- Groups
 
--- a closed set of streams that one legal history judges is a group
+-- a closed set of streams that one legal history judges is a group, unless memory ran out
 abbrev pub ClosedIsGroup : Type 0
 ClosedIsGroup = (f : Cnf) (run_params : RunParamsValue) (set : ℕ → Bool) (h : History)
     (streams : List Stream) (reports : List Report)
@@ -55,7 +55,7 @@ OthersEmpty = (f : Cnf) (run_params : RunParamsValue) (set : ℕ → Bool) (stre
     (record { added = 0; deleted = 0; empty = false; within = false; ending = endings.Ended }) 1
     reports)
 
--- at most one report fits a stream that is alone, however much of it was read
+-- if a stream is a group by itself, at most one report is right for it, however much of it was read
 abbrev pub AloneHasOneReport : Type 0
 AloneHasOneReport =
     (f : Cnf) (run_params : RunParamsValue) (s : ℕ) (whole : List ℕ) (end : StreamEnd)
@@ -75,15 +75,15 @@ RunIsolated = (f : Cnf) (run_params : RunParamsValue) (observed : List InputObse
     (reports : List Report)
     → Fits run_params.layout f → (run : IsRun f run_params observed reports) → AreIsolated run
 
--- if a stream was stopped early, its report has a bad line or says that memory ran out: no other
--- ending is right for both ends
+-- if a stream was stopped early, its report says neither that the stream ended nor that a read
+-- failed: it has a bad line, or memory ran out
 abbrev pub EarlyIsDecided : Type 0
 EarlyIsDecided = (c : StreamParams) (stream : Stream) (blocks : List History) (report : Report)
     → stream.end ≡ None → JudgesStream c stream blocks report
     → (report.ending ≢ endings.Ended) × ¬ IsExcused ReadFailed report
 
--- if a reader hasn't failed, its stream is a reading of the bytes that the reader had left at
--- first, with their end
+-- if a reader hasn't failed, its stream is a reading of the bytes that the reader had at the start,
+-- with the end `Ended`
 abbrev pub MatchIsReading : Type 0
 MatchIsReading = (observed : List InputObservation) (streams : List Stream) (s : ℕ)
     (observation : InputObservation)
@@ -122,8 +122,9 @@ SameReadingAgrees =
     → IsOfStream reports s report → IsOfStream other_reports s other_report
     → ¬ IsExcused OutOfMemory report → ¬ IsExcused OutOfMemory other_report → report ≡ other_report
 
--- Such a stream has the same report if both readers have the same bytes left at first, unless
--- memory ran out or a read failed.
+-- In two runs of one formula with the same parameters, a stream that cites within itself has the
+-- same report if both readers have the same bytes at the start, unless memory ran out or a read
+-- failed.
 abbrev pub SameBytesAgree : Type 0
 SameBytesAgree = (f : Cnf) (run_params : RunParamsValue) (s : ℕ) (whole : List ℕ)
     (observed other_observed : List InputObservation)

@@ -29,18 +29,19 @@ pub record IsRunOfFirst (many : ℕ) (formula : Cnf) (run_params : RunParamsValu
   pub legal : IsLegal formula run_params.layout history
   pub judged : AreJudgedIn run_params (λ s. true) history 1 streams reports
 
--- What a run is: the same, with all streams of the layout.
+-- A run: `IsRunOfFirst` with all streams of the layout.
 abbrev pub IsRun : Cnf → RunParamsValue → List InputObservation → List Report → Type 0
 IsRun formula run_params observed reports =
     IsRunOfFirst run_params.layout.streams formula run_params observed reports
 
--- one stream as a set
+-- the set of only this stream
 abbrev pub one : ℕ → ℕ → Bool
 one s = λ t. t == s
 
 -- Closed sets
 
--- each reader of the set's streams has known bytes left at first, and these cite within the set
+-- the bytes that each reader of the set's streams has at the start are known, and cite within the
+-- set
 abbrev pub AreClosedReaders : LayoutValue → (ℕ → Bool) → List InputObservation → Type 0
 AreClosedReaders layout set observed =
     (s : ℕ) (observation : InputObservation) → IsTrue (set s) → IsOfStream observed s observation
@@ -48,8 +49,8 @@ AreClosedReaders layout set observed =
 
 -- Readings
 
--- the stream is a reading of these bytes with this end: all of them with the end, or a prefix after
--- which no more was needed
+-- the stream is a reading of these bytes with this end: it has all of them and the end, or a prefix
+-- after which no more was needed
 abbrev pub IsReadingOf : List ℕ → StreamEnd → Stream → Type 0
 IsReadingOf whole end stream =
     MatchOption stream.end ((more : List ℕ) × (whole ≡ stream.bytes ++ more))
@@ -62,9 +63,8 @@ abbrev pub NoneExcused : (ℕ → Bool) → Excuse → List Report → Type 0
 NoneExcused set excuse reports = (s : ℕ) (report : Report) → IsTrue (set s)
     → IsOfStream reports s report → ¬ IsExcused excuse report
 
--- The reports of a set of streams are those of the set alone: a legal history that has only events
--- of its streams judges each of these streams as its report says, and no report says that memory
--- ran out.
+-- The set of streams is judged without the other streams: a legal history that has only events of
+-- the set's streams judges each of them as its report says, and no report says that memory ran out.
 pub record IsGroup (formula : Cnf) (run_params : RunParamsValue) (set : ℕ → Bool)
     (streams : List Stream)
     (reports : List Report) : Type 0 where
@@ -74,8 +74,8 @@ pub record IsGroup (formula : Cnf) (run_params : RunParamsValue) (set : ℕ → 
   pub judged : AreJudgedIn run_params set history 1 streams reports
   pub memory : NoneExcused set OutOfMemory reports
 
--- a report that stream s may have alone, as a group of this one stream, with these bytes and this
--- end
+-- a report that stream s may have on its own, as a group of this one stream, with these bytes and
+-- this end
 pub record IsReportAlone (formula : Cnf) (run_params : RunParamsValue) (s : ℕ) (whole : List ℕ)
     (end : StreamEnd) (report : Report) : Type 0 where
   pub streams : List Stream
@@ -86,10 +86,10 @@ pub record IsReportAlone (formula : Cnf) (run_params : RunParamsValue) (s : ℕ)
   pub reads : IsReadingOf whole end stream
   pub says : IsOfStream reports s report
 
--- The run's groups are isolated. Each closed set of its streams in which no report says that memory
--- ran out has reports that it may have alone. And if a stream is a closed set by itself, and its
--- report doesn't say that memory ran out, then this is the only report that it may have alone, with
--- any bytes and end of which the stream is a reading.
+-- The run's groups are isolated. Each closed set of the run's streams is a group if none of its
+-- reports says that memory ran out. And if a stream is a closed set by itself, and its report
+-- doesn't say that memory ran out, then this is the only report that the stream may have on its
+-- own, for any bytes and end of which it is a reading.
 pub record AreIsolated {formula : Cnf} {run_params : RunParamsValue}
     {observed : List InputObservation} {reports : List Report}
     (run : IsRun formula run_params observed reports) : Type 0 where
@@ -103,8 +103,8 @@ pub record AreIsolated {formula : Cnf} {run_params : RunParamsValue}
 
 -- A run in which the other streams are empty
 
--- the list for the streams, counted from s, with this element in place of each that belongs to a
--- stream outside the set
+-- a list with an element for each stream, from stream s on; `x` replaces the elements that belong
+-- to streams outside the set
 abbrev pub with_others : {X : Type 0} → (ℕ → Bool) → X → ℕ → List X → List X
 with_others set x s [] = []
 with_others set x s (y ∷ ys) = (if set s then y else x) ∷ with_others set x (s + 1) ys

@@ -15,7 +15,7 @@ RetiresLast [] = Unit {0}
 RetiresLast (event ∷ history) =
     (IsRetire event → AllByRecursion IsRetire history) × RetiresLast history
 
--- The events have the form of a line's events: before the last one there are only fetches, and
+-- The events have the form of a line's events: before the last event there are only fetches, and
 -- retires with Done; what a fetch doesn't find is fetched again, or the line ends; and after a
 -- retire there are only retires.
 pub record IsLineBlock (history : History) : Type 0 where
@@ -25,7 +25,7 @@ pub record IsLineBlock (history : History) : Type 0 where
 
 -- An order of the lines of a set of streams, whose blocks of events are `blocks`: a legal history
 -- of whole lines, with the lines of each stream in the stream's order, and without a line's vacant
--- fetches of what the line found later.
+-- fetches of identities that the line found later.
 pub record IsOrder (formula : Cnf) (layout : LayoutValue) (set : ℕ → Bool)
     (blocks : ℕ → List History) (order : List Block) : Type 0 where
   pub within : AllByRecursion (IsBlockWithin layout set) order

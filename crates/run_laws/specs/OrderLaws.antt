@@ -36,8 +36,8 @@ RetiresOnly p (events.fetch s id r) = Unit {0}
 RetiresOnly p (events.publish s id c r) = Unit {0}
 RetiresOnly p (events.retire s id r) = IsTrue (p id)
 
--- A stream retires no identity that its lines don't delete: if all that they delete passes a test,
--- so does all that the stream retires.
+-- A stream retires only identities that its lines delete: if all that they delete pass a test, so
+-- do all that the stream retires.
 abbrev pub DeletedRetired : Type 0
 DeletedRetired = (c : StreamParams) (bytes : List ℕ) (end : StreamEnd) (blocks : List History)
     (report : Report)
@@ -48,8 +48,8 @@ DeletedRetired = (c : StreamParams) (bytes : List ℕ) (end : StreamEnd) (blocks
 
 -- An order of lines
 
--- Lines of streams that find no clause of streams outside their set have an order, if what they
--- found live of one another isn't retired in the end.
+-- If the streams of a set find no clause of a stream outside the set, and no clause of another
+-- stream that they find live is retired in the end, their lines have an order.
 abbrev pub LinesOrdered : Type 0
 LinesOrdered = (f : Cnf) (p : LayoutValue) (set : ℕ → Bool) (h : History) (blocks : ℕ
     → List History)
@@ -59,8 +59,8 @@ LinesOrdered = (f : Cnf) (p : LayoutValue) (set : ℕ → Bool) (h : History) (b
     → FoundStays f p set h
     → (order : List Block) × IsOrder f p set blocks order
 
--- The reports of a closed set of streams that one legal history judges have an order of lines, if
--- what the streams found live of one another isn't retired in the end.
+-- If one legal history judges a closed set of streams, and no clause of another stream that they
+-- find live is retired in the end, their reports have an order of lines.
 abbrev pub ClosedOrdered : Type 0
 ClosedOrdered = (f : Cnf) (run_params : RunParamsValue) (set : ℕ → Bool) (h : History)
     (streams : List Stream) (reports : List Report)
@@ -73,9 +73,10 @@ ClosedOrdered = (f : Cnf) (run_params : RunParamsValue) (set : ℕ → Bool) (h 
 abbrev pub AllClosed : Type 0
 AllClosed = (p : LayoutValue) (streams : List Stream) → IsClosed p (λ s. true) streams
 
--- The reports of all streams have an order of lines, with the verdict of the reports: some report
--- says that its stream added the empty clause exactly if the order publishes the empty clause, and
--- the same holds for clauses within the cube.
+-- If no clause of another stream that a stream finds live is retired in the end, the reports of all
+-- streams have an order of lines with the verdict of the reports: some report says that its stream
+-- added the empty clause exactly if the order publishes the empty clause, and the same holds for
+-- clauses within the cube.
 abbrev pub AllOrdered : Type 0
 AllOrdered = (f : Cnf) (run_params : RunParamsValue) (h : History)
     (streams : List Stream) (reports : List Report)
@@ -85,23 +86,24 @@ AllOrdered = (f : Cnf) (run_params : RunParamsValue) (h : History)
     → (order : IsOrdered f run_params (λ s. true) streams reports)
     × ComeToVerdict run_params.cube (events_in order.blocks) reports
 
--- The premise
+-- The premise of these laws
 
--- what a legal history leaves retired can also be read off its events
+-- whether an event's clause is retired in the end can be read off the final state or off the events
+-- of a legal history
 abbrev pub KeptByEvents : Type 0
 KeptByEvents = (f : Cnf) (p : LayoutValue) (h : History) → IsLegal f p h
     → (e : Event) → FindsKept p (state f h) e ↔ FindsUnretired p h e
 
--- if the history retires no identity that a stream of the set other than the owner found, live or
--- retired, then what was found stays
+-- if the history retires no identity that a stream of the set found, live or retired, and doesn't
+-- own, then what the set's streams found live from one another stays live
 abbrev pub OwnersAloneSuffices : Type 0
 OwnersAloneSuffices = (f : Cnf) (p : LayoutValue) (set : ℕ → Bool) (h : History)
     → IsLegal f p h
     → ((s : ℕ) → IsStream p s → IsTrue (set s) → AllByRecursion (MeetsUnretired p h) (own h s))
     → FoundStays f p set h
 
--- if the streams of a closed set retire nothing of their own that another stream of the set cites,
--- what they found of one another stays
+-- if no stream of a closed set deletes a clause of its own that another stream of the set cites,
+-- what they found live from one another stays live
 abbrev pub SharedStays : Type 0
 SharedStays =
     (f : Cnf) (run_params : RunParamsValue) (set : ℕ → Bool) (h : History) (streams : List Stream)
@@ -118,8 +120,8 @@ BeginningsCite = (bytes more : List ℕ) (id : ℕ)
     → (Cites bytes id → Cites (bytes ++ more) id)
     × (SomeLineDeletes bytes id → SomeLineDeletes (bytes ++ more) id)
 
--- So if the streams keep what they share in all bytes that their readers have left at first, they
--- keep it in the bytes that were needed.
+-- If no stream of a set deletes a clause that another one cites, judged by all bytes that their
+-- readers have at the start, then none does in the bytes that were needed.
 abbrev pub ReadersShare : Type 0
 ReadersShare =
     (p : LayoutValue) (set : ℕ → Bool) (observed : List InputObservation) (streams : List Stream)

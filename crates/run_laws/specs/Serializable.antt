@@ -11,9 +11,9 @@ use Rattle.stream_check.specs.Closed.{IsClosed}
 use Rattle.run_laws.specs.Groups.{IsRun}
 use Rattle.run_laws.specs.Premises.{FoundStays}
 
--- These events have the verdict of the reports: the empty clause is published exactly if a report
--- says that its stream added it, and a clause within the cube exactly if a report says that its
--- stream added one.
+-- The events and the reports have the same verdict: the empty clause is published exactly if a
+-- report says that its stream added it, and a clause within the cube exactly if a report says that
+-- its stream added one.
 pub record ComeToVerdict (cube : CubeValue) (history : History)
     (reports : List Report) : Type 0 where
   pub empty : list_any (λ report. report.empty) reports

@@ -31,7 +31,7 @@ pub record IsValidOrder (formula : Cnf) (layout : LayoutValue) (steps : List Ste
   pub fits : AllByRecursion (λ step. IsWithinLimits step.line) steps
   pub valid : AreValidTogether layout (λ t. first_database formula layout) steps
 
--- the readers of the set's streams have the texts of the streams' lines left at first, and maybe
+-- at the start, the readers of the set's streams have the texts of these streams' lines, and maybe
 -- more after the texts
 abbrev pub HaveTexts : (ℕ → Bool) → List Step → List InputObservation → Type 0
 HaveTexts set steps observed =
@@ -54,9 +54,9 @@ TogetherBegins = (formula : Cnf) (run_params : RunParamsValue) (set : ℕ → Bo
     ⊎ ((line : ℕ) × (line ≤ length (lines_by s steps))
     × IsExcusedAt (Lacking (stream_params run_params s)) report line)
 
--- If nothing comes after a stream's lines, the stream ended with its valid report, unless memory
--- ran out, or a read failed, or one of its lines cites another stream's clause that wasn't there
--- yet or was no longer there.
+-- If lines of a set of streams have a valid order, and nothing comes after a stream's lines, the
+-- stream ended with its valid report, unless memory ran out, or a read failed, or one of its lines
+-- cites another stream's clause that wasn't there yet or was no longer there.
 abbrev pub ValidTogether : Type 0
 ValidTogether = (formula : Cnf) (run_params : RunParamsValue) (set : ℕ → Bool) (steps : List Step)
     (observed : List InputObservation) (reports : List Report) (s : ℕ)

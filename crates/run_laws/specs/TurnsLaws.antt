@@ -32,7 +32,7 @@ TurnsDecide = (f : Cnf) (run_params : RunParamsValue) (streams others : List Str
     → (a.order.blocks ≡ b.order.blocks) × (reports ≡ other_reports)
 
 -- Two runs of one formula on one thread, with the same parameters, have the same reports if their
--- readers have the same bytes left at first, unless memory ran out or a read failed.
+-- readers have the same bytes at the start, unless memory ran out or a read failed.
 abbrev pub BytesDecide : Type 0
 BytesDecide =
     (f : Cnf) (run_params : RunParamsValue) (observed other_observed : List InputObservation)
@@ -47,9 +47,9 @@ BytesDecide =
     → NoneExcused (λ s. true) CutOff reports → NoneExcused (λ s. true) CutOff other_reports
     → reports ≡ other_reports
 
--- If the lines of streams have a valid order that takes the streams in turn, then in a run on one
--- thread over their texts each stream ended with its valid report, unless memory ran out or a read
--- failed.
+-- If the lines of streams have a valid order that takes the streams in turn, then, in a run on one
+-- thread over the lines' texts, each stream ended with its valid report, unless memory ran out or a
+-- read failed.
 abbrev pub ValidRoundRobin : Type 0
 ValidRoundRobin =
     (f : Cnf) (run_params : RunParamsValue) (steps : List Step) (observed : List InputObservation)

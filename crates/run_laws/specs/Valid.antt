@@ -1,8 +1,8 @@
 -- Valid proofs: what a stream that cites only its own clauses and the formula's has to write. The
 -- lines are replayed over a database of clauses, as LRAT proofs are (Cruz-Filipe et al., CADE
--- 2017), without RAT. Identities by residue, each above the earlier ones, room, imports, and the
--- rules that no hint comes after the conflict and that only existing clauses are deleted, are this
--- project's own. All of this depends only on the lines: there is no history here, and no checker.
+-- 2017), without RAT. This project's own are identities by residue, each above the earlier ones;
+-- room; imports; and the rules that no hint comes after the conflict and that only existing clauses
+-- are deleted. All of this depends only on the lines: there is no history here, and no checker.
 use Rattle.std.specs.Prelude.{◌≡◌, ◌≤◌, ◌-◌, ◌==◌, ◌&&◌, ◌++◌, ℕ, nat_lt, nat_le, false, IsTrue, List, [], ◌∷◌, length, Option, None, Some, IsSome, if◌then◌else◌, Bool, map}
 use Rattle.std.specs.List.{AllByRecursion, AllZip, Any, flat_map}
 use Rattle.lrup_model.specs.Clause.{Clause}
@@ -27,7 +27,7 @@ pub record Database : Type 0 where
   pub last : ℕ
   pub free : ℕ
 
--- before the first line: the formula's clauses, from identity 1 on
+-- before the first line: the formula's clauses, under the identities from 1 on
 abbrev pub first_database : Cnf → LayoutValue → Database
 first_database formula layout = record {
   clauses = λ id.
@@ -74,7 +74,7 @@ IsValidLine layout s base (Import id lits) =
 
 -- Lines of several streams, in some order. Each stream has a database.
 
--- a line, and the stream that wrote it, counted from 1
+-- a line, and the number of the stream that wrote it, counting from 1
 pub record Step : Type 0 where
   pub stream : ℕ
   pub line : StreamLine
@@ -88,8 +88,8 @@ is_own layout s id =
       | owners.Outside ↦ false
     ]
 
--- another stream's database after a line of stream s: an addition puts its clause there too, and a
--- deletion removes those clauses that stream s owns
+-- another stream's database after a line of stream s: an addition puts its clause there, too, and a
+-- deletion removes only those of its clauses that stream s owns
 abbrev pub beside_line : LayoutValue → ℕ → Database → StreamLine → Database
 beside_line layout s base (Addition id lits hints) = record {
   clauses = λ j. if j == id then Some (distinct lits) else base.clauses j;
@@ -117,7 +117,7 @@ AreValidTogether layout bases (step ∷ steps) =
     × AreValidTogether layout (after_step layout step bases) steps
 
 -- The bytes are a valid proof, as stream s, with these lines: the bytes are the lines' texts and
--- nothing else, and each line is valid, in the order of only these lines.
+-- nothing else, and each line is valid after those before it, with no lines of other streams.
 pub record IsValidProof (formula : Cnf) (layout : LayoutValue) (s : ℕ) (bytes : List ℕ)
     (lines : List StreamLine) : Type 0 where
   pub text : bytes ≡ flat_map line_text lines

@@ -19,8 +19,8 @@ abbrev pub ValidCiteWithin : Type 0
 ValidCiteWithin = (f : Cnf) (p : LayoutValue) (s : ℕ) (bytes : List ℕ) (lines : List StreamLine)
     → Fits p f → IsValidProof f p s bytes lines → CiteWithin p (one s) bytes
 
--- Valid proofs are accepted: alone, a valid proof may have the report that says that it ended, with
--- its additions and deletions counted.
+-- Valid proofs are accepted: on its own, a valid proof may have the report that says that it ended,
+-- with its additions and deletions counted.
 abbrev pub ValidAccepted : Type 0
 ValidAccepted =
     (f : Cnf) (run_params : RunParamsValue) (s : ℕ) (bytes : List ℕ) (lines : List StreamLine)
@@ -28,7 +28,7 @@ ValidAccepted =
     → IsValidProof f run_params.layout s bytes lines
     → IsReportAlone f run_params s bytes stream_ends.Ended (valid_report run_params s lines)
 
--- Alone, a valid proof has no other report.
+-- On its own, a valid proof has only its valid report.
 abbrev pub ValidHasOneReport : Type 0
 ValidHasOneReport = (f : Cnf) (run_params : RunParamsValue) (s : ℕ) (bytes : List ℕ)
     (lines : List StreamLine) (report : Report)
@@ -37,8 +37,8 @@ ValidHasOneReport = (f : Cnf) (run_params : RunParamsValue) (s : ℕ) (bytes : L
     → IsReportAlone f run_params s bytes stream_ends.Ended report
     → report ≡ valid_report run_params s lines
 
--- A valid proof has this report in every run in which its reader has these bytes, unless memory ran
--- out or a read failed. The other streams, and how the threads ran, make no difference.
+-- A valid proof has its valid report in every run in which its reader has the proof's bytes, unless
+-- memory ran out or a read failed. The other streams, and how the threads ran, make no difference.
 abbrev pub ValidReported : Type 0
 ValidReported =
     (f : Cnf) (run_params : RunParamsValue) (s : ℕ) (bytes : List ℕ) (lines : List StreamLine)
@@ -67,8 +67,8 @@ ValidBegins =
     → SaysAtLeast report (valid_report run_params s lines)
     ⊎ ((line : ℕ) × (line ≤ length lines) × IsExcusedAt CutOff report line)
 
--- A valid proof's count of deletions is the number of all identities that its lines delete: 64 bits
--- suffice for it.
+-- In the report of a valid proof, the count of deletions is the number of all identities that its
+-- lines delete: 64 bits suffice for it.
 abbrev pub ValidCounted : Type 0
 ValidCounted =
     (f : Cnf) (run_params : RunParamsValue) (s : ℕ) (bytes : List ℕ) (lines : List StreamLine)
@@ -77,7 +77,7 @@ ValidCounted =
     → (valid_report run_params s lines).deleted ≡ sum_by (λ line. length (deleted_by line)) lines
 
 -- Conversely, a stream that cites, imports and deletes only its own clauses and the formula's is
--- valid if, alone, it may have a report that says that it ended. (A stream that deletes what
+-- valid if, on its own, it may have a report that says that it ended. (A stream that deletes what
 -- another stream never had may also end, but isn't valid.)
 abbrev pub EndedIsValid : Type 0
 EndedIsValid = (f : Cnf) (run_params : RunParamsValue) (s : ℕ) (bytes rest : List ℕ)

@@ -23,7 +23,7 @@ pub fn readers_closed()
     beginnings_within();
 }
 
-/// A closed set of streams that one legal history judges is a group.
+/// A closed set of streams that is judged by one legal history is a group.
 pub fn closed_is_group()
     ensures { ClosedIsGroup }
 {
@@ -38,7 +38,7 @@ pub fn others_empty()
     end_judged();
 }
 
-/// At most one report fits a stream that is alone, however much of it was read.
+/// At most one report fits a stream on its own, however much of it was read.
 pub fn alone_has_one_report()
     ensures { AloneHasOneReport }
 {

@@ -1,8 +1,8 @@
-//! Laws of runs: definitions and laws, no other code. A set of streams is closed if it cites no
-//! identity of a stream outside it. Its reports are then the ones that the set has alone, whatever
-//! other streams there are and however the run went. Also, a legal history, in which the calls of
+//! Laws of runs: definitions and laws, no other code. A set of streams is closed if its streams
+//! cite no identity of a stream outside the set. Then their reports are those that they would have
+//! without any other streams, however the run went. Also, a legal history, in which the calls of
 //! several streams are interleaved, can be reordered into whole lines so that each stream is judged
-//! the same.
+//! in the same way.
 #![tactic(auto)]
 
 pub mod groups;

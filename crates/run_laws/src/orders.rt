@@ -13,19 +13,21 @@ pub fn judged_blocks()
     vacant_tries_again();
 }
 
-/// A stream retires no identity that its lines don't delete.
+/// A stream retires only identities that its lines delete.
 pub fn deleted_retired()
     ensures { DeletedRetired }
 {
     bytes_begin_with_one_line();
 }
 
-/// Lines of streams that find no clause of streams outside their set have an order.
+/// If the streams of a set find no clause of a stream outside the set, and each clause of another
+/// stream that they find live stays live, their lines have an order.
 pub fn lines_ordered()
     ensures { LinesOrdered }
 {}
 
-/// The reports of a closed set of streams that one legal history judges have an order of lines.
+/// If a closed set of streams is judged by one legal history, and each clause of another stream
+/// that they find live stays live, their reports have an order of lines.
 pub fn closed_ordered()
     ensures { ClosedOrdered }
 {
@@ -42,7 +44,8 @@ pub fn all_closed()
     every_stream_is_cut();
 }
 
-/// The reports of all streams have an order of lines, and the order has the reports' verdict.
+/// If each clause of another stream that a stream finds live stays live, the reports have an order
+/// of lines, and the order has the reports' verdict.
 pub fn all_ordered()
     ensures { AllOrdered }
 {
@@ -50,21 +53,22 @@ pub fn all_ordered()
     all_closed();
 }
 
-/// The premise about what is found live can be read off the events or off the final state.
+/// Whether a clause that was found live stays live can be read off the events or off the final
+/// state.
 pub fn kept_by_events()
     ensures { KeptByEvents }
 {}
 
-/// If each identity that the history retires was found only by its owner, what a stream found live
-/// of another stream stays live.
+/// If each identity that the history retires was found only by its owner, each clause of another
+/// stream that a stream found live stays live.
 pub fn owners_alone_suffices()
     ensures { OwnersAloneSuffices }
 {
     kept_by_events();
 }
 
-/// If no stream deletes an identity of its own that a line of another stream cites, what a stream
-/// found live of another stream stays live.
+/// If no stream deletes an identity of its own that a line of another stream cites, each clause of
+/// another stream that a stream found live stays live.
 pub fn shared_stays()
     ensures { SharedStays }
 {
@@ -73,7 +77,7 @@ pub fn shared_stays()
 }
 
 /// If the lines of some bytes cite or delete an identity, so do the lines of all bytes that begin
-/// with these.
+/// with those bytes.
 pub fn beginnings_cite()
     ensures { BeginningsCite }
 {
@@ -81,8 +85,8 @@ pub fn beginnings_cite()
     every_stream_is_cut();
 }
 
-/// If streams keep what they share in all bytes that their readers have left at the start, they
-/// keep it in the bytes that were needed.
+/// If no stream deletes a clause that another one cites, judged by all bytes that their readers
+/// have at the start, then none does in the bytes that were needed.
 pub fn readers_share()
     ensures { ReadersShare }
 {

@@ -21,8 +21,8 @@ pub fn valid_cite_within()
     no_bytes_have_no_lines();
 }
 
-/// Alone, a valid proof may have the report that says that it ended, with its additions and
-/// deletions counted.
+/// On its own, a valid proof may have its valid report, which says that it ended, and counts its
+/// additions and deletions.
 pub fn valid_accepted()
     ensures { ValidAccepted }
 {
@@ -33,7 +33,7 @@ pub fn valid_accepted()
     a_stream_is_cut_in_one_way();
 }
 
-/// Alone, a valid proof has no other report.
+/// On its own, a valid proof has only its valid report.
 pub fn valid_has_one_report()
     ensures { ValidHasOneReport }
 {
@@ -41,7 +41,7 @@ pub fn valid_has_one_report()
     alone_has_one_report();
 }
 
-/// In every run a valid proof has this report, unless memory ran out or a read failed.
+/// In every run a valid proof has its valid report, unless memory ran out or a read failed.
 pub fn valid_reported()
     ensures { ValidReported }
 {
@@ -84,8 +84,8 @@ pub fn valid_counted()
     counts_within();
 }
 
-/// A stream that cites, imports and deletes only its own clauses and the formula's, and that may
-/// end when alone, is valid.
+/// A stream that cites, imports and deletes only its own clauses and the formula's is valid if, on
+/// its own, it may have a report that says that it ended.
 pub fn ended_is_valid()
     ensures { EndedIsValid }
 {
@@ -99,11 +99,11 @@ pub fn valid_empty()
     ensures { ValidEmpty }
 {}
 
-/// If a legal history judges a closed set of streams, and one of them ended there, this stream has
-/// the same report in every run in which its reader has the stream's bytes and the readers of the
-/// set's other streams have at least the bytes of those streams, unless memory ran out, or a read
-/// failed, or a line of the stream cites another stream's clause that wasn't there yet or was no
-/// longer there.
+/// Suppose that a closed set of streams is judged by a legal history, and that one of them ended
+/// there. This stream has the same report in every run in which its reader has the stream's bytes,
+/// and the readers of the set's other streams have at least the bytes of those streams, unless
+/// memory ran out, or a read failed, or a line of the stream cites another stream's clause that
+/// wasn't there yet or was no longer there.
 pub fn valid_in_any_run()
     ensures { ValidInAnyRun }
 {
@@ -131,9 +131,10 @@ pub fn together_begins()
     cited_fetched();
 }
 
-/// If nothing comes after a stream's lines, the stream ended with its valid report, unless memory
-/// ran out, or a read failed, or one of its lines cites another stream's clause that wasn't there
-/// yet or was no longer there.
+/// If lines of a set of streams have a valid order, then in every run in which the readers begin
+/// with these lines, and one stream has nothing after its lines, that stream ended with its valid
+/// report, unless memory ran out, or a read failed, or one of its lines cites another stream's
+/// clause that wasn't there yet or was no longer there.
 pub fn valid_together()
     ensures { ValidTogether }
 {

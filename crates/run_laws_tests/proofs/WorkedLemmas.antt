@@ -88,7 +88,7 @@ unit_differs valid =
     let has : Has unit (pos 1) = (valid.same (pos 1)).0 (subst (λ (x : Clause). Has x (pos 1)) same (inl refl)) in
     elim has [ inl e ↦ two_not_one e | inr none ↦ none ]
 
--- 1 is the formula's, not a stream's own
+-- the formula has identity 1, so stream 1 doesn't own it
 pub one_is_the_formulas : Owns one_stream 1 1 → ⊥
 one_is_the_formulas owns = let no : owners.Formula ≡ owners.Stream 1 = owns in cc
 
@@ -99,7 +99,7 @@ no_minus_one valid =
     subst (λ (x : Clause). Has x (negsuc 0)) (sym same) ((valid.same (negsuc 0)).1 (inr (inr (inl refl)))) in
     elim has [ inl e ↦ signs 1 0 e | inr more ↦ elim more [ inl e ↦ signs 2 0 e | inr none ↦ none ] ]
 
--- the first line of the refutation adds a literal
+-- the first line of the refutation doesn't add the empty clause
 pub adds_no_empty : (k : ℕ) (line : StreamLine) → k < 1 → slice_index_or (Addition 5 unit (1 ∷ 2 ∷ []) ∷ []) k line ≡ line
     → AddsEmpty line → ⊥
 adds_no_empty zero line within at empty = let none : unit ≡ [] = subst AddsEmpty (sym at) empty in cc
@@ -194,7 +194,7 @@ refutation_is_valid = record {
   );
 }
 
--- whatever comes after the refutation
+-- the refutation is valid, whatever comes after it
 pub begins_and_refutes : (more : List ℕ) → IsValidRefutation four one_stream 1 (codes "5 2 0 1 2 0\n6 0 5 3 4 0\n" ++ more)
 begins_and_refutes more = record {
   proof = codes "5 2 0 1 2 0\n6 0 5 3 4 0\n";

@@ -29,8 +29,8 @@ roomy = record { vars = 2; clauses = 4; literals = 8; streams = 1; lines = 2; ro
 abbrev pub refutation : List StreamLine
 refutation = Addition 5 unit (1 ∷ 2 ∷ []) ∷ Addition 6 [] (5 ∷ 3 ∷ 4 ∷ []) ∷ []
 
--- before the first line; after the line `5 2 0 1 2 0`, and then `5 d 5 0`; and after the line
--- `5 d 1 0`
+-- the databases before the first line; after the line `5 2 0 1 2 0`; after this line and `5 d 5 0`;
+-- and after only the line `5 d 1 0`
 abbrev pub at_first : Database
 at_first = first_database four one_stream
 
@@ -43,7 +43,7 @@ without_five = after_line with_five (Deletion 5 (5 ∷ []))
 abbrev pub without_one : Database
 without_one = after_line at_first (Deletion 5 (1 ∷ []))
 
--- the same with more room: before the first line, and after `5 2 2 0 1 2 0`
+-- the databases with more room: before the first line, and after `5 2 2 0 1 2 0`
 abbrev pub at_roomy : Database
 at_roomy = first_database four roomy
 
@@ -77,7 +77,7 @@ retired_first =
     ∷ record { stream = 2; line = Import 5 unit }
     ∷ []
 
--- What the laws say of runs of these lines
+-- What the laws say about runs with these lines
 
 -- a report of one addition
 abbrev pub one_added : Report
@@ -89,18 +89,18 @@ one_added = record {
   ending = endings.Ended;
 }
 
--- any cube and number of tries, with this layout
+-- the parameters of a run with this layout, cube and number of tries
 abbrev pub run_params_at : LayoutValue → CubeValue → ℕ → RunParamsValue
 run_params_at p cube tries = record { layout = p; cube = cube; tries = tries }
 
--- the report says that the stream ended, with these counts
+-- the report says that the stream added the empty clause and ended, with these counts
 pub record Counts (report : Report) (additions deletions : ℕ) : Type 0 where
   pub added : report.added ≡ additions
   pub deleted : report.deleted ≡ deletions
   pub empty : report.empty ≡ true
   pub ending : report.ending ≡ endings.Ended
 
--- A run in which the reader of stream 1 has the bytes of the refutation left at first reports two
+-- If the reader of stream 1 has exactly the bytes of the refutation at the start, a run reports two
 -- additions, unless memory ran out or a read failed.
 abbrev pub RefutationCounted : Type 0
 RefutationCounted = (cube : CubeValue) (tries : ℕ) (observed : List InputObservation)
@@ -111,8 +111,8 @@ RefutationCounted = (cube : CubeValue) (tries : ℕ) (observed : List InputObser
     → observation.entry ≡ Some (codes "5 2 0 1 2 0\n6 0 5 3 4 0\n") → IsOfStream reports 1 report
     → ¬ IsExcused CutOff report → Counts report 2 0
 
--- Whatever comes after the refutation, such a run reports at least two additions, one of them of
--- the empty clause, unless memory ran out, or a read failed, in these two lines.
+-- If the bytes of stream 1 begin with the refutation, a run reports at least two additions, one of
+-- them of the empty clause, unless memory ran out, or a read failed, in these two lines.
 abbrev pub BeginningCounted : Type 0
 BeginningCounted = (cube : CubeValue) (tries : ℕ) (observed : List InputObservation)
     (observation : InputObservation)
@@ -124,9 +124,9 @@ BeginningCounted = (cube : CubeValue) (tries : ℕ) (observed : List InputObserv
     → ((2 ≤ report.added) × (report.empty ≡ true))
     ⊎ ((line : ℕ) × (line ≤ 2) × IsExcusedAt CutOff report line)
 
--- If a run's readers begin with the texts of the shared lines, and nothing comes after the texts of
--- stream 2, the run reports one addition and one deletion of that stream, or that the clause of
--- stream 1 wasn't there, unless memory ran out or a read failed.
+-- If the bytes of a run's readers begin with the texts of the shared lines, and nothing comes after
+-- the texts of stream 2, the run reports one addition and one deletion of that stream, or that the
+-- clause of stream 1 wasn't there, unless memory ran out or a read failed.
 abbrev pub SharedCounted : Type 0
 SharedCounted = (cube : CubeValue) (tries : ℕ) (observed : List InputObservation)
     (observation : InputObservation)

@@ -69,7 +69,8 @@ fn additions_are_not_valid()
         (Addition 5 (pos 1 ∷ negsuc 0 ∷ []) (1 ∷ 2 ∷ [])) }
 {}
 
-/// The same for lines without any other fault. Deleting a clause gives no room back.
+/// Additions aren't valid for these reasons, even if nothing else is wrong. Deleting a clause gives
+/// no room back.
 fn nothing_else_is_wrong()
     ensures again { ¬ IsValidLine one_stream 1 with_five (Addition 5 [] (5 ∷ 3 ∷ 4 ∷ [])) }
     ensures variable { ¬ IsValidLine roomy 1 with_repeat

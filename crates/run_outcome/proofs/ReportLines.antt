@@ -32,7 +32,7 @@ lines_append s (x ∷ xs) ys =
     ap (λ t. stream_line s x ++ t) (lines_append (s + 1) xs ys ∙ ap (λ n. stream_lines (s + 1) xs ++ stream_lines n ys) next)
     ∙ sym (append_assoc (stream_line s x) (stream_lines (s + 1) xs) (stream_lines (s + length (x ∷ xs)) ys))
 
--- one more line
+-- the lines of the first k + 1 reports are those of the first k, followed by one more
 pub lines_more : (rs : List Report) (k : ℕ) (d : Report) → k < length rs
     → stream_lines 1 (take (k + 1) rs) ≡ stream_lines 1 (take k rs) ++ stream_line (k + 1) (get_or rs k d)
 lines_more rs k d inside =
@@ -41,7 +41,7 @@ lines_more rs k d inside =
     ap (stream_lines 1) (take_more rs k d inside) ∙ lines_append 1 (take k rs) (r ∷ [])
     ∙ ap (λ t. stream_lines 1 (take k rs) ++ t) (append-nil (stream_line (1 + length (take k rs)) r) ∙ ap (λ n. stream_line n r) number)
 
--- the lines up to this one, and the rest
+-- a report begins with the lines up to line k + 1, followed by the rest
 pub lines_split : (rs : List Report) (verdict : Verdict) (k : ℕ) (d : Report) → k < length rs
     → (rest : List ℕ) × (report_text rs verdict ≡ (stream_lines 1 (take k rs) ++ stream_line (k + 1) (get_or rs k d)) ++ rest)
 lines_split rs verdict k d inside =
@@ -54,13 +54,14 @@ lines_split rs verdict k d inside =
           ∙ ap (λ t. t ++ (back ++ verdict_line verdict)) (lines_more rs k d inside),
     )
 
--- all lines
+-- if there are at most k reports, the lines of the first k are all lines
 pub lines_all : (rs : List Report) (k : ℕ) → length rs ≤ k → stream_lines 1 rs ≡ stream_lines 1 (take k rs)
 lines_all rs k all = ap (stream_lines 1) (sym (take_all k rs all))
 
 -- ---- a line by itself
 
--- words, a number, more words, another number, and what ends the line
+-- the parts of a line (words, two numbers with words between, and its end) may be grouped in two
+-- ways
 pub numbers-parts : (words first between second rest : List ℕ)
     → words ++ first ++ between ++ second ++ rest ≡ ((words ++ first) ++ (between ++ second)) ++ rest
 numbers-parts words first between second rest = simp append_assoc

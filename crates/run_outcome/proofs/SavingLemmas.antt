@@ -25,7 +25,7 @@ use Rattle.clause_store.specs.Passes.{AreOf, PassValue, StoreValue, store_of}
 use Rattle.stream_check.specs.SequentialConsistency.{HaveOneHistory}
 use Rattle.run_laws.specs.lemmas.OwnLemmas.{own_all}
 
--- these replies answered fetches of the identities from 1 on, and the live and wanted clauses were
+-- fetches of the identities from 1 on had these replies, and the live and wanted clauses were
 -- saved, or memory ran out
 abbrev pub SavesFound : {S : Type 0} → (S → Option (List ℕ)) → Result (Option Cnf) SaveFault → LayoutValue → (ℕ → Bool) → List Reply
     → S → S → Type 0
@@ -39,7 +39,7 @@ are_fetches : (s id : ℕ) (replies : List Reply) → AllByRecursion IsFetch (fe
 are_fetches s id [] = tt
 are_fetches s id (r ∷ replies) = (tt, are_fetches s (id + 1) replies)
 
--- what holds for a stream's events holds for those after the first
+-- what holds for a stream's events holds for those after the history's first event
 own_rest : (P : Event → Type 0) (e : Event) (h : History) (s : ℕ) → AllByRecursion P (own (e ∷ h) s)
     → AllByRecursion P (own h s)
 own_rest P e h s all =
@@ -48,7 +48,7 @@ own_rest P e h s all =
       | inr other ↦ subst (λ (g : History). AllByRecursion P g) (own-other e h s other) all
     ]
 
--- and for the first event, if it is the stream's
+-- what holds for the events of the first event's stream holds for the first event
 own_first : (P : Event → Type 0) (e : Event) (h : History) → AllByRecursion P (own (e ∷ h) (stream_of e)) → P e
 own_first P e h all = (subst (λ (g : History). AllByRecursion P g) (own-mine e h (stream_of e) refl) all).0
 
@@ -82,14 +82,14 @@ pub answers_any : (m : State) (s t id : ℕ) (replies : List Reply) → AllByRec
 answers_any m s t id [] all = tt
 answers_any m s t id (r ∷ replies) all = (answer_any m s t id r all.0, answers_any m s t (id + 1) replies all.1)
 
--- the state before legal fetches answers them, for each stream
+-- the state before one stream's legal fetches answers the same fetches by any stream
 pub fetches_answer : (f : Cnf) (p : LayoutValue) (m : State) (s : ℕ) (replies : List Reply)
     → LegalFrom f p m (fetches s 1 replies) → (t : ℕ) → AllByRecursion (Answers m) (fetches t 1 replies)
 fetches_answer f p m s replies legal t =
     answers_any m s t 1 replies (all_answer f p m (fetches s 1 replies) legal (are_fetches s 1 replies))
 
--- If, after a history, each owner of an identity only fetches, and this stream makes these fetches,
--- the state that the history leaves answers them.
+-- If, after a history, each owner of an identity only fetches, and stream s makes these fetches,
+-- the state that the history leaves answers the fetches.
 pub answered_after : (f : Cnf) (p : LayoutValue) (h more : History) (s : ℕ) (replies : List Reply)
     → IsLegal f p (h ++ more) → ((t id : ℕ) → Owns p t id → AllByRecursion IsFetch (own more t))
     → own more s ≡ fetches s 1 replies → (t : ℕ) → AllByRecursion (Answers (state f h)) (fetches t 1 replies)
@@ -102,7 +102,7 @@ answered_after f p h more s replies legal owners mine t =
 
 -- ---- passes that meet once more
 
--- the pass at this index after all met: it made no call, is fair, and has seen this history
+-- a pass after all have met: it made no call, is fair, and has seen this history
 record SyncedAt (h : History) (x : View) : Type 0 where
   after : View
   moves : PassMoves x after []
@@ -118,7 +118,7 @@ synced_at h (w ∷ xs) (y ∷ ys) synced saw zero x at =
     subst (SyncedAt h) this (record { after = y; moves = synced.0; fair = synced.1; saw = saw.0 })
 synced_at h (w ∷ xs) (y ∷ ys) synced saw (suc k) x at = synced_at h xs ys synced.2 saw.1 k x at
 
--- the pass's calls are its stream's events
+-- the calls of a pass that has met the others are its stream's events in the history
 synced_own : (h : History) (x : View) → SyncedAt h x → own h x.caller.stream ≡ x.mine
 synced_own h x at =
     ap₂ (λ (g : History) (c : Caller). own g c.stream) (sym at.saw) (sym at.moves.caller)
@@ -128,7 +128,7 @@ pub last_at : (vs : List View) (v : View) → slice_get (vs ++ v ∷ []) (length
 last_at [] v = refl
 last_at (w ∷ vs) v = last_at vs v
 
--- a list whose last element is replaced has the same elements before that one
+-- replacing the last element of a list leaves those before it unchanged
 front_at : (vs : List View) (v w : View) (k : ℕ) → k < length vs
     → (x : View) × (slice_get (vs ++ v ∷ []) k ≡ Some x) × (slice_get (vs ++ w ∷ []) k ≡ Some x)
 front_at [] v w k within = absurd (omega arith)
@@ -139,7 +139,7 @@ last_count : (vs : List View) (v : View) → length (vs ++ v ∷ []) ≡ length 
 last_count [] v = refl
 last_count (w ∷ vs) v = omega (arith, last_count vs v)
 
--- a stream whose events in a history are those in its prefix has none after the prefix
+-- a stream whose events in a whole history are those in a prefix has none after the prefix
 own_none_after : (h more : History) (s : ℕ) → own (h ++ more) s ≡ own h s → own more s ≡ []
 own_none_after h more s same =
     append_cancel_left (own h s) (own more s) [] (sym (own-append h more s) ∙ same ∙ sym (append-nil (own h s)))
@@ -193,7 +193,7 @@ fetched_so f p h vs v w replies us g one moves synced saw =
     ] in
     answered_after f p h more s replies legal owners mine
 
--- the passes are still the store's if the last one is replaced
+-- the passes are still those of the store if the last one is replaced by another pass of the store
 pub other_last : (store : StoreValue) (ps : List PassValue) (p q : PassValue) → AreOf store (ps ++ p ∷ []) → store_of q ≡ store_of p
     → AreOf store (ps ++ q ∷ [])
 other_last store [] p q all same = (same ∙ all.0, tt)

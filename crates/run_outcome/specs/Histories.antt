@@ -14,9 +14,9 @@ use Rattle.stream_check.specs.Turns.{IsOrderedRoundRobin}
 use Rattle.run_laws.specs.Groups.{IsRunOfFirst}
 use Rattle.stream_check.specs.Dropping.{HaveDropped}
 
--- What else is known of a run's history, streams and reports. On one thread (`serial`), the history
--- consists of the events of an order of lines that takes one line of each stream in turn. With
--- threads, each stream was read to its end, or to a read that failed.
+-- What else is known about a run's history, streams and reports. On one thread (`serial`), the
+-- history consists of the events of an order of lines, which takes one line of each stream in turn.
+-- With threads, each stream was read to its end, or to a read that failed.
 abbrev pub RanSo : (serial : Bool) → Cnf → RunParamsValue → History → List Stream → List Report
     → Type 0
 RanSo true formula run_params history streams reports =
@@ -26,10 +26,10 @@ RanSo false formula run_params history streams reports =
     AllByRecursion (λ stream. IsSome stream.end) streams
 
 -- What a run promises of its first `many` streams, with threads or on one thread. `firsts` are the
--- streams' readers before the first read, and `lasts` the readers at the end. It is a run of what
--- the readers gave; the run's streams are what reads of the readers gave; and each stream dropped
--- exactly what its lines drop, up to the line that stopped the stream, if any. These lines are good
--- by the stream's own calls in the run's history.
+-- streams' readers before the first read, and `lasts` the readers at the end. It is a run on what
+-- is observed of the readers; its streams are what reads of the readers gave; and each stream
+-- dropped exactly what its lines drop, up to the line that stopped the stream, if a line did. These
+-- lines are good by the stream's own calls in the run's history.
 pub record IsRunOfSome {S : Type 0} (many : ℕ) (serial : Bool) (view : SourceView S) (formula : Cnf)
     (run_params : RunParamsValue) (firsts lasts : List S) (reports : List Report)
     (dropped : List DroppedIdsValue) : Type 0 where
@@ -39,7 +39,7 @@ pub record IsRunOfSome {S : Type 0} (many : ℕ) (serial : Bool) (view : SourceV
   pub have_dropped : HaveDropped run_params (λ t blocks. own run.history t ≡ joined blocks) 1
       run.streams reports dropped
 
--- the same for all streams of the layout
+-- what a run promises of all streams of the layout
 abbrev pub IsRunOf : {S : Type 0} → (serial : Bool) → SourceView S → Cnf → RunParamsValue
     → (firsts lasts : List S) → List Report → List DroppedIdsValue → Type 0
 IsRunOf serial view formula run_params firsts lasts reports dropped =

@@ -15,7 +15,7 @@ ending_text (endings.Bad line fault) =
 ending_text (endings.ReadFailed line) = codes "read failed at line " ++ decimal line
 ending_text (endings.Memory line) = codes "out of memory at line " ++ decimal line
 
--- the report of a stream, counted from 1, after these words, ended by LF
+-- these words, the number of a stream, counting from 1, and the stream's report, ended by LF
 abbrev pub line_after : List ℕ → ℕ → Report → List ℕ
 line_after words s report =
     words ++ decimal s ++ codes ": " ++ decimal report.added ++ codes " added, "
@@ -26,7 +26,7 @@ line_after words s report =
 abbrev pub stream_line : ℕ → Report → List ℕ
 stream_line s report = line_after (codes "c stream ") s report
 
--- the lines of the streams, counted from s
+-- the lines of the reports, of which the first belongs to stream s
 abbrev pub stream_lines : ℕ → List Report → List ℕ
 stream_lines s [] = []
 stream_lines s (report ∷ reports) = stream_line s report ++ stream_lines (s + 1) reports

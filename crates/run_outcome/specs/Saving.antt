@@ -21,7 +21,7 @@ use Rattle.run_outcome.specs.declared.saving.Clauses.TheVariants as clauses
 abbrev pub is_wanted : List DroppedIdsValue → ℕ → Bool
 is_wanted dropped id = length dropped == 0 || list_any (λ d. not (is_among d.ids id)) dropped
 
--- An attempt to save the clauses that are live in this state of the clause map and wanted. The
+-- An attempt to save the clauses that are wanted, and live in this state of the clause map. The
 -- replies are the state's answers to fetches of the identities from 1 on, for any stream. Either
 -- all identities were fetched, and the live and wanted clauses were saved, as the result says; or
 -- memory ran out before the first write.
@@ -41,7 +41,7 @@ abbrev pub layout_left : Clauses → LayoutValue
 layout_left (clauses.Shared store passes) = store.layout
 layout_left (clauses.Plain map) = map.layout
 
--- a run of this formula with this history left these clauses
+-- a run on this formula with this history left these clauses
 abbrev pub WereLeftBy : Cnf → History → Clauses → Type 0
 WereLeftBy formula history (clauses.Shared store passes) =
     HaveOneHistory formula store.layout history (views passes.items)

@@ -45,13 +45,13 @@ pub enum RunFault {
     /// Out of memory. In the code, this happens only before the first read; no contract says so.
     #[error("out of memory")]
     Memory,
-    /// A thread of this stream, counted from 1, couldn't be started. In the code, no stream is read
-    /// in this case: the threads that have started end without a read, as a test of one stream's
-    /// two threads shows.
+    /// A thread of the stream with this number (from 1) couldn't be started. In the code, no stream
+    /// is read in this case: the threads that have started end without a read, as a test of one
+    /// stream's two threads shows.
     #[error("worker {0} not started")]
     Spawn(u64),
-    /// The checking thread of this stream, counted from 1, found its ring abandoned without the
-    /// mark for the end, although the stream was read to its end. The reading thread pushes the
+    /// The checking thread of the stream with this number (from 1) found its ring abandoned without
+    /// the mark for the end, although the stream was read to its end. The reading thread pushes the
     /// mark, and its `Producer` is kept until both threads are joined. No contract of `rtrb` says
     /// that this is enough, so this fault exists. In tests it never occurs.
     #[error("ring of stream {0}")]

@@ -41,7 +41,7 @@ fn verdict_text(verdict: Verdict) -> &'static [u8]
     }
 }
 
-/// Puts a stream's report, after `words`.
+/// Writes a stream's report, after `words`.
 fn put_stream<W: Sink>(
     buffer: &mut WriteBuffer,
     words: &[u8],
@@ -74,7 +74,8 @@ pub fn write_finished<W: Sink>(stream: u64, report: &Report, sink: &mut W) -> Re
     buffer.flush(sink)
 }
 
-/// Writes that a stream has waited for the clause of an identity, again with one write.
+/// Writes that a stream has waited for the clause of an identity, with one write as
+/// `write_finished` does.
 pub fn write_wait<W: Sink>(stream: u64, id: Id, sink: &mut W) -> Result<(), WriteFault>
     requires { W.has_failed sink.old ≡ false }
     ensures text { WritesText result (W.written sink.old) (W.written sink.new)
@@ -88,7 +89,7 @@ pub fn write_wait<W: Sink>(stream: u64, id: Id, sink: &mut W) -> Result<(), Writ
     buffer.flush(sink)
 }
 
-/// Writes how many clauses a stream has added so far, also with one write.
+/// Writes how many clauses a stream has added so far, with one write as `write_finished` does.
 pub fn write_count<W: Sink>(stream: u64, added: u64, sink: &mut W) -> Result<(), WriteFault>
     requires { W.has_failed sink.old ≡ false }
     ensures text { WritesText result (W.written sink.old) (W.written sink.new)
@@ -102,7 +103,7 @@ pub fn write_count<W: Sink>(stream: u64, added: u64, sink: &mut W) -> Result<(),
     buffer.flush(sink)
 }
 
-/// Puts how a stream ended.
+/// Writes how a stream ended.
 fn put_ending<W: Sink>(
     buffer: &mut WriteBuffer,
     ending: Ending,
@@ -126,7 +127,7 @@ fn put_ending<W: Sink>(
     }
 }
 
-/// Puts why a line is bad.
+/// Writes why a line is bad.
 fn put_fault<W: Sink>(
     buffer: &mut WriteBuffer,
     fault: Fault,
@@ -145,7 +146,7 @@ fn put_fault<W: Sink>(
     }
 }
 
-/// Puts a text, followed by a number in decimal.
+/// Writes a text, followed by a number in decimal.
 fn put_numbered<W: Sink>(
     buffer: &mut WriteBuffer,
     text: &[u8],

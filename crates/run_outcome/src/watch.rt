@@ -8,7 +8,7 @@ use stream_check::{Gate, Report};
 /// The clock is read once in this many publishes: a power of two, so that there is no division.
 const PUBLISHES: u64 = 64;
 
-/// The clock is read once in this many attempts at a hint: a power of two, too.
+/// The clock is read once in this many attempts at a hint: also a power of two.
 const ATTEMPTS: u64 = 1_024;
 
 /// How long a hint is vacant before the wait is reported, in seconds.
@@ -17,7 +17,7 @@ const WAIT: u64 = 1;
 /// The time between two reports of how many clauses a stream added, in seconds.
 const INTERVAL: u64 = 10;
 
-/// Reports the progress of one stream on its sink. If the clock fails, the lines that need the time
+/// Reports the progress of one stream on a sink. If the clock fails, the lines that need the time
 /// are left out; after a write that fails, nothing more is reported.
 // Its methods are cold: in a run that isn't watched, a test is all that remains of them.
 #[derive(Drop)]
@@ -116,7 +116,7 @@ impl<C: Clock + Drop, S: Sink + Drop> Reporter<C, S> {
 }
 
 /// A gate that reports progress on a sink while a stream is checked: that a hint has been vacant
-/// for a second; about every ten seconds how many clauses were added; and at the end the stream's
+/// for a second; about every ten seconds, how many clauses were added; and at the end, the stream's
 /// report. It leaves the waiting to the inner gate. Without a sink it only forwards its calls to
 /// the inner gate. So a run has the same type of gate, watched or not, and the checker is compiled
 /// once, with its calls inlined.

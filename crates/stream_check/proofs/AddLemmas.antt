@@ -45,19 +45,19 @@ spent-fetches s (events.retire t id r ∷ es) h = absurd h.0
 pub room_stays : (p q : CallerView) (es : History) → CallerStep p q es → AllByRecursion IsFetch es → q.room ≡ p.room
 room_stays p q es step quiet = omega (arith, step.room, spent-fetches p.caller.stream es quiet)
 
--- one of the stream's own identities, as a view of the stream has it
+-- an identity of the stream's own is also the caller's own, in a view of the stream
 pub owns_at : (c : StreamParams) (p : CallerView) (id : ℕ) → IsViewOf c p → Owns c.layout c.stream id
     → Owns p.caller.layout p.caller.stream id
 owns_at c p id at owns =
     subst (λ (l : LayoutValue). Owns l p.caller.stream id) (sym at.layout) (subst (λ (s : ℕ). Owns c.layout s id) (sym at.stream) owns)
 
--- the same in the other direction
+-- an identity of the caller's own, in a view of the stream, is also the stream's own
 pub owned_by : (c : StreamParams) (p : CallerView) (id : ℕ) → IsViewOf c p → Owns p.caller.layout p.caller.stream id
     → Owns c.layout c.stream id
 owned_by c p id at owns =
     subst (λ (l : LayoutValue). Owns l c.stream id) at.layout (subst (λ (s : ℕ). Owns p.caller.layout s id) at.stream owns)
 
--- the view is still the stream's
+-- after a step the view is still the stream's
 pub still_at : (c : StreamParams) (p q : CallerView) (es : History) → IsViewOf c p → CallerStep p q es → IsViewOf c q
 still_at c p q es at step = record {
   layout = ap (λ (r : Caller). r.layout) step.caller ∙ at.layout;
@@ -106,7 +106,7 @@ still_vacant c p q es last id at step quiet vacant owns newer =
     let mine = owns_at c p id at owns in
     step.own id mine ∙ ap (λ (m : State). m id) (run-fetches p.own es quiet) ∙ vacant id mine newer
 
--- the event of the publish
+-- a publish of the addition's clause, with the reply Done, is the addition's publish event
 pub published_is : (c : StreamParams) (p q : CallerView) (es : History) (id : ℕ) (clause : Clause) (lits : List ℤ) (r : Published)
     → IsViewOf c p
     → CallerStep p q es → clause ≡ distinct lits → r ≡ publishing.Done
@@ -118,13 +118,13 @@ published_is c p q es id clause lits r at step is done =
 
 -- The result of the addition
 
--- a condition tested before the hints is violated
+-- if a condition that is tested before the hints is violated, the hints don't matter
 pub fails_before : (c : StreamParams) (st : StreamContext) (id : ℕ) (lits : List ℤ) (fault : Fault) (A : Type 0)
     → BeforeHints c st id lits [] fault ⊥
     → BeforeHints c st id lits [] fault A
 fails_before c st id lits fault A fails = before_maps c st id lits [] [] fault ⊥ A (λ e. e) (λ no. absurd no) fails
 
--- the hints decide
+-- if no condition tested before the hints is violated, the hints decide
 pub fails_after : (c : StreamParams) (st : StreamContext) (id : ℕ) (lits : List ℤ) (es : History) (fault : Fault) (A : Type 0)
     (marks : Propagation)
     → Admits c st id lits marks → A → BeforeHints c st id lits es fault A
@@ -140,7 +140,7 @@ fails_after c st id lits es fault A marks admits next =
       ),
     )
 
--- the addition is valid
+-- an addition that passes the tests, and whose hints derive its clause, is valid
 pub valid_is : (c : StreamParams) (st : StreamContext) (f : Cnf) (id : ℕ) (lits : List ℤ) (hints : List ℕ) (es : History)
     (marks : Propagation)
     → Admits c st id lits marks → Shows c st.is_dropped f (distinct lits) hints es (Ok tt)

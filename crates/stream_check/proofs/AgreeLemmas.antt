@@ -52,7 +52,7 @@ both_bad m n v w es fs one two same =
 
 -- Look-ups
 
--- look-ups of one identity, and what comes after them
+-- two look-ups of one identity have the same events and answer, and the later events never fork
 record LookedAlike (a : History) (x : Result Clause Fault) (b : History) (y : Result Clause Fault) (q r : History) : Type 0 where
   asked : a ≡ b
   answer : x ≡ y
@@ -83,7 +83,7 @@ after_looks c is_dropped h es a rest fs b left q r x y one two first second neve
 
 -- Hints
 
--- hints that are found both times
+-- hints that are found both times have the same events
 found_agree : (c : StreamParams) (is_dropped : ℕ → Bool) (hints : List ℕ) (ds es : List Clause) (a b q r : History)
     → AreFound c is_dropped hints ds a
     → AreFound c is_dropped hints es b → NeverFork (a ++ q) (b ++ r) → a ≡ b
@@ -97,7 +97,7 @@ found_agree c is_dropped (h ∷ hints) (d ∷ ds) (e ∷ es) a b q r one two nev
     one.2 ∙ ap (λ x. x ++ one.1) same.asked
     ∙ ap (λ x. two.0 ++ x) (found_agree c is_dropped hints ds es one.1 two.1 q r one.4 two.4 same.following) ∙ sym two.2
 
--- hints can't both be found to refute and fail
+-- hints whose clauses refute in one judgement don't fail in the other
 never_both : (c : StreamParams) (is_dropped : ℕ → Bool) (n : List ℤ) (hints : List ℕ) (ds : List Clause) (a b q r : History) (fault : Fault)
     → AreFound c is_dropped hints ds a → Refutes n ds → FailsHints c is_dropped n hints b fault → NeverFork (a ++ q) (b ++ r) → ⊥
 never_both c is_dropped n [] [] a b q r fault found refutes fails never = refutes
@@ -136,7 +136,7 @@ by_agree (Ok d) n h hints es fs v w A B next (inr one) (inl two) = absurd (misle
 by_agree (Ok d) n h hints es fs v w A B next (inr one) (inr two) =
     (one.0 ∙ sym two.0, misleads_agree n d h hints v w one.1 two.1)
 
--- hints that fail both times
+-- hints that fail both times have the same events and the same fault
 hints_agree : (c : StreamParams) (is_dropped : ℕ → Bool) (n : List ℤ) (hints : List ℕ) (es fs q r : History) (v w : Fault)
     → FailsHints c is_dropped n hints es v → FailsHints c is_dropped n hints fs w → NeverFork (es ++ q) (fs ++ r) → SameFault es v fs w
 hints_agree c is_dropped n [] es fs q r v w a b never = (a.0 ∙ sym b.0, a.1 ∙ sym b.1)
@@ -149,7 +149,7 @@ hints_agree c is_dropped n (h ∷ hints) es fs q r v w a b never =
 
 -- Additions
 
--- if one is good, the other isn't bad
+-- if an addition is good in one judgement, it isn't bad in the other
 good_agrees : (c : StreamParams) (st : StreamContext) (id : ℕ) (lits : List ℤ) (hints : List ℕ) (es fs q r : History) (deleted : ℕ)
     (fault : Fault)
     → JudgesAddition c st id lits hints es Good → JudgesAddition c st id lits hints fs (Bad deleted fault) → NeverFork (es ++ q) (fs ++ r)
@@ -243,7 +243,7 @@ identities_agree c is_dropped earlier (id ∷ ids) es fs q r v w a b never =
 
 -- Imports
 
--- if one is good, the other isn't bad
+-- if an import is good in one judgement, it isn't bad in the other
 import_good : (c : StreamParams) (st : StreamContext) (id : ℕ) (lits : List ℤ) (es fs q r : History) (deleted : ℕ) (fault : Fault)
     → JudgesImport c st id lits es Good → JudgesImport c st id lits fs (Bad deleted fault) → NeverFork (es ++ q) (fs ++ r) → ⊥
 import_good c st id lits es fs q r deleted fault a (none, inl bad) never = bad.0 (a.identity, a.other)
@@ -288,7 +288,7 @@ import_agrees c st id lits es fs q r (Bad m v) (Bad n w) a b never =
       ]
     ]) a b) a.1 b.1)
 
--- one line after the same lines, with any events after it
+-- two judgements of one line after the same lines agree, whatever events come after it
 pub line_agrees : (c : StreamParams) (st : StreamContext) (line : StreamLine) (es fs q r : History) (v w : LineVerdict)
     → JudgesLine c st line es v → JudgesLine c st line fs w → NeverFork (es ++ q) (fs ++ r) → Agree es v fs w
 line_agrees c st (Addition id lits hints) es fs q r v w a b never = addition_agrees c st id lits hints es fs q r v w a b never

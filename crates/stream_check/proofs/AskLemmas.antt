@@ -55,7 +55,7 @@ asks_at ownerships.Own c h es r inside fetches = once c.stream h es r fetches
 asks_at ownerships.Foreign c h es r inside fetches = fetches
 asks_at ownerships.Outside c h es r inside fetches = absurd (inside refl)
 
--- who owns an identity of this owner, as stream s sees it
+-- this owner of an identity, as stream s sees it
 abbrev pub ownership_for : ℕ → Owner → Ownership
 ownership_for s o =
     elim o [
@@ -90,7 +90,7 @@ inside_owner p id is e = elim (eqb_tells id 0) [
   ]
 ]
 
--- a vacant first fetch and those after it are the fetches of a hint
+-- if an identity is fetched again while it is vacant and tries are left, these are a hint's fetches
 pub asks_again : (c : StreamParams) (h s most : ℕ) (es : History) (r : Reply) → IsIdentity c.layout h → s ≡ c.stream
     → most ≡ tries_on (ownership_of c h) c.tries → FetchesUpTo most s h es r → FetchesHint c h es r
 asks_again c h s most es r is stream tries fetches =
@@ -98,7 +98,7 @@ asks_again c h s most es r is stream tries fetches =
     (subst (λ (t : ℕ). FetchesUpTo (tries_on (ownership_of c h) c.tries) t h es r) stream
     (subst (λ (n : ℕ). FetchesUpTo n s h es r) tries fetches))
 
--- so is one fetch, if its reply isn't vacant
+-- a single fetch is enough for a hint if its reply isn't vacant
 pub asks_once : (c : StreamParams) (h s : ℕ) (r : Reply) → IsIdentity c.layout h → s ≡ c.stream → (r ≡ vacant → ⊥)
     → FetchesHint c h (fetch s h r ∷ []) r
 asks_once c h s r is stream other =

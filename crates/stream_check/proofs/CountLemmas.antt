@@ -25,7 +25,7 @@ put_other m id j slot ne = elim (eqb_tells j id) [
 
 -- A stream's own events, run by themselves
 
--- what an event of the stream finds at its own identity
+-- what the reply to the stream's publish or retire says about the identity
 unfoldable pub OwnAnswers : State → Event → Type 0
 OwnAnswers m (events.fetch s id r) = Unit {0}
 OwnAnswers m (events.publish s id c publishing.Done) = m id ≡ absent
@@ -37,11 +37,11 @@ unfoldable pub OwnRun : State → History → Type 0
 OwnRun m [] = Unit {0}
 OwnRun m (e ∷ es) = OwnAnswers m e × OwnRun (after m e) es
 
--- the states are the same at the stream's own identities
+-- the two states agree on the stream's own identities
 unfoldable pub SameOwn : LayoutValue → ℕ → State → State → Type 0
 SameOwn p s m n = (id : ℕ) → Owns p s id → m id ≡ n id
 
--- one event of the stream
+-- the reply to an event of the stream fits each state that agrees on the stream's own identities
 own_answers : (f : Cnf) (p : LayoutValue) (s : ℕ) (m n : State) (e : Event) (es : History) → stream_of e ≡ s → SameOwn p s m n
     → LegalFrom f p m (e ∷ es) → OwnAnswers n e
 unfolding OwnAnswers SameOwn
@@ -65,7 +65,7 @@ own_after f p s m n (events.retire t id retiring.Done) es mine same legal = λ j
     ∙ ap (λ x. if j == id then retire_slot x else n j) (same id (subst (λ x. Owns p x id) mine legal.1))
 own_after f p s m n (events.retire t id retiring.NotLive) es mine same legal = same
 
--- one event of another stream
+-- an event of another stream leaves the stream's own identities as they are
 other_after : (f : Cnf) (p : LayoutValue) (s : ℕ) (m n : State) (e : Event) (es : History) → stream_of e ≢ s → SameOwn p s m n
     → LegalFrom f p m (e ∷ es) → SameOwn p s (after m e) n
 unfolding SameOwn

@@ -29,7 +29,7 @@ lines_begin laws (l ∷ lines) (o ∷ all) left rest fit fits none e =
     let later = lines_begin laws lines all left rest fit.1 fits.1 none same.1 in
     (later.0, ap (λ x. x ∷ all) (sym same.0) ∙ ap (λ x. l ∷ x) later.1, later.2)
 
--- a whole line at the start is the first one
+-- a whole line at the start of the bytes is the first of their lines
 line_begins : TextLaws → (line : StreamLine) (all : List StreamLine) (more left rest : List ℕ) → IsWithinLimits line
     → AllByRecursion IsWithinLimits all → HasNoLine rest
     → left ≡ line_text line ++ more → left ≡ flat_map line_text all ++ rest → (others : List StreamLine) × (all ≡ line ∷ others)

@@ -34,7 +34,7 @@ own_bool false true false true h = sym (h refl)
 own_bool false true false false h = refl
 own_bool false false e b h = refl
 
--- the dropped identities after one more identity, a shared one or one of the stream's own
+-- one more identity was deleted: a shared one is dropped, one of the stream's own isn't
 dropped_shared : (c : StreamParams) (first earlier old new : List ℕ) (id : ℕ) → is_shared (ownership_of c id) ≡ true
     → AreDropped c first earlier old
     → ((j : ℕ) → is_among new j ≡ (is_among old j || id == j)) → AreDropped c first (earlier ++ id ∷ []) new
@@ -149,7 +149,7 @@ dropped_until c first earlier old new id es stop before deletes =
 
 -- One after the other
 
--- a judgement of the remaining identities gives a judgement of all
+-- a judgement of the remaining identities gives a judgement of all identities
 abbrev pub GoesOn : StreamParams → List ℕ → List ℕ → History → Type 0
 GoesOn c first earlier es = (more : List ℕ) (rest : History) (v : LineVerdict)
     → JudgesDeletion c (is_among first) earlier more rest v → JudgesDeletion c (is_among first) [] (earlier ++ more) (es ++ rest) v
@@ -164,18 +164,18 @@ goes_on c first earlier old new id es fs before dropped deletes more rest v judg
     (subst (λ (ids : List ℕ). JudgesDeletion c (is_among first) [] ids (es ++ (fs ++ rest)) v) (sym (append_assoc earlier (id ∷ []) more))
     (before (id ∷ more) (fs ++ rest) v here))
 
--- the identity that is deleted, among the others
+-- a list is the elements before one of them, that element, and those after it
 pub among_ids : (ids : List ℕ) (i : ℕ) → i < length ids → ids ≡ take i ids ++ get_or ids i 0 ∷ drop (i + 1) ids
 among_ids ids i lt = sym (take-append-drop i ids) ∙ ap (λ (js : List ℕ). take i ids ++ js) (rw (add-one, drop-cons ids i 0) refl)
 
--- the identities before it are good
+-- the identities that were deleted so far are judged good
 good_front : (c : StreamParams) (first earlier : List ℕ) (es : History) → GoesOn c first earlier es
     → JudgesDeletion c (is_among first) [] earlier es Good
 good_front c first earlier es before =
     subst (λ (ids : List ℕ). JudgesDeletion c (is_among first) [] ids es Good) (append-nil earlier)
     (subst (λ (x : History). JudgesDeletion c (is_among first) [] (earlier ++ []) x Good) (append-nil es) (before [] [] Good (refl, refl)))
 
--- the deletion stops at an identity: it is bad, or there is no memory for it
+-- the deletion stops at an identity, because the identity is bad or there is no memory for it
 pub stopped_deletion : (c : StreamParams) (first earlier old new : List ℕ) (id : ℕ) (later ids : List ℕ) (es fs : History) (stop : LineStop)
     → ids ≡ earlier ++ id ∷ later → GoesOn c first earlier es → AreDropped c first earlier old
     → DeletesOne c id old new fs (Err stop) → Deletes c first new ids (es ++ fs) (length earlier) (Err stop)
@@ -207,7 +207,7 @@ stopped_deletion c first earlier old new id later ids es fs stops.Memory is befo
       dropped_until c first earlier old new id fs stops.Memory dropped deletes,
     )
 
--- all are deleted
+-- if all identities are deleted, the deletion is good
 pub good_deletion : (c : StreamParams) (first earlier ids : List ℕ) (es : History) → earlier ≡ ids → GoesOn c first earlier es
     → JudgesDeletion c (is_among first) [] ids es Good
 good_deletion c first earlier ids es is before =

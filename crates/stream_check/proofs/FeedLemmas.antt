@@ -1,4 +1,4 @@
--- A checker after a piece.
+-- A checker after a piece of its stream.
 use Rattle.std.specs.Fmt.{decimal, signed_decimal}
 use Rattle.std.proofs.Common.{◌≡◌, ℕ, Bool, true, false, List, [], ◌∷◌, ◌++◌, length, take, Option, None, Some, Ok, refl, sym, ap}
 use Rattle.std.proofs.Common.{subst, ◌∙◌, append_assoc, arith}
@@ -44,11 +44,11 @@ pub none_of : (o : Option Ending) → is_some o ≡ false → o ≡ None
 none_of None none = refl
 none_of (Some ending) none = absurd (cc)
 
--- if a checker is unfinished, nothing is claimed about a finished one
+-- a checker isn't both unfinished and finished
 pub not_finished : {A : Type 0} (old : Option Ending) (ending : Ending) → old ≡ None → old ≡ Some ending → A
 not_finished old ending none some = absurd (let e : None ≡ Some ending = sym none ∙ some in cc)
 
--- a line is taken
+-- if a line extends the state that a checker holds, it extends the checker's state, too
 pub feeds_line : (h n : StreamStateValue) (read : List ℕ) (r : ReaderState) (used : List ℕ) (blocks : List History) (free left : ℕ)
     (ending : Option Ending) → ending ≡ None → r ≡ Ok []
     → Extends h.params (Going (hold h read free)) used blocks (Going (hold n [] left))
@@ -59,7 +59,7 @@ feeds_line h n read r used blocks free left ending none reads reaches =
     (subst (λ (text : List ℕ). Extends h.params (Going (hold h read free)) used blocks (Going (hold n text left)))
     (sym (ap read_of reads)) reaches)
 
--- the start of a line is taken
+-- only the start of a line is taken
 pub feeds_more : (h : StreamStateValue) (read : List ℕ) (r : ReaderState) (piece : List ℕ) (used free : ℕ) (ending : Option Ending)
     → ending ≡ None → r ≡ Ok (read ++ piece) → used ≡ length piece → IsPending (read ++ piece)
     → Extends h.params (checker_state (value_of h read ending) free) (take used piece) []
@@ -72,7 +72,7 @@ feeds_more h read r piece used free ending none reads all pending =
     (subst (λ (b : List ℕ). Extends h.params (Going (hold h read free)) b [] (Going (hold h (read ++ piece) free)))
     (sym (take_all used piece (omega (arith, all)))) (reaches_front h free read piece pending)))
 
--- and the lines are cut as before
+-- with more bytes of an unfinished line, the lines are cut as before
 pub front_cut : (bytes pending piece : List ℕ) (lines : List StreamLine) → IsPending (pending ++ piece) → Cut bytes lines pending
     → Cut (bytes ++ piece) lines (pending ++ piece)
 front_cut bytes pending piece lines front cut = record {
@@ -92,7 +92,7 @@ no_line (Addition id lits hints) more fits e =
 no_line (Import id lits) more fits e = ends_later (decimal id) (letter_i ∷ list_text (map signed_decimal lits)) more space e
 no_line (Deletion lead ids) more fits e = ends_later (decimal lead) (letter_d ∷ list_text (map decimal ids)) more space e
 
--- one more line is cut off
+-- bytes that complete a line add it to the lines
 pub line_cut : (bytes pending used : List ℕ) (lines : List StreamLine) (line : StreamLine) → LineText line (pending ++ used)
     → Cut bytes lines pending → Cut (bytes ++ used) (lines ++ line ∷ []) []
 line_cut bytes pending used lines line text cut = record {
@@ -113,7 +113,7 @@ ready_inside h read ending v p is ready =
 pub reads_on : (r : ReaderState) (read : List ℕ) → r ≡ Ok read → r ≡ Ok (read_of r)
 reads_on r read e = e ∙ ap (λ (b : List ℕ). Ok b) (sym (ap read_of e))
 
--- the checker is finished
+-- if bytes finish the state that a checker holds, they finish the checker
 pub feeds_finished : (h : StreamStateValue) (read used : List ℕ) (blocks : List History) (free : ℕ) (ending : Option Ending)
     (report : Report)
     (is_dropped : ℕ → Bool) → ending ≡ None
@@ -142,7 +142,7 @@ reports_finished end v ending finished bytes blocks free reaches = (
       (subst (λ (o : Option Ending). ReachesState v.params bytes blocks (state_by v free o)) finished reaches).0,
 )
 
--- an unfinished one then has this ending
+-- an unfinished checker gets this ending
 pub ends_now : (end : StreamEnd) (old new : CheckerValue) → old.ending ≡ None → new.params ≡ old.params → new.tally ≡ old.tally
     → new.ending ≡ Some (ending_at end old.pending old.line) → new.last ≡ old.last → new.dropped ≡ old.dropped → Ends end old new
 ends_now end old new none params tally ending last dropped =
@@ -160,7 +160,7 @@ reports_now end old new none tally ending bytes blocks free reaches =
           (end_judged old.params bytes blocks (going_of old free) end going),
     )
 
--- the end of the stream, with a line open or with none
+-- the end of the stream, in the middle of a line or between lines
 
 pub ended_clean : (r : ReaderState) (line : ℕ) → r ≡ Ok [] → ending_at stream_ends.Ended (read_of r) line ≡ endings.Ended
 ended_clean r line reads = ap (λ (s : ReaderState). ending_at stream_ends.Ended (read_of s) line) reads

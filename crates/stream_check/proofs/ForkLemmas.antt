@@ -29,12 +29,12 @@ pub never_fork_alone : (g : History) → NeverFork g g
 never_fork_alone [] = tt
 never_fork_alone (d ∷ g) = (λ same. refl, λ is. never_fork_alone g)
 
--- after the same events
+-- if lists with the same first events never fork, neither do the rests
 pub never_fork_after : (a g h : History) → NeverFork (a ++ g) (a ++ h) → NeverFork g h
 never_fork_after [] g h never = never
 never_fork_after (d ∷ a) g h never = never_fork_after a g h (never.1 refl)
 
--- k vacant fetches, one more fetch
+-- k vacant fetches, and one more fetch
 abbrev pub fetches : ℕ → ℕ → ℕ → Reply → History
 fetches s id k r = replicate k (fetch s id vacant) ++ fetch s id r ∷ []
 

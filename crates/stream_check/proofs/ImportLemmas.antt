@@ -1,4 +1,4 @@
--- An import is compared.
+-- An import's literals are compared with those of the clause that was found.
 use Rattle.std.proofs.Common.{◌≡◌, ◌≤◌, ◌==◌, ◌∙◌, ℕ, ℤ, nat_abs, true, false, List, [], Ok, Err, inl, inr, refl, sym, ap, eq-eqb}
 use Rattle.std.specs.Prelude.{◌↔◌}
 use Rattle.std.specs.List.{AllByRecursion}

@@ -14,7 +14,7 @@ use Rattle.stream_check.specs.Judging.{joined}
 use Rattle.stream_check.specs.Laws.{LegalNeverFork, AloneDecides}
 use Rattle.stream_check.proofs.StreamLemmas.{TextLaws, replies_decide}
 
--- the reply to a fetch, from the slot
+-- the reply to a fetch is the one that the slot gives
 FetchAnswers : Slot → Reply → Type 0
 FetchAnswers slot events.vacant = slot ≡ absent
 FetchAnswers slot (events.live c) = slot ≡ live c
@@ -51,7 +51,7 @@ same_retired m s id retiring.Done retiring.NotLive a b = absurd (b a)
 same_retired m s id retiring.NotLive retiring.Done a b = absurd (a b)
 same_retired m s id retiring.NotLive retiring.NotLive a b = refl
 
--- a call has one reply in a state
+-- in one state a call has only one reply
 same_event : (m : State) (d e : Event) → IsSameCall d e → Answers m d → Answers m e → d ≡ e
 same_event m (events.fetch s id r) (events.fetch t j q) same a b =
     let here = subst (λ k. Answers m (events.fetch t k q)) (sym same.1) b in

@@ -37,7 +37,7 @@ use Rattle.stream_check.specs.lemmas.StoppingLemmas.{drops_none}
 
 -- The view after only fetches
 
--- what the earlier view had at one of the stream's own identities
+-- an identity that is the stream's own in the later view is its own in the earlier one
 own_before : (p q : CallerView) (es : History) (j : ℕ) → CallerStep p q es → Owns q.caller.layout q.caller.stream j
     → Owns p.caller.layout p.caller.stream j
 own_before p q es j step theirs = subst (λ (r : Caller). Owns r.layout r.stream j) step.caller theirs
@@ -80,7 +80,7 @@ spent-retires s (events.retire t id r ∷ es) h = spent-skips (events.retire t i
 pub room_retires : (p q : CallerView) (es : History) → CallerStep p q es → AllByRecursion IsRetire es → q.room ≡ p.room
 room_retires p q es step quiet = omega (arith, step.room, spent-retires p.caller.stream es quiet)
 
--- after the retires of a deletion
+-- the next line can be checked after the retires of a deletion
 pub ready_retires : (old new : StreamStateValue) (p q : CallerView) (es : History) → CallerStep p q es → AllByRecursion IsRetire es
     → KeepsLines old new → IsReady old p → IsReady new q
 ready_retires old new p q es step quiet kept ready = record {
@@ -146,7 +146,7 @@ empty_is : (b : Bool) (lits : List ℤ) → b ≡ (length lits == 0) → b ≡ (
 empty_is b [] is = is
 empty_is b (l ∷ lits) is = is ∙ eqb-suc-zero (length lits) ∙ sym (ap (λ x. x || false) (eqb-suc-zero _))
 
--- with one more addition
+-- what a checker holds after one more good addition
 pub takes_addition : (old : StreamStateValue) (free left : ℕ) (id : ℕ) (lits : List ℤ) (hints : List ℕ) (es : History)
     (is_empty within_cube : Bool)
     → is_empty ≡ (length lits == 0) → within_cube ≡ is_within old.params.cube (distinct lits) → left ≡ free - length (distinct lits)
@@ -175,7 +175,7 @@ takes_addition old free left id lits hints es is_empty within_cube is within roo
   },
 )
 
--- with one more line that adds nothing
+-- what a checker holds after one more good deletion or import
 pub takes_deletion : (old mid : StreamStateValue) (free left : ℕ) (lead : ℕ) (ids : List ℕ) (es : History) (count : ℕ) → KeepsLines old mid
     → deleted_at mid ≡ capped (deleted_at old + count) → left ≡ free
     → Deletes old.params old.dropped.ids mid.dropped.ids ids es count (Ok tt)

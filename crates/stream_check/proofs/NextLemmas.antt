@@ -29,7 +29,8 @@ record HasNext (c : StreamParams) (st : StreamContext) (text : List ℕ) (blocks
   verdict : LineVerdict
   judged : JudgesLine c st line block verdict
 
--- or it contains no whole line, and there is no block
+-- the text begins with a line, whose events are the first block; or it contains no whole line, and
+-- there is no block
 abbrev Next : StreamParams → StreamContext → List ℕ → List History → Type 0
 Next c st text blocks = HasNext c st text blocks ⊎ ((blocks ≡ []) × HasNoLine text)
 
@@ -54,7 +55,7 @@ next_at_end laws c lines rest end back report (at_bad_text fault text no_block s
     inr (no_block, faulty_has_no_line laws rest fault text)
 next_at_end laws c lines rest end back report (at_end pending no_block says, no_memory) = inr (no_block, pending.whole)
 
--- what comes after good lines
+-- after good lines comes a line with the next block, or there is no whole line and no block
 next_of : TextLaws
     → (c : StreamParams) (before lines all : List StreamLine) (rest : List ℕ) (end : StreamEnd) (front back : List History)
     (report : Report)
@@ -77,7 +78,7 @@ next_of laws c before (l ∷ lines) all rest end (b ∷ front) back report is fi
       judged = good.0;
     })
 
--- after the same text, two of these continue alike
+-- two lists of blocks for the same text continue alike
 next_alike : TextLaws → (c : StreamParams) (st : StreamContext) (text : List ℕ) (xs ys : List History) → Next c st text xs
     → Next c st text ys → GoAlike xs ys
 next_alike laws c st text xs ys (inl a) (inl b) =

@@ -31,7 +31,7 @@ use Rattle.stream_check.specs.Laws.{DecidedBeforeFailure}
 use Rattle.stream_check.specs.lemmas.ContextLemmas.{context_of-snoc, counts_of, tally_is, tally_says, counts_of-snoc, same_context}
 use Rattle.stream_check.specs.lemmas.StoppingLemmas.{drops_none}
 
--- one more good line, with its block
+-- if one more line is good with its block, all lines are
 good_snoc : (c : StreamParams) (before lines : List StreamLine) (blocks : List History) (line : StreamLine) (block : History)
     → AreGood c before lines blocks → JudgesLine c (context_of c (before ++ lines)) line block Good
     → AreGood c before (lines ++ line ∷ []) (blocks ++ block ∷ [])
@@ -45,11 +45,11 @@ good_snoc c before (l ∷ lines) (b ∷ blocks) line block good judged = (
       (subst (λ ls. JudgesLine c (context_of c ls) line block Good) (sym (append_assoc before (l ∷ []) lines)) judged),
 )
 
--- more bytes after the texts of lines
+-- more bytes after the texts of lines make the rest longer
 text_grows : (texts bytes rest piece : List ℕ) → bytes ≡ texts ++ rest → bytes ++ piece ≡ texts ++ (rest ++ piece)
 text_grows texts bytes rest piece e = ap (λ b. b ++ piece) e ∙ append_assoc texts rest piece
 
--- and these bytes are one more line
+-- if the rest, with more bytes, is the text of a line, it is one more line
 pub line_grows : (lines : List StreamLine) (line : StreamLine) (bytes rest piece : List ℕ) → bytes ≡ flat_map line_text lines ++ rest
     → rest ++ piece ≡ line_text line → bytes ++ piece ≡ flat_map line_text (lines ++ line ∷ []) ++ []
 line_grows lines line bytes rest piece e whole =
@@ -85,7 +85,7 @@ fresh_left texts none c now fresh =
       line = fresh.line;
     }
 
--- more bytes of a line
+-- more bytes of an unfinished line are pending, too
 pub pending_grows : (c : StreamParams) (bytes piece : List ℕ) (blocks : List History) (old : GoingState)
     → ReachesState c bytes blocks (Going old) → IsPending (old.pending ++ piece)
     → ReachesState c (bytes ++ piece) blocks (Going (record old { pending = old.pending ++ piece }))
@@ -143,7 +143,7 @@ good_line_taken texts none c bytes piece blocks block old new line before text j
       line = taken.line ∙ ap (λ n. min (n + 1) (2 ^ 64 - 1)) before.line ∙ next_number lines line;
     }
 
--- A stream that ends in some way after the good lines that a checker holds.
+-- The judgement of a stream that ends in some way after the good lines of an unfinished checker.
 ends_after : (c : StreamParams) (bytes piece : List ℕ) (blocks back : List History) (old : GoingState) (end : StreamEnd) (report : Report)
     → (before : ReachesGoing c bytes blocks old)
     → EndsAfter c before.lines (old.pending ++ piece) end back report
@@ -160,7 +160,7 @@ ends_after c bytes piece blocks back old end report before ends = record {
   ends = ends;
 }
 
--- the report is the same from what the checker holds and from the lines
+-- the report made of what the checker holds is the report of the lines
 held_report : (c : StreamParams) (bytes : List ℕ) (blocks : List History) (old : GoingState) (ending : ℕ → Ending)
     → (before : ReachesGoing c bytes blocks old)
     → report_of_tally old.tally (ending old.line) ≡ report_of c before.lines 0 (ending (capped (length before.lines + 1)))
@@ -171,7 +171,7 @@ held_report c bytes blocks old ending before =
 abbrev with_deleted : Tally → ℕ → Tally
 with_deleted t deleted = record t { deleted = capped (t.deleted + deleted) }
 
--- the same if more identities were deleted
+-- the report made of what the checker holds, with more deleted identities, is that of the lines
 held_more : (c : StreamParams) (bytes : List ℕ) (blocks : List History) (old : GoingState) (deleted : ℕ) (ending : ℕ → Ending)
     → (before : ReachesGoing c bytes blocks old)
     → report_of_tally (with_deleted old.tally deleted) (ending old.line)
@@ -183,7 +183,7 @@ held_more c bytes blocks old deleted ending before =
     ∙ ap (λ (n : ℕ). record r { deleted = n }) count
     ∙ ap (λ n. report_of c before.lines deleted (ending n)) before.line
 
--- and what was dropped up to there
+-- what a stream has dropped at the line that stops it
 held_drops : (c : StreamParams) (bytes piece : List ℕ) (blocks back all : List History) (old : GoingState) (ids : List ℕ)
     (is_dropped : ℕ → Bool) (report : Report) → all ≡ blocks ++ back
     → (before : ReachesGoing c bytes blocks old) → StopsAtLine report.ending (capped (length before.lines + 1))
@@ -209,7 +209,7 @@ held_drops c bytes piece blocks back all old ids is_dropped report split before 
 whole_text : (line : StreamLine) (bytes : List ℕ) → LineText line bytes → bytes ≡ line_text line ++ []
 whole_text line bytes text = text.1 ∙ sym (append-nil (line_text line))
 
--- a bad line, which deleted these identities before its fault
+-- the state after a bad line, which deleted these identities before its fault
 pub bad_line_taken : (c : StreamParams) (bytes piece : List ℕ) (blocks : List History) (block : History)
     (old : GoingState) (line : StreamLine) (ids later : List ℕ) (fault : Fault) (is_dropped : ℕ
     → Bool)
@@ -234,7 +234,7 @@ bad_line_taken c bytes piece blocks block old line ids later fault is_dropped be
           (inr (line, text.0, later, [], whole, deletes)) (ap (λ (r : Report). r.deleted) says) drops,
     )
 
--- a deletion that ran out of memory, after these identities
+-- the state after a deletion that ran out of memory, after these identities
 pub memory_wanted : (c : StreamParams) (bytes piece : List ℕ) (blocks : List History) (block : History)
     (old : GoingState) (lead : ℕ) (ids earlier : List ℕ) (is_dropped : ℕ → Bool)
     → ReachesState c bytes blocks (Going old) → LineText (Deletion lead ids) (old.pending ++ piece)
@@ -261,7 +261,7 @@ memory_wanted c bytes piece blocks block old lead ids earlier is_dropped before 
 refused_alone : (bytes : List ℕ) (fault : LineFault) → IsRefused bytes fault → HasTextFault bytes fault
 refused_alone bytes fault refused = (bytes, [], sym (append-nil bytes), refused)
 
--- a text that no line begins with
+-- the state after a text that no line begins with
 pub bad_text_read : (c : StreamParams) (bytes piece : List ℕ) (blocks : List History) (old : GoingState)
     (fault : LineFault)
     → ReachesState c bytes blocks (Going old) → IsRefused (old.pending ++ piece) fault

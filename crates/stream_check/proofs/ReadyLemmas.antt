@@ -1,4 +1,4 @@
--- When a checker can be fed: at a map that was just opened, and still after other streams' calls.
+-- When a checker can be fed: on a map that was just opened, and still after other streams' calls.
 use Rattle.std.proofs.Common.{◌≢◌, ◌≡◌, ℕ, sym, ap, ap₂, subst, ◌∙◌}
 use Rattle.std.specs.List.{AllByRecursion}
 use Rattle.lrup_model.specs.Formula.{Cnf}
@@ -25,8 +25,8 @@ ready_new f layout cube stream tries v p new fits caller own = record {
       let here = subst (λ (c : Caller). Owns c.layout c.stream id) caller owns in own id here ∙ opening-owned f layout stream id fits here;
 }
 
--- after legal events of other streams, if the stream's own identities are as these events leave
--- them
+-- a checker can still be fed after legal events of other streams, if the stream's own identities
+-- are as these events leave them
 pub ready_stays : (v : CheckerValue) (p q : CallerView) (es : History)
     → IsReadyAt v p → q.caller ≡ p.caller
     → LegalFrom p.caller.formula p.caller.layout p.own es

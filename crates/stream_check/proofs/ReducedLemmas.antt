@@ -1,4 +1,4 @@
--- A line without the vacant fetches of what it found later.
+-- A line without the vacant fetches of hints that were found later.
 use Rattle.std.proofs.Common.{◌≡◌, ◌&&◌, ℕ, zero, suc, Bool, true, false, not, List, [], ◌∷◌, ◌++◌, map, Result}
 use Rattle.std.proofs.Common.{replicate, inl, inr, refl, sym, ap, ◌∙◌, arith, append_assoc, append-nil}
 use Rattle.std.specs.List.{list_all}
@@ -69,7 +69,7 @@ vacants_all : (s id k : ℕ)
 vacants_all s id zero = refl
 vacants_all s id (suc k) = vacants_all s id k
 
--- a hint that wasn't found
+-- all fetches of a hint that wasn't found are vacant
 missing_at : (ownership : Ownership) (c : StreamParams) (h : ℕ) (asked : History) → FetchesHintAt ownership c h asked events.vacant
     → list_all is_vacant asked ≡ true
 missing_at ownerships.Formula c h asked asks = ap (list_all is_vacant) asks
@@ -77,7 +77,7 @@ missing_at ownerships.Own c h asked asks = ap (list_all is_vacant) asks
 missing_at ownerships.Foreign c h asked asks = ap (list_all is_vacant) asks.3 ∙ vacants_all c.stream h asks.0
 missing_at ownerships.Outside c h asked asks = ap (list_all is_vacant) asks.0
 
--- a look-up without the vacant fetches of what it found later
+-- a look-up has the same answer without the vacant fetches of a hint that was found later
 asks_reduced : (reply : Reply) (c : StreamParams) (is_dropped : ℕ → Bool) (h : ℕ) (asked rest : History) (answer : Result Clause Fault)
     → is_dropped h ≡ false → FetchesHint c h asked reply → answer ≡ answer_of h reply → (answer ≡ answer_of h events.vacant → rest ≡ [])
     → LooksOn c reduced is_dropped h asked rest answer

@@ -13,7 +13,7 @@ use Rattle.stream_check.specs.StreamContext.{context_of, is_among, deleted_by}
 use Rattle.stream_check.specs.Stopping.{StopsAtLine}
 use Rattle.stream_check.specs.lemmas.StoppingLemmas.{AreDeletedFirst}
 
--- two equally long lists of lines at the start of the same bytes are equal, and so is the rest
+-- two equally long lists of lines at the start of the same bytes are equal, and so are the rests
 same_lines : OneFirstLine → (lines others : List StreamLine) (rest left : List ℕ) → AllByRecursion IsWithinLimits lines
     → AllByRecursion IsWithinLimits others → length lines ≡ length others
     → flat_map line_text lines ++ rest ≡ flat_map line_text others ++ left → (lines ≡ others) × (rest ≡ left)
@@ -26,7 +26,7 @@ same_lines law (l ∷ lines) (o ∷ others) rest left fit fits count e =
     let later = same_lines law lines others rest left fit.1 fits.1 (omega (arith, count)) same.1 in
     (ap (λ x. x ∷ lines) same.0 ∙ ap (λ x. o ∷ x) later.0, later.1)
 
--- and two equally long lists of identities
+-- two equally long lists of identities at the start of the same list are equal
 same_ids : (ids others later more : List ℕ) → length ids ≡ length others → ids ++ later ≡ others ++ more → ids ≡ others
 same_ids [] [] later more count e = refl
 same_ids [] (o ∷ others) later more count e = absurd (omega (arith, count))

@@ -57,7 +57,7 @@ same_first laws l o m n a b e =
     ] in
     (same_text laws l o a b same, append_cancel_left (line_text o) m n (subst (λ t. t ++ m ≡ line_text o ++ n) same e))
 
--- a line that begins with what was read, and isn't whole yet, continues with the byte
+-- a line that begins with what was read is whole already, or may continue with the next byte
 goes_on : (read : List ℕ) (byte : ℕ) (after more text x : List ℕ) → IsLine standard text → text ≡ read ++ x
     → read ++ (byte ∷ after) ≡ text ++ more → (text ≡ read) ⊎ Begins (read ++ byte ∷ [])
 goes_on read byte after more text [] whole e split = inl (e ∙ append-nil read)

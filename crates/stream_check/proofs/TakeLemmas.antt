@@ -27,14 +27,14 @@ report_is old new ids ending more =
     let of : ℕ → StreamStateValue → Report = λ d v. report_of_tally (record (tally_at v) { deleted = d }) (ending v.line) in
     ap (λ d. of d old) (sym more.deleted) ∙ ap (of (deleted_at new)) (sym more.kept)
 
--- a good line
+-- a good line leads to the state after it
 pub reaches_good : GoodLineTaken → (old new : StreamStateValue) (free left : ℕ) (read used : List ℕ) (line : StreamLine) (es : History)
     → LineText line (read ++ used) → TakesBy old free new left line es (Ok tt)
     → Extends old.params (Going (hold old read free)) used (es ∷ []) (Going (hold new [] left))
 reaches_good law old new free left read used line es text takes bytes before reaches =
     law old.params bytes used before es (hold old read free) (hold new [] left) line reaches text takes.0 (takes.1 read)
 
--- a line that stopped the stream
+-- a line that stopped the stream leads to a finished state
 pub reaches_stopped : (old new : StreamStateValue) (free left : ℕ) (read used : List ℕ) (line : StreamLine) (es : History) (stop : LineStop)
     → LineText line (read ++ used) → TakesBy old free new left line es (Err stop)
     → Extends old.params (Going (hold old read free)) used (es ∷ [])
@@ -50,14 +50,14 @@ reaches_stopped old new free left read used line es stops.Memory text takes byte
     (memory_wanted old.params bytes used before es (hold old read free) takes.0 takes.1 takes.2 (is_among new.dropped.ids) reaches
     (subst (λ (l : StreamLine). LineText l (read ++ used)) takes.3 text) takes.4 takes.5.dropped)
 
--- the start of a line
+-- the start of a line leads to a state in which it is pending
 pub reaches_front : (old : StreamStateValue) (free : ℕ) (read piece : List ℕ) → IsPending (read ++ piece)
     → Extends old.params (Going (hold old read free)) piece [] (Going (hold old (read ++ piece) free))
 reaches_front old free read piece pending bytes before reaches =
     subst (λ (blocks : List History). ReachesState old.params (bytes ++ piece) blocks (Going (hold old (read ++ piece) free)))
     (sym (append-nil before)) (pending_grows old.params bytes piece before (hold old read free) reaches pending)
 
--- a text that no line begins with
+-- a text that no line begins with leads to a finished state
 pub reaches_refused : (old : StreamStateValue) (free : ℕ) (read used : List ℕ) (fault : LineFault) → IsRefused (read ++ used) fault
     → Extends old.params (Going (hold old read free)) used []
     (Over (report_of_tally (tally_at old) (endings.Bad old.line (faults.Text fault))) (is_among old.dropped.ids))

@@ -1,4 +1,4 @@
--- An identity is looked up, and then hints, one after the other.
+-- Lemmas about the look-up of one identity, and about hints, one after the other.
 use Rattle.std.proofs.Common.{◌≡◌, ◌≤◌, ◌+◌, ◌∙◌, ℕ, ℤ, neg_ℤ, Bool, List, [], ◌∷◌, ◌++◌, length, Ok, Err, inl, inr, refl}
 use Rattle.std.proofs.Common.{sym, ap, subst, arith, append_assoc, append-nil}
 use Rattle.std.specs.Prelude.{replicate}
@@ -22,23 +22,23 @@ use Rattle.stream_check.specs.Additions.{Misleads, FailsHints}
 use Rattle.stream_check.specs.Checker.{IsViewOf}
 use Rattle.stream_check.specs.internal.Checking.{Shows, excess_of}
 
--- one more at the end
+-- k copies and one more at the end are k + 1 copies
 pub replicate-more : (k : ℕ) (e : Event) → replicate k e ++ e ∷ [] ≡ replicate (k + 1) e
 replicate-more k e = replicate-append-replicate k 1 e
 
--- the clause of a known clip follows, in terms of the earlier view
+-- the clause of a clip that is known in the later view follows from the earlier view's formula
 pub derived_before : (p q : CallerView) (es : History) (clip : ClipValue) → CallerStep p q es → IsKnown q clip → AllFollow q
     → IsDerived p.caller.formula (clip_clause q clip)
 derived_before p q es clip step known follow =
     subst (λ (f : Cnf). IsDerived f (clip_clause q clip)) (ap (λ (r : Caller). r.formula) step.caller) (known_follows q clip follow known)
 
--- the formula's variables are those of the stream's layout, in terms of the earlier view
+-- in the earlier view, too, the formula's variables are those of the stream's layout
 pub variables_before : (c : StreamParams) (p q : CallerView) (es : History) → IsViewOf c p → CallerStep p q es
     → q.caller.formula.vars ≡ q.caller.layout.vars → p.caller.formula.vars ≡ c.layout.vars
 variables_before c p q es at step there = subst (λ (r : Caller). r.formula.vars ≡ r.layout.vars) step.caller there
     ∙ ap (λ (l : LayoutValue). l.vars) at.layout
 
--- so the marks cover all of them
+-- marks that cover the layout's variables cover all variables of the formula
 pub variables_fit : (c : StreamParams) (p q : CallerView) (es : History) (vars : ℕ) → IsViewOf c p → CallerStep p q es
     → q.caller.formula.vars ≡ q.caller.layout.vars → c.layout.vars ≤ vars → q.caller.formula.vars ≤ vars
 variables_fit c p q es vars at step there most =
@@ -51,7 +51,7 @@ pub all_derived : (f : Cnf) (cs : List Clause) (d : Clause) → AllByRecursion (
 all_derived f [] d h k = (k, tt)
 all_derived f (c ∷ cs) d h k = (h.0, all_derived f cs d h.1 k)
 
--- The hints so far have these clauses, which are unit, one after the other, and follow; and the
+-- The hints so far have these clauses, which follow, and are unit one after the other; and the
 -- result of the remaining hints gives the result of all.
 pub record HasLed (c : StreamParams) (is_dropped : ℕ → Bool) (f : Cnf) (n : List ℤ) (hints : List ℕ) (m : List ℤ) (left : List ℕ)
     (es : History) : Type 0 where
@@ -65,7 +65,7 @@ pub record HasLed (c : StreamParams) (is_dropped : ℕ → Bool) (f : Cnf) (n : 
 
 module _ (c : StreamParams) (is_dropped : ℕ → Bool) (f : Cnf) (n m : List ℤ) (hints : List ℕ) (h : ℕ) (left rest : List ℕ) (es fs : History)
     (is : left ≡ h ∷ rest) (before : HasLed c is_dropped f n hints m left es) where
-  -- the next hint fails
+  -- if the next hint fails, so do all hints together
   next_fails : (fault : Fault) → FailsHints c is_dropped m (h ∷ rest) fs fault → FailsHints c is_dropped n hints (es ++ fs) fault
   next_fails fault fails = before.fails fs fault (subst (λ (hs : List ℕ). FailsHints c is_dropped m hs fs fault) (sym is) fails)
 
@@ -74,7 +74,7 @@ module _ (c : StreamParams) (is_dropped : ℕ → Bool) (f : Cnf) (n m : List �
       next_fails fault (fs, [], sym (append-nil fs), Err fault, looks, (refl, refl))
 
   module _ (d : Clause) (looks : LooksUp c is_dropped h fs (Ok d)) where
-    -- its clause is found
+    -- the next hint's clause is found
     next_found : (ds : List Clause) (more : History) → AreFound c is_dropped rest ds more
         → AreFound c is_dropped hints ((before.clauses ++ d ∷ []) ++ ds) ((es ++ fs) ++ more)
     next_found ds more found =
@@ -94,7 +94,7 @@ module _ (c : StreamParams) (is_dropped : ℕ → Bool) (f : Cnf) (n m : List �
           (fs, more, refl, Ok d, looks, inl (l, unit, fails))));
     }
 
-    -- its clause doesn't help
+    -- the next hint's clause doesn't help
     misled : (fault : Fault) → Misleads m d h rest fault → FailsHints c is_dropped n hints (es ++ fs) fault
     misled fault misleads = next_fails fault (fs, [], sym (append-nil fs), Ok d, looks, inr (refl, misleads))
 
@@ -117,7 +117,7 @@ module _ (c : StreamParams) (is_dropped : ℕ → Bool) (f : Cnf) (n m : List �
           | (i ∷ more) ↦ λ some. misled (faults.Excess i) (inr (conflict, i, more, sym some, refl))
         ] refl
 
--- no hint is left
+-- if no hint is left, there is no conflict
 pub shows_none : (c : StreamParams) (is_dropped : ℕ
     → Bool) (f : Cnf) (n : List ℤ) (hints : List ℕ) (m : List ℤ) (left : List ℕ) (es : History)
     → length left ≡ 0 → HasLed c is_dropped f n hints m left es → Shows c is_dropped f n hints es (Err faults.NoConflict)

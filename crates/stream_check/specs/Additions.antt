@@ -17,9 +17,9 @@ use Rattle.stream_check.specs.Verdicts.{LineVerdict, Good, Bad, Violates}
 use Rattle.stream_check.specs.Lookup.{AreFound, LooksUp}
 
 -- An addition is valid: its identity is the stream's own, and above the last one that was added, or
--- the formula's last one if none was; its literals are over the variables; there is room for its
--- clause, in literals; and the clauses that its hints name derive its clause, which isn't a
--- tautology, by propagation.
+-- the formula's last one if none was; its literals are over the variables; its clause has no more
+-- literals than there is room for, and isn't a tautology; and the clauses that its hints name
+-- derive this clause by propagation.
 pub record IsValidAddition (layout : LayoutValue) (stream last free : ℕ)
     (Names : List ℕ → List Clause → Type 0) (id : ℕ) (lits : List ℤ)
     (hints : List ℕ) : Type 0 where
@@ -42,8 +42,8 @@ BeforeHints params context id lits history fault Next =
     (Violates (¬ IsTautology lits) faults.Tautology history fault
     (Violates (length (distinct lits) ≤ context.free) faults.NoRoom history fault Next)))
 
--- A hint's clause doesn't help: it is neither unit nor a conflict; or it is a conflict, and another
--- hint comes after it.
+-- A hint's clause doesn't help: it is neither unit nor a conflict; or it is a conflict, but another
+-- hint follows.
 abbrev pub Misleads : List ℤ → Clause → ℕ → List ℕ → Fault → Type 0
 Misleads falses clause hint later fault =
     ((¬ IsConflict falses clause) × ((literal : ℤ) → ¬ IsUnit falses clause literal)
@@ -51,8 +51,8 @@ Misleads falses clause hint later fault =
     ⊎ (IsConflict falses clause × (next : ℕ) × (more : List ℕ) × (later ≡ next ∷ more)
     × (fault ≡ faults.Excess next))
 
--- the result of a hint's look-up: a fault; or a unit clause, which makes one more literal false,
--- and the later hints decide; or a clause that doesn't help
+-- Hints fail, from one hint's look-up on: the look-up gives a fault; or the clause is unit and
+-- makes one more literal false, and the later hints fail; or the clause doesn't help.
 abbrev pub FailsBy : Result Clause Fault → List ℤ → ℕ → List ℕ → History → Fault
     → (List ℤ → Type 0) → Type 0
 FailsBy (Ok clause) falses hint later history fault Next =
@@ -60,8 +60,8 @@ FailsBy (Ok clause) falses hint later history fault Next =
     ⊎ ((history ≡ []) × Misleads falses clause hint later fault)
 FailsBy (Err its) falses hint later history fault Next = (history ≡ []) × (fault ≡ its)
 
--- The hints fail, with these literals false: the fault comes from the first hint whose look-up or
--- clause fails, or there is no conflict.
+-- The hints fail, with these literals false: the fault comes from the first hint whose look-up
+-- fails or whose clause doesn't help, or there is no conflict.
 abbrev pub FailsHints : StreamParams → (ℕ → Bool) → List ℤ → List ℕ → History → Fault → Type 0
 FailsHints params is_dropped falses [] history fault = (history ≡ []) × (fault ≡ faults.NoConflict)
 FailsHints params is_dropped falses (hint ∷ hints) history fault =
@@ -70,13 +70,13 @@ FailsHints params is_dropped falses (hint ∷ hints) history fault =
     × FailsBy answer falses hint hints rest fault
     (λ more_falses. FailsHints params is_dropped more_falses hints rest fault)
 
--- the publish of a good addition
+-- the publish event of a good addition
 abbrev pub published_by : StreamParams → ℕ → List ℤ → Event
 published_by params id lits = events.publish params.stream id (distinct lits) publishing.Done
 
 -- An addition's events and its verdict, after lines that left this context: the addition is valid
--- by what its events find, and its last event publishes its clause; or it violates a condition, and
--- the first condition that it violates gives the fault.
+-- with the clauses that its events find, and its last event publishes its clause; or the first
+-- condition that the addition violates gives the fault.
 abbrev pub JudgesAddition : StreamParams → StreamContext → ℕ → List ℤ → List ℕ → History
     → LineVerdict
     → Type 0

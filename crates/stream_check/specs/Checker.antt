@@ -54,14 +54,14 @@ Extends params old used blocks new = (bytes : List ℕ) (before : List History)
     → ReachesState params bytes before old
     → ReachesState params (bytes ++ used) (before ++ blocks) new
 
--- How many blocks of events a call has: one if it ends a good line, none if it ends no line, at
+-- How many blocks of events a call adds: one if it ends a good line, none if it ends no line, at
 -- most one if it finishes the checker.
 abbrev pub AreBlocksOf : CheckStatus → List History → Type 0
 AreBlocksOf statuses.Line blocks = length blocks ≡ 1
 AreBlocksOf statuses.More blocks = blocks ≡ []
 AreBlocksOf statuses.Over blocks = length blocks ≤ 1
 
--- The text that finished the checker: a whole line, or a text that no line begins with, through the
+-- The text that finished the checker: a whole line, or a text that begins no line and ends with the
 -- byte that decided this.
 abbrev pub StopsAt : Ending → List ℕ → Type 0
 StopsAt ending text =
@@ -69,7 +69,7 @@ StopsAt ending text =
     ⊎ ((number : ℕ) × (fault : LineFault) × (ending ≡ endings.Bad number (faults.Text fault))
     × IsRefused text fault)
 
--- The result for the bytes that were used: they end a line, they don't end one, or the checker is
+-- The result for the bytes that were used: they end a line, they end no line, or the checker is
 -- finished.
 abbrev pub FeedsChecker : CheckStatus → CheckerValue → CheckerValue → List ℕ → List ℕ → Type 0
 FeedsChecker statuses.Line old new piece used =
@@ -89,7 +89,7 @@ abbrev pub StaysFinished : CheckerValue → CheckerValue → List ℕ → Type 0
 StaysFinished old new used = (ending : Ending) → old.ending ≡ Some ending
     → (new ≡ old) × (used ≡ [])
 
--- the checker is new: it has these parameters, and has taken no byte
+-- the checker is new: it has these parameters, and has taken no bytes
 pub record IsNew (layout : LayoutValue) (cube : CubeValue) (stream tries : ℕ)
     (checker : CheckerValue) : Type 0 where
   pub params : checker.params

@@ -24,8 +24,9 @@ report_of_tally tally ending =
       ending = ending;
     }
 
--- The parameters; the counts, the last identity, the dropped identities, and how many were retired;
--- what was read of the next line, and that line's number; and how the stream ended, if it did.
+-- The parameters; the counts; the last identity, the dropped identities, and how many identities
+-- were retired; the part of the next line that was read, and that line's number; and how the stream
+-- ended, if it did.
 pub record CheckerValue : Type 0 where
   pub params : StreamParams
   pub tally : Tally

@@ -7,7 +7,7 @@ use Rattle.lrup_text.specs.Lines.{StreamLine, Cut}
 use Rattle.stream_check.specs.Laws.{cited_by}
 use Rattle.stream_check.specs.Streams.{Stream}
 
--- in a list with one element for each stream, `x` is the element of stream s, counted from 1
+-- in a list with one element for each stream, from stream 1 on, `x` is the element of stream s
 abbrev pub IsOfStream : {X : Type 0} → List X → ℕ → X → Type 0
 IsOfStream xs s x = (0 < s) × (slice_get xs (s - 1) ≡ Some x)
 
@@ -23,7 +23,7 @@ pub record CiteWithin (layout : LayoutValue) (set : ℕ → Bool) (bytes : List 
   pub within :
       AllByRecursion (λ line. AllByRecursion (IsOwnedWithin layout set) (cited_by line)) lines
 
--- The set is closed: in the bytes by which they are judged, its streams cite no identity of a
+-- The set is closed: in the bytes by which its streams are judged, they cite no identity of a
 -- stream outside the set.
 abbrev pub IsClosed : LayoutValue → (ℕ → Bool) → List Stream → Type 0
 IsClosed layout set streams =

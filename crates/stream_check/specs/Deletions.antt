@@ -11,7 +11,7 @@ use Rattle.stream_check.specs.StreamParams.{StreamParams, ownership_of, is_share
 use Rattle.stream_check.specs.StreamContext.{is_among}
 use Rattle.stream_check.specs.Verdicts.{LineVerdict, Good, Fails}
 
--- One of the stream's own identities is retired at the map, by one event, whose reply decides.
+-- One event retires one of the stream's own identities in the map; the reply decides.
 pub record RetiresThen (params : StreamParams) (earlier : List ℕ) (id : ℕ) (history : History)
     (verdict : LineVerdict) (Next : History → Type 0) : Type 0 where
   pub rest : History
@@ -28,8 +28,8 @@ DropsThen is_dropped earlier id history verdict Next =
     × Fails (length earlier) (faults.NotLive id) history verdict)
     ⊎ (((is_dropped id || is_among earlier id) ≡ false) × Next history)
 
--- one of the stream's own identities is retired at the map; one of the formula or of another stream
--- is only dropped by this stream; a number that isn't an identity is a fault
+-- deleting retires one of the stream's own identities in the map, and only drops one of the formula
+-- or of another stream; deleting a number that isn't an identity is a fault
 abbrev pub DeletesAt : Ownership → StreamParams → (ℕ → Bool) → List ℕ → ℕ → History → LineVerdict
     → (History → Type 0) → Type 0
 DeletesAt ownerships.Formula params is_dropped earlier id history verdict Next =
@@ -41,8 +41,8 @@ DeletesAt ownerships.Foreign params is_dropped earlier id history verdict Next =
 DeletesAt ownerships.Outside params is_dropped earlier id history verdict Next =
     Fails (length earlier) (faults.NotLive id) history verdict
 
--- the events and the verdict for the remaining identities of a deletion, after earlier lines
--- dropped `is_dropped`, and this line deleted `earlier`
+-- the events and the verdict for the remaining identities of a deletion, if earlier lines dropped
+-- the identities in `is_dropped`, and this line has deleted those in `earlier`
 abbrev pub JudgesDeletion : StreamParams → (ℕ → Bool) → List ℕ → List ℕ → History
     → LineVerdict → Type 0
 JudgesDeletion params is_dropped earlier [] history verdict = (history ≡ []) × (verdict ≡ Good)

@@ -13,8 +13,8 @@ use Rattle.stream_check.specs.Stopping.{DropsUntilStop}
 use Rattle.stream_check.specs.Each.{EachOfThree}
 use Rattle.stream_check.specs.Streams.{Stream, RunParamsValue, stream_params}
 
--- These are the identities that the lines of the bytes drop. The lines are good by these blocks of
--- events; a deletion drops those of its identities that are the formula's or another stream's.
+-- These are the identities that the lines of the bytes drop. The lines are good with these blocks
+-- of events; a deletion drops those of its identities that are the formula's or another stream's.
 pub record AreDroppedBy (params : StreamParams) (bytes : List ℕ) (blocks : List History)
     (ids : List ℕ) : Type 0 where
   pub lines : List StreamLine
@@ -38,12 +38,13 @@ HasDroppedBy (endings.Memory line) params bytes blocks report dropped =
 -- If the stream ended or a read failed, all its lines were good, and these are the identities that
 -- they dropped. If a line was bad, or memory ran out in a line, these are the identities that the
 -- lines before it dropped, and those that the line itself dropped before it stopped. If memory ran
--- out, there is no room for one more identity.
+-- out, there is no room for another identity.
 abbrev pub HasDropped : StreamParams → List ℕ → List History → Report → DroppedIdsValue → Type 0
 HasDropped params bytes blocks report dropped =
     HasDroppedBy report.ending params bytes blocks report dropped
 
--- `HasDropped` for each stream, counted from s, by blocks of events for which `AreOwn` holds
+-- `HasDropped` for each of these streams, the first of which is stream s, with blocks of events for
+-- which `AreOwn` holds
 abbrev pub HaveDropped : RunParamsValue → (ℕ → List History → Type 0) → ℕ → List Stream
     → List Report → List DroppedIdsValue → Type 0
 HaveDropped run_params AreOwn s streams reports all = EachOfThree (λ t stream report dropped.

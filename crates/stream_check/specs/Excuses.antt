@@ -12,10 +12,10 @@ pub data Excuse : Type 0 where
   OutOfMemory : Excuse
   -- a read failed
   ReadFailed : Excuse
-  -- one of the two
+  -- memory ran out, or a read failed
   CutOff : Excuse
-  -- one of the two, or the line cites or imports another stream's clause, by these parameters, that
-  -- wasn't there yet or was no longer there
+  -- memory ran out, or a read failed, or the line cites or imports another stream's clause (by
+  -- these parameters), and the clause wasn't there yet or was no longer there
   Lacking : (params : StreamParams) → Excuse
 
 -- the report says that this happened in the line with this number

@@ -11,8 +11,8 @@ use Rattle.stream_check.specs.Verdicts.{LineVerdict, Good, Bad, Violates}
 use Rattle.stream_check.specs.Lookup.{AreFound, LooksUp}
 
 -- An import is valid: its number is an identity, but not the stream's own; its literals are over
--- the variables; and the clause that its identity names has the same literals, in any order and
--- each written any number of times.
+-- the variables; and the clause that its identity names has the same literals, in any order, and
+-- each of them any number of times.
 pub record IsValidImport (layout : LayoutValue) (stream : ℕ)
     (Names : List ℕ → List Clause → Type 0) (id : ℕ) (lits : List ℤ) : Type 0 where
   pub identity : IsIdentity layout id
@@ -22,9 +22,8 @@ pub record IsValidImport (layout : LayoutValue) (stream : ℕ)
   pub named : Names (id ∷ []) (clause ∷ [])
   pub same : (l : ℤ) → Has clause l ↔ Has lits l
 
--- An import's events and its verdict, after lines that left this context: the import is valid by
--- what its events find; or it violates a condition, and the first condition that it violates gives
--- the fault.
+-- An import's events and its verdict, after lines that left this context: the import is valid with
+-- the clause that its events find; or the first condition that the import violates gives the fault.
 abbrev pub JudgesImport : StreamParams → StreamContext → ℕ → List ℤ → History → LineVerdict → Type 0
 JudgesImport params context id lits history Good =
     IsValidImport params.layout params.stream

@@ -63,8 +63,9 @@ ending_at stream_ends.Ended [] number = endings.Ended
 ending_at stream_ends.Ended (byte ∷ bytes) number = endings.Bad number (faults.Text texts.Truncated)
 ending_at stream_ends.Failed rest number = endings.ReadFailed number
 
--- After the good lines one of four things ends the stream. Its line number is the next one. If the
--- rest begins with a deletion, good or bad, memory may run out in it.
+-- After the good lines one of four things ends the stream. If the report has a line number, it is
+-- that of the next line. If the rest begins with a deletion, good or bad, memory may run out in
+-- that deletion.
 pub data EndsAfter (params : StreamParams) (lines : List StreamLine) (rest : List ℕ)
     (end : StreamEnd)
     (blocks : List History) (report : Report) : Type 0 where
@@ -99,7 +100,7 @@ pub data EndsAfter (params : StreamParams) (lines : List StreamLine) (rest : Lis
       → EndsAfter params lines rest end blocks report
 
 -- The judgement of a stream with these bytes and this end, whose lines have these blocks of events:
--- first come its good lines, and then what ended it.
+-- first come the good lines, and then what ended the stream.
 pub record JudgesBlocks (params : StreamParams) (bytes : List ℕ) (end : StreamEnd)
     (blocks : List History) (report : Report) : Type 0 where
   pub lines : List StreamLine

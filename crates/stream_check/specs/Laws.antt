@@ -1,5 +1,5 @@
--- Laws of judging, each the contract of a function in `src/laws.rt`, and the definitions that they
--- need.
+-- Laws of judging, each of which is the contract of a function in `src/laws.rt`, and the
+-- definitions that they need.
 use Rattle.std.specs.Prelude.{◌≡◌, ◌≢◌, ◌↔◌, ◌≤◌, ◌<◌, ◌^◌, ◌-◌, ◌++◌, ℕ, ℤ, Bool, IsTrue, List, [], ◌∷◌, map}
 use Rattle.std.specs.List.{AllByRecursion, Any}
 use Rattle.lrup_model.specs.Cube.{CubeValue, Within}
@@ -33,11 +33,11 @@ use Rattle.stream_check.specs.Checker.{IsNew, IsReadyAt}
 
 -- What a checker holds, step by step
 
--- no bytes and no blocks
+-- no bytes and no blocks lead to a fresh state
 abbrev pub FreshLeft : Type 0
 FreshLeft = (c : StreamParams) (now : GoingState) → IsFresh c now → ReachesState c [] [] (Going now)
 
--- one more good line
+-- one more good line, with its block of events, leads to the state after that line
 abbrev pub GoodLineTaken : Type 0
 GoodLineTaken = (c : StreamParams) (bytes piece : List ℕ) (blocks : List History) (block : History)
     (old new : GoingState) (line : StreamLine)
@@ -45,7 +45,7 @@ GoodLineTaken = (c : StreamParams) (bytes piece : List ℕ) (blocks : List Histo
     → JudgesLine c old.context line block Good → TakesLine c old line new
     → ReachesState c (bytes ++ piece) (blocks ++ block ∷ []) (Going new)
 
--- the end of the stream, or a failed read
+-- at the end of the stream, or if a read fails, the report made of the checker's counts is right
 abbrev pub EndJudged : Type 0
 EndJudged = (c : StreamParams) (bytes : List ℕ) (blocks : List History) (old : GoingState)
     (end : StreamEnd)
@@ -58,8 +58,8 @@ abbrev pub FinishedStays : Type 0
 FinishedStays = (c : StreamParams) (bytes more : List ℕ) (blocks : List History) (report : Report)
     → JudgesBothEnds c bytes blocks report → JudgesBothEnds c (bytes ++ more) blocks report
 
--- if the read failed and the report doesn't say so, it was decided before: it is right for either
--- end and for any further bytes
+-- a report that doesn't mention the failed read was decided before it: the report is right for
+-- either end and for any further bytes
 abbrev pub DecidedBeforeFailure : Type 0
 DecidedBeforeFailure =
     (c : StreamParams) (bytes more : List ℕ) (end : StreamEnd) (blocks : List History)
@@ -88,8 +88,8 @@ ReadyNew = (f : Cnf) (layout : LayoutValue) (cube : CubeValue) (stream tries : �
     → ((id : ℕ) → Owns layout stream id → p.own id ≡ opening f id)
     → IsReadyAt v p
 
--- a checker that can be fed at the map of one thread can also be fed there after the calls of
--- another stream
+-- a checker that can be fed with its stream's view of the one-thread map still can after the calls
+-- of another stream
 abbrev pub ReadyBeside : Type 0
 ReadyBeside = (v : CheckerValue) (old new : Plain) (t : ℕ) (es : History)
     → IsReadyAt v (plain_caller_view old v.params.stream) → PlainMoves old new t es
@@ -108,7 +108,7 @@ OneReport = (c : StreamParams) (bytes : List ℕ) (end : StreamEnd) (blocks othe
     → ¬ IsExcused OutOfMemory report → ¬ IsExcused OutOfMemory other
     → (blocks ≡ others) × (report ≡ other)
 
--- replies decide: events that never fork are judged alike
+-- replies decide: if the events of two judgements never fork, the blocks and the reports are equal
 abbrev pub RepliesDecide : Type 0
 RepliesDecide = (c : StreamParams) (bytes : List ℕ) (end : StreamEnd) (blocks others : List History)
     (report other : Report)
@@ -117,8 +117,8 @@ RepliesDecide = (c : StreamParams) (bytes : List ℕ) (end : StreamEnd) (blocks 
     → ¬ IsExcused OutOfMemory report → ¬ IsExcused OutOfMemory other
     → (blocks ≡ others) × (report ≡ other)
 
--- both lists are empty or neither is, and their first blocks are equal if these never fork,
--- whatever events come after them
+-- both lists are empty or neither is; and if their first blocks, with any events after each, never
+-- fork, these two blocks are equal
 abbrev pub GoAlike : List History → List History → Type 0
 GoAlike [] [] = Unit {0}
 GoAlike [] (other ∷ others) = ⊥
@@ -127,7 +127,7 @@ GoAlike (block ∷ blocks) (other ∷ others) =
     (later others_later : History) → NeverFork (block ++ later) (other ++ others_later)
     → block ≡ other
 
--- if a stream is judged twice, and its blocks begin alike, they continue alike
+-- if a stream is judged twice, and both lists of blocks begin alike, the lists continue alike
 abbrev pub BlocksGoAlike : Type 0
 BlocksGoAlike = (c : StreamParams) (bytes : List ℕ) (end : StreamEnd)
     (before blocks others : List History) (report other : Report)
@@ -141,7 +141,7 @@ abbrev pub LegalNeverFork : Type 0
 LegalNeverFork = (f : Cnf) (p : LayoutValue) (m : State) (g h : History) → LegalFrom f p m g
     → LegalFrom f p m h → NeverFork g h
 
--- a stream on its own has only one report, with any legal history
+-- a stream on its own has only one report, which is the same for all legal histories
 abbrev pub AloneDecides : Type 0
 AloneDecides = (f : Cnf) (p : LayoutValue) (c : StreamParams) (bytes : List ℕ) (end : StreamEnd)
     (g h : History) (report other : Report)
@@ -167,12 +167,12 @@ abbrev pub EarlyEvents : Type 0
 EarlyEvents = (c : StreamParams) (st : StreamContext) (line : StreamLine) (es : History)
     (v : LineVerdict) → JudgesLine c st line es v → AreEarly es
 
--- in a line a vacant fetch is the last event, or the next event fetches the same identity again
+-- in a line, a vacant fetch is the last event, or the next event fetches the same identity again
 abbrev pub VacantTriesAgain : Type 0
 VacantTriesAgain = (c : StreamParams) (st : StreamContext) (line : StreamLine) (es : History)
     (v : LineVerdict) → JudgesLine c st line es v → TriesAgain es
 
--- the vacant fetches of hints that a stream's lines found can be left out: the report is the same
+-- a report stays right if the blocks lose the vacant fetches of hints that were found later
 abbrev pub ReducedStream : Type 0
 ReducedStream = (c : StreamParams) (bytes : List ℕ) (end : StreamEnd) (blocks : List History)
     (report : Report)
@@ -180,8 +180,8 @@ ReducedStream = (c : StreamParams) (bytes : List ℕ) (end : StreamEnd) (blocks 
 
 -- What lines cite
 
--- each identity that the judgement of a line may fetch, including the stream's own and the
--- formula's: the hints of an addition, and the identity of an import; a deletion fetches none
+-- each identity that a line may fetch, including the stream's own and the formula's: the hints of
+-- an addition, and the identity of an import; a deletion fetches none
 abbrev pub cited_by : StreamLine → List ℕ
 cited_by (Addition id lits hints) = hints
 cited_by (Deletion lead ids) = []

@@ -15,8 +15,8 @@ abbrev pub FetchesUpTo : ℕ → ℕ → ℕ → History → Reply → Type 0
 FetchesUpTo most s id history reply = (k : ℕ) × (k ≤ most) × (reply ≡ vacant → k ≡ most)
     × (history ≡ replicate k (fetch s id vacant) ++ fetch s id reply ∷ [])
 
--- An identity of the stream or of the formula is fetched once; another stream's, until it isn't
--- vacant or the tries are used up; and a number that isn't an identity, never.
+-- An identity of the stream or of the formula is fetched once. One of another stream is fetched
+-- until it isn't vacant or the tries are used up. A number that isn't an identity is never fetched.
 abbrev pub FetchesHintAt : Ownership → StreamParams → ℕ → History → Reply → Type 0
 FetchesHintAt ownerships.Formula params id history reply = history ≡ fetch params.stream id reply ∷
     []
@@ -38,14 +38,14 @@ answer_of id (live clause) = Ok clause
 answer_of id retired = Err (faults.Retired id)
 
 -- The result of a look-up: an identity that the stream dropped isn't fetched, and is a fault; for
--- any other, the last reply decides.
+-- any other identity, the last reply decides.
 abbrev pub LooksUp : StreamParams → (ℕ → Bool) → ℕ → History → Result Clause Fault → Type 0
 LooksUp params is_dropped id history answer =
     ((is_dropped id ≡ true) × (history ≡ []) × (answer ≡ Err (faults.Dropped id)))
     ⊎ ((is_dropped id ≡ false) × (reply : Reply) × FetchesHint params id history reply
     × (answer ≡ answer_of id reply))
 
--- the identities are looked up in order, by these events, and give these clauses
+-- looking up the identities in order takes these events, and gives these clauses
 abbrev pub AreFound : StreamParams → (ℕ → Bool) → List ℕ → List Clause → History → Type 0
 AreFound params is_dropped [] [] history = history ≡ []
 AreFound params is_dropped [] (clause ∷ clauses) history = ⊥

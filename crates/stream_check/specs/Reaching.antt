@@ -13,8 +13,8 @@ use Rattle.stream_check.specs.Judging.{AreGood, report_of, JudgesBlocks}
 use Rattle.stream_check.specs.CheckerValue.{Tally, report_of_tally}
 use Rattle.stream_check.specs.Stopping.{DropsUntilStop}
 
--- what an unfinished checker holds: its counts, what good lines left, what was read of the next
--- line, and that line's number
+-- what an unfinished checker holds: its counts, the context that good lines left, the part of the
+-- next line that was read, and that line's number
 pub record GoingState : Type 0 where
   pub tally : Tally
   pub context : StreamContext
@@ -54,8 +54,8 @@ JudgesBothEnds params bytes blocks report =
     × JudgesBlocks params bytes stream_ends.Failed blocks report
 
 -- The bytes so far, whose lines have these blocks of events, lead to this state of a checker. If
--- the checker is finished, its report is right for both ends of the stream, and it has dropped what
--- the lines drop until one of them stops the stream.
+-- the checker is finished, its report is right for both ends of the stream, and the checker has
+-- dropped what the lines drop until one of them stops the stream.
 abbrev pub ReachesState : StreamParams → List ℕ → List History → CheckerState → Type 0
 ReachesState params bytes blocks (Going now) = ReachesGoing params bytes blocks now
 ReachesState params bytes blocks (Over report is_dropped) =

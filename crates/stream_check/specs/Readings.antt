@@ -1,4 +1,4 @@
--- Which reads gave the streams of a run (this project's own).
+-- Which reads the streams of a run come from (this project's own).
 use Rattle.std.specs.Prelude.{◌++◌, List, [], ◌∷◌, MatchOption}
 use Rattle.lrup_text.specs.declared.device.Source as Source
 use Rattle.lrup_text.specs.ReadOut.{ReadOut, SourceView, source_view}
@@ -11,7 +11,7 @@ readers_view its = source_view its.left its.has_failed its.reads
 
 -- The stream is what the reads of a reader gave, from the first one on. If the stream has an end,
 -- its bytes are all that the reads gave, up to the first end or to the read that failed; otherwise
--- they are all of them except `unneeded`.
+-- the reads gave its bytes, followed by `unneeded`.
 abbrev pub IsRead : (S : Type 0) → ReadsOf S → S → S → Stream → Type 0
 IsRead S reads first after stream =
     MatchOption stream.end (Gave S reads first (stream.bytes ++ stream.unneeded) after)
@@ -22,8 +22,8 @@ abbrev pub IsStreamOf : {S : Type 0} → SourceView S → S → S → Stream →
 IsStreamOf {S} view first last stream =
     MatchesInput (observation_of view first last) stream × IsRead S view.reads first last stream
 
--- each stream is what the reads of its reader gave: the lists have the readers before their first
--- reads and after their last
+-- each stream is what the reads of its reader gave; the first list has the readers before their
+-- first reads, and the second has them after their last
 abbrev pub AreRead : (S : Type 0) → ReadsOf S → List S → List S → List Stream → Type 0
 AreRead S reads [] [] [] = Unit {0}
 AreRead S reads (first ∷ firsts) (last ∷ lasts) (stream ∷ streams) =

@@ -14,7 +14,7 @@ is_vacant (events.publish s id clause reply) = false
 is_vacant (events.retire s id reply) = false
 
 -- A line's events without the vacant fetches that come before an event of another kind. The vacant
--- fetches of a hint that stays missing are the line's last events, and stay.
+-- fetches of a hint that stays missing are the line's last events, and are kept.
 abbrev pub reduced : History → History
 reduced [] = []
 reduced (event ∷ history) =

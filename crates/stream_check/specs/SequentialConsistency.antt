@@ -26,8 +26,8 @@ pub record HaveOneHistory (formula : Cnf) (layout : LayoutValue) (history : Hist
       → (pass.caller ≡ record { formula = formula; layout = layout; stream = s })
       × (pass.seen ≡ history) × (pass.mine ≡ own history s)
 
--- Each stream of the set, counted from s, is judged by its own events in the history, as its report
--- says.
+-- The first of these streams is stream s. Each stream that is in the set is judged by its own
+-- events in the history, as its report says.
 abbrev pub AreJudgedIn : RunParamsValue → (ℕ → Bool) → History → ℕ → List Stream
     → List Report → Type 0
 AreJudgedIn run_params set history s streams reports =

@@ -11,24 +11,24 @@ use Rattle.stream_check.specs.StreamParams.{StreamParams, ownership_of, is_share
 use Rattle.stream_check.specs.StreamContext.{context_of, is_among, deleted_by, capped}
 use Rattle.stream_check.specs.Judging.{AreGood}
 
--- the line of this number is bad, or memory ran out in it
+-- the line with this number is bad, or memory ran out in it
 abbrev pub StopsAtLine : Ending → ℕ → Type 0
 StopsAtLine endings.Ended number = ⊥
 StopsAtLine (endings.Bad line fault) number = line ≡ number
 StopsAtLine (endings.ReadFailed line) number = ⊥
 StopsAtLine (endings.Memory line) number = line ≡ number
 
--- If memory ran out, there is no room for one more dropped identity.
+-- If memory ran out, there is no room for another dropped identity.
 abbrev pub IsFullAtMemory : Ending → DroppedIdsValue → Type 0
 IsFullAtMemory ending dropped = (line : ℕ) → ending ≡ endings.Memory line → dropped.spare ≡ 0
 
 -- What a stream dropped if its report says that a line is bad, or that memory ran out in it: the
 -- identities of the formula and of other streams among those that the lines before it delete, and
--- among the first ones that the line itself deletes. The report determines both, up to 2^64 - 1:
--- its line number says how many lines come before, and its count says how many of the line's
--- identities come before the one at which the line stopped. If no line begins there, or a line that
--- deletes nothing, there are no such identities. The lines before are good by the first of these
--- blocks of events.
+-- among the first ones that the line itself deletes. The report determines how many lines and
+-- identities these are, up to 2^64 - 1: its line number says how many lines come before, and its
+-- count says how many of the line's identities come before the one at which the line stopped. If
+-- the rest begins with no line, or with a line that deletes nothing, that line adds no identities.
+-- The lines before are good with the first of these blocks of events.
 pub record DropsUntilStop (params : StreamParams) (bytes : List ℕ) (blocks : List History)
     (report : Report) (is_dropped : ℕ → Bool) : Type 0 where
   pub lines : List StreamLine

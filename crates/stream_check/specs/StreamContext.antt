@@ -34,8 +34,8 @@ abbrev pub is_among : List ℕ → ℕ → Bool
 is_among ids id = list_any (λ j. j == id) ids
 
 -- The context that these lines leave if all are good: the largest identity of the additions, or the
--- formula's last one if there are none; the room minus the sizes of their clauses; and the deleted
--- identities that are the formula's or another stream's.
+-- formula's last one if there are none; the room minus the sizes of the added clauses; and the
+-- deleted identities that are the formula's or another stream's.
 abbrev pub context_of : StreamParams → List StreamLine → StreamContext
 context_of params lines = record {
   last = fold max params.layout.clauses (map (λ addition. addition.0) (additions_of lines));

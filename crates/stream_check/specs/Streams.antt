@@ -16,21 +16,21 @@ use Rattle.stream_check.specs.Judging.{JudgesBlocks}
 use Rattle.stream_check.specs.Each.{Each}
 
 -- The bytes by which a stream is judged; the bytes that were read after them, which don't matter;
--- and how the stream ended, at its end or at a read that failed, or `None` if the judgement needs
--- no end, as for a stream that was stopped early.
+-- and how the stream ended (at its end, or because a read failed), or `None` if the judgement needs
+-- no end, for example because the stream was stopped early.
 pub record Stream : Type 0 where
   pub bytes : List ℕ
   pub unneeded : List ℕ
   pub end : Option StreamEnd
 
--- What is observed of a reader: the bytes that it has left at first, and those at the end, if they
--- are known; and whether it has failed by then.
+-- What is observed of a reader: the bytes left at first, if they are known; the bytes left at the
+-- end, if they are known; and whether the reader has failed by then.
 pub record InputObservation : Type 0 where
   pub entry : Option (List ℕ)
   pub left : Option (List ℕ)
   pub has_failed : Bool
 
--- what is observed of a reader: `first` is the reader before any read, `last` at the end
+-- what is observed of a reader: `first` is the reader before any read, `last` the reader at the end
 abbrev pub observation_of : {S : Type 0} → SourceView S → S → S → InputObservation
 observation_of view first last = record {
   entry = view.left first;
@@ -55,8 +55,8 @@ pub record MatchesInput (observation : InputObservation) (stream : Stream) : Typ
       (λ end. EndsSo end observation.left observation.has_failed)
   pub needed : IsSome stream.end → stream.unneeded ≡ []
 
--- The stream is judged by these blocks of events; a stream without an end has this judgement for
--- both ends.
+-- The stream is judged by these blocks of events. A stream whose `end` is `None` is judged so,
+-- whichever way it ends.
 abbrev pub JudgesStream : StreamParams → Stream → List History → Report → Type 0
 JudgesStream params stream blocks report =
     (end : StreamEnd) → IfSome stream.end (λ known. known ≡ end)
@@ -64,7 +64,7 @@ JudgesStream params stream blocks report =
 
 -- An order of lines
 
--- all events of one line, and the stream, counted from 1, that wrote the line
+-- all events of one line, and the number (from 1) of the stream that wrote the line
 pub record Block : Type 0 where
   pub stream : ℕ
   pub events : History
@@ -85,8 +85,8 @@ IsBlockWithin layout set block =
     IsStream layout block.stream × IsTrue (set block.stream)
     × AllByRecursion (λ event. stream_of event ≡ block.stream) block.events
 
--- The parameters by which all streams of a run are checked: the layout, the cube, and how often an
--- identity of another stream is fetched again.
+-- The parameters with which all streams of a run are checked: the layout, the cube, and how often
+-- an identity of another stream is fetched again.
 pub record RunParamsValue : Type 0 where
   pub layout : LayoutValue
   pub cube : CubeValue
@@ -102,17 +102,17 @@ stream_params run_params s =
       tries = run_params.tries;
     }
 
--- Each stream of the set, counted from s, is judged, as its report says, by blocks of events for
--- which `AreOwn` holds; and there are as many reports as streams.
+-- The first of these streams is stream s. Each stream that is in the set is judged, as its report
+-- says, by blocks of events for which `AreOwn` holds. There are as many reports as streams.
 abbrev pub AreJudged : RunParamsValue → (ℕ → Bool) → (ℕ → List History → Type 0) → ℕ → List Stream
     → List Report → Type 0
 AreJudged run_params set AreOwn s streams reports =
     Each (λ t stream report. IsTrue (set t) → (blocks : List History) × AreOwn t blocks
     × JudgesStream (stream_params run_params t) stream blocks report) s streams reports
 
--- The reports of a set of streams have an order of lines: a legal history of whole lines of these
--- streams, with each stream's lines in order, that judges each stream as its report says. There are
--- as many streams as in the layout.
+-- There is an order of lines for the reports of a set of streams: a legal history of whole lines of
+-- these streams, with each stream's lines in order, by which each stream is judged as its report
+-- says. There are as many streams as in the layout.
 pub record IsOrdered (formula : Cnf) (run_params : RunParamsValue) (set : ℕ → Bool)
     (streams : List Stream)
     (reports : List Report) : Type 0 where

@@ -4,8 +4,8 @@ use Rattle.lrup_model.specs.Formula.{Cnf}
 use Rattle.stream_check.specs.declared.report.Report.{Report}
 use Rattle.stream_check.specs.Streams.{Stream, IsOrdered, RunParamsValue}
 
--- An order of lines is given here by the lines' streams, counted from 1; this many of its lines
--- belong to stream s.
+-- An order of lines is given here as a list with the number (from 1) of each line's stream; this
+-- many of the lines belong to stream s.
 abbrev pub line_count : ℕ → List ℕ → ℕ
 line_count s order = count_by (λ t. t == s) order
 

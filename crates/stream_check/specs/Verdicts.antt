@@ -4,17 +4,17 @@ use Rattle.std.specs.Prelude.{◌≡◌, ◌⊎◌, ℕ, []}
 use Rattle.lrup_model.specs.Event.{History}
 use Rattle.stream_check.specs.declared.fault.Fault.{Fault}
 
--- a bad line has the count of the identities that it deleted before the fault
+-- for a bad line: how many identities the line deleted before the fault, and the fault
 pub data LineVerdict : Type 0 where
   Good : LineVerdict
   Bad : (deleted : ℕ) (fault : Fault) → LineVerdict
 
--- no more events, and this fault, if the line deleted this many identities before it
+-- there are no further events, and the line has this fault, after deleting this many identities
 abbrev pub Fails : ℕ → Fault → History → LineVerdict → Type 0
 Fails deleted fault history verdict = (history ≡ []) × (verdict ≡ Bad deleted fault)
 
--- The first condition that a line violates gives the fault. Either it is this one, and there are no
--- more events; or this one holds, and the later ones decide.
+-- The first condition that a line violates gives the fault. Either that is this condition, and
+-- there are no further events; or this condition holds, and the later ones decide.
 abbrev pub Violates : Type 0 → Fault → History → Fault → Type 0 → Type 0
 Violates Holds its history fault Next =
     ((¬ Holds) × (history ≡ []) × (fault ≡ its)) ⊎ (Holds × Next)

@@ -54,11 +54,11 @@ impl Checker {
     /// The largest number of tries: how often a vacant hint may be fetched again.
     pub const MAX_TRIES: u64 = 1_000_000;
 
-    /// Makes a checker of stream `stream`, counted from 1, before its first byte. A hint of another
-    /// stream is fetched again while it is vacant, up to `tries` times, at most 1,000,000. The
-    /// report will say whether the cube of assumed literals falsifies an added clause. The code
-    /// allocates all memory here, a copy of the cube included, except for the identities that the
-    /// stream drops.
+    /// Makes a checker for the stream with the number `stream` (from 1), before its first byte. A
+    /// hint of another stream is fetched again while it is vacant, up to `tries` times (at most
+    /// 1,000,000). The report will say whether the cube of assumed literals falsifies an added
+    /// clause. The code allocates all memory here, a copy of the cube included, except for the
+    /// identities that the stream drops.
     pub fn new(
         alloc: Global,
         stream: u64,
@@ -70,7 +70,7 @@ impl Checker {
         requires tries { tries ≤ max_tries }
         ensures { IfOk result (IsNew layout.now cube.now stream tries) }
     {
-        // A law, with no effect at run time: before any bytes a checker is in this state.
+        // A law, with no effect at run time: before any bytes, a checker is in this state.
         fresh_left();
         let params = StreamParams::new(layout, cube.try_clone()?, stream, tries);
         Ok(Checker {
@@ -81,12 +81,13 @@ impl Checker {
         })
     }
 
-    /// Takes bytes of a piece: through the LF of one line, through the first byte after which the
-    /// text can't become a line, or all of them. A line that ends is checked: for an addition, the
-    /// hints are fetched and the clause is published; for a deletion, the identities are retired or
-    /// dropped; for an import, the identity is fetched and the literals are compared. After a good
-    /// line the caller feeds the rest of the piece. After a bad one, or if memory ran out, the
-    /// checker is finished, and the gate gets the report. Later calls use no bytes.
+    /// Takes bytes of a piece up to and including the LF of one line, or the first byte after which
+    /// the text can't become a line; otherwise takes all of them. A line that ends is checked: for
+    /// an addition, the hints are fetched and the clause is published; for a deletion, the
+    /// identities are retired or dropped; for an import, the identity is fetched and the literals
+    /// are compared. After a good line the caller feeds the rest of the piece. After a bad one, or
+    /// if memory ran out, the checker is finished, and the gate gets the report. Later calls use no
+    /// bytes.
     pub fn feed<M: ClauseMap, G: Gate>(
         &mut self,
         map: &mut M,
@@ -94,8 +95,8 @@ impl Checker {
         piece: &[u8],
     ) -> Progress
         requires { IsReadyAt self.old (M.caller_view map.old) }
-        // If some bytes and blocks led to the old checker, then with the bytes used and the blocks
-        // of this call's events they lead to the new one.
+        // If some bytes and blocks led to the old checker, then followed by the bytes used and the
+        // blocks of this call's events they lead to the new one.
         ensures left { let old = checker_state self.old (M.caller_view map.old).room in
             let new = checker_state self.new (M.caller_view map.new).room in
             (blocks : List History) × M.moves map.old map.new (joined blocks)
@@ -118,7 +119,7 @@ impl Checker {
                 status: CheckStatus::Over,
             };
         }
-        // A law, with no effect at run time: after one more good line a checker is as `take_line`
+        // A law, with no effect at run time: after one more good line, a checker is as `take_line`
         // leaves it.
         good_line_taken();
         let fed = self.reader.feed(piece);
@@ -148,8 +149,8 @@ impl Checker {
     }
 
     /// Gives the gate the report of the stream, whose checker is finished. `used` bytes of the
-    /// piece were used. It is called once per stream, so it is marked as cold: the compiler then
-    /// optimizes for good lines.
+    /// piece were used. This function is called once per stream, so it is marked as cold: the
+    /// compiler then optimizes for good lines.
     #[cold]
     #[inline(never)]
     fn notify_gate<G: Gate>(&self, gate: &mut G, used: usize) -> Progress
@@ -182,7 +183,7 @@ impl Checker {
     }
 
     /// Takes the end of the stream, after which the checker is finished. If bytes of a line are
-    /// pending, the line is bad, as truncated. The gate isn't called: `finish` does that.
+    /// pending, that line is bad: it is truncated. The gate isn't called: `finish` does that.
     pub fn end(&mut self)
         ensures ends { Ends stream_ends.Ended self.old self.new }
         ensures reports { ReportsEnd stream_ends.Ended self.old self.new }
@@ -208,7 +209,7 @@ impl Checker {
         self.ending = Some(Ending::ReadFailed(self.state.line()));
     }
 
-    /// The stream whose lines are checked, counted from 1.
+    /// The number (from 1) of the stream whose lines are checked.
     pub fn stream(&self) -> u64
         ensures { result ≡ self.now.params.stream }
     {

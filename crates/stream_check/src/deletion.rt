@@ -1,4 +1,4 @@
-//! Performs a deletion at a clause map.
+//! Performs a deletion in a clause map.
 ghost use Rattle.std.specs.Prelude.{◌≡◌, ◌+◌, ℕ, IsErrOf};
 ghost use Rattle.std.specs.List.{AllByRecursion};
 ghost use Rattle.lrup_model.specs.Event.{History};
@@ -15,7 +15,7 @@ use crate::params::Ownership;
 use crate::stream_state::StreamState;
 use lrup_model::{ClauseMap, Id, Retired};
 
-/// Retires an identity of the stream's own at the map, and counts it.
+/// Retires one of the stream's own identities in the map, and counts it.
 fn retire_own<M: ClauseMap>(state: &mut StreamState, map: &mut M, id: Id) -> Result<(), LineStop>
     requires at { IsViewOf state.old.params (M.caller_view map.old) }
     requires owns { Owns state.old.params.layout state.old.params.stream id }
@@ -33,8 +33,8 @@ fn retire_own<M: ClauseMap>(state: &mut StreamState, map: &mut M, id: Id) -> Res
     }
 }
 
-/// Deletes one identity: one of the stream's own is retired at the map; one of the formula or of
-/// another stream is only dropped by this stream.
+/// Deletes one identity. If it is the stream's own, it is retired in the map; if it is the
+/// formula's or another stream's, this stream only drops it.
 fn delete_one<M: ClauseMap>(state: &mut StreamState, map: &mut M, id: Id) -> Result<(), LineStop>
     requires at { IsViewOf state.old.params (M.caller_view map.old) }
     ensures deletes { (es : History) × M.moves map.old map.new es × AllByRecursion IsRetire es

@@ -7,7 +7,7 @@ use lrup_text::laws::{
     no_bytes_have_no_lines, no_text_begins_another, texts_are_lines,
 };
 
-/// Before any bytes and blocks a checker is fresh.
+/// A checker that has taken no bytes and no blocks is fresh.
 pub fn fresh_left()
     ensures { FreshLeft }
 {
@@ -15,7 +15,7 @@ pub fn fresh_left()
     no_bytes_have_no_lines();
 }
 
-/// One more good line is taken, with its block of events.
+/// One more good line, with its block of events, leads to the state after that line.
 pub fn good_line_taken()
     ensures { GoodLineTaken }
 {
@@ -23,7 +23,8 @@ pub fn good_line_taken()
     no_bytes_have_no_lines();
 }
 
-/// The end of a stream, or a failed read, is judged from what the checker holds.
+/// At the end of the stream, or after a failed read, the report made from the checker's counts is
+/// right.
 pub fn end_judged()
     ensures { EndJudged }
 {}
@@ -121,7 +122,7 @@ pub fn vacant_tries_again()
     ensures { VacantTriesAgain }
 {}
 
-/// The vacant fetches of hints that a stream's lines found can be left out: the report is the same.
+/// The vacant fetches of a hint that was found later can be left out: the report stays right.
 pub fn reduced_stream()
     ensures { ReducedStream }
 {}
@@ -146,8 +147,8 @@ pub fn empty_cube_reported()
     ensures { EmptyCubeReported }
 {}
 
-/// In a legal history a stream neither adds more clauses nor deletes more identities than there are
-/// identities.
+/// In a legal history a stream adds at most as many clauses as there are identities, and deletes at
+/// most as many identities.
 pub fn counts_within()
     ensures { CountsWithin }
 {}

@@ -9,8 +9,8 @@ use lrup_model::{Cube, Id, Layout, Lit, Owner};
 use std::marker::Model;
 
 /// The parameters by which a stream's lines are checked: the layout, the cube of assumed literals,
-/// the stream, counted from 1, and how often a hint of another stream is fetched again while it is
-/// vacant.
+/// the stream's number (from 1), and how often a hint of another stream is fetched again while it
+/// is vacant.
 #[derive(Drop)]
 pub struct StreamParams {
     layout: Layout,
@@ -90,9 +90,9 @@ impl StreamParams {
         self.cube.refutes(clause)
     }
 
-    /// How often a vacant hint is fetched again: another stream's up to `tries` times, and all
-    /// others never, since only the stream itself publishes its own identities, and the formula's
-    /// are live.
+    /// How often a vacant hint is fetched again: a hint of another stream up to `tries` times, and
+    /// any other hint never, since only the stream itself publishes its own identities, and the
+    /// formula's are live.
     #[cold]
     pub fn tries_for(&self, hint: Id) -> u64
         ensures { result ≡ tries_on (ownership_of self.now hint) self.now.tries }
@@ -103,7 +103,7 @@ impl StreamParams {
         }
     }
 
-    /// Whether this is an identity: 1 to the last one.
+    /// Whether this number is an identity: at least 1, and at most the last one.
     pub fn covers(&self, id: Id) -> bool
         ensures { IsTrue result ↔ IsIdentity self.now.layout id }
     {

@@ -6,7 +6,7 @@ use crate::fault::Fault;
 pub enum Ending {
     /// All lines are good, and the stream ended after the last one.
     Ended,
-    /// This line is bad, for this fault. The bytes after it weren't read as lines.
+    /// This line is bad, because of this fault. The bytes after it weren't read as lines.
     Bad(u64, Fault),
     /// The reader failed while this line was read, or before its first byte. All lines before it
     /// are good.

@@ -27,7 +27,7 @@ impl<'a> Model for RunParams<'a> {
 }
 
 impl<'a> RunParams<'a> {
-    /// The parameters of a run: at most 1,000,000 tries.
+    /// The parameters of a run; `tries` is at most 1,000,000.
     pub fn new(layout: &'a Layout, cube: &'a Cube, tries: u64) -> RunParams<'a>
         requires { tries ≤ max_tries }
         ensures { result ≡ record { layout = layout.now; cube = cube.now; tries = tries } }
@@ -53,7 +53,8 @@ impl<'a> RunParams<'a> {
         self.cube
     }
 
-    /// How often a hint of another stream is fetched again while it is vacant: at most 1,000,000.
+    /// How often a hint of another stream is fetched again while it is vacant: at most 1,000,000
+    /// times.
     pub fn tries(&self) -> u64
         ensures tries { result ≡ self.now.tries }
         ensures limit { result ≤ max_tries }

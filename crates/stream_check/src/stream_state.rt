@@ -1,4 +1,4 @@
-//! What a checker has from the good lines so far.
+//! What a checker keeps of the good lines so far.
 ghost use Rattle.std.specs.Prelude.{◌≡◌, ◌<◌, ◌^◌, ◌+◌, ◌||◌, [], length, IsErrOf};
 ghost use Rattle.stream_check.specs.internal.Checking.{DropsShared, counted};
 ghost use Rattle.stream_check.specs.internal.CheckerInside.{fresh_state};
@@ -13,8 +13,8 @@ use lrup_model::Id;
 use std::alloc::Global;
 use std::marker::Model;
 
-/// What a checker has from the good lines so far, and from the identities that a bad deletion
-/// deleted before its fault; and the parameters by which lines are checked.
+/// What a checker keeps of the good lines so far, and of the identities that a bad deletion deleted
+/// before its fault; and the parameters by which lines are checked.
 #[derive(Drop)]
 pub struct StreamState {
     /// The stream, its layout and its cube, which never change.
@@ -26,9 +26,9 @@ pub struct StreamState {
     retired: u64,
     /// How many clauses were added.
     added: u64,
-    /// Whether one of them was empty.
+    /// Whether one of the added clauses was empty.
     empty: bool,
-    /// Whether the cube falsifies one of them.
+    /// Whether the cube falsifies one of the added clauses.
     within: bool,
     /// The number of the next line, counted from 1. It stops at 2^64 - 1.
     line: u64,

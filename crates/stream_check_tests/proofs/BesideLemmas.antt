@@ -1,4 +1,4 @@
--- How another stream's calls at the map of one thread change a stream's view.
+-- How another stream's calls change a stream's view of the map that one thread uses.
 use Rattle.std.proofs.Common.{◌≡◌, ◌≢◌, ◌<◌, [], ◌∷◌, ℕ, sym, ap, ap₂, subst, ◌∙◌, arith}
 use Rattle.lrup_model.specs.Formula.{Cnf}
 use Rattle.lrup_model.specs.Layout.{LayoutValue}
@@ -15,7 +15,7 @@ use Rattle.lrup_model.specs.lemmas.HistoryLemmas.{run-others}
 use Rattle.lrup_model.specs.lemmas.CallerLemmas.{calls_differ}
 use Rattle.stream_check_tests.specs.lemmas.StepLemmas.{step_append}
 
--- the calls of stream t aren't calls of stream s
+-- for the view of stream s, calls of stream t are a step without events
 pub step_beside : (old new : Plain) (s t : ℕ) (es : History) → 0 < s → s ≢ t → PlainMoves old new t es
     → CallerStep (plain_caller_view old s) (plain_caller_view new s) []
 step_beside old new s t es positive other moves = record {
@@ -29,11 +29,11 @@ step_beside old new s t es positive other moves = record {
   follow = λ all. record { each = (moves.follow (record { each = all.each })).each };
 }
 
--- a step without events, and then one with these
+-- a step without events and then a step with these events are one step with these events
 pub step_then : (p q r : CallerView) (es : History) → CallerStep p q [] → CallerStep q r es → CallerStep p r es
 step_then p q r es none later = step_append p q r [] es none later
 
--- the calls of a desk that held the map from m to n
+-- a desk's calls lead from its stream's old view of the map to the new one
 pub desk_known : (a b : PlainDesk) (m n : Plain) (s : ℕ) (es : History) → PlainDeskMoves a b es → map_of a ≡ m → stream_at a ≡ s
     → n ≡ map_of b → CallerStep (plain_caller_view m s) (plain_caller_view n s) es
 desk_known a b m n s es moves before stream following =
@@ -44,7 +44,7 @@ desk_known a b m n s es moves before stream following =
     (subst (λ (x : Plain). CallerStep (plain_caller_view (map_of a) (stream_at a)) (plain_caller_view x (stream_at a)) es)
     (sym following) known))
 
--- and the fetch of such a desk
+-- a desk's fetch leads from its stream's old view of the map to the new one
 pub desk_fetched : (a b : PlainDesk) (m n : Plain) (s id : ℕ) (answer : Fetched)
     → PlainDeskMoves a b (fetch (stream_at a) id (reply_of (plain_desk_caller_view b) answer) ∷ [])
     → map_of a ≡ m → stream_at a ≡ s → n ≡ map_of b

@@ -30,7 +30,7 @@ pub unit_fails : (hints : List ℕ) (es : History) (fault : Fault) → FailsHint
 unit_fails hints es fault fails =
     (refl, inr ((refl, omega arith), inr ((omega arith, tt), inr (unit_is_proper, inr (omega arith, fails)))))
 
--- stream 1 may import the formula's clause 1, and what stream 2 may add under 6
+-- stream 1 may import the formula's clause 1, and the clause that stream 2 may add under 6
 pub one_is_the_formulas : IsIdentity two_streams 1 × (Owns two_streams 1 1 → ⊥)
 one_is_the_formulas = ((omega arith, omega arith), (λ owns. let no : owners.Formula ≡ owners.Stream 1 = owns in cc))
 

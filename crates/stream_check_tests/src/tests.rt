@@ -1,5 +1,5 @@
-//! Rows at a map that counts its calls. Each stream comes whole, byte by byte, and in pieces of two
-//! bytes.
+//! Rows over a map that counts its calls. Each stream comes whole, byte by byte, and in pieces of
+//! two bytes.
 ghost use Rattle.std.specs.Prelude.{◌≡◌, IsSome};
 ghost use Rattle.lrup_model.specs.Event.{History};
 ghost use Rattle.stream_check.specs.Checker.{IsReadyAt};
@@ -201,7 +201,7 @@ fn has_report(
     Ok(())
 }
 
-/// Checks each row in this way, with pieces of each length.
+/// Checks each row as `has_report` does, with pieces of each length.
 fn have_reports(
     rt: &impl Abort,
     alloc: Global,
@@ -278,7 +278,7 @@ fn the_first_test_that_fails_decides(rt: HostRuntime) -> Result<(), Fail> {
     have_reports(&rt, rt.alloc(), ONE_STREAM, TWO_FAULTS)
 }
 
-/// Hints that aren't identities, the formula's, and the stream's own, vacant and live.
+/// Hints that aren't identities, hints of the formula, and the stream's own, vacant and live.
 static HINTS_FETCHED_ONCE: &[&str] = &[
     "5 2 0 9 0\n => 0 added, 0 deleted, bad line 1 (missing 9); fetches 0",
     "5 2 0 9999999 0\n => 0 added, 0 deleted, bad line 1 (missing 9999999); fetches 0",

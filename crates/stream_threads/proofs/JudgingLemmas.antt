@@ -26,7 +26,7 @@ reaches_append c one two three xs ys front back first second bytes before left =
     (subst (λ (bs : List History). ReachesState c ((bytes ++ xs) ++ ys) bs three) (append_assoc before front back)
     (second (bytes ++ xs) (before ++ front) (first bytes before left)))
 
--- a finished checker has taken the rest, too
+-- the state of a finished checker stays right with the rest of the bytes
 finished_takes : FinishedStays
     → (c : StreamParams) (old : CheckerState) (used rest : List ℕ) (blocks : List History) (v : CheckerValue) (free : ℕ) (ending : Ending)
     → v.ending ≡ Some ending → Extends c old used blocks (checker_state v free)
@@ -42,7 +42,7 @@ finished_takes stays c old used rest blocks v free ending is reaches bytes befor
     ) in
     subst (ReachesState c (bytes ++ (used ++ rest)) (before ++ blocks)) (sym finished) all
 
--- a call that ends no line has reached the end of the piece, or the checker has finished
+-- after a call that ends no line, the whole piece counts as taken
 pub stopped_takes : FinishedStays
     → (status : CheckStatus) (old new : CheckerValue) (piece used rest : List ℕ) (c : StreamParams) (state : CheckerState)
     (blocks : List History) (free : ℕ)
@@ -60,7 +60,7 @@ pub no_line : (status : CheckStatus) → (status ≡ statuses.More) ⊎ (status 
 no_line status (inl more) line = cc
 no_line status (inr finished) line = cc
 
--- what was taken so far, and then more with the same parameters
+-- what was taken in two steps, with the same parameters, was taken in one
 pub reaches_more : (c d : StreamParams) (one two three : CheckerState) (xs ys all : List ℕ) (front back : List History) → d ≡ c
     → all ≡ xs ++ ys
     → Extends c one xs front two → Extends d two ys back three → Extends c one all (front ++ back) three
@@ -76,7 +76,8 @@ ends_by None end v u is ends = (ends.2, ends.1, ends.4)
 ends_by (Some ending) end v u is ends =
     (ap (λ (w : CheckerValue). w.ending) ends ∙ is, ap (λ (w : CheckerValue). w.tally) ends, ap (λ (w : CheckerValue). w.dropped) ends)
 
--- the report of a checker that took everything up to the mark, and then its end, is a judgement
+-- the report of a checker that took all bytes before the mark, and then the mark's end, is a
+-- judgement
 pub at_mark : (start v u : CheckerValue) (room free : ℕ) (bytes items : List ℕ) (blocks : List History) (end : StreamEnd) (report : Report)
     → EndsAtMark bytes end items → v.params ≡ start.params
     → Extends start.params (checker_state start room) bytes blocks (checker_state v free) → Ends end v u → ReportsEnd end v u

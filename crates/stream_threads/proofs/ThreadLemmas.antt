@@ -39,13 +39,13 @@ judged_at v old new from to items dropped (Some r) first last judged =
     (subst (λ (q : PassValue). JudgesAtPass v old.pass q items dropped r) (sym last)
     (record { store = judged.1.store; blocks = judged.0; moves = judged.1.moves; judged = judged.2 }))
 
--- one more element of a list was moved to the end of another
+-- if an element moves from the front of one list to the end of another, both together stay the same
 pub moved_more : {A : Type 0} (done before rest all new : List A) (x : A) → before ≡ x ∷ rest → new ≡ done ++ x ∷ [] → done ++ before ≡ all
     → new ++ rest ≡ all
 moved_more done before rest all new x taken pushed whole =
     ap (λ xs. xs ++ rest) pushed ∙ append_assoc done (x ∷ []) rest ∙ ap (λ xs. done ++ xs) (sym taken) ∙ whole
 
--- the results, with those of one more stream
+-- the job and the result of one more stream can be appended
 finish_more : {S : Type 0} (view : SourceView S) (jobs : List (StreamJobsValue S)) (found : List (StreamResultValue S))
     (job : StreamJobsValue S) (one : StreamResultValue S)
     → AllFinish view jobs found → Finishes view job one → AllFinish view (jobs ++ job ∷ []) (found ++ one ∷ [])
@@ -70,7 +70,7 @@ found_more {S} view jobs old job one all here = record {
         → parts ++ part one ∷ [] ≡ map part (all.found ++ one ∷ [])
     pushed {X} part are = ap (λ (xs : List X). xs ++ part one ∷ []) are ∙ sym (map-append part all.found (one ∷ []))
 
--- the results of no streams
+-- the results of no jobs are those of no streams
 pub none_found : {S : Type 0} (view : SourceView S) (jobs : List (StreamJobsValue S)) (room : ℕ) (found : StreamResultsValue S)
     → length jobs ≡ 0 → found ≡ no_results room → AreResults view jobs found
 none_found view [] room found none is =
@@ -78,7 +78,7 @@ none_found view [] room found none is =
     (record { found = []; finish = tt; reports = refl; readers = refl; passes = refl; dropped = refl })
 none_found view (j ∷ jobs) room found none is = cc
 
--- the stream after these has a ring that failed
+-- the element after a prefix is at the index that is the prefix's length
 following : {A : Type 0} (before after : List A) (x : A) → slice_get (before ++ x ∷ after) (length before) ≡ Some x
 following [] after x = refl
 following (b ∷ before) after x = following before after x
@@ -113,7 +113,7 @@ jobs_more run_params k (e ∷ readers) (q ∷ ps) (i ∷ js) reader p j all here
     let place : k + length (i ∷ js) ≡ k + 1 + length js = omega arith in
     (all.0, jobs_more run_params (k + 1) readers ps js reader p j all.1 (subst (λ s. IsJob run_params s reader p j) place here))
 
--- the jobs, with those of one more stream
+-- the jobs of one more stream can be appended
 pub jobs_pushed : {S X : Type 0} (run_params : RunParamsValue) (s : ℕ) (read : X → S) (pass : X → PassValue) (xs : List X) (x : X)
     (js new : List (StreamJobsValue S)) (j : StreamJobsValue S)
     → new ≡ js ++ j ∷ [] → s ≡ length js + 1 → AreJobs run_params 1 (map read xs) (map pass xs) js → IsJob run_params s (read x) (pass x) j
@@ -131,7 +131,7 @@ jobs_pushed {S} {X} run_params s read pass xs x js new j pushed place all here =
 pub none_to_come : {A Z : Type 0} (s : IntoIter A Z) → into_iter_len s ≡ 0 → into_iter_items s ≡ []
 none_to_come s none = nil_from_length s.rest.items (sym s.rest.ok.0 ∙ none)
 
--- the jobs of all streams, once none is left
+-- once no reader and no pass is left, these are the jobs of all streams
 pub jobs_whole : {S : Type 0} (run_params : RunParamsValue) (rs readers more : List S) (ps passes others : List PassValue)
     (js : List (StreamJobsValue S))
     → AreJobs run_params 1 rs ps js → rs ++ more ≡ readers → ps ++ others ≡ passes → more ≡ [] → others ≡ []
@@ -144,7 +144,7 @@ jobs_whole {S} run_params rs readers more ps passes others js all first second n
 
 -- ---- threads that wait for a signal
 
--- all of them wait for the signal with which they were started
+-- all threads wait for the signal with which they were started
 pub one_signal : {S : Type 0} (signal : ℕ) (jobs : List (StreamJobsValue S)) (all : List (StartedValue S))
     → all ≡ map (started_with signal) jobs → AllByRecursion (λ one. one.signal ≡ signal) all
 one_signal {S} signal jobs all is = subst (AllByRecursion (λ (one : StartedValue S). one.signal ≡ signal)) (sym is) (at jobs)
@@ -153,7 +153,7 @@ one_signal {S} signal jobs all is = subst (AllByRecursion (λ (one : StartedValu
     at [] = tt
     at (j ∷ js) = (refl, at js)
 
--- their jobs are those with which they were started
+-- the threads' jobs are those with which they were started
 pub jobs_started : {S : Type 0} (signal : ℕ) (jobs : List (StreamJobsValue S)) (all : List (StartedValue S))
     → all ≡ map (started_with signal) jobs → map (λ one. one.jobs) all ≡ jobs
 jobs_started {S} signal jobs all is = ap (map (λ (one : StartedValue S). one.jobs)) is ∙ at jobs
@@ -162,12 +162,12 @@ jobs_started {S} signal jobs all is = ap (map (λ (one : StartedValue S). one.jo
     at [] = refl
     at (j ∷ js) = ap (λ (rest : List (StreamJobsValue S)). j ∷ rest) (at js)
 
--- there are as many of them as jobs
+-- as many streams were started as there are jobs
 pub started_count : {S : Type 0} (signal : ℕ) (jobs : List (StreamJobsValue S)) (all : List (StartedValue S))
     → all ≡ map (started_with signal) jobs → length all ≡ length jobs
 started_count signal jobs all is = ap length is ∙ length-map jobs (started_with signal)
 
--- the promise of a thread holds if it didn't leave
+-- what a thread promises of its result holds if the thread has one
 pub if_stayed : {A E : Type 0} (end : Result A E) (P : A → Type 0) (Q : E → Type 0) → MatchResult end P Q
     → (found : A) → end ≡ Ok found → P found
 if_stayed end P Q kept found is = subst (λ r. MatchResult r P Q) is kept

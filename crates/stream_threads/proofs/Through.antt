@@ -60,7 +60,7 @@ one_last [] (b ∷ ys) x y e = absurd (omega (arith, no_more y 0 ys [] (sym (con
 one_last (a ∷ xs) [] x y e = absurd (omega (arith, no_more x 0 xs [] (cons_parts a y (xs ++ x ∷ []) [] e).1))
 one_last (a ∷ xs) (b ∷ ys) x y e = one_last xs ys x y (cons_parts a b (xs ++ x ∷ []) (ys ++ y ∷ []) e).1
 
--- the last popped item is a byte
+-- if the last popped item is a byte, what was received doesn't end with a mark
 pub byte_is_last : (past items : List ℕ) (n : ℕ) → 0 < n → n ≤ length items → get_or items (n - 1) 0 < 256
     → EndsBeforeMark (past ++ take n items)
 byte_is_last past items n some fits small taken item e =
@@ -68,7 +68,7 @@ byte_is_last past items n some fits small taken item e =
     one_last (past ++ take (n - 1) items) taken (get_or items (n - 1) 0) item (sym (front_and_last past items n some fits) ∙ e) in
     omega (arith, last, small)
 
--- the last popped item is a mark
+-- if the last popped item is a mark, what was received ends at this mark
 pub last_is_mark : (past items bytes : List ℕ) (n : ℕ) → 0 < n → n ≤ length items
     → 256 ≤ get_or items (n - 1) 0 → take (n - 1) bytes ≡ map byte_of (take (n - 1) items)
     → EndsAtMark (map byte_of past ++ take (n - 1) bytes) (end_of_mark (get_or items (n - 1) 0)) (past ++ take n items)
@@ -82,7 +82,7 @@ last_is_mark past items bytes n some fits m same =
       items_are = front_and_last past items n some fits;
     }
 
--- the bytes before the last one of a block
+-- the bytes of all of a block's items except the last
 front_bytes : (items rest : List ℕ) (k n : ℕ) → suc k ≡ n → n ≤ length items
     → take k (map byte_of (take n items) ++ rest) ≡ map byte_of (take k items)
 front_bytes items rest k n i fits =
@@ -96,7 +96,8 @@ front_bytes items rest k n i fits =
     ap (λ u. take k (u ++ rest)) f ∙ (ap (λ u. take k u) (append_assoc (map byte_of t) (b ∷ []) rest)
     ∙ (ap (λ m. take m (map byte_of t ++ b ∷ rest)) (sym j) ∙ take-append_seam (map byte_of t) (b ∷ rest)))
 
--- the last popped item is a mark, and all popped items are narrowed
+-- if the last popped item is a mark, the narrowed items before it are the last bytes before the
+-- mark
 pub ends_there : (past items new rest : List ℕ) (n count : ℕ) (end : StreamEnd) → 0 < n → n ≤ length items
     → 256 ≤ get_or items (n - 1) 0 → new ≡ map byte_of (take n items)
     → n - 1 ≡ count → end_of_mark (get_or items (n - 1) 0) ≡ end

@@ -23,9 +23,9 @@ pub record IsSentOf (bytes : List ℕ) (end : StreamEnd) (items : List ℕ) : Ty
   pub small : All (λ b. b < 256) bytes
   pub items_are : items ≡ bytes ++ mark_of end ∷ []
 
--- What a reading thread sent: the bytes that its reader's reads gave, through the last read, and
--- then the mark of the end at that read. If the bytes that the reader delivered are known, they are
--- the same.
+-- What a reading thread sent: the bytes that its reader's reads gave, up to the last read, and then
+-- the mark of the end at that read. If the bytes that the reader delivered are known, these are the
+-- same bytes.
 pub record SendsAll (S : Type 0) (view : SourceView S) (first last : S)
     (items : List ℕ) : Type 0 where
   pub bytes : List ℕ
@@ -44,6 +44,6 @@ pub record EndsAtMark (bytes : List ℕ) (end : StreamEnd) (items : List ℕ) : 
   pub end_is : end ≡ end_of_mark mark
   pub items_are : items ≡ taken ++ mark ∷ []
 
--- what was received ends with no mark: the last item, if there is one, is a byte
+-- what was received doesn't end with a mark: the last item, if there is one, is a byte
 abbrev pub EndsBeforeMark : List ℕ → Type 0
 EndsBeforeMark items = (taken : List ℕ) (item : ℕ) → items ≡ taken ++ item ∷ [] → item < 256

@@ -23,15 +23,15 @@ pub record StreamJobsValue (S : Type 0) : Type 0 where
   pub checker : CheckerValue
   pub pass : PassValue
 
--- the jobs of a stream, counted from 1, before its first byte: its reader, a checker of that
--- stream, and its pass
+-- the jobs of the stream with this number (from 1), before its first byte: its reader, a checker of
+-- that stream, and its pass
 pub record IsJob {S : Type 0} (run_params : RunParamsValue) (s : ℕ) (reader : S) (at : PassValue)
     (jobs : StreamJobsValue S) : Type 0 where
   pub reader_is : jobs.reader ≡ reader
   pub checker : IsNew run_params.layout run_params.cube s run_params.tries jobs.checker
   pub pass : jobs.pass ≡ at
 
--- the jobs of the streams, counted from s
+-- the jobs of these streams, the first of which is stream s
 abbrev pub AreJobs : {S : Type 0} → RunParamsValue → ℕ → List S → List PassValue
     → List (StreamJobsValue S)
     → Type 0
@@ -45,7 +45,7 @@ pub record StreamResultValue (S : Type 0) : Type 0 where
   pub pass : PassValue
   pub dropped : DroppedIdsValue
 
--- the results of streams, one list for each part, and for how many more there is room
+-- the results of streams, one list for each part, and for how many more streams there is room
 pub record StreamResultsValue (S : Type 0) : Type 0 where
   pub reports : List Report
   pub readers : List S
@@ -58,9 +58,9 @@ pub record CanBegin {S : Type 0} (store : StoreValue) (jobs : StreamJobsValue S)
   pub here : store_of jobs.pass ≡ store
   pub ready : IsReadyAt jobs.checker (pass_caller_view jobs.pass.view)
 
--- The result is right: if the checker had taken no byte before, the report judges the stream that
--- the reader delivered and its reads gave, by the calls that the pass made, and the identities are
--- those that the stream's lines dropped.
+-- The result is right. If the checker had taken no bytes before, the stream that the reader
+-- delivered and its reads gave is judged as the report says, by the calls that the pass made; and
+-- the identities are those that the stream's lines dropped.
 pub record Finishes {S : Type 0} (view : SourceView S) (jobs : StreamJobsValue S)
     (found : StreamResultValue S) : Type 0 where
   pub store : store_of found.pass ≡ store_of jobs.pass
@@ -79,7 +79,7 @@ abbrev pub AllFinish : {S : Type 0} → SourceView S → List (StreamJobsValue S
     → Type 0
 AllFinish view all found = AllZip (Finishes view) all found
 
--- the same, with the results given in parts
+-- the result of each stream, in order, with one list for each part
 pub record AreResults {S : Type 0} (view : SourceView S) (all : List (StreamJobsValue S))
     (results : StreamResultsValue S) : Type 0 where
   pub found : List (StreamResultValue S)

@@ -114,8 +114,8 @@ impl Sender {
     }
 
     /// Pushes all items, and blocks while the ring is full. It doesn't check whether the consumer
-    /// is gone: the checking thread receives through the mark, even after a bad line, and its
-    /// `Consumer` is kept until both threads are joined.
+    /// is gone: the checking thread receives everything up to the mark, even after a bad line, and
+    /// its `Consumer` is kept until both threads are joined.
     fn push_all<W: Wait>(&mut self, wait: &W, items: &[u16])
         ensures ring { SameProducer self.old.producer self.new.producer }
         ensures sent { sent self.new.producer ≡ sent self.old.producer ++ items.now }

@@ -49,13 +49,13 @@ pub struct Checked {
     pub report: Option<Report>,
     /// The identities that the stream dropped.
     pub dropped: DroppedIds,
-    /// The receiving half, from which everything was received, through the mark.
+    /// The receiving half, from which everything was received, including the mark.
     pub consumer: Consumer<u16>,
 }
 
 impl<G: Gate + Drop> CheckingJob<G> {
-    /// The job of stream `stream`, counted from 1. The code allocates all memory here, except for
-    /// the identities that the stream drops.
+    /// The job of the stream with the number `stream` (from 1). The code allocates all memory here,
+    /// except for the identities that the stream drops.
     pub(crate) fn new(
         alloc: Global,
         receiver: Receiver,
@@ -89,7 +89,7 @@ impl<G: Gate + Drop> CheckingJob<G> {
     }
 }
 
-/// Waits for the start signal, and then checks what is received, through the mark. After a bad line
+/// Waits for the start signal, and then checks what is received, up to the mark. After a bad line
 /// the rest is received and discarded: otherwise the ring would fill up, and the reading thread
 /// would wait forever. If the signal says to leave, nothing is received, and the signal's token is
 /// returned, which proves that the signal said so. The call blocks while the ring is empty.
@@ -136,7 +136,7 @@ pub fn check_on_signal<'a, W: Wait, G: Gate + Drop, M: ClauseMap>(
     })
 }
 
-/// Checks what is received, through the mark, and returns the stream's report, or `None` if no mark
+/// Checks what is received, up to the mark, and returns the stream's report, or `None` if no mark
 /// came.
 fn check_received<W: Wait, G: Gate, M: ClauseMap>(
     wait: &W,

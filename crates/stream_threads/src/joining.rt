@@ -189,9 +189,10 @@ fn start_and_join<
         let _ = signal.set(threads, false);
         return Err(ThreadFault::Spawn(stream));
     }
-    // An `Err` means that the signal had been set to leave. The signal is the run's own, so this
-    // can't happen, but no contract of `OnceLock` says so. `Spawn` has to name an existing stream,
-    // so without streams the result is the empty lists; a run always has streams, by its layout.
+    // An `Err` means that the signal has already been set to leave. The signal is the run's own, so
+    // this can't happen, but no contract of `OnceLock` says so. `Spawn` has to name an existing
+    // stream, so without streams the result is the empty lists; a run always has streams, by its
+    // layout.
     let Ok(signalled) = signal_start(threads, signal) else {
         if started.is_empty() {
             return Ok(found);
@@ -201,8 +202,8 @@ fn start_and_join<
     join_all(threads, &signalled, started, found)
 }
 
-/// Sets the signal to start, and returns the token that proves this. If the signal had been set to
-/// leave, the token that proves that is the error.
+/// Sets the signal to start, and returns the token that proves this. If the signal has already been
+/// set to leave, the error is the token that proves it.
 fn signal_start<'a, W: Wait>(
     wait: &W,
     signal: &'a OnceLock<bool>,

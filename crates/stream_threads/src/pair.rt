@@ -1,4 +1,4 @@
-//! The two jobs of a stream before their threads start, and what they returned after both have
+//! The two jobs of a stream before its threads start, and their results once both threads have
 //! ended.
 ghost use Rattle.std.specs.Prelude.{◌≡◌, ◌++◌, ℕ, List, [], false, IfOk, IsSome};
 ghost use Rattle.lrup_model.specs.Event.{History};
@@ -24,8 +24,8 @@ use stream_check::{Gate, RunParams};
 /// The capacity of a ring, in items of two bytes each: the number of bytes that a read asks for.
 const CAPACITY: usize = PIECE;
 
-/// Makes the two jobs of stream `stream`, counted from 1, with the two halves of one ring. The code
-/// allocates all memory here, except for the identities that the stream drops.
+/// Makes the two jobs of the stream with the number `stream` (from 1), with the two halves of one
+/// ring. The code allocates all memory here, except for the identities that the stream drops.
 pub fn jobs<R: Source + Drop, G: Gate + Drop>(
     alloc: Global,
     reader: R,

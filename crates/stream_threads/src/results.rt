@@ -31,7 +31,7 @@ impl<R: Source + Drop> Model for StreamResult<R> {
 }
 
 /// The results of streams, in order, as one list for each part. They have room for the results of
-/// more streams, and allocate nothing for these.
+/// more streams, so appending these allocates nothing.
 #[derive(Drop)]
 pub struct StreamResults<R: Source + Drop> {
     /// The report of each stream.

@@ -67,8 +67,8 @@ fn start_reading<'s, 'a: 's, E, W: Wait + Sync, R: Source + Send + Drop + 's, G:
     Some(Started { reading, checking })
 }
 
-/// Starts the checking threads, in order. If one can't be started, the error is its stream, counted
-/// from 1, and the threads of the streams before it have started.
+/// Starts the checking threads, in order. If one can't be started, the error is the number
+/// (from 1) of its stream, and the threads of the streams before that one have started.
 pub(crate) fn start_all_checking<
     's,
     'a: 's,
@@ -102,8 +102,8 @@ pub(crate) fn start_all_checking<
     Ok(())
 }
 
-/// Starts the reading threads, in order. If one can't be started, the error is its stream, counted
-/// from 1, and the threads of the streams before it have started.
+/// Starts the reading threads, in order. If one can't be started, the error is the number
+/// (from 1) of its stream, and the threads of the streams before that one have started.
 pub(crate) fn start_all_reading<
     's,
     'a: 's,

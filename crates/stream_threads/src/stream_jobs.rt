@@ -21,10 +21,10 @@ use stream_check::{Gate, RunParams};
 /// Why some stream has no result.
 #[derive(Drop)]
 pub enum ThreadFault<R: Source + Drop> {
-    /// A thread of this stream, counted from 1, couldn't be started. No reader was read.
+    /// A thread of the stream with this number (from 1) couldn't be started. No reader was read.
     Spawn(u64),
-    /// All threads have ended, but a checking thread found its ring abandoned before a mark. These
-    /// are the results of the streams before the first one with such a ring.
+    /// All threads have ended, but a checking thread found its ring abandoned before a mark came.
+    /// These are the results of the streams before the first one with such a ring.
     Ring(StreamResults<R>),
 }
 
@@ -53,8 +53,8 @@ impl<R: Source + Drop, G: Gate + Drop> Model for StreamJobs<R, G> {
 }
 
 impl<R: Source + Drop, G: Gate + Drop> StreamJobs<R, G> {
-    /// Makes the jobs of stream `stream`, counted from 1, whose calls go through this pass. The
-    /// code allocates all memory here, except for the identities that the stream drops.
+    /// Makes the jobs of the stream with the number `stream` (from 1), whose calls go through this
+    /// pass. The code allocates all memory here, except for the identities that the stream drops.
     pub fn new(
         alloc: Global,
         reader: R,

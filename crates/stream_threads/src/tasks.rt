@@ -76,8 +76,8 @@ pub(crate) fn result_after_start<'a, T>(
     }
 }
 
-/// Waits for the start signal, and then checks what is received, at a desk of the store. If the
-/// signal says to leave, its token is returned.
+/// Waits for the start signal, and then checks what is received, through a desk of the store. If
+/// the signal says to leave, its token is returned.
 pub(crate) fn check<'a, W: Wait, G: Gate + Drop>(
     wait: &W,
     store: &Store,

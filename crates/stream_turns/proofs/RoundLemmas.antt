@@ -33,7 +33,7 @@ unfolding tagged
 events_in-tagged s [] = refl
 events_in-tagged s (b ∷ bs) = ap (λ (es : History). b ++ es) (events_in-tagged s bs)
 
--- the events of the blocks so far, and of further ones of a stream
+-- appending a stream's further blocks appends their events
 pub events_more : (s : ℕ) (blocks : List Block) (bs : List History) → events_in (blocks ++ tagged s bs) ≡ events_in blocks ++ joined bs
 events_more s blocks bs = events_in-append blocks (tagged s bs) ∙ ap (λ (es : History). events_in blocks ++ es) (events_in-tagged s bs)
 
@@ -64,7 +64,7 @@ all-back : {X : Type 0} (P : X → Type 0) (xs ys : List X) → AllByRecursion P
 all-back P [] ys all = all
 all-back P (x ∷ xs) ys all = all-back P xs ys all.1
 
--- they are within the layout, since the stream is
+-- the blocks of a stream are within the layout if the stream is
 pub within-tagged : (p : LayoutValue) (s : ℕ) (bs : List History) → IsStream p s → AllByRecursion (λ e. stream_of e ≡ s) (joined bs)
     → AllByRecursion (IsBlockWithin p (λ t. true)) (tagged s bs)
 unfolding tagged
@@ -84,7 +84,7 @@ just_one : (ending : Option Ending) (bs : List History) → ending ≡ None → 
 just_one None bs going are = are
 just_one (Some ending) bs going are = cc
 
--- at most one more line of stream s
+-- if a turn appends at most one block of stream s, the stream has as many more lines
 own_lines : (s : ℕ) (blocks : List Block) (bs : List History) → length bs ≤ 1
     → line_count s (streams_of (blocks ++ tagged s bs)) ≡ line_count s (streams_of blocks) + length bs
 unfolding tagged
@@ -127,7 +127,7 @@ module _ {S : Type 0} where
   at_other (w ∷ ws) (suc i) zero v other = refl
   at_other (w ∷ ws) (suc i) (suc k) v other = at_other ws i k v (λ is. other (ap suc is))
 
-  -- the worker of stream i + 1
+  -- the worker at index i is that of stream i + 1
   stream_at : (ws : List (WorkerValue S)) (i : ℕ) (w : WorkerValue S) → slice_get ws i ≡ Some w → IsOfStream ws (i + 1) w
   stream_at ws i w at = let place : i ≡ i + 1 - 1 = omega arith in (omega arith, subst (λ k. slice_get ws k ≡ Some w) place at)
 
@@ -139,7 +139,7 @@ module _ {S : Type 0} where
 
   -- ---- rounds
 
-  -- before the first turn
+  -- new workers are in the first round, before the first turn
   pub round_opened : (ws : List (WorkerValue S)) → IsInRound 0 0 [] ws
   round_opened ws = record {
     before = λ s few. omega arith;
@@ -151,7 +151,7 @@ module _ {S : Type 0} where
 
   module _ (rounds i : ℕ) (blocks : List Block) (ws : List (WorkerValue S)) (w : WorkerValue S) (at : slice_get ws i ≡ Some w)
       (now : IsInRound rounds i (streams_of blocks) ws) where
-    -- after the turn of stream i + 1, which was unfinished before
+    -- the round after the turn of stream i + 1, which was unfinished before
     pub round_turned : (v : WorkerValue S) (bs : List History) → w.checker.ending ≡ None → AreBlocksOfTurn v.checker.ending bs
         → IsInRound rounds (i + 1) (streams_of (blocks ++ tagged (i + 1) bs)) (set ws i v)
     round_turned v bs going are =
@@ -190,7 +190,7 @@ module _ {S : Type 0} where
           ));
         }
 
-    -- stream i + 1 is finished: it has no turn
+    -- the round after stream i + 1, which is finished, and so has no turn
     pub round_passed : IsSome w.checker.ending → IsInRound rounds (i + 1) (streams_of blocks) ws
     round_passed finished = record {
       before = λ s most. elim (cases_lt i s) [
@@ -209,7 +209,7 @@ module _ {S : Type 0} where
       turns = now.turns;
     }
 
-  -- all streams had their turns in this round
+  -- after the turns of all streams the next round begins
   pub round_finished : (rounds : ℕ) (order : List ℕ) (ws : List (WorkerValue S)) → IsInRound rounds (length ws) order ws
       → IsInRound (rounds + 1) 0 order ws
   round_finished rounds order ws now = record {

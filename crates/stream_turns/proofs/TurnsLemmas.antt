@@ -54,7 +54,7 @@ spent-others s t (e ∷ es) calls other =
     ap (λ (h : History). sum_by (λ p. length p.1) (published h)) (cond-false (eqb (stream_of e) t) (e ∷ own es t) (own es t) not_mine)
     ∙ spent-others s t es calls.1 other
 
--- and a number that isn't a stream's takes no room
+-- nothing is taken from the room of a number that isn't a stream's
 spent-outside : (p : LayoutValue) (t : ℕ) (blocks : List Block) → AllByRecursion (IsBlockWithin p (λ s. true)) blocks → ¬ IsStream p t
     → spent t (events_in blocks) ≡ 0
 spent-outside p t [] within outside = refl
@@ -67,7 +67,7 @@ spent-outside p t (block ∷ blocks) within outside =
       spent-outside p t blocks within.1 outside,
     )
 
--- so the events are within the streams' room
+-- the events of a run on one thread are within the streams' room
 within_room : (f : Cnf) (p : LayoutValue) (blocks : List Block) (m : Plain) → HasRun f p blocks m → (t : ℕ)
     → spent t (events_in blocks) ≤ p.room
 within_room f p blocks m has t =
@@ -121,7 +121,7 @@ report_at_end None t r finished is = absurd (let none : false ≡ true = finishe
 report_at_end (Some ending) t r finished is = (ending, refl, is)
 
 module _ {S : Type 0} (view : SourceView S) where
-  -- the worker that had the turn
+  -- the worker that had the turn has reached its state through its blocks
   working_on : (run_params : RunParamsValue) (blocks : List Block) (m n : Plain) (s : ℕ) (bs : List History) (first : S)
       (w v : WorkerValue S)
       → IsWorking view run_params blocks m s first w
@@ -135,7 +135,7 @@ module _ {S : Type 0} (view : SourceView S) where
     ready = ready;
   }
 
-  -- the other workers
+  -- the other workers are still in their states
   module _ (law : ReadyBeside) (run_params : RunParamsValue) (blocks : List Block) (m n : Plain) (s : ℕ) (bs : List History)
       (moves : PlainMoves m n s (joined bs)) where
     working_beside : (t : ℕ) (first : S) (w : WorkerValue S) → 0 < t → s ≢ t → IsWorking view run_params blocks m t first w
@@ -154,7 +154,7 @@ module _ {S : Type 0} (view : SourceView S) where
               (law w.checker m n s (joined bs) here moves (λ is. other (is ∙ stream)));
         }
 
-    -- the turn of the worker at index i, which is now v
+    -- all workers, after the turn of the worker at index i, which is now v
     turn_at : (i : ℕ) (firsts : List S) (ws : List (WorkerValue S)) (w v : WorkerValue S) → s ≡ 1 + i → slice_get ws i ≡ Some w
         → WorkerStep view w (free_at m s) bs v (free_at n s) → IsReadyAt v.checker (plain_caller_view n s)
         → v.checker.params ≡ w.checker.params
@@ -178,7 +178,7 @@ module _ {S : Type 0} (view : SourceView S) where
       ap (λ (w : WorkerValue S). w.checker.ending) (get_or_default ws i e d within)
       ∙ not_finished finished (get_or ws i d).checker.ending is going
 
-  -- the worker of stream i + 1, in any run
+  -- in any run, the worker of stream i + 1 can be fed
   pub ready_at : (taken : ℕ) (m : Plain) (ws : List (WorkerValue S)) (i : ℕ) (d : WorkerValue S) → IsInSerialRun view taken m ws
       → i < length ws
       → IsReadyAt (get_or ws i d).checker (plain_caller_view m (i + 1))
@@ -234,18 +234,18 @@ module _ {S : Type 0} (view : SourceView S) where
     in_round = round_finished runs.rounds (streams_of runs.blocks) ws runs.in_round;
   }
 
-  -- two steps one after the other are a step
+  -- two steps, one after the other, are one step
   pub step_twice : (i j k : ℕ) (a b c : Plain) (us vs ws : List (WorkerValue S)) → SerialStep view i a us j b vs
       → SerialStep view j b vs k c ws
       → SerialStep view i a us k c ws
   step_twice i j k a b c us vs ws front back f run_params firsts runs = back f run_params firsts (front f run_params firsts runs)
 
-  -- so there is still a run
+  -- after a step there is still a run
   pub running_on : (i j : ℕ) (a b : Plain) (us vs : List (WorkerValue S)) → IsInSerialRun view i a us → SerialStep view i a us j b vs
       → IsInSerialRun view j b vs
   running_on i j a b us vs running on = (running.0, running.1, running.2, on running.0 running.1 running.2 running.3)
 
-  -- one more stream was finished, if all before it were
+  -- if neither this stream nor one before it had a turn, all of them are finished and unchanged
   pub finished_more : (i : ℕ) (going turned : Bool) (first old new : List (WorkerValue S)) → (going || turned) ≡ false
       → (going ≡ false → (old ≡ first) × ((k : ℕ) → k < i → IsFinishedAt old k)) → (turned ≡ false → IsFinishedAt old i × (new ≡ old))
       → (new ≡ first) × ((k : ℕ) → k < i + 1 → IsFinishedAt new k)
@@ -258,7 +258,7 @@ module _ {S : Type 0} (view : SourceView S) where
             (below_more (IsFinishedAt old) i finished.1 last.0 k below),
       )
 
-  -- each worker is finished
+  -- if the worker at each index is finished, all workers are
   pub finished_each : (ws : List (WorkerValue S)) → ((k : ℕ) → k < length ws → IsFinishedAt ws k) → AreFinished ws
   finished_each [] finished = tt
   finished_each (w ∷ ws) finished = (finished zero (omega arith), finished_each ws (λ k below. finished (suc k) (omega arith)))
@@ -272,7 +272,7 @@ module _ {S : Type 0} (view : SourceView S) where
   reports_more (v ∷ ws) [] w r have finished is = absurd have
   reports_more (v ∷ ws) (x ∷ rs) w r have finished is = (have.0, reports_more ws rs w r have.1 finished is)
 
-  -- one more report
+  -- one more worker's report is appended
   pub reports_pushed : (ws : List (WorkerValue S)) (rs ts : List Report) (w : WorkerValue S) (r : Report) → ts ≡ rs ++ r ∷ []
       → HaveReports ws rs → IsFinished w
       → IfSome w.checker.ending (λ ending. r ≡ report_of_tally w.checker.tally ending) → HaveReports (ws ++ w ∷ []) ts
@@ -281,7 +281,7 @@ module _ {S : Type 0} (view : SourceView S) where
 
   -- ---- before the first turn
 
-  -- one more worker
+  -- one more worker is appended
   pub started_pushed : {X : Type 0} (run_params : RunParamsValue) (s : ℕ) (f : X → S) (xs : List X) (x : X) (ws vs : List (WorkerValue S))
       (w : WorkerValue S)
       → vs ≡ ws ++ w ∷ [] → s ≡ length ws + 1 → AreStarted view run_params 1 (map f xs) ws → IsStarted view run_params s (f x) w
@@ -329,7 +329,7 @@ module _ {S : Type 0} (view : SourceView S) where
       room = λ s stream. omega (arith, room_opened s stream);
     }
 
-    -- a run before its first turn
+    -- new workers, with the map, are a run before its first turn
     pub serial_opened : (firsts : List S) (ws : List (WorkerValue S)) → length firsts ≡ run_params.layout.streams
         → AreStarted view run_params 1 firsts ws → SerialInvariant view (formula_of m) run_params firsts 0 m ws
     serial_opened firsts ws count started =
@@ -345,7 +345,7 @@ module _ {S : Type 0} (view : SourceView S) where
 
   -- ---- when all streams are finished
 
-  -- the stream of a finished worker
+  -- a finished worker has a stream that its report judges
   known_finished : (o : Option Ending) (ending : Ending) (first : S) (w : WorkerValue S) (free : ℕ) (blocks : List History)
       → o ≡ Some ending
       → WorkerInvariantBy view o first w free blocks
@@ -388,7 +388,7 @@ module _ {S : Type 0} (view : SourceView S) where
         ((blocks_of k blocks, refl, dropped), others.4),
       )
 
-  -- what the streams leave
+  -- what the streams leave when all are finished
   pub checked_over : (f : Cnf) (run_params : RunParamsValue) (firsts : List S) (m : Plain) (ws : List (WorkerValue S))
       (reports : List Report) → length firsts ≡ run_params.layout.streams
       → SerialInvariant view f run_params firsts 0 m ws → HaveReports ws reports

@@ -55,14 +55,14 @@ turn_blocks statuses.More ending blocks ends finished are = absurd (ends refl)
 turn_blocks statuses.Over None blocks ends finished are = absurd (let none : false ≡ true = finished refl in cc)
 turn_blocks statuses.Over (Some ending) blocks ends finished are = are
 
--- the end of a stream has no block
+-- a turn in which the stream finishes may have no block
 pub finished_without : (ending : Option Ending) → IsSome ending → AreBlocksOfTurn ending []
 finished_without None finished = absurd (let none : false ≡ true = finished in cc)
 finished_without (Some ending) finished = omega arith
 
 -- ---- what is dropped
 
--- what an unfinished checker dropped, it has dropped at its end
+-- what an unfinished checker has dropped is what the stream has dropped when it ends
 end_drops : (end : StreamEnd) (v u : CheckerValue) (room : ℕ) (bytes : List ℕ) (blocks : List History) (ending : Ending)
     → v.ending ≡ None → ReachesState v.params bytes blocks (checker_state v room) → EndsBy None end v u → u.ending ≡ Some ending
     → HasDropped u.params bytes blocks (report_of_tally u.tally ending) u.dropped
@@ -90,14 +90,14 @@ module _ {S : Type 0} (view : SourceView S) where
   worker_append a b c i j k front back first second entry before holds =
       subst (WorkerInvariant view entry c k) (append_assoc before front back) (second entry (before ++ front) (first entry before holds))
 
-  -- the earlier steps, a read, and what the checker took
+  -- the earlier steps, a read, and what the checker took, are one step
   pub worker_turn : (a b c d : WorkerValue S) (i j k : ℕ) (front back : List History) → WorkerStep view a i front b j
       → WorkerStep view b j [] c j
       → WorkerStep view c j back d k → WorkerStep view a i (front ++ back) d k
   worker_turn a b c d i j k front back first read fed =
       worker_append a b d i j k front back first (worker_append b c d j j k [] back read fed)
 
-  -- a read, if all bytes were taken
+  -- a read is a step, if all earlier bytes were taken
   pub worker_read : (old new : S) (unread piece : List ℕ) (size : ℕ) (v : CheckerValue) (room : ℕ)
       → Consumes (view.left old) (view.left new) piece → view.reads old size (Some piece) new → 0 < length piece → unread ≡ []
       → v.ending ≡ None → WorkerStep view (worker_of old unread v) room [] (worker_of new piece v) room
@@ -114,7 +114,7 @@ module _ {S : Type 0} (view : SourceView S) where
         here.3,
       ))
 
-  -- the end, or a read that failed
+  -- the end, or a read that failed, is a step
   pub worker_finished : (end : StreamEnd) (old new : S) (unread rest : List ℕ) (v u : CheckerValue) (room : ℕ)
       → EndsSo end (view.left new) (view.has_failed new) → IsLastRead S view.reads end old new
       → Consumes (view.left old) (view.left new) [] → unread ≡ [] → v.ending ≡ None → Ends end v u → ReportsEnd end v u
@@ -145,7 +145,7 @@ module _ {S : Type 0} (view : SourceView S) where
         end_drops end v u room here.0 before judged.0 going here.3 ended judged.1,
       ))
 
-  -- the bytes so far led to this checker, finished or not
+  -- the worker's invariant holds if the bytes so far led to its checker, finished or not
   worker_at : (ending : Option Ending) (first reader : S) (bytes rest : List ℕ) (v : CheckerValue) (room : ℕ) (blocks : List History)
       → v.ending ≡ ending → view.has_failed reader ≡ false → Consumes (view.left first) (view.left reader) (bytes ++ rest)
       → Gave S view.reads first (bytes ++ rest) reader → ReachesState v.params bytes blocks (state_by v room ending)
@@ -160,7 +160,7 @@ module _ {S : Type 0} (view : SourceView S) where
     stopped_drops ending v.params bytes blocks v.tally v.dropped reaches.1 full,
   )
 
-  -- what the checker took of the bytes that were read
+  -- what the checker took of the bytes that were read is a step
   pub worker_fed : (reader : S) (unread front rest : List ℕ) (v u : CheckerValue) (room after : ℕ) (blocks : List History)
       → view.has_failed reader ≡ false → unread ≡ front ++ rest → v.ending ≡ None → u.params ≡ v.params
       → Extends v.params (checker_state v room) front blocks (checker_state u after)

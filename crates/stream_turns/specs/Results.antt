@@ -21,7 +21,7 @@ pub record IsJustOpened (its_layout : LayoutValue) (map : Plain) : Type 0 where
   pub clauses : plain_state map ≡ opening (formula_of map)
   pub room : map.free ≡ replicate its_layout.streams its_layout.room
 
--- What streams leave if they were checked at a map of this formula, a line of each in turn.
+-- What streams leave if they were checked with a map of this formula, a line of each in turn.
 -- `firsts` are their readers before the first read, and `lasts` the readers at the end. The
 -- readers' reads gave the streams; the streams' reports have an order of lines that takes the
 -- streams in turn; each stream dropped exactly what its lines drop, up to the line that stopped it,

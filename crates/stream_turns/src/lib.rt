@@ -1,4 +1,4 @@
-//! All streams of a run on one thread, a line of each in turn, at the clause map of one thread.
+//! All streams of a run on one thread, a line of each in turn, over the clause map of one thread.
 #![tactic(auto)]
 
 mod turns;

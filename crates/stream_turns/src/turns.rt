@@ -24,7 +24,7 @@ use stream_check::{DroppedIds, Gate, Report, RunParams};
 pub struct StreamResults<R: Drop> {
     /// The report of each stream.
     pub reports: Vec<Report>,
-    /// The readers, each as far as it was read.
+    /// The readers, as the run left them.
     pub readers: Vec<R>,
     /// The identities that each stream dropped.
     pub dropped: Vec<DroppedIds>,
@@ -142,7 +142,7 @@ fn take_turn<W: Wait, R: Source + Drop, G: Gate + Drop>(
     true
 }
 
-/// Takes one turn of the worker of stream `s`, counted from 1, at its desk.
+/// Takes one turn of the worker of the stream with number `s` (from 1), through the stream's desk.
 fn turn_at_desk<W: Wait, R: Source + Drop, G: Gate + Drop>(
     wait: &W,
     map: &mut PlainMap,

@@ -45,8 +45,8 @@ impl<R: Source + Drop, G: Gate + Drop> Model for Worker<R, G> {
 }
 
 impl<R: Source + Drop, G: Gate + Drop> Worker<R, G> {
-    /// Makes a worker of stream `stream`, counted from 1, before its first byte. The code allocates
-    /// all memory here, except for the identities that the stream drops.
+    /// Makes a worker for the stream with the number `stream` (from 1), before its first byte. The
+    /// code allocates all memory here, except for the identities that the stream drops.
     pub fn new(
         alloc: Global,
         reader: R,
@@ -105,8 +105,8 @@ impl<R: Source + Drop, G: Gate + Drop> Worker<R, G> {
     }
 
     /// Reads the next piece, if all bytes were taken. It returns `false` if there is none, because
-    /// the stream ended or the read failed; then the checker is finished, and the gate has its
-    /// report.
+    /// the stream ended or the read failed; then the checker is finished, and the gate has the
+    /// stream's report.
     fn read(&mut self) -> bool
         requires { self.old.checker.ending ≡ None }
         ensures holds { (room : ℕ) → WorkerStep (readers_view R.Source)

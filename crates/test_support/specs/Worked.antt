@@ -31,8 +31,7 @@ unit = pos 2 ∷ []
 abbrev pub one_line : LayoutValue
 one_line = record { vars = 2; clauses = 4; literals = 8; streams = 1; lines = 1; room = 2 }
 
--- stream 1 publishes the unit clause under 5, retires it, and can then neither publish nor retire
--- there
+-- stream 1 publishes the unit clause under 5, retires it, and can then do neither again
 abbrev pub calls : History
 calls =
     fetch 1 5 vacant

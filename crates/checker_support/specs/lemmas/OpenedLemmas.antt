@@ -1,4 +1,5 @@
--- Lemmas about checkers at a map that was just opened, and after calls of other streams.
+-- Lemmas about when a checker is ready: on a map that was just opened, and after other streams'
+-- calls.
 use Rattle.std.proofs.Common.{◌≡◌, ◌≢◌, ℕ, refl, sym, ap, subst, ◌∙◌}
 use Rattle.lrup_model.specs.Cube.{CubeValue}
 use Rattle.lrup_model.specs.Event.{History}
@@ -10,7 +11,7 @@ use Rattle.stream_check.specs.Checker.{IsNew, IsReadyAt}
 use Rattle.stream_check.specs.Laws.{ReadyNew, ReadyBeside}
 use Rattle.checker_support.specs.Opened.{IsPlainOpened}
 
--- a new checker is ready at a map that was just opened
+-- a new checker is ready for its stream's view of a map that was just opened
 pub ready_opened : ReadyNew
     → (layout : LayoutValue) (cube : CubeValue) (stream tries : ℕ) (v : CheckerValue) (m : Plain)
     → IsPlainOpened m → layout ≡ m.layout → IsNew layout cube stream tries v

@@ -32,7 +32,7 @@ fn save_copies<M: ClauseMap>(
     Ok(save_clips(alloc, desk, &copies, layout.vars(), false, paper).map(|_| ()))
 }
 
-/// The same, at the first desk.
+/// Saves these copies through the desk of stream 1.
 fn save_copies_at_first(
     alloc: Global,
     map: &mut PlainMap,
@@ -47,8 +47,8 @@ fn save_copies_at_first(
     save_copies(alloc, &mut map.desk(1), layout, count, paper)
 }
 
-/// The same for a formula of one clause, with a first write that fails. Returns the result, and
-/// the numbers of writes and of bytes.
+/// Saves copies of a formula's only clause; the first write fails. Returns the result, and the
+/// numbers of writes and of bytes.
 fn save_one_clause(
     alloc: Global,
     count: usize,
@@ -66,7 +66,7 @@ fn save_one_clause(
 }
 
 /// With the maximum number of clauses `save_clips` gets to the first write, which fails here; with
-/// one clause more it doesn't.
+/// one clause more it doesn't get that far.
 #[test]
 fn clauses_have_a_limit(rt: HostRuntime) -> Result<(), Fail> {
     let most = Formula::MAX_CLAUSES as usize;

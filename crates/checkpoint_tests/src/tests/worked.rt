@@ -30,9 +30,9 @@ impl Wanted for Either {
 /// What stream 1 does, and which clauses are wanted afterwards.
 #[derive(Clone, Copy)]
 struct Case {
-    /// The identity under which it publishes `2`, which follows from the first two clauses.
+    /// The identity under which stream 1 publishes `2`, which follows from the first two clauses.
     publishes: Option<Id>,
-    /// Whether it retires that clause.
+    /// Whether stream 1 retires that clause.
     retires: bool,
     wanted: Either,
 }
@@ -123,8 +123,8 @@ fn clauses_of(alloc: Global, text: &str) -> Result<String, Fail> {
     Ok(clauses)
 }
 
-/// What stream 1 publishes, and whether it retires that; the ranges that it and another stream
-/// dropped; and the saved text.
+/// The identity under which stream 1 publishes, and whether it retires the clause; the ranges that
+/// it and another stream dropped; and the saved text.
 type Row = (Option<Id>, bool, Except, Except, &'static str);
 
 const FOUR: &str = "p cnf 2 4\n1 2 0\n-1 2 0\n1 -2 0\n-1 -2 0\n";
@@ -159,7 +159,7 @@ static ROWS: [Row; 12] = [
         Except(1, 4),
         "p cnf 2 1\nc id 6\n2 0\n",
     ),
-    // Both have dropped a clause that was retired, too.
+    // Both have also dropped a clause that was retired.
     (Some(6), true, Except(3, 6), Except(4, 6), UP_TO_3),
     (Some(6), false, Except(1, 6), Except(1, 6), "p cnf 2 0\n"),
 ];
@@ -173,8 +173,8 @@ fn case_of(row: &Row) -> Case {
     }
 }
 
-/// Saves a row by writes of 7 bytes. Write number `fails_at` fails; if that is 0, none does. A run
-/// that continues gets the clauses that were written, in the same order, but not under the same
+/// Saves a row with writes of 7 bytes. Write number `fails_at` fails; if that is 0, none does. A
+/// run that continues gets the clauses that were written, in the same order, but not under the same
 /// identities.
 fn assert_saves(
     rt: &(impl Abort + AllocGlobal),
@@ -200,7 +200,7 @@ fn assert_saves(
     Ok(())
 }
 
-/// First no write fails, and then each in turn.
+/// First no write fails, and then each write fails in turn.
 #[test]
 fn what_is_live_and_wanted_is_written(rt: HostRuntime) -> Result<(), Fail> {
     for row in &ROWS {
@@ -276,7 +276,7 @@ fn live_ids<M: ClauseMap>(
     Ok(Some(ids))
 }
 
-/// The same for the worked formula's map.
+/// What `live_ids` returns for the worked formula's map.
 fn ids_at_first(
     alloc: Global,
     map: &mut PlainMap,

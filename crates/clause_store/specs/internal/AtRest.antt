@@ -9,8 +9,8 @@ use Rattle.clause_store.specs.Passes.{PassValue}
 abbrev pub pass_value : SeatValue → PassValue
 pass_value seat = record { row = seat.table; view = seat.view }
 
--- Between two calls the seat of a pass is fair, is this stream's and has no draft, and its clauses
--- are inside the row.
+-- Between two calls, the seat of a pass is fair, belongs to this stream and has no draft, and its
+-- clauses are inside the row.
 pub record IsAtRest (seat : SeatValue) (stream : ℕ) : Type 0 where
   pub fair : IsFair seat.view
   pub stream_is : stream ≡ seat.view.caller.stream

@@ -1,4 +1,4 @@
--- Lemmas about desks at the store.
+-- Lemmas about desks of the store.
 use Rattle.std.specs.Prelude.{◌++◌, []}
 use Rattle.std.proofs.Common.{refl, ◌∙◌}
 use Rattle.lrup_model.specs.Event.{History}

@@ -122,7 +122,7 @@ fn fetch_together(rt: &impl Abort, store: &Store, pass: &mut Pass, counters: &Co
     finds_all_retired(rt, store, pass);
 }
 
-/// Finds the clause of each line retired.
+/// Checks that the clause of each line is retired.
 fn finds_all_retired(rt: &impl Abort, store: &Store, pass: &mut Pass)
     requires { store_of pass.old ≡ store.now }
     ensures { store_of pass.new ≡ store.now }
@@ -133,7 +133,7 @@ fn finds_all_retired(rt: &impl Abort, store: &Store, pass: &mut Pass)
     }
 }
 
-/// The clause of an identity that the other threads hammer. Two clauses alternate; the literals
+/// The clause of an identity at which the other threads hammer. Two clauses alternate; the literals
 /// take three words.
 fn six_literals(id: Id) -> [Lit; 6]
     ensures { IsPublishable raced result }
@@ -145,7 +145,7 @@ fn six_literals(id: Id) -> [Lit; 6]
     }
 }
 
-/// Publishes that clause.
+/// Publishes `six_literals` under the identity.
 fn publish_six(store: &Store, pass: &mut Pass, id: Id) -> Option<Published>
     requires { IsPassAt raced store.now pass.old }
     ensures { IsPassAt raced store.now pass.new }
@@ -190,8 +190,8 @@ fn is_late(clock: &impl Clock, began: Option<Duration>) -> bool {
 }
 
 /// Publishes the clause of each line once eight other threads hammer at it. When time is up, it
-/// announces this line as the last one before it publishes the line's clause, so every thread that
-/// finds the clause also knows that it was the last.
+/// announces, before it publishes the line's clause, that this line is the last one; so every
+/// thread that finds the clause also knows that.
 fn publish_hammered<R: Abort + Clock>(rt: &R, store: &Store, pass: &mut Pass, counters: &Counters)
     requires { IsPassAt raced store.now pass.old }
     ensures { store_of pass.new ≡ store.now }
@@ -274,8 +274,8 @@ fn play_together<R: Threads + Abort + Sync + Clock>(
     store.meet_all(passes);
 }
 
-/// The same at a new store, for a number of streams with this many identities and this much room
-/// each.
+/// Runs `play_together` over a new store, for a number of streams with this many identities and
+/// this much room each.
 fn play_at<R: Threads + Abort + Sync + Clock>(
     rt: &R,
     alloc: Global,
@@ -289,8 +289,8 @@ fn play_at<R: Threads + Abort + Sync + Clock>(
     Ok(())
 }
 
-/// Four streams publish at the same moment at neighbouring identities, a thousand times, and read
-/// each other's clauses.
+/// Four streams publish at the same moment under neighbouring identities, a thousand times, and
+/// read each other's clauses.
 #[test]
 fn neighbours_are_published_at_once(rt: HostRuntime) -> Result<(), Fail> {
     let counters = Counters::new(0);

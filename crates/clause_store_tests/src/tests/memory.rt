@@ -46,7 +46,7 @@ fn call_each<R: Abort>(rt: &R, store: &Store, first: &mut Pass, second: &mut Pas
     same(rt, look(store, second, id), Some(Found::Retired));
 }
 
-/// The same, a thousand times.
+/// Makes the calls of `call_each` a thousand times.
 fn call_often<R: Abort>(rt: &R, store: &Store, passes: &mut [Pass]) -> Result<(), Fail>
     requires { ArePassesAt raced store.now passes.old }
 {
@@ -59,7 +59,7 @@ fn call_often<R: Abort>(rt: &R, store: &Store, passes: &mut [Pass]) -> Result<()
     Ok(())
 }
 
-/// Opens a store, and makes these calls.
+/// Opens a store, and makes the calls of `call_often`.
 fn open_and_call<R: Abort>(rt: &R, alloc: Global) -> Result<(), Fail> {
     let (store, mut passes) = open_race(alloc, 2, 1_000, 2_000)?;
     call_often(rt, &store, passes.as_mut_slice())
@@ -89,7 +89,7 @@ fn open_again(
     }
 }
 
-/// The same for a formula without clauses, and two streams with one identity each.
+/// `open_again` for a formula without clauses, and two streams with one identity each.
 fn open_empty(alloc: Global) -> Result<(Store, Vec<Pass>), Fail>
     ensures { IfOk result (λ opened. AreOf opened.0 opened.1.items) }
 {
@@ -101,7 +101,7 @@ fn open_empty(alloc: Global) -> Result<(Store, Vec<Pass>), Fail>
     Ok(open_again(alloc, &formula, layout)?)
 }
 
-/// There are two passes, and the second has published nothing.
+/// Checks that there are two passes, and that the second has published nothing.
 fn is_new<R: Abort>(rt: &R, store: &Store, passes: &mut [Pass]) -> Result<(), Fail>
     requires { AreOf store.now passes.old }
 {
@@ -131,8 +131,8 @@ fn open_large<R: Abort>(rt: &R, alloc: Global) -> Result<(), Fail> {
     Ok(())
 }
 
-/// Opens four such stores, one after the other. `make sweep` gives this test memory for one and a
-/// half, so memory that isn't freed would be missing at the next.
+/// Opens four stores like that of `open_large`, one after the other. `make sweep` gives this test
+/// memory for one and a half, so memory that isn't freed would be missing for the next store.
 #[test]
 fn a_large_store_is_given_back(rt: HostRuntime) -> Result<(), Fail> {
     for _ in 0..4 {

@@ -11,7 +11,7 @@ begins_with number clauses literals rest =
 abbrev pub begin_line : ℕ → ℕ → ℕ → List ℕ
 begin_line number clauses literals = begins_with number clauses literals (codes " literals\n")
 
--- the same, with the pause in milliseconds
+-- the line for a round that is paused, with the pause in milliseconds
 abbrev pub paused_line : ℕ → ℕ → ℕ → ℕ → List ℕ
 paused_line number clauses literals pause =
     begins_with number clauses literals

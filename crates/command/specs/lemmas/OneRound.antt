@@ -25,7 +25,7 @@ module _ {given : CommandLine} (once : rounds_of given.next ≡ None) where
       → CarriesOn round next → ⊥
   never_on round next on = let no : None ≡ Some on.folder = sym once ∙ on.asked in cc
 
-  -- so there is only one round
+  -- there is only one round
   is_alone : {its : Effects} {cube : CubeValue} (formula : Cnf) (first : its.State)
       (last : Round its given cube) (before : List (Round its given cube))
       → AreRounds formula first (last ∷ before) → before ≡ []
@@ -45,7 +45,7 @@ module _ {given : CommandLine} (once : rounds_of given.next ≡ None) where
   were_one files cube last before were =
       subst (WereRounds files given cube last) (was_alone files cube last before were) were
 
-  -- and nothing is done to the files after the last round
+  -- nothing is done to the files after the last round
   pub is_over : {its : Effects} {cube : CubeValue} (last : Round its given cube) (after : its.State)
       → RoundsEnd last after → after ≡ last.after
   is_over last after (inl (barred, same)) = same

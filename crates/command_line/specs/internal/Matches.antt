@@ -67,8 +67,8 @@ AreBothIn rows =
     (path folder : Text) × (first_of (codes "checkpoint") rows ≡ Some path)
     × (first_of (codes "rounds") rows ≡ Some folder)
 
--- why the rows of words without a fault give no command line: they have both options, or memory ran
--- out
+-- why the rows of words without a fault give no command line: they have both a checkpoint and
+-- rounds, or memory ran out
 abbrev pub IsRowsFault : List Row → WordsFault → Type 0
 IsRowsFault rows (Usage text) = ⊥
 IsRowsFault rows TwoCheckpoints = AreBothIn rows

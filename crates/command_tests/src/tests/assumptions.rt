@@ -38,7 +38,7 @@ static REFUSED: [(&str, &str); 4] = [
     ("1000000000000000000 0\n", "too long"),
 ];
 
-/// No stream is opened.
+/// If the assumptions are refused, no stream is opened.
 #[test]
 fn assumptions_that_are_refused(rt: HostRuntime) -> Result<(), Fail> {
     for &(assumed, fault) in &REFUSED {

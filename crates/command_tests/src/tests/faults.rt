@@ -19,7 +19,7 @@ static REFUSED: [(&str, &str); 8] = [
     ("p cnf 16777216 0\n", "limit"),
 ];
 
-/// The stream isn't opened.
+/// If the formula is refused, the stream isn't opened.
 #[test]
 fn formulas_that_are_refused(rt: HostRuntime) -> Result<(), Fail> {
     for &(formula, fault) in &REFUSED {

@@ -12,7 +12,7 @@ const STREAM: &str = "d/round-2.stream-1";
 const STREAM_2: &str = "d/round-2.stream-2";
 
 const STREAM_OF_3: &str = "d/round-3.stream-1";
-/// The next formula of round 2.
+/// The path of the formula that round 2 saves for round 3.
 const NEXT: &str = "d/round-3.cnf";
 
 /// What round 1 does to the files.
@@ -21,7 +21,7 @@ const FIRST: &str = "f 1 +d/round-2.cnf =d/round-2.cnf ";
 const OPENED: &str = "?d/round-2.sizes d/round-2.stream-1 ";
 
 const SIZED: &str = "d/round-2.sizes d/round-2.stream-1 d/round-2.stream-2 ";
-/// What happens to the next formula of round 2.
+/// What happens to the formula for round 3.
 const KEPT: &str = "+d/round-3.cnf =d/round-3.cnf ";
 
 const DISCARDED: &str = "+d/round-3.cnf -d/round-3.cnf ";
@@ -70,7 +70,7 @@ const MANY: &str = "6 1 0 5 3 0\n8 1 0 6 0\n10 0 8 5 4 0\n";
 
 const LONG: &str = "7 1 2 0 1 0\n9 -1 2 0 2 0\n";
 
-/// Their lines in the report if each stream has two identities and room for three literals.
+/// The lines of these streams in the report if each has two identities and room for three literals.
 const LIMITED: &[&str] = &[
     "2 added, 0 deleted, bad line 3 (identity)",
     "1 added, 0 deleted, bad line 2 (no room)",
@@ -227,7 +227,7 @@ fn rounds_without_a_report(rt: HostRuntime) -> Result<(), Fail> {
     Ok(())
 }
 
-/// No file is opened.
+/// If both a checkpoint and rounds are asked for, no file is opened.
 #[test]
 fn a_checkpoint_beside_rounds(rt: HostRuntime) -> Result<(), Fail> {
     let cause = "--checkpoint and --rounds exclude each other";

@@ -1,5 +1,5 @@
-//! Files in memory, by path. As with the machine's files, contracts don't know their bytes and
-//! allow the files to behave in any way.
+//! Files in memory, by path. As with the machine's files, contracts don't know the files' bytes,
+//! and allow the files to behave in any way.
 ghost use Rattle.std.specs.Prelude.{◌≡◌, None, Some, false, true};
 ghost use Rattle.lrup_text.specs.Reads.{GivesLeft};
 
@@ -15,13 +15,13 @@ use test_support::{Paper, Pieces};
 #[derive(Clone, Copy)]
 pub(super) enum Thing<'a> {
     Text(&'a str),
-    /// A text whose read with this number, counted from 1, fails.
+    /// A text; the read with this number (from 1) fails.
     Failing(&'a str, usize),
     /// A file that can't be opened.
     Refused,
     /// Opening or creating it runs out of memory.
     Full,
-    /// Nothing; a file that is created there fails at this write, counted from 1.
+    /// Nothing; a file that is created there fails at the write with this number (from 1).
     Breaking(usize),
     /// Nothing; keeping a file that is created there fails.
     Lost,
@@ -36,7 +36,7 @@ pub(super) struct Setup<'a> {
     pub(super) assumed: &'a str,
     /// At `1`, `2` and so on up to 9.
     pub(super) streams: &'a [&'a str],
-    /// At other paths, or in place of these.
+    /// At other paths, or in place of the files above.
     pub(super) things: &'a [(&'a str, Thing<'a>)],
     /// The most bytes that a read gives.
     pub(super) most: usize,
@@ -72,8 +72,8 @@ impl<'a> Setup<'a> {
         Setup { things, ..self }
     }
 
-    /// Also lets these writes of standard output and standard error fail, counted from 1; 0 for
-    /// none.
+    /// Also lets the writes with these numbers to standard output and standard error fail. They are
+    /// counted from 1; with 0, no write fails.
     pub(super) fn failing(self, out_fails_at: usize, err_fails_at: usize) -> Setup<'a> {
         Setup {
             out_fails_at,
@@ -109,7 +109,8 @@ pub(super) struct OpenFile<'a> {
 }
 
 impl<'a> OpenFile<'a> {
-    /// An open file of this text, whose read with this number fails, counted from 1; 0 for none.
+    /// An open file of this text. Read number `fails_at`, counted from 1, fails; if that is 0, none
+    /// does.
     pub(super) fn new(setup: &Setup<'a>, text: &'a str, fails_at: usize) -> OpenFile<'a>
         ensures left { result.text.left.now ≡ text.now }
         ensures running { result.text.failed ≡ false }

@@ -38,7 +38,7 @@ impl WatchLog {
         }
     }
 
-    /// Moves the clock, since a file is looked for.
+    /// Moves the clock. Called when a file is looked for.
     pub(super) fn go_on(&self) {
         let delay = self.delay.unwrap_or(0);
         self.micros.fetch_add(delay, Ordering::SeqCst);

@@ -17,7 +17,8 @@ MarksAre words clause = (l : ℤ) → IsBitSet words (code_of l) ↔ Has clause 
 abbrev pub all_words : ℕ
 all_words = 524288
 
--- no mark is set; or each literal has a bit, and exactly the clause's literals are marked
+-- if `true`, each literal has a bit, and exactly the clause's literals are marked; if `false`, no
+-- mark is set
 abbrev pub MarksFit : Bool → List ℕ → List ℤ → Type 0
 MarksFit true words clause = MarksAre words clause × (all_words ≤ length words)
 MarksFit false words clause = MarksAre words []

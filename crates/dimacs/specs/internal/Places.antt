@@ -39,8 +39,8 @@ unfoldable pub after_run : List ℕ → List ℕ
 after_run [] = []
 after_run (byte ∷ bytes) = if is_separator byte then byte ∷ bytes else after_run bytes
 
--- what a reader keeps of a number: the same number, or one above every variable if the number is,
--- too
+-- what a reader keeps of a number: the number itself or, if it is above every variable, any number
+-- that is
 abbrev pub IsCapped : ℕ → ℕ → Type 0
 IsCapped kept number = (kept ≡ number) ⊎ ((max_variable < kept) × (max_variable < number))
 
@@ -86,7 +86,7 @@ pub record IsBuilt (vars count : ℕ) (tokens : List Token) (formula : Cnf) (cla
   pub written_is : length begun ≡ written
   pub size : length clause ≤ written
 
--- The clause with one more literal: at its end, if it is new.
+-- The clause after one more literal, which is added at the end if it is new.
 pub record AddsLiteral (old new : List ℤ) (literal : ℤ) : Type 0 where
   pub members : (other : ℤ) → Has new other ↔ (Has old other ⊎ (literal ≡ other))
   pub each_once : EachOnce new
@@ -102,7 +102,7 @@ abbrev pub IsAtToken : List ℕ → Type 0
 IsAtToken [] = Unit {0}
 IsAtToken (byte ∷ bytes) = is_separator byte ≡ false
 
--- the token is the first of the old tokens
+-- the token is the first of the old tokens, and the new tokens are the others
 abbrev pub IsFirstToken : List ℕ → ℕ → List Token → List Token → Type 0
 IsFirstToken text line old new = old ≡ record { line = line; text = text } ∷ new
 

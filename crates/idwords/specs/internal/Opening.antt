@@ -6,8 +6,8 @@ use Rattle.lrup_model.specs.Layout.{LayoutValue, last_identity}
 use Rattle.idwords.specs.internal.RowWords.{identity_word, packed}
 use Rattle.idwords.specs.Words.{words_for}
 
--- the words of the identities of live clauses, whose literals are stored one clause after the
--- other, from this index on
+-- the words of the identities of live clauses; their literals are stored from this index on, one
+-- clause after the other
 abbrev pub clause_words : ℕ → List Clause → List ℕ
 clause_words start [] = []
 clause_words start (clause ∷ clauses) =
@@ -18,7 +18,7 @@ literal_words [] = []
 literal_words (clause ∷ clauses) = packed clause ++ literal_words clauses
 
 -- word 0, the formula's identities, the streams' vacant identities, the formula's literals, and
--- zeros to the end of the row: words that aren't needed since each holds two literals, and the
+-- zeros to the end of the row: words that aren't needed because a word holds two literals, and the
 -- streams' rooms
 abbrev pub opening_words : Cnf → LayoutValue → List ℕ
 opening_words formula layout =

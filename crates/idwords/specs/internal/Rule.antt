@@ -17,9 +17,9 @@ abbrev pub thread_stream : ThreadState → ℕ
 thread_stream thread = thread.view.caller.stream
 
 -- The thread state agrees with the log and the words: it has the run's formula and layout; it has
--- seen a prefix of the log, and its calls are its stream's events there and in the whole log; its
--- clauses are stored where that prefix puts them, its top is after its clauses, and the words from
--- there on have its draft, which fits into its room.
+-- seen a prefix of the log, and its calls are its stream's events in that prefix and in the whole
+-- log; its clauses are stored where that prefix puts them, its top is after its clauses, and the
+-- words from its top on have its draft, which fits into its stream's room.
 pub record Agrees (run_formula : Cnf) (run_layout : LayoutValue) (log : History) (words : List ℕ)
     (thread : ThreadState) : Type 0 where
   pub formula : thread.view.caller.formula ≡ run_formula
@@ -51,8 +51,9 @@ pub record IsPlan (run_formula : Cnf) (run_layout : LayoutValue) : Type 0 where
   pub layout : IsLayout run_layout
   pub fits : Fits run_layout run_formula
 
--- The row fits this history: the words show what the history leaves at each identity, and have the
--- literals of each clause; each thread state agrees with both, and no stream has two thread states.
+-- The row fits this history: the words show what the history leaves under each identity, and have
+-- the literals of each clause; each thread state agrees with the history and the words, and no
+-- stream has two thread states.
 pub record Keeps (formula : Cnf) (layout : LayoutValue) (log : History) (words : List ℕ)
     (views : List (List ThreadState)) : Type 0 where
   pub plan : IsPlan formula layout
@@ -74,7 +75,7 @@ abbrev pub HoldsRowInvariant : {S : Type 0} → Cnf → LayoutValue
 HoldsRowInvariant formula layout row =
     (log : History) × Keeps formula layout log row.words row.views
 
--- the thread states at the opening of this many streams, from stream s on
+-- the thread states, at the opening, of this many streams, starting with stream s
 abbrev pub opening_threads : Cnf → LayoutValue → ℕ → ℕ → List ThreadState
 opening_threads formula layout s zero = []
 opening_threads formula layout s (suc count) =

@@ -9,7 +9,7 @@ use Rattle.idwords.specs.Spelling.{top_after}
 use Rattle.idwords.specs.Seats.{ThreadState, SeatValue}
 use Rattle.idwords.specs.internal.Rule.{thread_stream}
 
--- a thread state of no stream
+-- a thread state that belongs to no stream
 abbrev no_thread : ThreadState
 no_thread = record {
   view = record {
@@ -44,8 +44,8 @@ abbrev pub thread_of : SeatValue → ThreadState
 thread_of seat = record { view = seat.view; top = seat.top; draft = seat.draft }
 
 -- The token has one thread state, which is fair; the row has as many words as the layout says; the
--- seat's numbers are its top, the length of its draft, and the room left, into which the draft
--- fits.
+-- seat's numbers are its top, the length of its draft, and the room that is left, into which the
+-- draft fits.
 pub record IsSeated {S : Type 0} (table : TableId) (me : Me S (List ThreadState))
     (top drafted room : ℕ) : Type 0 where
   pub one : me ≡ (first_thread me.0 ∷ [], [])

@@ -36,7 +36,7 @@ Writes word old new =
     → IfSome other (λ k. IsCode max_variable (code_of k)) → word ≡ literal_word l other
     → new ≡ record old { draft = old.draft ++ pair_of l other }
 
--- the reply of a publish whose compare-exchange found this word
+-- the reply to a publish whose compare-exchange found this word
 abbrev pub published_at : ℕ → Published
 published_at word = if word == 0 then publishing.Done else publishing.Taken
 
@@ -55,8 +55,8 @@ pub record FindsNone (id : ℕ) (old new : ThreadState) : Type 0 where
   pub top : new.top ≡ old.top
   pub draft : new.draft ≡ old.draft
 
--- The load of a retire: if the word isn't live, the retire ends with this load; if it is live,
--- nothing has happened yet.
+-- The load of a retire: if the word's state isn't live, the retire ends with this load; if it is
+-- live, nothing has happened yet.
 pub record Finds (id : ℕ) (old : ThreadState) (word : ℕ) (new : ThreadState) : Type 0 where
   pub own :
       word ≡ word_of (state old.view.caller.formula old.view.mine id) (stored_in old.view.spelt id)
@@ -80,7 +80,8 @@ pub record SyncThreads (old old' new new' : ThreadState) : Type 0 where
   pub top' : new'.top ≡ old'.top
   pub draft' : new'.draft ≡ old'.draft
 
--- a token of one thread state has one afterwards, and R relates the two
+-- a token with one thread state still has one after the step, and R relates the old one to the new
+-- one
 module _ {S : Type 0} where
   abbrev pub Changes : (ℕ → ThreadState → ℕ → ThreadState → Type 0) → Step S
       → Me S (List ThreadState) → ℕ
@@ -89,7 +90,7 @@ module _ {S : Type 0} where
       (old : ThreadState) → before.0 ≡ old ∷ []
       → (new : ThreadState) × (after.0 ≡ new ∷ []) × (after.1 ≡ before.1) × R step.word old word new
 
-  -- the same for a store
+  -- a token with one thread state still has one after a store, which writes this word
   abbrev pub Stores : Step S → Me S (List ThreadState) → ℕ → Me S (List ThreadState) → Type 0
   Stores step before word after =
       (old : ThreadState) → before.0 ≡ old ∷ []

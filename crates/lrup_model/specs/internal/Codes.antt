@@ -1,4 +1,4 @@
--- How literals and cubes are stored: by codes (this project's own).
+-- How literals and cubes are stored: as codes (this project's own).
 use Rattle.std.specs.Prelude.{ℕ, ℤ, neg_ℤ, List, ◌/◌, ◌%◌, ◌==◌, pos, if◌then◌else◌}
 use Rattle.std.specs.List.{All}
 use Rattle.std.specs.List.Sorted.{IsNonDecreasingBy}

@@ -77,15 +77,15 @@ entries_from from [] = []
 entries_from from (clause ∷ clauses) =
     entries.Live from (length clause) ∷ entries_from (from + length clause) clauses
 
--- the result of a fetch of the identity if this is stored
+-- the result of a fetch of the identity if this is what is stored under it
 abbrev pub fetched_of : ℕ → PlainSlot → Fetched
 fetched_of id vacant = fetched.Vacant
 fetched_of id (live stored) =
     fetched.Live (record { id = id; len = length stored.literals; start = stored.start })
 fetched_of id (retired stored) = fetched.Retired
 
--- the map after a publish, by the result; the stream's room is at `index` in the list, counted from
--- 0
+-- how a publish with this result changes the map; the stream's room is at `index` in `free`,
+-- counting from 0
 abbrev pub AfterPublish : Plain → Plain → ℕ → ℕ → Clause → Published → Type 0
 AfterPublish old new index id clause publishing.Done =
     (index < length old.free) × (id < length old.plain_slots) × (plain_slot_at old id ≡ vacant)

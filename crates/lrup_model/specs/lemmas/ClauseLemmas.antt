@@ -66,7 +66,7 @@ take-next [] k x e = cc
 take-next (y ∷ xs) zero x e = let same : y ≡ x = cc in ap (λ z. z ∷ []) same
 take-next (y ∷ xs) (suc k) x e = ap (λ zs. y ∷ zs) (take-next xs k x e)
 
--- the same, for a literal that a loop over the list reads
+-- if a loop reads x at index k, the first k + 1 literals are the first k, followed by x
 pub take-read : (xs : List ℤ) (k : ℕ) (x : ℤ) → k < length xs → x ≡ get_or xs k x
     → take (k + 1) xs ≡ take k xs ++ x ∷ []
 take-read xs k x lt e = ap (λ n. take n xs) (add-one k) ∙ take-next xs k x (slice_get_read xs (length xs) k x refl lt e)

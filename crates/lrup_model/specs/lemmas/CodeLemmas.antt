@@ -11,7 +11,7 @@ code_of-injective (pos m) (negsuc n) e = absurd (omega (arith, e))
 code_of-injective (negsuc m) (pos n) e = absurd (omega (arith, e))
 code_of-injective (negsuc m) (negsuc n) e = let s : m ≡ n = omega (arith, e) in ap negsuc s
 
--- the code of a literal over these variables is in their range
+-- a literal over the variables 1 to vars has a code in the range of `IsCode`
 pub IsCode-code_of : (vars : ℕ) (l : ℤ) → IsLiteral vars l → IsCode vars (code_of l)
 IsCode-code_of vars (pos n) h = (omega (arith, h.0), omega (arith, h.1))
 IsCode-code_of vars (negsuc n) h = (omega arith, omega (arith, h.1))
@@ -31,7 +31,7 @@ code_of-neg_ℤ_pos : (v : ℕ) → 0 < v → code_of (neg_ℤ (pos v)) ≡ 2 * 
 code_of-neg_ℤ_pos zero h = absurd (omega (arith, h))
 code_of-neg_ℤ_pos (suc v) h = omega arith
 
--- the literal with a code has that code
+-- going from a code to its literal and back gives the same code
 pub code_of-literal_of : (code : ℕ) → 2 ≤ code → code_of (literal_of code) ≡ code
 code_of-literal_of code h =
     elim (parity code) [

@@ -8,7 +8,7 @@ use Rattle.lrup_model.specs.lemmas.EntailmentLemmas.{not_both}
 use Rattle.lrup_model.specs.Cube.{Within, CubeValue, IsUnsatisfiableUnder}
 use Rattle.lrup_model.specs.Formula.{Cnf}
 
--- if the cube refutes a clause that follows from the formula, no assignment satisfies both the
+-- if a clause that follows from the formula is within the cube, no assignment satisfies both the
 -- formula and the cube
 pub within_refutes : (formula : Cnf) (clause : Clause) (cube : CubeValue)
     → IsDerived formula clause → Within clause cube → IsUnsatisfiableUnder formula cube

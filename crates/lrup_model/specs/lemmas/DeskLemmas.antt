@@ -1,4 +1,4 @@
--- Lemmas about desks at the clause map of one thread.
+-- Lemmas about desks for the clause map of one thread.
 use Rattle.std.specs.Prelude.{◌+◌, ◌++◌, []}
 use Rattle.std.proofs.Common.{refl, subst, sym, ◌∙◌}
 use Rattle.lrup_model.specs.Event.{History}

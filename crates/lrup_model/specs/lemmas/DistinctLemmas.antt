@@ -83,7 +83,7 @@ IsTautology-distinct ls t = (t.0, Has-from_distinct ls t.0 t.1, Has-from_distinc
 pub IsTautology-in_distinct : (ls : List ℤ) → IsTautology ls → IsTautology (distinct ls)
 IsTautology-in_distinct ls t = (t.0, Has-distinct ls t.0 t.1, Has-distinct ls (neg_ℤ t.0) t.2)
 
--- the list of distinct literals isn't longer
+-- the list of distinct literals isn't longer than the whole list
 pub length-distinct : (ls : List ℤ) → length (distinct ls) ≤ length ls
 length-distinct [] = omega arith
 length-distinct (x ∷ ls) =
@@ -142,7 +142,7 @@ consistent-push ls x consistent not_neg not_zero t =
       ]
     ]
 
--- one more literal of the list is taken
+-- if neither a literal nor its complement was taken, the literal may be added to both lists
 pub IsTaken-push : (ls n : List ℤ) (x : ℤ) → IsTaken ls n → (¬ Has n (neg_ℤ x)) → (¬ Has n x)
     → (¬ (x ≡ neg_ℤ x)) → IsTaken (ls ++ x ∷ []) (n ++ x ∷ [])
 IsTaken-push ls n x t not_neg missing not_zero = record {
@@ -163,7 +163,7 @@ pub IsTautology-next : (ls n : List ℤ) (k : ℕ) (x : ℤ) → IsTaken (take k
 IsTautology-next ls n k x t lt at h =
     (x, Has-at ls k x (slice_get_read ls (length ls) k x refl lt at), Has-take k ls (neg_ℤ x) (Has-from_taken (take k ls) n (neg_ℤ x) t h))
 
--- all literals were taken
+-- if n consists of the distinct literals, so do its first `count` elements, which are all
 pub all_taken : (ls n : List ℤ) (count : ℕ) → count ≡ length n → n ≡ distinct ls
     → take count n ≡ distinct ls
 all_taken ls n count len same = let le : length n ≤ count = omega arith in take_all count n le ∙ same

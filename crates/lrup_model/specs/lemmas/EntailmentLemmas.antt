@@ -96,7 +96,7 @@ pub all_hold : (f : Cnf) (a : Assignment) (ds : List Clause) → SatisfiesAll a 
 all_hold f a [] sat follow = tt
 all_hold f a (d ∷ ds) sat follow = ((follow.0.0, follow.0.1.holds a sat), all_hold f a ds sat follow.1)
 
--- a clause that propagation derives from clauses that follow also follows
+-- if propagation derives a clause from clauses that follow from a formula, the clause follows, too
 pub propagation_sound : (f : Cnf) (c : Clause) (ds : List Clause)
     → AllByRecursion (λ d. IsClause f.vars d × Follows f d) ds → Accepts c ds → Follows f c
 propagation_sound f c ds follow accepts = record {
@@ -110,7 +110,7 @@ propagation_sound f c ds follow accepts = record {
 pub empty_refutes : (f : Cnf) → Follows f [] → IsUnsatisfiable f
 empty_refutes f follows a sat = (follows.holds a sat).1
 
--- Every clause of a legal state follows
+-- The clauses of a legal state follow from the formula
 
 -- the slot's clause, if any, follows from the formula
 abbrev pub SlotFollows : Cnf → Slot → Type 0

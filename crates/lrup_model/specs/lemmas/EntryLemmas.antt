@@ -1,4 +1,4 @@
--- Lemmas about what a legal history does to an entry.
+-- Lemmas about how a legal history changes an entry.
 use Rattle.std.proofs.Common.{ℕ, refl, sym, subst, ◌∙◌, inl, inr, [], ◌∷◌}
 use Rattle.std.specs.List.{AllByRecursion}
 use Rattle.std.proofs.lemmas.Bool.{cases_eq}
@@ -46,7 +46,7 @@ Advances-retired absent = tt
 Advances-retired (live c) = refl
 Advances-retired (retired c) = refl
 
--- if one identity's slot is replaced by a later one, every slot stays or becomes a later one
+-- if the slot of one identity is replaced by one to which it advances, every slot advances
 put-advances : (m : State) (j : ℕ) (slot : Slot) (id : ℕ) → Advances (m j) slot
     → Advances (m id) (put m j slot id)
 put-advances m j slot id advances =

@@ -28,7 +28,7 @@ All-map P Q gives (x ∷ xs) all = (gives x all.0, All-map P Q gives xs all.1)
 
 -- Loops over a list, element by element
 
--- the first of the remaining elements is taken next
+-- after one more element is taken, the taken and the remaining ones are still the whole list
 pub taken_next : {X C : Type 0} (f : X → C) (xs : List X) (x : X) (ys zs : List C) (y : C)
     (all : List C) → ys ≡ y ∷ zs → f x ≡ y
     → map f xs ++ ys ≡ all → map f (xs ++ x ∷ []) ++ zs ≡ all
@@ -41,7 +41,7 @@ pub iter_end : {A Z : Type 0} (s t : IntoIter A Z) → into_iter_steps s None t
     → into_iter_items s ≡ []
 iter_end s t steps = nil_from_length s.rest.items (sym s.rest.ok.0 ∙ steps.0)
 
--- the loop has taken all elements
+-- when the iterator returns `None`, the loop has taken all elements
 pub whole_end : {A Z : Type 0} (yielded all : List A) (s t : IntoIter A Z)
     → into_iter_steps s None t → yielded ++ into_iter_items s ≡ all → yielded ≡ all
 whole_end yielded all s t steps whole = sym (append-nil yielded) ∙ ap (λ xs. yielded ++ xs) (sym (iter_end s t steps)) ∙ whole

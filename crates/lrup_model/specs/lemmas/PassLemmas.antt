@@ -1,4 +1,4 @@
--- Lemmas about passes: the laws of a caller's view at a clause map, what stays stored, one call,
+-- Lemmas about passes: the laws of a caller's view of a clause map, what stays stored, one call,
 -- and meetings.
 use Rattle.std.proofs.Common.{◌≡◌, ◌≢◌, ℕ, ◌+◌, ◌≤◌, List, [], ◌∷◌, ◌++◌, length, Option, Some, refl, sym, ap, ap₂, subst, ◌∙◌, arith, append_assoc, append-nil}
 use Rattle.std.specs.List.{AllByRecursion}
@@ -33,7 +33,7 @@ moves_none v = record {
   follow = λ all. all;
 }
 
--- a pass is fair after two moves if at least one has a call
+-- a pass is fair after two moves if at least one of them has a call
 fair_append : (a b c : View) (es fs : History) → PassMoves a b es → PassMoves b c fs → es ++ fs ≢ []
     → IsFair c
 fair_append a b c es [] ab bc some = bc.fair (ab.fair_after (λ none. some (append-nil es ∙ none)))
@@ -99,7 +99,7 @@ spelt_has absent stored spells = absurd spells
 spelt_has (live c) stored spells = sym spells
 spelt_has (retired c) stored spells = sym spells
 
--- the stored clause is the clause of the slot
+-- a stored clause is also the clause in the slot of its identity
 pub stored_has : (f : Cnf) (h : History) (xs : List Spelling) (id : ℕ) (stored : StoredClause)
     → IsSpelt f h xs
     → stored_in xs id ≡ Some stored → HasClause (state f h id) stored.literals
@@ -178,7 +178,8 @@ moves_learn v more xs fair others legal spelt keeps =
 
 -- One call
 
--- the stream's own events after it saw events of others and then made a call
+-- events of others, and then a call of the pass's stream, add only this call to the stream's own
+-- events
 pub own_stepped : (v : View) (between : History) (e : Event) → IsFair v
     → AllByRecursion (λ d. stream_of d ≢ v.caller.stream) between → stream_of e ≡ v.caller.stream
     → own (v.seen ++ between ++ e ∷ []) v.caller.stream ≡ v.mine ++ e ∷ []
@@ -295,7 +296,7 @@ synced_again h v w (y ∷ ys) (z ∷ zs) here following meets =
     let rest = synced_again h meets.0 w ys zs stays following.1 meets.2 in
     (rest.0, (met.one ∙ stays, rest.1))
 
--- passes that meet in turn make no call, and the others are fair afterwards
+-- when a pass meets others in turn, no pass makes a call, and the others are fair afterwards
 pub synced_keep : (u v : View) (xs ys : List View) → SyncInTurn u xs v ys → PassMoves u v []
     × AreSynced xs ys × (IsFair u → IsFair v)
 synced_keep u v [] [] meets = (subst (λ (w : View). PassMoves u w []) (sym meets) (moves_none u), tt, λ fair. subst IsFair (sym meets) fair)
@@ -309,7 +310,7 @@ synced_keep u v (x ∷ xs) (y ∷ ys) meets =
 abbrev pub opened : Caller → List Spelling → View
 opened caller spellings = record { caller = caller; seen = []; mine = []; spelt = spellings }
 
--- the pass of a stream that has seen nothing is fair
+-- a pass that has seen nothing is fair
 pub opening_fair : (c : Caller) (xs : List Spelling) → IsCaller c → IsSpelt c.formula [] xs
     → IsFair (opened c xs)
 opening_fair c xs caller spelt = record {

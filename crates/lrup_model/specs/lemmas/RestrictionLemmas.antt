@@ -24,7 +24,7 @@ abbrev pub IsInside : LayoutValue → (ℕ → Bool) → ℕ → Type 0
 IsInside p set id = (t : ℕ) → Owns p t id → IsTrue (set t)
 
 -- The restricted state agrees with the whole state at identities that no stream outside the set
--- owns, and has nothing at the others.
+-- owns, and has nothing at all other identities.
 pub record Restricts (p : LayoutValue) (set : ℕ → Bool) (whole part : State) : Type 0 where
   pub inside : (id : ℕ) → IsInside p set id → part id ≡ whole id
   pub outside : (id t : ℕ) → Owns p t id → set t ≡ false → part id ≡ absent
@@ -36,7 +36,7 @@ Restricts-opening f p set fits = record {
   outside = λ id t owns out. opening-owned f p t id fits owns;
 }
 
--- an event of a stream in the set changes both states
+-- the restriction still holds after an event of a stream in the set has changed both states
 Restricts-member : (f : Cnf) (p : LayoutValue) (set : ℕ → Bool) (whole part : State) (e : Event)
     → IsAllowed f p e → set (stream_of e) ≡ true → Restricts p set whole part
     → Restricts p set (after whole e) (after part e)
@@ -47,7 +47,8 @@ Restricts-member f p set whole part e allowed member rel = record {
       after-foreign f p part e id allowed foreign ∙ rel.outside id t owns out;
 }
 
--- an event of a stream outside the set changes only the whole state
+-- the restriction still holds after an event of a stream outside the set has changed only the whole
+-- state
 Restricts-other : (f : Cnf) (p : LayoutValue) (set : ℕ → Bool) (whole part : State) (e : Event)
     → IsAllowed f p e → set (stream_of e) ≡ false → Restricts p set whole part
     → Restricts p set (after whole e) part
@@ -110,7 +111,7 @@ among-other : (set : ℕ → Bool) (e : Event) (h : History) → set (stream_of 
     → among set (e ∷ h) ≡ among set h
 among-other set e h other = cond-false (set (stream_of e)) (e ∷ among set h) (among set h) other
 
--- all of these events are of streams in the set
+-- all events of `among` are events of streams in the set
 pub among-members : (set : ℕ → Bool) (h : History)
     → AllByRecursion (λ e. IsTrue (set (stream_of e))) (among set h)
 among-members set [] = tt
@@ -123,7 +124,7 @@ among-members set (e ∷ h) =
 own-cons : (e : Event) (g h : History) (s : ℕ) → own g s ≡ own h s → own (e ∷ g) s ≡ own (e ∷ h) s
 own-cons e g h s same = ap (λ (k : History). cond (eqb (stream_of e) s) (e ∷ k) k) same
 
--- these events include all events of each stream in the set
+-- the events of `among` include all events of each stream in the set
 pub own-among : (set : ℕ → Bool) (h : History) (s : ℕ) → IsTrue (set s)
     → own (among set h) s ≡ own h s
 own-among set [] s inside = refl

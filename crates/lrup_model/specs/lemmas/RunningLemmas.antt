@@ -1,5 +1,5 @@
 -- State and legality after one history and then another, and how much room an event uses. The laws
--- of a caller's view at a clause map rely on these lemmas, so the lemmas are next to the
+-- of a caller's view of a clause map rely on these lemmas, so the lemmas are next to the
 -- definitions.
 use Rattle.std.specs.Prelude.{◌≡◌, ◌+◌, ◌==◌, ◌++◌, ℕ, [], ◌∷◌, length}
 use Rattle.std.specs.List.{sum_by, AllByRecursion}

@@ -1,4 +1,4 @@
--- The text of a cube as far as it was read: definitions for this crate's own functions.
+-- The part of a cube's text that has been read: definitions for this crate's own functions.
 use Rattle.std.specs.Prelude.{◌≡◌, ℕ, ◌<◌, ℤ, List, [], ◌∷◌, ◌++◌}
 use Rattle.std.specs.Fmt.{decimal, signed_decimal}
 use Rattle.lrup_model.specs.Cube.{IsCubeOver}
@@ -10,7 +10,8 @@ use Rattle.lrup_text.specs.Lines.{IsStreamNumber, IsStreamLiteral}
 use Rattle.lrup_text.specs.internal.Rests.{Spot, Tracks}
 use Rattle.lrup_text.specs.Cubes.{IsCubeLine, IsTextFault}
 
--- The bytes that, put before a cube's text, make an import of it: the number 1 and the letter.
+-- The bytes that, before a cube's text, make an import of it: the number 1 and the letter i, each
+-- followed by a space.
 abbrev pub import_front : List ℕ
 import_front = 49 ∷ space ∷ letter_i ∷ space ∷ []
 
@@ -18,7 +19,8 @@ import_front = 49 ∷ space ∷ letter_i ∷ space ∷ []
 abbrev pub EndsAtSpot : List ℕ → Spot → Type 0
 EndsAtSpot read spot = Tracks (import_front ++ read) spot
 
--- the fault of a rest at spots of some kind, if there is room for one more literal
+-- whatever was read up to a spot of this kind, the rest completes it to a text with this fault, if
+-- one more literal is allowed there
 abbrev pub IsRestFault : (ℕ → Spot) → List ℕ → CubeFault → Type 0
 IsRestFault spot_after rest fault =
     (read : List ℕ) (count : ℕ) → count < 65535 → EndsAtSpot read (spot_after count)
@@ -29,12 +31,12 @@ pub record BeginsWithNumber (text : List ℕ) (number : ℕ) (rest : List ℕ) :
   pub fits : IsStreamNumber number
   pub is : text ≡ decimal number ++ space ∷ rest
 
--- the same for a literal
+-- the text begins with a literal and the space after it
 pub record ReadsLiteral (text : List ℕ) (literal : ℤ) (rest : List ℕ) : Type 0 where
   pub fits : IsStreamLiteral literal
   pub is : text ≡ signed_decimal literal ++ space ∷ rest
 
--- literals that are kept; and why they aren't kept: one is out of range, or memory ran out
+-- the literals are kept; and, below, why they aren't: one is out of range, or memory ran out
 abbrev pub AreKept : ℕ → List ℤ → List ℤ → Type 0
 AreKept vars literals kept = (kept ≡ literals) × IsCubeOver vars literals
 

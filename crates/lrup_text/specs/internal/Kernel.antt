@@ -28,8 +28,8 @@ pub record ReadsWord {A : Type 0} (spell : A → List ℕ) (Fits : A → Type 0)
 abbrev pub ReadsNumber : List ℕ → ℕ → ℕ → ℕ → Type 0
 ReadsNumber = ReadsWord decimal IsStreamNumber
 
--- The text has words from index `start` up to `end`, with a space after each. The buffer has them,
--- too, after its `first` old ones.
+-- The text has words from index `start` up to `end`, with a space after each. The buffer has these
+-- words, too, after the first `first` words that it already had.
 pub record ReadsWords {A : Type 0} (spell : A → List ℕ) (Fits : A → Type 0) (text : List ℕ)
     (start : ℕ) (old : List A) (first : ℕ) (new : List A) (count end : ℕ) : Type 0 where
   pub more : List A
@@ -39,7 +39,7 @@ pub record ReadsWords {A : Type 0} (spell : A → List ℕ) (Fits : A → Type 0
   pub inside : end ≤ length text
   pub is : take end text ≡ take start text ++ words_text spell more
 
--- a space, this many words, and the end of the line
+-- from index `start`, the line is a space, this many words, and the end of the line
 pub record ReadsList {A : Type 0} (spell : A → List ℕ) (Fits : A → Type 0) (line : List ℕ)
     (start : ℕ) (words : List A) (count : ℕ) : Type 0 where
   pub few : count ≤ length words

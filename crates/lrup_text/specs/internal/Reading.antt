@@ -1,4 +1,4 @@
--- A line as far as it was read, and the effect of a byte.
+-- The part of a line that has been read, and the effect of a byte.
 use Rattle.std.specs.Prelude.{◌≡◌, ℕ, ◌<◌, ◌≤◌, ◌^◌, ℤ, Bool, true, false, List, [], ◌∷◌, ◌++◌, length, take}
 use Rattle.std.specs.Fmt.{decimal, signed_decimal}
 use Rattle.std.specs.List.{AllByRecursion, flat_map}
@@ -30,7 +30,7 @@ line_of_parts true deletes lead lits ids = Import lead lits
 line_of_parts false true lead lits ids = Deletion lead ids
 line_of_parts false false lead lits ids = Addition lead lits ids
 
--- the line that was read
+-- the line that has been read
 abbrev pub line_so_far : PartialLine → StreamLine
 line_so_far partial =
     line_of_parts partial.imports partial.deletes partial.lead (literals_read partial)
@@ -46,7 +46,7 @@ literals_text lits = words_text signed_decimal lits
 abbrev pub numbers_text : List ℕ → List ℕ
 numbers_text numbers = words_text decimal numbers
 
--- the text up to more literals; up to the list; up to more of its items
+-- the text before further literals; before the list; before further items of the list
 abbrev pub clause_front : (imports : Bool) → ℕ → List ℤ → List ℕ
 clause_front true lead lits = decimal lead ++ space ∷ letter_i ∷ space ∷ literals_text lits
 clause_front false lead lits = decimal lead ++ space ∷ literals_text lits
@@ -60,18 +60,18 @@ item_front partial =
     list_front partial.deletes partial.lead (literals_read partial)
     ++ space ∷ numbers_text (identities_read partial)
 
--- the text up to the end of the line
+-- the text of a line before its LF
 abbrev pub end_front : (imports deletes : Bool) → ℕ → List ℤ → List ℕ → List ℕ
 end_front true deletes lead lits ids = clause_front true lead lits ++ zero_digit ∷ []
 end_front false deletes lead lits ids =
     (list_front deletes lead lits ++ space ∷ numbers_text ids) ++ zero_digit ∷ []
 
--- a literal as far as it was read
+-- the part of a literal that has been read
 abbrev pub literal_front : Bool → ℕ → List ℕ
 literal_front true number = minus ∷ decimal number
 literal_front false number = decimal number
 
--- the bytes of the line that were read
+-- the bytes of the line that have been read
 unfoldable pub pending_at : ParserState → PartialLine → List ℕ
 pending_at states.Start partial = []
 pending_at states.Lead partial = decimal partial.number
@@ -171,7 +171,7 @@ StepsThrough old piece used Done new =
 StepsThrough old piece used (Refused fault) new =
     (0 < used) × (used ≤ length piece) × IsRefused (pending old ++ take used piece) fault
 
--- the reader's state with this fault, if any, and this text
+-- the reader's state: this fault, if there is one, or else this text
 abbrev pub reader_state : Option LineFault → List ℕ → ReaderState
 reader_state None read = Ok read
 reader_state (Some fault) read = Err fault

@@ -31,12 +31,12 @@ pub record ListFollows (limits : Limits) (deletes : Bool) (items : ℕ) (rest : 
   pub each : AllByRecursion (SpellsItem limits deletes) words
   pub is : rest ≡ list_text words
 
--- what comes after the 0 after the literals: the end of an import, or the hints
+-- what comes after the 0 that ends the literals: the end of an import, or the hints
 abbrev pub ClauseEnds : Limits → Bool → List ℕ → Type 0
 ClauseEnds limits true rest = rest ≡ line_feed ∷ []
 ClauseEnds limits false rest = ListFollows limits false 0 rest
 
--- the literals after this many others, of an import or an addition, and what comes after them
+-- the further literals of an import or addition that has this many, and what comes after them
 pub record ClauseFollows (limits : Limits) (imports : Bool) (literals : ℕ)
     (rest : List ℕ) : Type 0 where
   pub words : List (List ℕ)

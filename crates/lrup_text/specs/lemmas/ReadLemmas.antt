@@ -5,11 +5,11 @@ use Rattle.std.proofs.lemmas.List.Folds.{concat-append}
 use Rattle.std.specs.List.{concat}
 use Rattle.lrup_text.specs.Reads.{Gave, ReadsOf}
 
--- without reads, no bytes were given
+-- without reads, no bytes are given
 pub gave_none : (S : Type 0) (reads : ReadsOf S) (first : S) → Gave S reads first [] first
 gave_none S reads first = record { pieces = []; calls = refl; whole = refl }
 
--- one more read gave the next bytes
+-- one more read appends its piece to the bytes that were given
 pub gave_more : (S : Type 0) (reads : ReadsOf S) (first mid last : S)
     (before piece after : List ℕ) (room : ℕ)
     → Gave S reads first before mid → reads mid room (Some piece) last → 0 < length piece

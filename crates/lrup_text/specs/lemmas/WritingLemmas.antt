@@ -45,7 +45,7 @@ module _ {a b c : Option (List ℕ)} {h i : List ℕ} {x : List ℕ} (puts : Put
         ∙ ap (λ t. puts.went ++ t) next.is ∙ sym (append_assoc puts.went next.went next.rest);
   }
 
--- the texts of two lists, one after the other
+-- the texts of two lists, one after the other, are the text of the joined list
 flat_map_append : {X : Type 0} (f : X → List ℕ) (xs ys : List X)
     → flat_map f xs ++ flat_map f ys ≡ flat_map f (xs ++ ys)
 flat_map_append f [] ys = refl
@@ -60,26 +60,26 @@ breaks_more {a} {b} {h} {x} h' y = record {
   is = sym (append_assoc h x y) ∙ ap (λ t. t ++ y) h'.is ∙ append_assoc h'.went h'.rest y;
 }
 
--- a prefix of all that is held was written
+-- if a prefix of the held bytes was written, `Breaks` holds without new bytes
 pub breaks_held : {a b : Option (List ℕ)} {h : List ℕ} (went rest : List ℕ) → h ≡ went ++ rest
     → Appends a b went → Breaks a b h []
 breaks_held {a} {b} {h} went rest is appends = record { went = went; rest = rest; appends = appends; is = append-nil h ∙ is }
 
--- what holds for an error, at the exit of a `?`
+-- if a result is an error, what holds in the case of an error holds of it (at the exit of a `?`)
 pub at_err : {T E : Type 0} (r : Result T E) (P Q : Type 0) → IsErr r → Q
     → MatchResult r (λ _. P) (λ _. Q)
 at_err (Ok x) P Q h q = cc
 at_err (Err e) P Q h q = q
 
--- a prefix of a text was written, if nothing was held before
+-- a failed call wrote a prefix of its text, if nothing was held before
 pub breaks_from_empty : {E : Type 0} (r : Result (Unit {0}) E) {a b : Option (List ℕ)}
     {h z : List ℕ} → h ≡ [] → IsErr r → Breaks a b h z → WritesText r a b z
 breaks_from_empty r {a} {b} {h} {z} empty err broken =
     let from : Breaks a b [] z = subst (λ (x : List ℕ). Breaks a b x z) empty broken in
     at_err r _ _ err (from.went, from.rest, from.is, from.appends)
 
--- the same for an equal text; for a text of two parts; and for a text that continues after these
--- parts
+-- `Breaks` for an equal text; below, two calls for a text that consists of their two texts, or that
+-- begins with them
 pub breaks_as : {a b : Option (List ℕ)} {h x z : List ℕ} → Breaks a b h x → z ≡ x → Breaks a b h z
 breaks_as {a} {b} {h} broken is = subst (λ t. Breaks a b h t) (sym is) broken
 
@@ -91,7 +91,7 @@ pub breaks_next : {a b c : Option (List ℕ)} {h i x y z : List ℕ} → Puts a 
     → (rest : List ℕ) → z ≡ (x ++ y) ++ rest → Breaks a c h z
 breaks_next {a} {b} {c} {h} puts next rest is = subst (λ t. Breaks a c h t) (sym is) (breaks_more (breaks_then puts next) rest)
 
--- the texts of a list's elements, with one more element
+-- one more element of a list appends its text
 pub texts_more : {X : Type 0} (text : X → List ℕ) (xs : List X) (k : ℕ) (d : X) → k < length xs
     → flat_map text (take (k + 1) xs) ≡ flat_map text (take k xs) ++ text (get_or xs k d)
 texts_more text xs k d inside = ap (flat_map text) (take_more xs k d inside) ∙ sym (flat_map_more text [] (take k xs) (get_or xs k d))
@@ -107,14 +107,14 @@ pub breaks_first : {a b : Option (List ℕ)} {h x z : List ℕ} → Breaks a b h
     → z ≡ x ++ rest → Breaks a b h z
 breaks_first {a} {b} {h} broken rest is = subst (λ t. Breaks a b h t) (sym is) (breaks_more broken rest)
 
--- the last call, whose result is returned
+-- after a call that put its bytes, the result of the last call says what became of both texts
 pub puts_all_next : {E : Type 0} (r : Result (Unit {0}) E) {a b : Option (List ℕ)}
     (c : Option (List ℕ)) {h i : List ℕ} (j : List ℕ) {x : List ℕ} (y : List ℕ) {z : List ℕ}
     → Puts a b h i x → PutsAll r b c i j y → z ≡ x ++ y → PutsAll r a c h j z
 puts_all_next (Ok u) c j y puts next is = puts_next puts next is
 puts_all_next (Err e) {a} {b} c {h} j y puts next is = subst (λ t. Breaks a c h t) (sym is) (breaks_then puts next)
 
--- all that is held is written, or a prefix of it
+-- if a call then writes what is still held, the whole text was written, or a prefix after a fault
 pub writes_all_next : {E : Type 0} (r : Result (Unit {0}) E) {a b : Option (List ℕ)}
     (c : Option (List ℕ)) {i z : List ℕ} → Puts a b [] i z → WritesText r b c i → WritesText r a c z
 writes_all_next (Ok u) {a} {b} c {i} {z} puts next = subst (λ t. Appends a c t) (sym puts.is) (appends_then a b c puts.went i puts.appends next)

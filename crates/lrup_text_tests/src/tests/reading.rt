@@ -111,7 +111,7 @@ const TOO_LONG: Given = Given::Bad(LineFault::TooLong);
 
 const RAT_HINT: Given = Given::Bad(LineFault::RatHint);
 
-/// Texts that begin no line, how many bytes it takes to know that, and why.
+/// Texts that aren't the beginning of a line, how many bytes show that, and why they aren't.
 static FAULTY: &[Row] = &[
     ("\n", 1, SPELLING),
     ("05 2 0 0\n", 1, SPELLING),
@@ -128,7 +128,7 @@ static FAULTY: &[Row] = &[
     ("5 -1111111111111111111111111111111111111111", 22, TOO_LONG),
 ];
 
-/// The same for imports.
+/// Rows like those of `FAULTY`, for imports.
 static FAULTY_IMPORTS: &[Row] = &[
     ("5 i -0", 6, SPELLING),
     ("5 i 2 0 1", 8, SPELLING),

@@ -12,7 +12,7 @@ use test_support::Paper;
 /// The largest number of a stream.
 const MOST: u64 = 999_999_999_999_999_999;
 
-/// The same as a literal.
+/// The largest number of a stream, as a literal.
 const LAST: i64 = 999_999_999_999_999_999;
 
 /// Lines, and whether each has a text.
@@ -127,12 +127,12 @@ static LITERALS: [i64; 10] = [
     i64::MIN,
 ];
 
-/// The text of both, which doesn't depend on what the buffer already holds.
+/// The text of these numbers and literals, which doesn't depend on what the buffer already holds.
 const NUMBERS_AND_LITERALS: &[u8] = b"\
 0 9 10 99 100 999 1000 9999 10000 99999999 100000000 18446744073709551615 \
 0 1 -1 -10 9999 -10000 16777215 -16777215 100000000 -9223372036854775808 ";
 
-/// Puts the numbers, each with a space after it.
+/// Writes the numbers, each with a space after it.
 fn put_numbers<W: Sink>(
     rt: &impl Abort,
     buffer: &mut WriteBuffer,
@@ -146,7 +146,7 @@ fn put_numbers<W: Sink>(
     Ok(())
 }
 
-/// Puts the literals, and flushes.
+/// Writes the literals, and flushes the buffer.
 fn put_literals<W: Sink>(
     rt: &impl Abort,
     buffer: &mut WriteBuffer,
@@ -160,7 +160,7 @@ fn put_literals<W: Sink>(
     buffer.flush(sink)
 }
 
-/// Puts these bytes, the numbers and the literals.
+/// Writes these bytes, the numbers and the literals.
 fn write_after<W: Sink>(rt: &impl Abort, front: &[u8], sink: &mut W) -> Result<(), WriteFault>
     requires { W.has_failed sink.old ≡ false }
 {
@@ -181,7 +181,7 @@ fn written_after(rt: &impl Abort, alloc: Global, front: &[u8]) -> Result<Vec<u8>
 /// Bytes to fill the front of a buffer with.
 static FRONT: [u8; 4_097] = [b'x'; 4_097];
 
-/// Puts numbers and literals at each index near the end of a buffer of 4,096 bytes.
+/// Writes numbers and literals at each index near the end of a buffer of 4,096 bytes.
 #[test]
 fn numbers_are_written(rt: HostRuntime) -> Result<(), Fail> {
     for held in 4_000..4_100usize {

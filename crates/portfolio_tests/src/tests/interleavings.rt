@@ -106,7 +106,8 @@ type Row<'a> = (&'a [&'a str], u64, &'a [Hold], &'a [Said]);
 /// The first stream deletes a clause that the second cites.
 const RETIRING: [&str; 2] = ["5 2 0 1 2 0\n5 d 5 0\n7 2 0 1 2 0\n", "6 0 5 3 4 0\n"];
 
-/// Their reports if the second stream finds the clause live, and if it finds the clause retired.
+/// The reports of these streams if the second finds the clause live, and if it finds the clause
+/// retired.
 const FOUND: [Said; 2] = [(2, 1, Unknown, Ended), (1, 0, Unsatisfiable, Ended)];
 
 const RETIRED: [Said; 2] = [

@@ -104,7 +104,8 @@ fn first_report(reports: &[Report], readers: &[Pieces<'_>]) -> Result<Report, Fa
     }
 }
 
-/// The report of the first stream beside this neighbour: the one that it may have alone.
+/// The report of the first stream beside this neighbour. It is the only one that the stream may
+/// have on its own, unless memory ran out.
 fn said_beside<T: Machine>(rt: &T, mode: Mode, neighbour: &str) -> Result<Report, Fail>
     ensures { IfOk result (λ report. ¬ IsExcused OutOfMemory report
         → IsOnlyReport first_bytes report) }

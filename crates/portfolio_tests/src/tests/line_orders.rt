@@ -20,7 +20,8 @@ use stream_check::Ending::{Bad, Ended};
 use stream_check::laws::ready_beside;
 use stream_check::{Checker, Fault, Report};
 
-/// Feeds bytes through the end of a line, or all of them, and returns how many were used.
+/// Feeds bytes up to and including the end of a line, or all of them, and returns how many were
+/// used.
 fn take_line<M: ClauseMap>(checker: &mut Checker, map: &mut M, bytes: &[u8]) -> usize
     requires { IsReadyAt checker.old (M.caller_view map.old) }
     ensures ready { IsReadyAt checker.new (M.caller_view map.new) }
@@ -31,7 +32,7 @@ fn take_line<M: ClauseMap>(checker: &mut Checker, map: &mut M, bytes: &[u8]) -> 
     checker.feed(map, &mut Open, bytes).used
 }
 
-/// The same for stream `s`, at its desk.
+/// Does what `take_line` does for stream `s`, through the stream's desk.
 fn take_at(map: &mut PlainMap, s: u64, checker: &mut Checker, bytes: &[u8]) -> usize
     requires stream { IsStream map.old.layout s }
     requires ready { IsReadyAt checker.old (plain_caller_view map.old s) }
@@ -191,7 +192,7 @@ fn orders_of_importing(rt: HostRuntime) -> Result<(), Fail> {
 /// The first stream deletes a clause that the second may have found before.
 const DELETING: [&str; 2] = ["5 2 0 1 2 0\n5 d 5 0\n7 -2 0 3 4 0\n", "6 0 5 7 0\n"];
 
-/// The same, but the second also imports the clause.
+/// The streams of `DELETING`, but the second also imports the clause.
 const DELETING_IMPORTED: [&str; 2] = [
     "5 2 0 1 2 0\n5 d 5 0\n7 -2 0 3 4 0\n",
     "5 i 2 0\n6 0 5 7 0\n",

@@ -256,8 +256,8 @@ static NEEDED: [(&str, usize); 5] = [
     (REFUTATION, 25),
 ];
 
-/// A stream is read through the byte that makes it bad; a good stream is read once more, for its
-/// end.
+/// A stream is read up to and including the byte that makes it bad; a good stream is read once
+/// more, for its end.
 #[test]
 fn nothing_is_read_after_a_bad_line(rt: HostRuntime) -> Result<(), Fail> {
     for &(stream, needed) in &NEEDED {

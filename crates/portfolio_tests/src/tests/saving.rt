@@ -70,7 +70,7 @@ const WITH_5: &str = "p cnf 2 5\n1 2 0\n-1 2 0\n1 -2 0\n-1 -2 0\n2 0\n";
 
 const WITHOUT_1: &str = "p cnf 2 4\nc id 2\n-1 2 0\nc id 3\n1 -2 0\nc id 4\n-1 -2 0\nc id 5\n2 0\n";
 
-/// Streams, the saved text, and a stream that refutes its formula, or an empty text.
+/// Streams, the saved text, and a stream that refutes the saved formula, or an empty text.
 static SAVED: [(&[&str], &str, &str); 9] = [
     (
         &APART,

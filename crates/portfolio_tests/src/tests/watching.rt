@@ -81,7 +81,7 @@ impl Tape {
         self.writes.fetch_add(1, Ordering::SeqCst);
     }
 
-    /// How many writes it took.
+    /// How many writes the tape took.
     pub(super) fn writes(&self) -> u64 {
         self.writes.load(Ordering::SeqCst)
     }
@@ -148,9 +148,9 @@ enum Step {
     Mended,
     /// The stream fetches 555: the number of the first attempt, and how many attempts it makes.
     Asks(u64, u64),
-    /// It publishes this many clauses.
+    /// The stream publishes this many clauses.
     Adds(u64),
-    /// It ends.
+    /// The stream ends.
     Over,
 }
 

@@ -6,7 +6,7 @@ use Rattle.lrup_model.specs.Propagation.{IsConflict, IsUnit, Refutes, Accepts}
 use Rattle.propagate.specs.Hints.{Leads}
 use Rattle.propagate.specs.Laws.{AcceptsExactly}
 
--- a clause is unit with at most one literal
+-- a unit clause has only one unit literal
 pub unit_is_unique : (n : List ℤ) (d : Clause) (l k : ℤ) → IsUnit n d l → IsUnit n d k → l ≡ k
 unit_is_unique n d l k a b =
     elim (b.others l a.here) [ inl same ↦ same | inr is_false ↦ absurd (a.not_false is_false) ]

@@ -7,7 +7,7 @@ pub if_err : {T E : Type 0} (r : Result T E) (P Q : E → Type 0) → ((e : E) �
 if_err (Ok t) P Q follows known = tt
 if_err (Err e) P Q follows known = follows e known
 
--- the same about a result that is known to be an error
+-- a weaker fact about the error of a result that is known to be an error
 pub err_given : {T E : Type 0} (r : Result T E) (P Q : E → Type 0) → ((e : E) → P e → Q e)
     → IsErrAnd r P → IfErr r Q
 err_given (Ok t) P Q follows known = tt

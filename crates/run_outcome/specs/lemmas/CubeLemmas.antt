@@ -61,7 +61,8 @@ stream_publishes_within c stream blocks report judged is =
 
 -- ---- the formula under the cube
 
--- either the first event published a clause within the cube, or a later one
+-- if a publishable clause is within the cube, or a later one is, the formula is unsatisfiable under
+-- the cube
 refutes_either : (f : Cnf) (cube : CubeValue) (c : Clause) (later : Bool) → IsPublishable f c
     → (is_within cube c || later) ≡ true
     → (later ≡ true → IsUnsatisfiableUnder f cube) → IsUnsatisfiableUnder f cube
@@ -84,8 +85,8 @@ refuted_from f p cube m (events.publish s id c publishing.Done ∷ es) legal h =
     refutes_either f cube c (list_any (publishes_within cube) es) legal.1.1 h
     (refuted_from f p cube (after m (events.publish s id c publishing.Done)) es legal.2)
 
--- So if a stream's events are its own in a legal history, and its report says 'within', the formula
--- is unsatisfiable under the cube.
+-- If the blocks that judge a stream have its own events in a legal history, and its report says
+-- 'within', the formula is unsatisfiable under the cube.
 sound_under : (f : Cnf) (p : LayoutValue) (h : History) (c : StreamParams) (stream : Stream)
     (blocks : List History) (report : Report)
     → IsLegal f p h → own h c.stream ≡ joined blocks → JudgesStream c stream blocks report
@@ -134,7 +135,7 @@ is_within_some reports verdict of is =
     some_within (list_any (λ (report : Report). report.empty) reports) (list_any (λ
     (report : Report). report.within) reports) (sym of ∙ is)
 
--- so the verdict is true, with two threads for each stream
+-- if the verdict of a run is 'unsatisfiable under assumptions', it is true
 pub sound_under_run : (f : Cnf) (run_params : RunParamsValue) (observed : List InputObservation)
     (reports : List Report) (verdict : Verdict)
     → IsRun f run_params observed reports → verdict ≡ verdict_of reports

@@ -65,7 +65,7 @@ module _ (p : Event → Bool) where
 
 -- ---- the publish of a good addition
 
--- a good addition whose publish passes
+-- if the publish of a good addition passes, one of the line's events passes
 addition_publishes : (p : Event → Bool) (c : StreamParams) (st : StreamContext) (id : ℕ)
     (lits : List ℤ) (hints : List ℕ) (es : History)
     → JudgesLine c st (Addition id lits hints) es Good → p (published_by c id lits) ≡ true
@@ -76,7 +76,7 @@ addition_publishes p c st id lits hints es good passes =
 
 -- ---- the lines of a stream
 
--- if one of the good additions passes, one of the publishes does
+-- if one of the good additions passes, one of the events does
 pub lines_publish : (p : Event → Bool) (adds : ℕ × Clause → Bool) (c : StreamParams)
     → ((id : ℕ) (lits : List ℤ) → p (published_by c id lits) ≡ adds (id, distinct lits))
     → (before lines : List StreamLine) (blocks : List History) → AreGood c before lines blocks
@@ -127,7 +127,7 @@ from_zero : (c : Clause) → (length c == 0) ≡ true → c ≡ []
 from_zero [] h = refl
 from_zero (l ∷ c) h = absurd (omega (arith, eqb-true (length (l ∷ c)) 0 h))
 
--- either the first event published the empty clause, or a later one did
+-- if a clause that follows is the empty clause, or a later one is, the empty clause follows
 follows_either : (f : Cnf) (c : Clause) (later b : Bool) → (length c == 0) ≡ b → Follows f c
     → ((length c == 0) || later) ≡ true
     → (later ≡ true → Follows f []) → Follows f []
@@ -150,8 +150,8 @@ pub publish_refutes : (f : Cnf) (p : LayoutValue) (h : History) → IsLegal f p 
     → IsTrue (list_any publishes_empty h) → IsUnsatisfiable f
 publish_refutes f p h legal is = empty_refutes f (empty_follows f p (opening f) h legal.events is)
 
--- So if a stream's events are its own in a legal history, and its report says 'empty', the formula
--- is unsatisfiable.
+-- If the blocks that judge a stream have its own events in a legal history, and its report says
+-- 'empty', the formula is unsatisfiable.
 pub sound : (f : Cnf) (p : LayoutValue) (h : History) (c : StreamParams) (stream : Stream)
     (blocks : List History) (report : Report)
     → IsLegal f p h → own h c.stream ≡ joined blocks → JudgesStream c stream blocks report

@@ -69,7 +69,7 @@ pub no_threads : {T : Type 0} (result : Result T RunFault) → IfErr result (λ 
 no_threads (Ok value) memory stream = (no_error, no_error)
 no_threads (Err e) memory stream = ((λ is. cc), (λ is. cc))
 
--- if `?` returns only out of memory, every fault is out of memory
+-- a result that is the error `Memory` has no other error
 pub is_memory : {T : Type 0} (result : Result T RunFault) → IsErrAnd result (λ e. e ≡ Memory)
     → IfErr result (λ e. e ≡ Memory)
 is_memory (Ok value) is = tt
@@ -107,7 +107,7 @@ some_report_empty reports verdict of is =
     some_empty (list_any (λ (report : Report). report.empty) reports) (list_any (λ
     (report : Report). report.within) reports) (sym of ∙ is)
 
--- so the verdict is true
+-- if the verdict of a run is 'unsatisfiable', it is true
 pub sound_run : (f : Cnf) (run_params : RunParamsValue) (observed : List InputObservation)
     (reports : List Report) (verdict : Verdict)
     → IsRun f run_params observed reports → verdict ≡ verdict_of reports → verdict ≡ Unsatisfiable

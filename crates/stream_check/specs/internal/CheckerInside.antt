@@ -17,9 +17,9 @@ use Rattle.stream_check.specs.CheckerValue.{Tally, CheckerValue}
 use Rattle.stream_check.specs.declared.params.Ownership.{Ownership}
 use Rattle.stream_check.specs.declared.params.Ownership.TheVariants as ownerships
 
--- the parameters; the last identity added, or the formula's last one; the dropped identities, and
--- how many were retired; how many clauses were added, whether one is empty, and whether one is
--- within the cube; and the next line's number
+-- the parameters; the last identity added, or the formula's last one; the dropped identities; how
+-- many identities were retired; how many clauses were added, whether one is empty, and whether one
+-- is within the cube; and the next line's number
 pub record StreamStateValue : Type 0 where
   pub params : StreamParams
   pub last : ℕ
@@ -43,7 +43,7 @@ fresh_state params dropped = record {
   line = 1;
 }
 
--- what the good lines so far leave, if this much room is left
+-- the context that the good lines so far leave, if this much room is left
 abbrev pub context_at : StreamStateValue → ℕ → StreamContext
 context_at state free =
     record { last = state.last; free = free; is_dropped = is_among state.dropped.ids }
@@ -64,7 +64,7 @@ tally_at state = record {
 abbrev pub KeepsLines : StreamStateValue → StreamStateValue → Type 0
 KeepsLines old new = new ≡ record old { dropped = new.dropped; retired = new.retired }
 
--- The conditions tested before the hints hold, and the marks have the addition's clause.
+-- All tests before those of the hints succeed, and the marks have the addition's clause.
 pub record Admits (params : StreamParams) (context : StreamContext) (id : ℕ) (lits : List ℤ)
     (marks : Propagation) : Type 0 where
   pub owns : Owns params.layout params.stream id
@@ -81,7 +81,7 @@ pub record Admits (params : StreamParams) (context : StreamContext) (id : ℕ) (
         ready = true;
       }
 
--- the conditions tested before the hints hold, or the addition violates one of them
+-- all tests before those of the hints succeed, or the addition fails one of them
 abbrev pub AdmitsBy : StreamParams → StreamContext → ℕ → List ℤ → Propagation
     → Result (Unit {0}) Fault
     → Type 0
@@ -89,7 +89,7 @@ AdmitsBy params context id lits marks (Ok _) = Admits params context id lits mar
 AdmitsBy params context id lits marks (Err fault) =
     BeforeHints params context id lits [] fault ⊥
 
--- the text of a line that a reader has read
+-- what a reader has read of a line's text
 abbrev pub read_of : ReaderState → List ℕ
 read_of (Ok read) = read
 read_of (Err fault) = []
@@ -107,8 +107,8 @@ value_of state pending ending = record {
   ending = ending;
 }
 
--- An unfinished checker can read on, one that ran out of memory has no room for a dropped identity,
--- and the checker's parts have the same stream's parameters.
+-- An unfinished checker can read on, one that ran out of memory has no room for another dropped
+-- identity, `vars` is the layout's number of variables, and there are fewer than 2^63 tries.
 pub record IsSound (params : StreamParams) (dropped : DroppedIdsValue) (vars : ℕ)
     (reader : ReaderState) (ending : Option Ending) : Type 0 where
   pub reads : ending ≡ None → reader ≡ Ok (read_of reader)
@@ -116,8 +116,8 @@ pub record IsSound (params : StreamParams) (dropped : DroppedIdsValue) (vars : �
   pub tries : params.tries < 2 ^ 63
   pub full : IfSome ending (λ stopped. IsFullAtMemory stopped dropped)
 
--- how often at most a hint of this ownership is fetched again, with this many tries for another
--- stream's
+-- how often a hint with this ownership may be fetched again: `tries` times if it is another
+-- stream's, and never otherwise
 abbrev pub tries_on : Ownership → ℕ → ℕ
 tries_on ownerships.Formula tries = 0
 tries_on ownerships.Own tries = 0

@@ -42,7 +42,7 @@ IsFetch (events.retire s id reply) = ⊥
 
 -- Additions
 
--- hints don't change the clause of the marks
+-- the marks still have the same variables and the same clause
 abbrev pub KeepsClause : Propagation → Propagation → Type 0
 KeepsClause old new = (new.vars ≡ old.vars) × (new.clause ≡ old.clause)
 
@@ -61,7 +61,7 @@ Shows params is_dropped formula clause hints history (Ok _) =
 Shows params is_dropped formula clause hints history (Err fault) =
     FailsHints params is_dropped clause hints history fault
 
--- no hint may be left after the conflict
+-- the result if these hints are left after the conflict: none may be
 abbrev pub excess_of : List ℕ → Result (Unit {0}) Fault
 excess_of [] = Ok tt
 excess_of (hint ∷ hints) = Err (faults.Excess hint)
@@ -73,8 +73,8 @@ line_verdict (Err fault) = Bad 0 fault
 
 -- Deletions
 
--- Deleting one of the stream's own identities: the reply to one retire decides. Only such a
--- deletion has an event.
+-- Deleting one of the stream's own identities: the reply to one retire decides. No other deletion
+-- has an event.
 abbrev pub DeletesOwn : StreamParams → ℕ → List ℕ → List ℕ → History → Result (Unit {0}) LineStop
     → Type 0
 DeletesOwn params id old new history (Ok _) =
@@ -104,7 +104,7 @@ DeletesByOwnership ownerships.Foreign params id old new history result =
 DeletesByOwnership ownerships.Outside params id old new history result =
     (history ≡ []) × (result ≡ Err (stops.Bad (faults.NotLive id))) × (new ≡ old)
 
--- deleting one identity, with these dropped before, and these afterwards
+-- deleting one identity, with these identities dropped before, and these afterwards
 abbrev pub DeletesOne : StreamParams → ℕ → List ℕ → List ℕ → History → Result (Unit {0}) LineStop
     → Type 0
 DeletesOne params id old new history result =

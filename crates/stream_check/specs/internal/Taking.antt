@@ -16,7 +16,8 @@ use Rattle.stream_check.specs.Checker.{IsViewOf, going_of}
 use Rattle.stream_check.specs.internal.Checking.{AreDropped}
 use Rattle.stream_check.specs.internal.CheckerInside.{StreamStateValue, context_at, deleted_at, KeepsLines, value_of}
 
--- what an unfinished checker holds, if this was read of the next line and this much room is left
+-- what an unfinished checker holds, if it has read this part of the next line, and this much room
+-- is left
 abbrev pub hold : StreamStateValue → List ℕ → ℕ → GoingState
 hold state pending free = going_of (value_of state pending None) free
 
@@ -32,7 +33,7 @@ pub record DeletesMore (old new : StreamStateValue) (ids : List ℕ) : Type 0 wh
   pub deleted : deleted_at new ≡ capped (deleted_at old + length ids)
   pub dropped : AreDropped old.params old.dropped.ids ids new.dropped.ids
 
--- the result of the events of one line
+-- how a line with these events changes the state and the room, and what the result is
 abbrev pub TakesBy : StreamStateValue → ℕ → StreamStateValue → ℕ → StreamLine → History
     → Result (Unit {0}) LineStop → Type 0
 TakesBy old free new left line history (Ok _) =

@@ -31,7 +31,8 @@ run-fetches m (events.fetch s id r ∷ es) h = run-fetches m es h.1
 run-fetches m (events.publish s id c r ∷ es) h = absurd h.0
 run-fetches m (events.retire s id r ∷ es) h = absurd h.0
 
--- a violated condition has no events; it stays violated with other events that are then empty, too
+-- a line that violates this condition or a later one does so with other events, too, if these are
+-- empty whenever the old ones are
 pub violates_maps : (Holds : Type 0) (its : Fault) (es fs : History) (fault : Fault) (A B : Type 0)
     → (es ≡ [] → fs ≡ []) → (A → B) → Violates Holds its es fault A → Violates Holds its fs fault B
 violates_maps Holds its es fs fault A B none next (inl bad) = inl (bad.0, none bad.1, bad.2)
@@ -59,7 +60,7 @@ valid_passes c st fetches id lits hints es fault A valid (inr (a, inr (b, inl ba
 valid_passes c st fetches id lits hints es fault A valid (inr (a, inr (b, inr (d, inl bad)))) = absurd (bad.0 valid.room)
 valid_passes c st fetches id lits hints es fault A valid (inr (a, inr (b, inr (d, inr (e, next))))) = next
 
--- a look-up that gave a clause fetched it as live
+-- if a look-up gave a clause, the identity wasn't dropped, and its fetch found the clause live
 pub found_live : (c : StreamParams) (is_dropped : ℕ → Bool) (h : ℕ) (es : History) (d : Clause)
     → LooksUp c is_dropped h es (Ok d) → (is_dropped h ≡ false) × FetchesHint c h es (events.live d)
 found_live c is_dropped h es d (inl dropped) = absurd (let e = dropped.2 in cc)
@@ -72,7 +73,7 @@ found_live c is_dropped h es d (inr (kept, events.live e, asks, is)) =
     )
 found_live c is_dropped h es d (inr (kept, events.retired, asks, is)) = absurd (cc)
 
--- a list of one identity is looked up with all events
+-- looking up one identity is looking up the list that has only this identity
 pub one_found : (c : StreamParams) (is_dropped : ℕ → Bool) (id : ℕ) (d : Clause) (es : History)
     → LooksUp c is_dropped id es (Ok d) → AreFound c is_dropped (id ∷ []) (d ∷ []) es
 one_found c is_dropped id d es looks = (es, [], sym (append-nil es), looks, refl)
@@ -87,7 +88,7 @@ pub no_hints_left : (c : StreamParams) (is_dropped : ℕ → Bool) (hints : List
 no_hints_left c is_dropped [] es found = refl
 no_hints_left c is_dropped (h ∷ hints) es found = absurd found
 
--- a clause that is needed to refute helps
+-- if the clauses from a hint on refute, the hint doesn't mislead
 pub no_help : (n : List ℤ) (d : Clause) (ds : List Clause) (c : StreamParams)
     (is_dropped : ℕ → Bool) (h : ℕ)
     (hints : List ℕ) (es : History) (fault : Fault)
@@ -100,7 +101,7 @@ no_help n d (e ∷ ds) c is_dropped h hints es fault refutes found (inl neither)
 no_help n d (e ∷ ds) c is_dropped h hints es fault refutes found (inr excess) =
     refutes.1.not_false (excess.0 refutes.0 refutes.1.here)
 
--- after a unit clause the other clauses refute
+-- if clauses refute and the first one is unit, the others refute once its literal is true
 pub refutes_on : (n : List ℤ) (d : Clause) (ds : List Clause) (l : ℤ) → Refutes n (d ∷ ds)
     → IsUnit n d l → Refutes (n ++ neg_ℤ l ∷ []) ds
 refutes_on n d [] l refutes unit = absurd (unit.not_false (refutes l unit.here))

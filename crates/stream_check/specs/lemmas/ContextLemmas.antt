@@ -1,4 +1,4 @@
--- What one more good line leaves.
+-- What is left after one more good line.
 use Rattle.std.proofs.Common.{◌≡◌, ◌<◌, ◌+◌, ◌&&◌, ◌||◌, ℕ, ℤ, Bool, true, false, max, List, [], ◌∷◌, ◌++◌, length, length-append, refl, sym, ap, ◌∙◌, arith}
 use mathlib.Core.Path.{fun_ext}
 use Rattle.std.specs.Prelude.{◌==◌, map}
@@ -43,7 +43,7 @@ same_last c lines (Addition id lits hints) es j =
 same_last c lines (Deletion lead ids) es j = last-snoc c lines (Deletion lead ids)
 same_last c lines (Import id lits) es j = last-snoc c lines (Import id lits)
 
--- the additions after one more line
+-- the number of additions after one more line
 pub added-snoc : (lines : List StreamLine) (line : StreamLine)
     → length (additions_of (lines ++ line ∷ []))
     ≡ length (additions_of lines) + length (additions_of (line ∷ []))
@@ -96,7 +96,7 @@ counts_of c lines =
     let r : Report = report_of c lines 0 endings.Ended in
     record { added = r.added; deleted = r.deleted; empty = r.empty; within = r.within }
 
--- a checker has these counts exactly if its reports are those of the lines
+-- if a checker's reports are those of the lines, its counts are those that the lines leave
 pub tally_is : (c : StreamParams) (lines : List StreamLine) (t : Tally)
     → ((ending : Ending) → report_of_tally t ending ≡ report_of c lines 0 ending)
     → t ≡ counts_of c lines

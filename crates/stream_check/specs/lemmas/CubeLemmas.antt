@@ -17,7 +17,7 @@ one_of true b A B first rest some = refl
 one_of false b A B first rest (inl x) = absurd (let e : false ≡ true = first.1 x in cc)
 one_of false b A B first rest (inr y) = rest.1 y
 
--- the literal is in the cube
+-- the test of a literal decides whether it is in the cube
 has : (cube : CubeValue) (l : ℤ) → IsTrue (list_any (λ k. int_eq k l) cube) ↔ Has cube l
 has [] l = ((λ is. absurd (let e : false ≡ true = is in cc)), (λ h. absurd h))
 has (k ∷ cube) l = (
@@ -41,7 +41,7 @@ is_within-decides cube (l ∷ c) = (
   two (list_any (λ k. int_eq k (neg_ℤ l)) cube) (is_within cube c) (Has cube (neg_ℤ l)) (Within c cube) (has cube (neg_ℤ l)) (is_within-decides cube c),
 )
 
--- two tests that decide the same are equal
+-- two tests that decide the same proposition are equal
 pub same_test : (a b : Bool) (A : Type 0) → (IsTrue a ↔ A) → (IsTrue b ↔ A) → a ≡ b
 same_test true true A first rest = refl
 same_test true false A first rest = absurd (let e : false ≡ true = rest.1 (first.0 refl) in cc)

@@ -1,4 +1,4 @@
--- What the streams of a run dropped, from what is known of each.
+-- What the streams of a run dropped, derived from what is known of each stream.
 use Rattle.std.proofs.Common.{◌≡◌, ◌∙◌, ◌+◌, inl, ℕ, List, [], ◌∷◌, Option, None, refl, sym, ap}
 use Rattle.std.proofs.Common.{subst}
 use Rattle.std.proofs.lemmas.List.{append-nil}
@@ -20,7 +20,8 @@ use Rattle.stream_check.specs.lemmas.StoppingLemmas.{drops_none}
 use Rattle.stream_check.specs.Streams.{Stream, RunParamsValue}
 use Rattle.stream_check.specs.Dropping.{AreDroppedBy, HasDropped, HaveDropped}
 
--- if a checker is unfinished, all lines were good
+-- if a checker is unfinished, all lines were good, and its dropped identities are those of the
+-- lines
 good_drops : (c : StreamParams) (bytes : List ℕ) (blocks : List History) (now : GoingState)
     (ids : List ℕ) → ReachesGoing c bytes blocks now
     → ((id : ℕ) → is_among ids id ≡ now.context.is_dropped id) → AreDroppedBy c bytes blocks ids
@@ -34,7 +35,7 @@ good_drops c bytes blocks now ids left same =
           same id ∙ left.context.is_dropped id;
     }
 
--- the same if the stream ended in the middle of a line, which dropped nothing
+-- what an unfinished checker dropped, if the stream ends; a line that is cut off drops nothing
 ended_by : (end : StreamEnd) (rest : List ℕ) (c : StreamParams) (bytes : List ℕ)
     (blocks : List History) (now : GoingState)
     (dropped : DroppedIdsValue)
@@ -63,7 +64,7 @@ ended_by stream_ends.Ended (byte ∷ rest) c bytes blocks now dropped left same 
 ended_by stream_ends.Failed rest c bytes blocks now dropped left same = good_drops c bytes blocks
     now dropped.ids left same
 
--- what an unfinished checker has dropped when it takes this end
+-- what an unfinished checker has dropped when the stream ends in this way
 pub going_drops : (c : StreamParams) (v : CheckerValue) (room : ℕ) (bytes : List ℕ)
     (blocks : List History) (end : StreamEnd)
     → v.ending ≡ None → ReachesState c bytes blocks (checker_state v room)
@@ -87,7 +88,7 @@ stopped_drops (endings.ReadFailed line) c bytes blocks tally dropped drops full 
 stopped_drops (endings.Memory line) c bytes blocks tally dropped drops full =
     (drops, full line refl)
 
--- the same for blocks of which a weaker fact holds
+-- `HaveDropped` still holds with a weaker fact about the blocks
 pub dropped_more : (run_params : RunParamsValue) (P Q : ℕ → List History → Type 0)
     → ((t : ℕ) (blocks : List History) → P t blocks → Q t blocks)
     → (s : ℕ) (streams : List Stream) (reports : List Report) (all : List DroppedIdsValue)

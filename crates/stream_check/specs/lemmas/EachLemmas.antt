@@ -14,7 +14,7 @@ module _ {X Y : Type 0} (Holds : ℕ → X → Y → Type 0) where
   each_count s (x ∷ xs) [] each = absurd each
   each_count s (x ∷ xs) (y ∷ ys) each = ap suc (each_count (s + 1) xs ys each.1)
 
-  -- the elements at one index
+  -- `Holds` is true for the elements at one index
   pub each_from : (s : ℕ) (xs : List X) (ys : List Y) → Each Holds s xs ys
       → (k : ℕ) (x : X) (y : Y) → slice_get xs k ≡ Some x → slice_get ys k ≡ Some y
       → Holds (s + k) x y
@@ -46,7 +46,7 @@ module _ {X Y : Type 0} (Holds : ℕ → X → Y → Type 0) where
       let later = each_second (s + 1) xs ys each.1 k y there in
       (later.0, subst (λ n. Holds n later.0 y) next later.1)
 
-  -- the elements for stream s
+  -- `Holds` is true for the elements of stream s
   pub each_at : (xs : List X) (ys : List Y) → Each Holds 1 xs ys → (s : ℕ) (x : X) (y : Y)
       → IsOfStream xs s x → IsOfStream ys s y → Holds s x y
   each_at xs ys each s x y at there =
@@ -54,7 +54,7 @@ module _ {X Y : Type 0} (Holds : ℕ → X → Y → Type 0) where
       let here : 1 + (s - 1) ≡ s = omega (arith, first) in
       subst (λ n. Holds n x y) here (each_from 1 xs ys each (s - 1) x y at.1 there.1)
 
-  -- with the elements for one more stream
+  -- one more stream's elements can be appended if `Holds` is true for them
   pub each_push : (s : ℕ) (xs : List X) (ys : List Y) (x : X) (y : Y) → Each Holds s xs ys
       → Holds (s + length ys) x y → Each Holds s (xs ++ x ∷ []) (ys ++ y ∷ [])
   each_push s [] [] x y each last =
@@ -65,7 +65,7 @@ module _ {X Y : Type 0} (Holds : ℕ → X → Y → Type 0) where
       let next : s + suc (length ys) ≡ s + 1 + length ys = omega arith in
       (each.0, each_push (s + 1) xs ys x y each.1 (subst (λ n. Holds n x y) next last))
 
-  -- the elements for the first n streams
+  -- `Each` holds for the first n streams
   pub each_take : (n s : ℕ) (xs : List X) (ys : List Y) → Each Holds s xs ys
       → Each Holds s (take n xs) (take n ys)
   each_take zero s [] [] each = tt
@@ -75,7 +75,7 @@ module _ {X Y : Type 0} (Holds : ℕ → X → Y → Type 0) where
   each_take zero s (x ∷ xs) (y ∷ ys) each = tt
   each_take (suc n) s (x ∷ xs) (y ∷ ys) each = (each.0, each_take n (s + 1) xs ys each.1)
 
--- what follows for one stream follows for each
+-- if `Holds` implies `Also`, then `Also` is true for each stream
 pub each_more : {X Y : Type 0} {Holds Also : ℕ → X → Y → Type 0} (s : ℕ) (xs : List X)
     (ys : List Y) → Each Holds s xs ys
     → ((t : ℕ) (x : X) (y : Y) → Holds t x y → Also t x y) → Each Also s xs ys
@@ -85,7 +85,8 @@ each_more s (x ∷ xs) [] each follows = absurd each
 each_more s (x ∷ xs) (y ∷ ys) each follows =
     (follows s x y each.0, each_more (s + 1) xs ys each.1 follows)
 
--- the same for a list made from the second one
+-- if `Holds` implies `Also` for `f` of the second element, `Also` is true for each stream and `map
+-- f ys`
 pub each_map : {X Y Z : Type 0} {Holds : ℕ → X → Y → Type 0} (Also : ℕ → X → Z → Type 0)
     (f : Y → Z) (s : ℕ) (xs : List X) (ys : List Y) → Each Holds s xs ys
     → ((t : ℕ) (x : X) (y : Y) → Holds t x y → Also t x (f y)) → Each Also s xs (map f ys)
@@ -95,7 +96,8 @@ each_map Also f s (x ∷ xs) [] each follows = absurd each
 each_map Also f s (x ∷ xs) (y ∷ ys) each follows =
     (follows s x y each.0, each_map Also f (s + 1) xs ys each.1 follows)
 
--- what follows for a stream from s up to the last one follows for each of these
+-- if `Holds` implies `Also` for the streams s to `last`, and these are all, `Also` is true for each
+-- stream
 pub each_within : {X Y : Type 0} {Holds Also : ℕ → X → Y → Type 0} (last s : ℕ) (xs : List X)
     (ys : List Y) → s + length xs ≤ last + 1 → Each Holds s xs ys
     → ((t : ℕ) (x : X) (y : Y) → s ≤ t → t ≤ last → Holds t x y → Also t x y) → Each Also s xs ys
@@ -108,8 +110,8 @@ each_within last s (x ∷ xs) (y ∷ ys) within each follows = (
       (λ t a b after. follows t a b (omega (arith, after))),
 )
 
--- if another element is put into the second list at index i, what follows there from the old
--- element, and for each other stream, follows for each stream
+-- after another element is put into the second list at index i, `Also` is true for each stream, if
+-- it follows from `Holds` for each other stream, and for this one from `Holds` of the old element
 pub each_set : {X Y : Type 0} {Holds Also : ℕ → X → Y → Type 0} (s i : ℕ) (xs : List X)
     (ys : List Y) (v : Y) → Each Holds s xs ys
     → ((t : ℕ) (x : X) (y : Y) → s ≤ t → t ≢ s + i → Holds t x y → Also t x y)
@@ -133,7 +135,7 @@ each_set {Holds = Holds} {Also = Also} s (suc i) (x ∷ xs) (y ∷ ys) v each ot
           (here a b at (subst (λ n. Holds n a b) next was))),
     )
 
--- two lists for whose elements this holds have the same length
+-- two lists for which `AllZip` holds have the same length
 pub zip_count : {X Y : Type 0} (Holds : X → Y → Type 0) (xs : List X) (ys : List Y)
     → AllZip Holds xs ys → length ys ≡ length xs
 zip_count Holds [] [] all = refl

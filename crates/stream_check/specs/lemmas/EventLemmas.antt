@@ -1,4 +1,4 @@
--- What holds for the events of a line.
+-- Lemmas that derive P for all events of a line from its parts.
 use Rattle.std.proofs.Common.{◌≡◌, ◌∙◌, ℕ, zero, suc, ℤ, Bool, List, [], ◌∷◌, ◌++◌, replicate, Result, Ok, Err, inl, inr, refl, sym, ap, subst}
 use Rattle.std.proofs.Common.{append_assoc, append-nil}
 use Rattle.std.specs.List.{AllByRecursion}
@@ -27,7 +27,7 @@ module _ (c : StreamParams) (P : History → Type 0) (none : P []) where
   violates_holds Holds its es fault A next (inl bad) = none_holds es bad.1
   violates_holds Holds its es fault A next (inr good) = next good.1
 
-  -- for the events of a look-up, in front of the other events of an addition or an import
+  -- P holds for the events of a look-up, followed by other events of an addition or an import
   module _ (IsHint : ℕ → Type 0)
       (looked : (h : ℕ) (asked rest : History) (r : Reply) → IsHint h → FetchesHint c h asked r
       → (r ≡ events.vacant → rest ≡ []) → P rest → P (asked ++ rest)) where
@@ -41,7 +41,7 @@ module _ (c : StreamParams) (P : History → Type 0) (none : P []) where
         looked h asked rest found.1 is found.2
         (λ vacant. ends (found.3 ∙ ap (answer_of h) vacant)) holds
 
-    -- the same if there are no more events
+    -- P holds for the events of a look-up with none after them
     looks_last : (is_dropped : ℕ → Bool) (h : ℕ) (asked : History) (answer : Result Clause Fault)
         → IsHint h → LooksUp c is_dropped h asked answer → P asked
     looks_last is_dropped h asked answer is looks =
@@ -106,7 +106,7 @@ module _ (c : StreamParams) (P : History → Type 0) (none : P []) where
           | inr differs ↦ looks_last st.is_dropped id es (Ok differs.0) is differs.1
         ]) a) bad.1
 
-  -- for the events of a deletion
+  -- P holds for the events of a deletion
   module _ (IsDeleted : ℕ → Type 0)
       (done : (id : ℕ) (rest : History) → IsDeleted id → P rest
       → P (events.retire c.stream id retiring.Done ∷ rest))

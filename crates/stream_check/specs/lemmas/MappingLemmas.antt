@@ -23,11 +23,11 @@ use Rattle.stream_check.specs.Deletions.{RetiresThen, DropsThen, DeletesAt, Judg
 use Rattle.stream_check.specs.Imports.{JudgesImport}
 use Rattle.stream_check.specs.Judging.{JudgesLine}
 
--- the same parameters, under this cube
+-- these parameters with another cube
 abbrev pub under : StreamParams → CubeValue → StreamParams
 under c cube = record c { cube = cube }
 
--- the events of a look-up, and those after them, are replaced by others with the same result
+-- `f` replaces the events of a look-up and those after it, and the new look-up has the same result
 pub record LooksOn (c : StreamParams) (f : History → History) (is_dropped : ℕ → Bool) (h : ℕ)
     (asked rest : History) (answer : Result Clause Fault) : Type 0 where
   pub fewer : History

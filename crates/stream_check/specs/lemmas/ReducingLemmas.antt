@@ -1,4 +1,4 @@
--- Lemmas about histories without the vacant fetches of what was found later.
+-- Lemmas about histories without the vacant fetches of hints that were found later.
 use Rattle.std.proofs.Common.{◌≡◌, ◌∙◌, ◌&&◌, true, false, not, [], ◌∷◌, refl, sym, ap}
 use Rattle.std.specs.List.{list_all}
 use Rattle.std.proofs.lemmas.Bool.{cond-true, cond-false, true≢false}

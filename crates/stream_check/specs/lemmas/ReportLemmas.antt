@@ -32,12 +32,12 @@ additions-append (Addition id lits hints ∷ a) b = ap (λ (x : List (ℕ × Cla
 additions-append (Deletion lead ids ∷ a) b = additions-append a b
 additions-append (Import id lits ∷ a) b = additions-append a b
 
--- nothing is taken
+-- no bytes and no blocks leave a state as it is
 pub reaches_still : (c : StreamParams) (s : CheckerState) → Extends c s [] [] s
 reaches_still c s bytes before reaches =
     subst (λ (b : List ℕ). ReachesState c b (before ++ []) s) (sym (append-nil bytes)) (subst (λ (blocks : List History). ReachesState c bytes blocks s) (sym (append-nil before)) reaches)
 
--- the report counts only the good lines
+-- whether the report says 'within' depends only on the good lines
 pub said_within : (c : StreamParams) (lines : List StreamLine) (rest : List ℕ) (end : StreamEnd)
     (back : List History) (report : Report) → EndsAfter c lines rest end back report
     → report.within ≡ list_any (λ addition. is_within c.cube addition.1) (additions_of lines)

@@ -14,7 +14,7 @@ or_none true shared = refl
 or_none false true = refl
 or_none false false = refl
 
--- without identities nothing is dropped
+-- deleting no identities drops nothing
 pub drops_none : (c : StreamParams) (is_dropped : ℕ → Bool) → DropsMore c is_dropped [] is_dropped
 drops_none c is_dropped id = sym (or_none (is_dropped id) (is_shared (ownership_of c id)))
 
@@ -31,7 +31,7 @@ first_longer ids bytes more (inl none) = inl none
 first_longer ids bytes more (inr (line, fits, later, rest, text, deletes)) =
     inr (line, fits, later, rest ++ more, ap (λ (b : List ℕ). b ++ more) text ∙ append_assoc (line_text line) rest more, deletes)
 
--- the same for more bytes
+-- what a stream dropped until a line stopped it doesn't depend on the bytes after that line
 pub drops_longer : (c : StreamParams) (bytes more : List ℕ) (blocks : List History)
     (report : Report) (is_dropped : ℕ → Bool)
     → DropsUntilStop c bytes blocks report is_dropped

@@ -18,7 +18,7 @@ use Rattle.stream_check.specs.SequentialConsistency.{AreJudgedIn}
 use Rattle.stream_check.specs.Readings.{AreRead}
 use Rattle.stream_check.specs.Streams.{RunParamsValue, Stream, InputObservation, observation_of, observations, MatchesInput, JudgesStream, Block, blocks_of}
 
--- there is one element at an index
+-- a list has only one element for a stream
 pub same_at : {X : Type 0} (xs : List X) (s : ℕ) (x y : X)
     → IsOfStream xs s x → IsOfStream xs s y → x ≡ y
 same_at xs s x y a b = let e : Some x ≡ Some y = sym a.1 ∙ b.1 in cc
@@ -37,7 +37,7 @@ observed_as_many view (first ∷ firsts) (last ∷ lasts) (stream ∷ streams) r
     ap suc (observed_as_many view firsts lasts streams read.1)
 observed_as_many view _ _ _ read = absurd read
 
--- and the bytes observed at first are those that the reader was known to hold
+-- the bytes observed at first are those that the reader is known to have left before its reads
 pub observation_at : {S : Type 0} (view : SourceView S) (firsts lasts : List S)
     (streams : List Stream)
     → AreRead S view.reads firsts lasts streams
@@ -52,7 +52,7 @@ observation_at view (first ∷ firsts) (last ∷ lasts) (stream ∷ streams) rea
     observation_at view firsts lasts streams read.1 k entry at
 observation_at view _ _ _ read k entry at = absurd read
 
--- what is observed of the reader at this index in the list
+-- the stream matches what is observed of the reader at this index
 pub record WasMatched (observed : List InputObservation) (k : ℕ) (stream : Stream) : Type 0 where
   pub observation : InputObservation
   pub at : slice_get observed k ≡ Some observation
@@ -95,14 +95,14 @@ its_end : (its : Option StreamEnd) → (end : StreamEnd) × IfSome its (λ e. e 
 its_end None = (stream_ends.Ended, tt)
 its_end (Some end) = (end, refl)
 
--- some end for which these blocks judge the stream
+-- for some end, these blocks judge the stream
 pub some_end : (c : StreamParams) (stream : Stream) (blocks : List History) (report : Report)
     → JudgesStream c stream blocks report
     → (end : StreamEnd) × JudgesBlocks c stream.bytes end blocks report
 some_end c stream blocks report judged =
     let end = its_end stream.end in (end.0, judged end.0 end.1)
 
--- these events judge a stream
+-- these events judge the stream
 abbrev pub IsJudgedBy : StreamParams → Stream → History → Report → Type 0
 IsJudgedBy c stream es report =
     (blocks : List History) × (es ≡ joined blocks) × JudgesStream c stream blocks report

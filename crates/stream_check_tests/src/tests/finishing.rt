@@ -1,4 +1,4 @@
-//! At the end of a stream, or at a failed read, the gate gets the report once.
+//! At the end of a stream, or after a failed read, the gate gets the report once.
 use super::same;
 use lrup_model::{Cube, Id, Layout};
 use lrup_text::StreamEnd;

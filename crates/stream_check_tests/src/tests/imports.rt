@@ -1,4 +1,4 @@
-//! Imports at a map of one thread.
+//! Imports that are checked over the map of one thread.
 ghost use Rattle.std.specs.Prelude.{IfOk};
 ghost use Rattle.checker_support.specs.Opened.{IsPlainOpened};
 

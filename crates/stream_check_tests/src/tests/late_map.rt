@@ -1,4 +1,4 @@
-//! The events of a stream at a map where another stream publishes late.
+//! The events of a stream in a map where another stream publishes late.
 ghost use Rattle.std.specs.Prelude.{◌≡◌, ◌<◌, [], IfOk};
 ghost use Rattle.checker_support.specs.Opened.{IsPlainOpened};
 ghost use Rattle.lrup_model.specs.Event.{History};
@@ -20,9 +20,9 @@ use test_support::lit;
 #[derive(Clone, Copy, Debug, PartialEq, Eq)]
 pub enum Late {
     Never,
-    /// Right before this fetch of stream 1, counted from 1.
+    /// Right before the fetch of stream 1 with this number (from 1).
     Published(u64),
-    /// The same, but stream 2 also retires 6 immediately.
+    /// At the same moment as with `Published`, but stream 2 also retires 6 immediately.
     Retired(u64),
 }
 
@@ -106,7 +106,7 @@ fn call_at_six<M: ClauseMap>(desk: &mut M, retires: bool)
     }
 }
 
-/// The same, with stream 2's desk.
+/// What `call_at_six` does, through stream 2's desk.
 fn call_second(map: &mut PlainMap, retires: bool)
     requires formula { formula_of map.old ≡ four }
     requires stream { IsStream map.old.layout 2 }

@@ -52,7 +52,7 @@ fn feed_lines<R: Abort, M: ClauseMap>(rt: &R, checker: &mut Checker, map: &mut M
     checker.end();
 }
 
-/// A further line changes nothing.
+/// Checks that a further line changes nothing.
 fn stays_finished<R: Abort, M: ClauseMap>(rt: &R, checker: &mut Checker, map: &mut M)
     requires ready { IsReadyAt checker.old (M.caller_view map.old) }
     requires finished { IsSome checker.old.ending }

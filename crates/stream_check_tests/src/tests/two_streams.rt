@@ -1,4 +1,4 @@
-//! Two streams at one map, in turn.
+//! Two streams over one map, in turn.
 ghost use Rattle.std.specs.Prelude.{◌≡◌, ◌≤◌, IfOk};
 ghost use Rattle.checker_support.specs.Opened.{IsPlainOpened};
 ghost use Rattle.lrup_model.specs.Event.{History};
@@ -28,7 +28,7 @@ struct Two {
     ghost second_ready: { IsReadyAt second (plain_caller_view map 2) },
 }
 
-/// Feeds a piece of stream `s` at its desk.
+/// Feeds a piece of stream `s`, through the stream's desk.
 fn feed_at(map: &mut PlainMap, s: u64, checker: &mut Checker, gate: &mut GateCalls, piece: &[u8])
     requires stream { IsStream map.old.layout s }
     requires ready { IsReadyAt checker.old (plain_caller_view map.old s) }
@@ -39,7 +39,7 @@ fn feed_at(map: &mut PlainMap, s: u64, checker: &mut Checker, gate: &mut GateCal
     feed_whole(checker, &mut map.desk(s), gate, piece);
 }
 
-/// The checkers of streams 1 and 2 at a map that was just opened.
+/// The checkers of streams 1 and 2 over a map that was just opened.
 fn two_checkers(alloc: Global, map: &PlainMap, tries: u64) -> Result<(Checker, Checker), Fail>
     requires { IsPlainOpened map.now }
     ensures streams { IfOk result (λ _. 2 ≤ map.now.layout.streams) }

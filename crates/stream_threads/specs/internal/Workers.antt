@@ -36,8 +36,8 @@ pub record StartedValue (S : Type 0) : Type 0 where
 abbrev pub started_with : {S : Type 0} → ℕ → StreamJobsValue S → StartedValue S
 started_with signal jobs = record { jobs = jobs; signal = signal }
 
--- The report judges the bytes received up to a mark, by the calls that the pass made in between,
--- and the lines drop these identities.
+-- The report judges the bytes received up to a mark, by the calls that the pass made between `old`
+-- and `new`, and the lines drop these identities.
 pub record JudgesAtPass (checker : CheckerValue) (old new : PassValue) (items : List ℕ)
     (dropped : DroppedIdsValue) (report : Report) : Type 0 where
   pub store : store_of new ≡ store_of old
@@ -45,7 +45,7 @@ pub record JudgesAtPass (checker : CheckerValue) (old new : PassValue) (items : 
   pub moves : PassMoves old.view new.view (joined blocks)
   pub judged : JudgesAtMark checker (pass_caller_view old.view).room items blocks dropped report
 
--- the result of a stream, or that its mark was missed
+-- the stream has this result, or its mark was missed
 abbrev pub IsEndOf : {S : Type 0} → SourceView S → StreamJobsValue S → Option (StreamResultValue S)
     → Type 0
 IsEndOf view jobs (Some found) = Finishes view jobs found

@@ -64,8 +64,8 @@ fn open_pair<R: Source + Drop, G: Gate + Drop>(
     Ok((reading, Checking { map, job }))
 }
 
-/// Sets the signal, and checks what is received, at the map's desk; `None` if the signal says to
-/// leave.
+/// Sets the signal, and checks what is received, through the map's desk; `None` if the signal says
+/// to leave.
 fn check<W: Wait, G: Gate + Drop>(
     wait: &W,
     signal: &OnceLock<bool>,
@@ -321,7 +321,7 @@ fn reads_and_checks_on_one_thread(rt: HostRuntime) -> Result<(), Fail> {
     Ok(())
 }
 
-/// Both wait for the signal, which comes after a pause.
+/// Both threads wait for the signal, which comes after a pause.
 #[test]
 fn both_see_the_signal(rt: HostRuntime) -> Result<(), Fail> {
     for round in 0..200u64 {
@@ -357,8 +357,8 @@ fn asked_to_leave(rt: HostRuntime) -> Result<(), Fail> {
     Ok(())
 }
 
-/// Gives each line once the one before was published. Before the first few lines it pauses, so that
-/// the checking thread falls asleep.
+/// Delivers each line only after the one before has been published. Before the first few lines it
+/// pauses, so that the checking thread falls asleep.
 #[derive(Drop)]
 struct Steps<'a, C: Clock> {
     clock: &'a C,
@@ -409,8 +409,8 @@ impl Gate for CountsPublishes<'_> {
     }
 }
 
-/// The report of these lines, each of which comes once the one before was published, and how many
-/// waits timed out.
+/// The report of these lines, each of which comes only after the one before has been published, and
+/// how many waits timed out.
 fn step_through<T: Threads + Wait + Clock + Sync>(
     rt: &T,
     alloc: Global,
@@ -500,7 +500,7 @@ fn a_hundred_megabytes_after_a_bad_line(rt: HostRuntime) -> Result<(), Fail> {
     Ok(())
 }
 
-/// Drops its job after a pause, as happens if its thread can't be started.
+/// Drops a reading job after a pause, as happens if the job's thread can't be started.
 fn leave<C: Clock, R: Source + Drop>(clock: &C, reading: ReadingJob<R>) {
     pause(clock);
     drop(reading);

@@ -313,8 +313,8 @@ fn streams_come_through_small_rings(rt: HostRuntime) -> Result<(), Fail> {
     Ok(())
 }
 
-/// Gives each byte once the one before was received. Before the first few bytes it pauses, so that
-/// the receiver falls asleep.
+/// Delivers each byte only after the one before has been received. Before the first few bytes it
+/// pauses, so that the receiver falls asleep.
 #[derive(Drop)]
 struct Steps<'a, C: Clock> {
     clock: &'a C,
@@ -353,8 +353,8 @@ impl<C: Clock> Source for Steps<'_, C> {
     }
 }
 
-/// Sends bytes, each once the one before was received. Returns whether one was late, and what
-/// arrived.
+/// Sends bytes, each only after the one before has been received. Returns whether one was late, and
+/// what arrived.
 fn step_through<T: Threads + Wait + Clock + Sync>(
     rt: &T,
     alloc: Global,
@@ -381,7 +381,7 @@ fn step_through<T: Threads + Wait + Clock + Sync>(
 static WOKEN: [(usize, u64, u64); 3] = [(65_536, 300, 300), (1, 300, 300), (65_536, 100_000, 0)];
 
 /// The next byte would hide a wake-up that was lost at an empty ring, so each byte comes only after
-/// the one before was received.
+/// the one before has been received.
 #[test]
 fn a_receiver_that_sleeps_is_woken(rt: HostRuntime) -> Result<(), Fail> {
     for &(ring, count, pauses) in &WOKEN {

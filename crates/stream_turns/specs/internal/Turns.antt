@@ -29,7 +29,7 @@ pub record HasRun (run_formula : Cnf) (run_layout : LayoutValue) (blocks : List 
   pub room : (s : ℕ) → IsStream run_layout s
       → free_at map s + spent s (events_in blocks) ≡ run_layout.room
 
--- the worker is stream s's, has reached its state by the stream's blocks, and can be fed at the map
+-- the worker is stream s's, has reached its state through these blocks, and can be fed with the map
 pub record IsWorking {S : Type 0} (view : SourceView S) (run_params : RunParamsValue)
     (blocks : List Block)
     (map : Plain) (s : ℕ) (first : S) (worker : WorkerValue S) : Type 0 where
@@ -37,7 +37,7 @@ pub record IsWorking {S : Type 0} (view : SourceView S) (run_params : RunParamsV
   pub holds : WorkerInvariant view first worker (free_at map s) (blocks_of s blocks)
   pub ready : IsReadyAt worker.checker (plain_caller_view map s)
 
--- the same for each worker, counted from s
+-- `IsWorking` for each of these workers, the first of which is that of stream s
 abbrev pub AreWorking : {S : Type 0} → SourceView S → RunParamsValue → List Block → Plain
     → ℕ → List S
     → List (WorkerValue S) → Type 0
@@ -70,13 +70,13 @@ pub record SerialInvariant {S : Type 0} (view : SourceView S) (formula : Cnf)
   pub rounds : ℕ
   pub in_round : IsInRound rounds taken (map (λ block. block.stream) blocks) workers
 
--- these are the map and the workers of a run of some formula, parameters and readers
+-- these are the map and the workers of a run with some formula, parameters and readers
 abbrev pub IsInSerialRun : {S : Type 0} → SourceView S → ℕ → Plain → List (WorkerValue S) → Type 0
 IsInSerialRun {S} view taken map workers =
     (formula : Cnf) × (run_params : RunParamsValue) × (firsts : List S)
     × SerialInvariant view formula run_params firsts taken map workers
 
--- if these were the map and the workers of a run, the later ones are those of the same run
+-- if the earlier map and workers are those of a run, the later ones are those of the same run
 abbrev pub SerialStep : {S : Type 0} → SourceView S → ℕ → Plain → List (WorkerValue S) → ℕ → Plain
     → List (WorkerValue S) → Type 0
 SerialStep {S} view taken map workers next later after =
@@ -94,7 +94,7 @@ AreFinished workers = AllByRecursion IsFinished workers
 abbrev pub IsFinishedAt : {S : Type 0} → List (WorkerValue S) → ℕ → Type 0
 IsFinishedAt workers place = IfSome (slice_get workers place) IsFinished
 
--- the workers of the streams, counted from s, before their first bytes
+-- the workers of these streams, the first of which is stream s, before their first bytes
 abbrev pub AreStarted : {S : Type 0} → SourceView S → RunParamsValue → ℕ → List S
     → List (WorkerValue S)
     → Type 0

@@ -1,5 +1,5 @@
--- A stream at work: its reader, its checker, and what was read and isn't checked yet (this
--- project's own).
+-- A stream at work: its reader, its checker, and the bytes that were read and aren't checked yet
+-- (this project's own).
 use Rattle.std.specs.Prelude.{◌≡◌, ◌≤◌, ◌<◌, ◌++◌, ℕ, Bool, false, List, [], length, Option, None, Some}
 use Rattle.std.specs.Io.KnownBytes.{Consumes}
 use Rattle.lrup_model.specs.Event.{History}
@@ -32,9 +32,9 @@ WorkerInvariantBy {S} view (Some ending) first worker free blocks =
     × HasDropped worker.checker.params stream.bytes blocks
     (report_of_tally worker.checker.tally ending) worker.checker.dropped
 
--- The invariant of a worker whose reader was `first` before any read and which has this room left.
--- If it is unfinished, the bytes checked so far and their events lead to its checker's state. If it
--- is finished, its checker's report judges the stream, and the stream dropped what the checker
+-- The invariant of a worker with this room left, whose reader was `first` before any read. If the
+-- worker is unfinished, the bytes checked so far and their events lead to its checker's state. If
+-- it is finished, its checker's report judges the stream, and the stream dropped what the checker
 -- dropped.
 abbrev pub WorkerInvariant : {S : Type 0} → SourceView S → S → WorkerValue S → ℕ
     → List History → Type 0

@@ -39,7 +39,7 @@ same_words g c =
     read_all texts (map string_bytes) c.deref-2.result.now c.in-Ok-words_of.words.items c.deref.result.now
     c.in-Ok-after_name.arguments.items _ c.deref-2.ensures.value c.in-Ok-words_of.ensures c.deref.ensures.value c.in-Ok-after_name.ensures
 
--- what holds for the words and for the status of `command` holds for the arguments and for the exit
+-- if P holds of the words and the status of `command`, it holds of the arguments and the exit
 -- status
 carried : (g : Given.Over) (c : goal.After-drop-arguments-2 g) (P : List Text → ℕ → Type 0)
     → P (texts c.deref-2.result.now) c.command-status.result

@@ -101,7 +101,7 @@ returns-in-Err-clause-cause g c first opened =
     let cause : Cause round.number round.sizes = c.in-Err.ensures.cause in
     inl (refl, subst (Cause 1) c.requires.sizes (subst (λ (n : ℕ). Cause n round.sizes) c.requires.one cause))
 
--- one round after another
+-- the invariant holds after one more round
 pub loop-number-preserved : goal.loop-number-preserved
 loop-number-preserved g c =
     let its = effects_of g.F.Files g.F.Machine g.F.Input.Source g.F.Output.Sink in

@@ -8,7 +8,7 @@ use Rattle.command_line.proofs.arguments.bare.Goals as goal
 abbrev nameless : App → App
 nameless = on_top (λ (s : Shape). record s { no_binary_name = true })
 
--- and one that has a version
+-- a command that has a version
 abbrev versioned : App → App
 versioned = on_top (λ (s : Shape). record s { has_version = true })
 

@@ -26,7 +26,7 @@ begun g c = record {
   ready = c.in_ok-store.ensures.jobs;
 }
 
--- these parameters have a layout
+-- the parameters have a layout, so a result that isn't a layout fault is right
 right : (g : given.Over) (c : In_ok-store g) {A : Type 0} (result : Result A RunFault)
     → ((fault : LayoutFault) → result ≡ Err (Layout fault) → ⊥) → (fault : LayoutFault)
     → (result ≡ Err (Layout fault)) ↔ IsFault (layout_of c.args.options c.args.formula.now (length c.args.readers.items)) fault
@@ -52,7 +52,7 @@ pub returns-in-Ok-clause-layout : goal.returns-in-Ok-clause-layout
 returns-in-Ok-clause-layout g c =
     right g (goal.at.returns-in-Ok-clause-layout g c).In_ok-store _ (λ fault e. cc)
 
--- the fault of the threads
+-- the passes in the threads' fault belong to the store
 pub fault_of-requires : goal.fault_of-requires
 fault_of-requires g c = record {
   store = before_of (readers_view g.R.Source) (begun g (goal.at.fault_of-requires g c).In_ok-store) _ c.in-Err.ensures.fault;

@@ -20,7 +20,7 @@ layout_is : (g : given.Over) (c : In_ok-layout g)
 layout_is g c =
     c.in_ok-layout.ensures.layout.0 ∙ ap (layout_of c.args.options c.args.formula.now) (c.len.ensures ∙ c.args.readers.ok.0)
 
--- so a result that is no layout fault is right
+-- there is a layout, so a result that isn't a layout fault is right
 right : (g : given.Over) (c : In_ok-layout g) {A : Type 0} (result : Result A RunFault)
     → ((fault : LayoutFault) → result ≡ Err (Layout fault) → ⊥) → (fault : LayoutFault)
     → (result ≡ Err (Layout fault)) ↔ IsFault (layout_of c.args.options c.args.formula.now (length c.args.readers.items)) fault

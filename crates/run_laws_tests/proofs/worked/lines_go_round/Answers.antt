@@ -4,7 +4,7 @@ use Rattle.stream_check.specs.lemmas.TurnLemmas.{lines_beside, lines_pushed}
 use Rattle.stream_check.specs.Turns.{line_count}
 use Rattle.run_laws_tests.proofs.worked.lines_go_round.Goals as goal
 
--- one more line adds at most one line to each stream's count
+-- one more line increases each stream's count of lines by at most 1
 one_more : (order : List ℕ) (s t : ℕ) → line_count t (order ++ s ∷ []) ≤ line_count t order + 1
 one_more order s t = elim (cases_eq s t) [
   | inl same ↦ subst (λ u. line_count u (order ++ s ∷ []) ≤ line_count u order + 1) same (omega (arith, lines_pushed order s))

@@ -41,7 +41,7 @@ meet_all-requires g c =
     ap store_of c.into_pass.ensures ∙ c.save-saved.ensures.saves.1.store ∙ ap store_of c.new-desk.ensures in
     subst (AreOf store) (sym (c.deref_mut.ensures.value ∙ c.push_reserved.ensures.items)) (other_last store rest old new before stays)
 
--- the last pass fetched what the history left, as the meeting shows
+-- the last pass fetched what the history left, because all passes have met
 pub returns-clause-saves : goal.returns-clause-saves
 returns-clause-saves g c = λ f h history.
     let p : LayoutValue = c.args.store.now.layout in

@@ -28,7 +28,7 @@ returns-clause-end g c jobs sent judged no_mark =
           );
     }
 
--- what was received is a prefix of what was sent, and ends with no mark
+-- what was received is a prefix of what was sent, and doesn't end with a mark
 pub returns-in_err-report-clause-end : goal.returns-in_err-report-clause-end
 returns-in_err-report-clause-end g c jobs sent judged no_mark =
     let view = readers_view g.R.Source in

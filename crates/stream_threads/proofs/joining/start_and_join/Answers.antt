@@ -23,7 +23,7 @@ join_all-requires-clause-signal g c =
 pub join_all-requires-clause-none : goal.join_all-requires-clause-none
 join_all-requires-clause-none g c = none_found (readers_view g.R.Source) [] _ c.lists.inside.found refl c.lists.invariant.3
 
--- there is room for all of them
+-- there is room for the results of all streams
 pub join_all-requires-clause-room : goal.join_all-requires-clause-room
 join_all-requires-clause-room g c =
     let started = c.in_default-start_all_reading.ensures.started ∙ c.in_default.ensures.started in

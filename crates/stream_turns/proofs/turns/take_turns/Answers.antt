@@ -9,6 +9,6 @@ take_round-requires g c = record {
       c.loop.workers c.requires.running c.loop.invariant;
 }
 
--- the loop ends only by its return
+-- the loop ends only through its return
 pub returns-clause-finished : goal.returns-clause-finished
 returns-clause-finished g c = let never : false ≡ true = c.in-None.ensures.steps in absurd (cc)

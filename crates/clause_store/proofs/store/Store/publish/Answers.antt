@@ -13,7 +13,7 @@ use Rattle.clause_store.proofs.RestLemmas.{rests}
 use Rattle.clause_store.proofs.store.Store.publish.Goals as goal
 use Rattle.clause_store.proofs.store.Store.publish.Goals.{then-left-lt1, in-len1, else-left-lt1+else-left-lt2-2}
 
--- a seat whose draft is the clause published the clause
+-- if the draft is this clause, publishing the draft is publishing the clause
 published : (seat now : SeatValue) (p : PassValue) (id : ℕ) (c : Clause) (r : Published) (new : View)
     → now ≡ record seat { draft = now.draft } → pass_value seat ≡ p → now.draft ≡ c
     → Calls now.view new (events.publish now.view.caller.stream id now.draft r)
@@ -23,7 +23,7 @@ published seat now p id c r new same pass whole calls =
     subst (λ (v : View). Calls v new (events.publish v.caller.stream id c r)) view
     (subst (λ (d : Clause). Calls now.view new (events.publish now.view.caller.stream id d r)) whole calls)
 
--- if only the draft has changed, only the draft has changed after one more write
+-- if only the draft has changed so far, then after one more write, too, only the draft has changed
 drafted : (seat before now : SeatValue) (d : Clause) → before ≡ record seat { draft = before.draft } → now ≡ record before { draft = d }
     → now ≡ record seat { draft = now.draft }
 drafted seat before now d same is =
@@ -56,7 +56,7 @@ invariant_of-pass c =
     rests c.if-left-lt1.pass-inside.seat c.claim.new.seat c.if-left-lt1.pass-inside.stream own calls.moves.caller calls.fair
     c.claim.ensures.draft calls.within
 
--- the draft is the clause once no literal is left, or one was left and is added
+-- once no literal is left, the draft is the whole clause
 none_left : (d l c : Clause) → d ++ l ≡ c → length l < 1 → d ≡ c
 none_left d [] c all none = sym (append-nil d) ∙ all
 none_left d (k ∷ l) c all none = absurd (omega arith)

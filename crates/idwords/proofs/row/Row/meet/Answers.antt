@@ -88,7 +88,7 @@ split_seat-requires c =
       splits_thread shared.key.formula.value shared.key.layout new.id new.me.0,
     )
 
--- what the load showed, once each thread state is back in its own token
+-- after the load, once each thread state is back in its own token, the two have met
 now : (c : goal.After-drop-second-inside)
     → SyncThreads (first_thread c.first.inside.token.me.0) (first_thread c.second.inside.token.me.0)
     (first_thread c.split_seat.new.seat.me.0)

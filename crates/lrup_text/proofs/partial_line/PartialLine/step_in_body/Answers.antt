@@ -35,7 +35,7 @@ pub returns-in-45-2-2 : goal.returns-in-45-2-2
 returns-in-45-2-2 c = body_too_long c.args.self.now c.args.byte c.requires.reads c.requires.state
     (omega (arith, c.requires.reads.kept.few_literals)) (λ ne. (omega arith, omega arith))
 
--- a line that is an import has its letter, so no letter follows
+-- a line that is an import already has its letter, so no other letter follows
 marked : (imports : Bool) (b : ℕ) → imports ≡ true → imports ≡ false → (b ≢ letter_d) × (b ≢ letter_i)
 marked imports b is adds = let both : true ≡ false = sym is ∙ adds in cc
 

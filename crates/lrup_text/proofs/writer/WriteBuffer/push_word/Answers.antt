@@ -5,7 +5,7 @@ use Rattle.lrup_text.specs.Writing.{space}
 use Rattle.lrup_text.specs.internal.Reading.{literal_front}
 use Rattle.lrup_text.proofs.writer.WriteBuffer.push_word.Goals as goal
 
--- of the appended bytes, a word and a space stay
+-- of the appended bytes, only a word and the space after it are kept
 pushed : (held appended left word text rest : List ℕ) (start : ℕ) → left ≡ take (length appended - start) appended
     → appended ≡ held ++ take ((start + 22) - start) (drop start word) → start + length text ≡ 21 → drop start word ≡ text ++ space ∷ rest
     → 22 ≤ length rest → left ≡ held ++ (text ++ space ∷ [])

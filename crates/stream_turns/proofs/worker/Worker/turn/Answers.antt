@@ -78,6 +78,6 @@ loop-preserved g c =
       );
     }
 
--- the loop ends only by its returns
+-- the loop ends only through its returns
 pub returns : goal.returns
 returns g c = let never : false ≡ true = c.in-None.ensures.steps in absurd (cc)

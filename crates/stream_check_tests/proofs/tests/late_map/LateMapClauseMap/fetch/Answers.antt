@@ -2,7 +2,7 @@ use Rattle.lrup_model.specs.Plain.{plain_caller_view}
 use Rattle.stream_check_tests.proofs.BesideLemmas.{step_then, desk_fetched}
 use Rattle.stream_check_tests.proofs.tests.late_map.LateMapClauseMap.fetch.Goals as goal
 
--- what stream 2 did, and then the fetch
+-- stream 2's calls, and then the fetch, are one step with the event of the fetch
 pub returns-clause-event : goal.returns-clause-event
 returns-clause-event c =
     let desk = c.desk-desk.ensures in
