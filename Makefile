@@ -1,10 +1,10 @@
-# `make help` lists the targets, by the comments after ##. Building needs Rattle's toolchain (the
+# `make help` lists the targets, with the texts after ##. Building needs Rattle's toolchain (the
 # command rt) and Python 3; make demo and make test also need a C compiler.
 
 RT ?= rt
 PREFIX ?= /usr/local
 VERSION := $(shell cat VERSION)
-# The kit with which the program is proved, from README.
+# The kit that proves the program, as named in README.
 KIT := $(shell sed -n 's/^`\(rattle-kit-[^`]*\)`.*/\1/p' README.md 2> /dev/null)
 PROGRAM := crates/lrupd/out/lrupd
 SOLVER := examples/solver/out/solver
@@ -20,17 +20,16 @@ WARNINGS := -Wall -Wextra -Wshadow -Wconversion
 # Objects; those of lrup-solve have their own folder, since tests build it in several ways.
 OBJECTS := out/objects
 SOLVE_OBJECTS = $(SOLVE).objects
-# The filter's sources that lrup-solve, lrup-trim and lrup-explain contain, and those that the
-# example solver shares.
+# The filter's sources that lrup-solve, lrup-trim and lrup-explain contain, and those that are also
+# in the example solver.
 FILTER := $(filter-out tools/exact/main.c tools/exact/chain.c,$(wildcard tools/exact/*.c))
 SHARED_WITH_SOLVER := $(addprefix tools/exact/,errors.c formula.c lists.c literals.c)
-# The sources of lrup-engines without MPI.
+# The C++ sources of lrup-engines without MPI.
 ALONE := $(filter-out $(wildcard tools/solve/mpi*.cpp),$(wildcard tools/solve/*.cpp))
 # Tests of programs build this first; 'make examples BUILT= PROGRAM=path' tests another program.
 BUILT ?= build
-# Debian's pytest, with which the tests of programs run. Files of tests run in parallel, two more
-# than there are cores, since most rows wait now and then. With xdist's -n, runs of many files
-# didn't end.
+# Debian's pytest runs the tests of programs: at a time, two more files than there are cores, since
+# most tests wait now and then. With xdist's -n, runs of many files didn't end.
 PYTEST ?= pytest-3
 AT_ONCE := $(shell expr $$(nproc) + 2)
 rows_of = printf '%s\n' $(1) | xargs -P $(AT_ONCE) -I NAME $(PYTEST) --program $(PROGRAM) \
@@ -70,10 +69,10 @@ run: build ## try: the same, proved first; try and run take FORMULA=path STREAMS
 build: toolchain ## build: prove the program, 15 to 26 minutes the first time, and leave it at crates/lrupd/out/lrupd
 	@python3 gate/build.py $(RT)
 
-# The filter is installed as lrup-exact, and lrup-solve only if CaDiCaL's library is there. The
-# manual pages get the version in their last line. Without the toolchain, as under sudo, the
-# programs that were built before are installed. No line calls $(MAKE), since make would run it even
-# with -n.
+# The filter is installed as lrup-exact. lrup-solve is installed only if CaDiCaL's library is there.
+# The manual pages get the version in their last line. Without the toolchain, as under sudo, the
+# programs that were built before are installed. No line calls $(MAKE), since make would run such a
+# line even with -n.
 PLACE = $(DESTDIR)$(PREFIX)
 COMPLETIONS = $(PLACE)/share/bash-completion/completions
 install: $(if $(shell command -v $(RT)),build,built) exact trim explain install-solve ## use: install all, with manual pages, below PREFIX=/usr/local
@@ -111,7 +110,7 @@ uninstall: ## use: remove what make install installs below PREFIX
 
 # Compares standard output, standard error and the status; also checks two groups of streams
 # separately.
-examples: $(BUILT) pytest ## check: compare the program's answers on the examples, and on some hundred small runs, with the right ones
+examples: $(BUILT) pytest ## check: compare the program's answers on the examples, and on a few hundred small runs, with the right ones
 	@$(call rows_of,program_answers program_groups)
 
 live: $(BUILT) pytest ## check: four recorded solvers, line by line through pipes, checked while they run
@@ -148,14 +147,15 @@ solve: $(SOLVE) $(ENGINES) beside-it ## build: lrup-solve and lrup-check, at too
 # lrup-engines-mpi isn't installed, since it depends on the MPI of the host that built it.
 solve-mpi: $(ENGINES)-mpi $(ENGINES) $(SOLVE) beside-it ## build: lrup-engines-mpi, for lrup-solve --mpi on several hosts; needs MPI, too
 
-# Programs that the front looks for beside itself, and lrup-check, which looks for the front.
+# Programs that the front looks for in its own folder, and lrup-check, which looks there for the
+# front.
 beside-it: $(EXACT) $(TRIM) $(EXPLAIN)
 	@mkdir -p $(dir $(SOLVE)) && ln -sfr $(PROGRAM) $(dir $(SOLVE))lrupd && \
 	ln -sfr $(EXACT) $(dir $(SOLVE))lrup-exact && ln -sfr $(TRIM) $(EXPLAIN) $(dir $(SOLVE)) && \
 	install -m 755 tools/solve/lrup-check $(dir $(SOLVE))
 
-# A source is compiled if it, a header that it includes, or the way to compile it has changed. A
-# running program is replaced, not overwritten.
+# A source is compiled after a change of the source, of a header that it includes, or of the command
+# that compiles it. Programs are replaced, not overwritten, since they may be running.
 in_order = $(patsubst %,$(1)/%.o,$(basename $(2)))
 VERSIONED = -DVERSION='"$(VERSION)"'
 COMPILE_C = $(CC) -std=c11 $(WARNINGS) $(VERSIONED) -I $(OBJECTS) $(CPPFLAGS) $(CFLAGS)
@@ -204,13 +204,13 @@ $(FAULTS): crates/stream_check/specs/Faults.antt tools/faults.awk
 $(OBJECTS)/tools/explain/tell.o: $(FAULTS)
 $(SOLVE_OBJECTS)/tools/solve/options.o: $(HELPS_OF_SOLVE)
 
-# Functions that both scripts which check a record contain.
+# Functions that the two scripts for checking a record share.
 $(SOLVE_OBJECTS)/packed.sh.h: tools/lrup-chain
 	@mkdir -p $(dir $@) && { echo 'R"sh('; \
 	sed -n '/^stream() {/,/^}/p; /^unpack() {/,/^}/p' $<; echo ')sh"'; } > $@
 $(SOLVE_OBJECTS)/tools/solve/rounds.o: $(SOLVE_OBJECTS)/packed.sh.h
 
-# The compilers' commands, rewritten only when they change.
+# Files with the compilers' commands, rewritten only when these change.
 $(OBJECTS)/flags $(SOLVE_OBJECTS)/flags: FORCE | c-and-python
 	@mkdir -p $(dir $@) && \
 	echo '$(subst ','\'',$(COMPILE_C) $(CXX) $(COMPILE_CXX) $(LDFLAGS) $(LDLIBS))' > $@.new && \
@@ -218,7 +218,7 @@ $(OBJECTS)/flags $(SOLVE_OBJECTS)/flags: FORCE | c-and-python
 FORCE:
 -include $(wildcard $(OBJECTS)/*/*/*.d $(SOLVE_OBJECTS)/*/*/*.d $(SOLVE_OBJECTS)/*/*/*/*.d)
 
-# The check compiles with clang, too, if it is installed.
+# The check also compiles with clang if that is installed.
 IN_C := $(addprefix tools/,exact trim explain) examples/solver
 C_SOURCES := $(wildcard $(addsuffix /*.c,$(IN_C) tools/solve tools/solve/front tests))
 C_HEADERS := $(wildcard $(addsuffix /*.h,$(IN_C))) \
@@ -257,7 +257,7 @@ trim-test: $(BUILT) solver exact trim pytest ## check: lrup-trim, on 300 random 
 explain-test: $(BUILT) solver explain pytest ## check: lrup-explain against lrupd, on 2,000 faulty streams and 1,000 mutated proofs
 	@$(call rows_of,explain)
 
-# These are skipped without CaDiCaL's library, and the rows of --mpi without MPI.
+# These tests are skipped without CaDiCaL's library, and those of --mpi also without MPI.
 SOLVE_TESTS := lrup_solve_rounds lrup_solve lrup_solve_inputs lrup_solve_folders \
 	lrup_solve_solvers lrup_check lrup_solve_kept lrup_solve_front lrup_solve_trusted \
 	lrup_solve_hostile lrup_solve_kills lrup_solve_cubes lrup_solve_resume lrup_solve_days \
@@ -269,7 +269,7 @@ solve-test: $(BUILT) exact pytest ## check: lrup-solve, on 300 random formulas, 
 $(SOLVE_TESTS): $(BUILT) exact pytest
 	@$(call rows_of,$@)
 
-# Uses larger formulas than the gate does. SEED chooses them, and is printed.
+# Uses larger formulas than the gate does. SEED determines the formulas, and is printed.
 MINUTES ?= 60
 SEED ?= $(shell date +%s)
 days: $(BUILT) exact pytest ## check: kill processes of lrup-solve for MINUTES=60, and resume from what they saved
@@ -282,7 +282,7 @@ neighbours: $(BUILT) pytest ## check: hostile streams never change the report on
 sweep: $(BUILT) pytest ## check: runs with each allocation, read, write and thread refused in turn
 	@$(call rows_of,program_refusals) --rt $(RT)
 
-# Skipped without valgrind, like make instructions.
+# Without valgrind, the tests of make leaks and make instructions are skipped.
 leaks: $(BUILT) pytest ## measure: memory leaks, by valgrind
 	@$(call rows_of,program_leaks)
 
@@ -292,15 +292,15 @@ instructions: $(BUILT) pytest ## measure: how many instructions lines take, by v
 building: toolchain ## measure: the first build, crate by crate, in a clone of HEAD; on a quiet machine without kept proofs
 	@python3 bench/first_build.py $(RT)
 
-# These need packages that the gate doesn't: acl2, acl2-books and acl2-books-certs; hol-light and
-# libnum-ocaml-dev.
+# These need packages that the gate doesn't need: acl2, acl2-books and acl2-books-certs for peers,
+# hol-light and libnum-ocaml-dev for hol.
 peers: $(BUILT) solve ## measure: ACL2's verified checkers beside lrupd, in about ten minutes; needs ACL2, which is large
 	@python3 bench/peers/peers.py $(PROGRAM) $(TRIM) $(SOLVE)
 
-hol: $(BUILT) solve ## check: HOL Light proves 61 tautologies by lrup-solve, in some minutes; needs HOL Light
+hol: $(BUILT) solve ## check: HOL Light proves 61 tautologies by lrup-solve, in a few minutes; needs HOL Light
 	@PATH="$(abspath $(dir $(SOLVE))):$$PATH" examples/hol/taut.sh
 
-# Changes AUDIT, THEOREMS, STORE_CALLS and PROOFS_AND_ROUNDS; `make pages` names other faults there.
+# Changes AUDIT, THEOREMS, STORE_CALLS and PROOFS_AND_ROUNDS; `make pages` finds other faults.
 quotes: ## check: put changed definitions onto the pages that quote them, and USING's faults into lrupd.1
 	@python3 gate/quotes.py --write
 	@python3 gate/interface.py --write
@@ -322,12 +322,12 @@ deb: ## use: a Debian package of what make install installs, with the pages for 
 	@rm -rf out/deb && $(MAKE) --no-print-directory install DESTDIR="$(abspath out/deb)" PREFIX=/usr
 	@sh tools/deb.sh out/deb $(VERSION)
 
-# Committed files only.
+# The archive has committed files only.
 dist: ## use: an archive of the sources, in out/
 	@mkdir -p out && echo out/lrupd-$(VERSION).tar.gz
 	@git archive --prefix=lrupd-$(VERSION)/ -o out/lrupd-$(VERSION).tar.gz HEAD
 
-# Runs as many tests as fit into LIMIT seconds. tools/pre-push runs it before a push.
+# Runs as many tests as fit into LIMIT seconds. tools/pre-push runs this target before a push.
 LIMIT ?= 90
 quick: toolchain c-and-python ## check: after a change of CRATE=name: layout, proofs, its tests before they are proved, the pages
 	@sh gate/quick.sh $(RT) $(CRATE) $(LIMIT)
@@ -342,8 +342,8 @@ packages: ## check: install, as root, the Debian packages that tests need
 
 # The whole gate: the pages; then rt ci, which proves everything from nothing, tries the edits, runs
 # the crates' tests, and builds the program with two compilers; then the tests of programs,
-# the longest files first, without the rows of --mpi that wait long. The last line
-# is rt's own, 'N passed, M failed'.
+# the slowest files first, without those tests of --mpi that wait long. The last line is rt's own,
+# 'N passed, M failed'.
 ROWS := filter_mutants program_refusals lrup_solve_rounds lrup_solve lrup_solve_kept \
 	lrup_solve_solvers filter_chains lrup_solve_resume lrup_solve_hostile explain trim \
 	lrup_solve_cubes filter_rounds lrup_solve_mpi lrup_solve_front lrup_solve_days \

@@ -3,9 +3,9 @@
 
     acl2.py [--stobj] FORMULA PROOF
 
-The checker is the incremental one of ACL2's books, or with --stobj the stobj-based one. The script
-prints 's VERIFIED', with status 0, or 's NOT VERIFIED' and ACL2's message, with status 1. It needs
-Debian's packages acl2, acl2-books and acl2-books-certs.
+The checker is the incremental one of ACL2's books, or, with --stobj, the stobj-based one. The
+script prints 's VERIFIED', with status 0, or 's NOT VERIFIED' and ACL2's message, with status 1. It
+needs Debian's packages acl2, acl2-books and acl2-books-certs.
 
 The checkers' theorems don't cover their parsers, which don't read all of DIMACS CNF and LRAT. So
 the checkers get the formula in a simpler form: the header first, no comments, one clause on each
@@ -51,7 +51,7 @@ def narrow_formula(path: str) -> str:
 
 
 def sorted_steps(path: str) -> Iterator[List[str]]:
-    """The words of each line, an addition's literals sorted by variable."""
+    """The words of each line, with an addition's literals sorted by variable."""
     with open(path) as lines:
         for line in lines:
             words = line.split()

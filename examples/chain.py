@@ -5,9 +5,9 @@
 
 The lines are ordered so that each comes after those that derive the clauses that it cites, and
 before those that retire these clauses; this order is cut into ROUNDS pieces, at least 1. A round
-saves the clauses that are live at its end, in the order of their identities, and a clause's place
-there is its identity in the next round: so each piece is renumbered. FOLDER, a new one, gets the
-streams and the sizes of all rounds, and
+saves the clauses that are live at its end, in the order of their identities, and a clause's number
+in this order is its identity in the next round: so each piece is renumbered. FOLDER, a new one,
+gets the streams and the sizes of all rounds, and
 
     lrup-chain --tries 1000000 FORMULA FOLDER
 
@@ -20,8 +20,8 @@ from typing import Dict, List, NamedTuple, Set
 
 USAGE = "usage: chain.py ROUNDS FORMULA FOLDER STREAM..., with 1 round or more"
 MOST_CLAUSES = 16777215
-# An identity that no clause has: cited for a clause that no stream derived, or that a checkpoint
-# lacks.
+# An identity that no clause has: cited in place of a clause that no stream derived, or that a
+# checkpoint lacks.
 NOWHERE = 10 ** 18 - 1
 
 
@@ -69,7 +69,7 @@ def clauses_of(formula: Path) -> int:
 
 
 def in_order(streams: List[List[Line]]) -> List[Line]:
-    """If no line is ready, one is taken anyway: lrupd will report what is wrong with it."""
+    """The lines of all streams. If none is ready, takes one anyway: lrupd will report its fault."""
     owners = {line.identity: line.stream for lines in streams for line in lines if line.kind == "a"}
     cites = Counter(identity for lines in streams for line in lines if line.kind != "d"
                     for identity in line.cited)
@@ -91,7 +91,7 @@ def in_order(streams: List[List[Line]]) -> List[Line]:
 
 
 def renumbered(line: Line, now: Dict[int, int]) -> Line:
-    """Clauses that a checkpoint lacks need no deletion any more."""
+    """The line with new identities; without deletions of clauses that a checkpoint lacks."""
     cited = [now.get(identity, NOWHERE) for identity in line.cited if line.kind != "d"
              or identity in now]
     return line._replace(identity=now.get(line.identity, 0), cited=cited)
@@ -125,7 +125,7 @@ def sizes_of(streams: List[List[Line]]) -> str:
 
 
 def live(streams: List[List[Line]], count: int) -> List[int]:
-    """The identities of saved clauses: all except those that their owner, or each stream,
+    """The identities of saved clauses: all except those that their owner, or every stream, has
     deleted."""
     derived: List[Set[int]] = [{line.identity for line in lines if line.kind == "a"}
                                for lines in streams]

@@ -1,5 +1,5 @@
-"""The reader of sources: what a file of definitions, lemmas and proofs (.antt) declares, what the
-names in it and in contracts (.rt) mean, and which definitions a text reaches."""
+"""Reads sources: what a file of definitions, lemmas and proofs (.antt) declares, what names in such
+files and in contracts (.rt) mean, and which definitions a text uses, directly or indirectly."""
 import functools
 import re
 import sys
@@ -20,7 +20,7 @@ def shown(path: Path) -> str:
 
 @functools.lru_cache(maxsize=None)
 def crates() -> Dict[str, List[str]]:
-    """The crates of crates.txt, each with what it uses, libraries of the toolchain included."""
+    """The crates in crates.txt, each with those that it uses, also libraries of the toolchain."""
     lines = re.findall(r"^(\w+):(.*)", (ROOT / "crates.txt").read_text(), re.M)
     return {crate: uses.split() for crate, uses in lines}
 
@@ -35,7 +35,7 @@ class Declaration(NamedTuple):
     name: str
     marks: Sequence[str]  # `abbrev`, `pub`, ..
     comment: List[str]    # the lines above it
-    place: int            # the number of its first line, from 0 on
+    place: int            # the number of its first line, counting from 0
     lines: List[str]
     indent: int           # more than 0 in a block `module _`
 
@@ -43,11 +43,11 @@ class Declaration(NamedTuple):
         return not TYPES.isdisjoint(self.marks)
 
     def is_lemma(self) -> bool:
-        """Whether it is a lemma: a statement, which is its type, and a proof."""
+        """Whether it is a lemma, which has a statement (its type) and a proof."""
         return set(self.marks) <= {"pub"}
 
     def head(self) -> List[str]:
-        """The lines of its name and its type."""
+        """The lines with its name and its type."""
         ends = (at for at, line in enumerate(self.lines) if at > 0 and line[self.indent] != " ")
         return self.lines[:next(ends, len(self.lines))]
 
@@ -73,7 +73,7 @@ class Declaration(NamedTuple):
 
 
 class Source:
-    """Lines of a file: its first comment, the names that it brings in, and what it declares."""
+    """A file or a part of one: its first comment, its `use` lines, and what it declares."""
 
     def __init__(self, lines: Iterable[str], path: Path) -> None:
         self.path = path
@@ -87,7 +87,7 @@ class Source:
 
     def read(self, lines: Iterable[str]) -> None:
         comment: List[str] = []
-        at_title, indent, opens = True, 0, False    # `opens`: a block's first line continues
+        at_title, indent, opens = True, 0, False    # `opens`: inside the head of a `module`
         for place, line in enumerate(lines):
             if line.strip():
                 indent = min(indent, len(line) - len(line.lstrip()))
@@ -121,7 +121,7 @@ class Source:
 
     @staticmethod
     def begins(line: str) -> bool:
-        """Whether a declaration begins in this line; a clause has neither a mark nor a type."""
+        """Whether a declaration begins on this line. A clause has neither a mark nor a type."""
         head = HEAD.match(line)
         return head is not None and bool(head["marks"] or re.match(" :( |$)", head["rest"] or ""))
 
@@ -131,13 +131,13 @@ def read(path: Path) -> Source:
     return Source(path.read_text().split("\n"), path)
 
 
-# What names mean. Each name that a text uses is declared in its file, or a line `use` brings it in,
-# or the text binds it itself.
+# What names mean. Each name in a text is declared in the text's file, brought in by a `use` line,
+# or bound by the text itself.
 
 
 class Thing(NamedTuple):
-    """A definition in a file; a type or a trait of the code below a crate's `src`; or, with the
-    name of a module as its place, what a library has."""
+    """A definition in a file; a type or a trait in the code below a crate's `src`; or something in
+    a library: then the place is the name of a module."""
 
     place: str
     name: str
@@ -156,8 +156,8 @@ Scope = Dict[str, Tuple[str, str]]
 
 
 def scope_of(uses: Iterable[str]) -> Scope:
-    """The words that lines `use` bring in, each with its module and its name there; a module itself
-    has no such name."""
+    """The words that `use` lines bring in, each with its module and its name there. The name is
+    empty if the word means the module itself."""
     scope: Scope = {}
     for line in uses:
         use = r"use (?:Rattle\.)?([\w.]+?)(?:\.\{ ?(.*?),? ?\})?(?: as ([\w-]+))?;?$"
@@ -174,7 +174,7 @@ def scope_of(uses: Iterable[str]) -> Scope:
 
 @functools.lru_cache(maxsize=None)
 def scope_at(path: Path) -> Scope:
-    """The scope of a file of definitions, or of the contracts of a file of code."""
+    """The scope of a file of definitions, or of the contracts in a file of code."""
     if path.suffix == ".antt":
         return scope_of(read(path).uses)
     lines = re.findall(r"^ *ghost (use [^;]*;)", path.read_text(), re.M)
@@ -182,8 +182,8 @@ def scope_at(path: Path) -> Scope:
 
 
 def meaning(word: str, member: str, path: Path) -> Set[Thing]:
-    """What a word means in a file, alone or with the word after its dot; nothing if the text itself
-    binds it."""
+    """What a word in a file means, together with the word after its dot, if any; the set is empty
+    if the text itself binds the word."""
     owners = read(path).owners if path.suffix == ".antt" else {}
     if word in owners:
         return {Thing(shown(path), owners[word].name)}
@@ -200,8 +200,8 @@ def meaning(word: str, member: str, path: Path) -> Set[Thing]:
 
 
 def things_in(text: str, path: Path) -> Set[Thing]:
-    """What the names in a text of a file mean; fields that get a value don't count as names, and
-    only libraries have operators."""
+    """What the names in a text from a file mean. Fields that are given a value don't count as
+    names, and all operators come from libraries."""
     text = re.sub(r'--.*|//.*|"(?:[^"\\]|\\.)*"', "", text)
     words = set(WORD.findall(re.sub(r"([{;]\s*)\w+ =", r"\1", text)))
     words |= {(word, "") for word in scope_at(path)
@@ -218,7 +218,7 @@ def uses(thing: Thing) -> Set[Thing]:
 
 
 def closure(roots: Iterable[Thing]) -> Dict[Thing, Thing]:
-    """These things and all that they reach, each with one that names it; a root names itself."""
+    """These things and all that they reach, each with one that names it, or itself for a root."""
     found = {thing: thing for thing in roots}
     todo = sorted(found)
     while todo:

@@ -3,12 +3,12 @@
 
     python3 gate/build.py RT
 
-rt allows one run at a time in a crate and the crates below it, and nearly all use lrup_model. So
-each library is proved in a lane: a folder with copies of its sources and of the libraries below,
-into which its out/ is moved meanwhile. Crates with the longest path to the program come first, by
-SECONDS, and others get less of the cores. A build that is interrupted leaves what it proved to the
-next one. At the end `rt run` proves and runs the program. It recognizes proved libraries by
-checksums, and proves any other again, so no proof depends on this script."""
+rt allows one run at a time in a crate and those below it, and nearly all crates use lrup_model. So
+each library is proved in a lane: a folder with copies of its sources and of the libraries below it;
+meanwhile the library's out/ is there, too. Crates with the longest path to the program, in SECONDS,
+come first, and the others get a smaller share of the cores. After an interruption, the next build
+keeps what was proved. At the end `rt run` proves and runs the program. It recognizes proved
+libraries by checksums, and proves all others again, so no proof depends on this script."""
 import fcntl
 import os
 import re
@@ -25,20 +25,20 @@ ROOT = Path(__file__).resolve().parent.parent
 CRATES = ROOT / "crates"
 PROGRAM = "lrupd"
 LOG = CRATES / PROGRAM / "out" / "build.log"
-# The lanes aren't next to the sources: rt ci would refuse copies that a killed build leaves there.
+# The lanes aren't next to the sources, where rt ci would refuse copies left by a killed build.
 LANES = (ROOT / ".git" if (ROOT / ".git").is_dir() else ROOT / "out") / "lanes"
 PARTS = ("src", "specs", "proofs")
 CORES = len(os.sched_getaffinity(0))
 JOBS = min(4, CORES)
-GB_EACH = 3.5  # with four jobs; at most 3.3 was seen
-SECONDS_EACH = 40  # of spare processor time, for a step of nice
+GB_EACH = 3.5  # of memory for a lane with four jobs; the most that was measured is 3.3
+SECONDS_EACH = 40  # of spare processor time for each step of nice
 
 TEXT = (ROOT / "crates.txt").read_text()
 LINES = {name: line for line, name in re.findall(r"^((\w+):.*)", TEXT, re.M)}
-# What each crate uses of the repository.
+# The repository's crates that each crate uses.
 USES = {name: [word for word in line.split() if word in LINES] for name, line in LINES.items()}
-# How many processor seconds a crate's proofs take from nothing, as `make building` measured them.
-# Time by the clock says less, since it also depends on what else runs.
+# How many processor seconds it takes to prove a crate from nothing, as measured by `make building`.
+# Elapsed time says less, since it also depends on what else runs.
 SECONDS = {name: int(seconds) for name, seconds in re.findall(
     r"^\| `(\w+)` \| [\d:]+ \| (\d+) \|$", (ROOT / "bench/building.md").read_text(), re.M)}
 
@@ -81,7 +81,7 @@ def link(one, other):
 
 
 def locked(folder):
-    """Waits until no rt works in the folder, and keeps others out until the returned file is
+    """Waits until no rt works in the folder, and keeps any other rt out until the returned file is
     closed."""
     held = os.open(folder, os.O_RDONLY)
     try:
@@ -103,7 +103,7 @@ class Lane:
         self.said = tempfile.TemporaryFile("w+", errors="replace")
 
     def start(self, *words):
-        self.go_home()  # with what a killed build left in the lane
+        self.go_home()  # takes back what a killed build left in the lane
         names = {self.name, *below(self.name)}
         for crate in names:
             to = self.top / "crates" / crate
@@ -128,7 +128,7 @@ class Lane:
         shutil.rmtree(self.top, ignore_errors=True)
 
     def has_ended(self):
-        """Whether the run has ended. Then `used` has its processor seconds."""
+        """Whether the run has ended. If so, `used` has its processor seconds."""
         if self.run.returncode is None:
             pid, status, usage = os.wait4(self.run.pid, os.WNOHANG)
             if pid:
@@ -152,12 +152,12 @@ class Lane:
 
 
 def left(done):
-    """The share of the seconds that is left, in percent."""
+    """The percentage of the SECONDS that is left."""
     return 100 * seconds(*ALL - done) // seconds(*ALL)
 
 
 def print_proved(done, name, began, used):
-    """Prints the line of a proved crate: its time by the clock, and its processor seconds."""
+    """Prints the line of a proved crate, with its elapsed time and its processor seconds."""
     took = int(time.monotonic() - began)
     rest = f"; {left(done)} % left" * bool(left(done))
     clock = f"{took // 60}:{took % 60:02}"
@@ -165,8 +165,8 @@ def print_proved(done, name, began, used):
 
 
 def prove_libraries(rt, done):
-    """Proves the libraries that aren't done. Returns the status, and the output of the one
-    that failed, if any."""
+    """Proves the libraries that aren't done. Returns the status, and the output of the library that
+    failed, if any."""
     todo = sorted(ALL - {PROGRAM} - done, key=way, reverse=True)
     if todo:
         print(f"{len(done)} of {len(ALL)} were proved before; {left(done)} % left", flush=True)

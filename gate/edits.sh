@@ -3,7 +3,7 @@
 #
 #     sh gate/edits.sh RT [CRATE]
 #
-# `rt must-fail` tries them in a copy of the crates that has them in place of the gate's edits.
+# `rt must-fail` tries them in a copy of the crates, where they replace the gate's edits.
 if [ $# -gt 2 ] || [ -z "$1" ] || [ ! -d "$(dirname "$0")/edits/$2" ]; then
     echo "usage: make edits [CRATE=name], with the name of a folder in gate/edits" >&2
     exit 2

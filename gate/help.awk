@@ -1,5 +1,5 @@
-# Prints what to run in the first hour, and then a Makefile's targets by purpose, from the lines
-# 'NAME: .. ## PURPOSE: WHAT IT DOES'.
+# Prints what to run in the first hour, and then a Makefile's targets, grouped by purpose, from its
+# lines 'NAME: .. ## PURPOSE: WHAT IT DOES'.
 BEGIN {
     count = split("try build use check measure", purposes, " ")
 }

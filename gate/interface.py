@@ -1,12 +1,12 @@
 #!/usr/bin/env python3
-"""Checks what pages say about the program's options, faults, causes, limits and defaults: it has to
-match the code and the definitions.
+"""Checks that pages agree with the code and the definitions about the program's options, faults,
+causes, limits and defaults.
 
     python3 gate/interface.py [--write]
 
-With --write it puts USING's faults into the manual page. A part of USING and of the manual page
-lrupd.1 that is compared as a whole begins and ends with a comment that names the part. Each page
-that FIGURES names for a figure has to have the figure.
+With --write it copies the faults in USING to the manual page lrupd.1. Each part of these two pages
+that is compared as a whole begins and ends with a comment that names the part. Each page that
+FIGURES lists for a figure has to give that figure.
 """
 import re
 import sys
@@ -24,12 +24,12 @@ HELP, MANUAL = f"{COMMAND}/help.rt", "docs/lrupd.1"
 USING, EMITTING, FORMAT = "docs/USING.md", "docs/EMITTING.md", "docs/FORMAT.md"
 SOLVE, EXACT, EXPLAIN = "docs/lrup-solve.1", "docs/lrup-exact.1", "docs/lrup-explain.1"
 READER, EXPLAINER, FRONT = "tools/exact", "tools/explain/main.c", "tools/solve/front/front.c"
-# The manual pages of tools, and the sources that read their options.
+# The manual pages of tools, and the sources that read the tools' options.
 READERS = {SOLVE: ["tools/solve/options.cpp", FRONT], EXACT: [f"{READER}/main.c"],
            EXPLAIN: [EXPLAINER], "docs/lrup-trim.1": ["tools/trim/main.c"]}
 NUMBER = r"(UINT64_C\(1\) << \d+|[\d_]+)"
-# What the figure is, as the table of limits calls it; the files that have it in place of the
-# question mark; and the pages that give it.
+# Each figure's name in the table of limits; the files that contain the figure, each with the text
+# around it, where `?` is the figure; and the pages that give it.
 FIGURES = [
     ("Variables of the formula", [f"{MODEL}/lit.rt MAX_VARIABLE: u32 = ?"], f"README.md {USING}"),
     ("Clauses of the formula", [f"{MODEL}/formula.rt MAX_CLAUSES: u32 = ?"], f"README.md {USING}"),
@@ -86,7 +86,7 @@ def items_in(what: str, head: str) -> Dict[str, str]:
 
 
 def texts_of(name: str, identity: str) -> Set[str]:
-    """The texts in a file's definitions `.._text`, with this letter for a number in decimal."""
+    """The texts in a file's definitions `.._text`; `identity` replaces each decimal number."""
     row = r'^\w+_text .* =\s+(codes "[^"]*"(?: \+\+ (?:codes "[^"]*"|decimal \w+))*)$'
     lines = [line for declared in antt.read(ROOT / name).declarations for line in declared.lines]
     found = re.sub(r"decimal \w+", identity, "\n".join(re.findall(row, "\n".join(lines), re.M)))
@@ -99,7 +99,7 @@ def words_in(text: str) -> List[str]:
 
 
 def of_manual(fault: str, meaning: str) -> str:
-    """A row of USING's table of faults as an item of the manual page."""
+    """Turns a row of USING's table of faults into an item of the manual page."""
     macros = {"--": ".Fl -", "H": ".Ar H"}
     words = re.sub(r" ?`(--|H)(\w*)`([;,]?) ?", lambda found: "\n" + " ".join(
         [macros[found[1]] + found[2], *found[3]]) + "\n", meaning)
@@ -117,12 +117,12 @@ def wrong_faults() -> Iterator[str]:
     if old != new and "--write" in sys.argv:
         (ROOT / MANUAL).write_text(text_of(MANUAL).replace(old, new))
     elif old != new:
-        yield f"{MANUAL}: its faults aren't those of {USING}: make quotes puts them there"
+        yield f"{MANUAL}: its faults differ from those in {USING}: make quotes copies them"
 
 
 def is_cause(span: str, text: str) -> bool:
-    """Whether the part in backticks is the text, its end after a colon, or, with two dots, its
-    beginning."""
+    """Whether the part in backticks is the text, the end of the text after a colon, or, if it ends
+    with two dots, its beginning."""
     is_start = span.endswith(" ..") and text.startswith(span[:-2])
     return is_start or f": {text}".endswith(f": {span}")
 
@@ -153,7 +153,7 @@ def wrong_options() -> Iterator[str]:
 
 def wrong_rows() -> Iterator[str]:
     """Options that a tool's code reads, but that its manual page, from which --help is made,
-    doesn't list; or the other way round."""
+    doesn't list; and listed options that the code doesn't read."""
     row = r'"([a-z][a-z-]*)", (?:\.value|\.flag|[01], |given\.|options\.)'
     for page, sources in READERS.items():
         items = " ".join(re.findall(r"^\.It Fl .*", text_of(page), re.M))

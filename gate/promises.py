@@ -1,16 +1,16 @@
 #!/usr/bin/env python3
-"""Lists what the functions of crates promise, and the edits that make them wrong.
+"""Lists what the functions of crates promise, and the edits that make these functions wrong.
 
     promises.py [CRATE..]
     promises.py --check     fails if docs/PROMISES.md gives a name that no contract has
 
-For each crate it prints the functions that have clauses, with the clauses' names, and how many have
-no name; the edits of the gate that change the function; and those of gate/edits, in brackets. A
-public function that no edit changes has 'no edit', unless it is a law, which has no body. An edit
-belongs to the function around its first old text.
+For each function with clauses it prints their names, and how many have no name; the gate's edits
+that change the function; and those of gate/edits, in brackets. A public function that no edit
+changes has 'no edit', unless it is a law, which has no body. An edit belongs to the function that
+contains its first old text.
 
-On docs/PROMISES.md each name in backticks under a crate has to be a function of the crate, a clause
-or a law. A lemma is none of these.
+On docs/PROMISES.md each name in backticks below a crate's name has to be one of the crate's
+functions, clauses or laws. A lemma is none of these.
 """
 import re
 import sys
@@ -22,13 +22,13 @@ import antt
 from antt import ROOT
 
 PAGE = ROOT / "docs" / "PROMISES.md"
-UNPROVED = "## Only tested"     # from here on the page speaks of tests
+UNPROVED = "## Only tested"     # from here on the page is about tests
 
 
 class Function(NamedTuple):
     name: str           # with its type or trait
     is_public: bool
-    first: int          # its lines, from 0 on
+    first: int          # its first and last line, counting from 0
     last: int
     clauses: List[str]  # '' for one without a name
 
@@ -76,7 +76,7 @@ def list_promises(crate: str) -> None:
 
 
 def names_of(crate: str) -> Set[str]:
-    """The crate's modules, functions and clauses; functions also with type, trait or module."""
+    """The crate's modules, clauses and functions; a function also with its type or module."""
     found: Set[str] = set()
     for path in sources(crate):
         for name, *_, clauses in functions(path):
@@ -85,8 +85,8 @@ def names_of(crate: str) -> Set[str]:
 
 
 def unknown_names() -> Iterator[str]:
-    """What the page gives as proved, but no contract has. Words with a capital are types, and those
-    with a hyphen options."""
+    """Names that the page gives as proved, but that no contract has. Words with a capital letter
+    are types, and words with a hyphen are options."""
     uses = antt.crates()
     libraries = {*uses, *(name for names in uses.values() for name in names)}
     known: Set[str] = set()

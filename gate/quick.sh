@@ -1,11 +1,11 @@
 #!/bin/sh
-# Checks a change of a crate, in two minutes at most if the rest was checked before:
+# Checks a changed crate, in two minutes at most if everything else was checked before:
 #
 #     sh gate/quick.sh RT CRATE SECONDS
 #
 # It formats the files, and names those that change; checks the proofs, and that edits can be
-# applied; runs the tests in CRATE_tests before they are proved, as many as SECONDS allow; and
-# checks the pages. If a step fails, it shows the step's output except lines on proved parts.
+# applied; runs the tests in CRATE_tests before they are proved, for SECONDS at most; and checks
+# the pages. If a step fails, it shows the step's output without the lines about proved parts.
 if [ $# -ne 3 ] || [ ! -d "$(dirname "$0")/../crates/${2%_tests}" ]; then
     echo "usage: make quick CRATE=name, with the name of a folder in crates/" >&2
     exit 2
@@ -33,7 +33,7 @@ with_texts() {
         }'
 }
 
-# show WHAT: prints the log without lines on proved parts, and exits.
+# show WHAT: prints the log without the lines about proved parts, and exits.
 show() {
     echo
     grep -v ': proved$\|^statements \|^library \|\.\.\. ok$' "$log" | with_texts
@@ -55,7 +55,7 @@ step() {
     ! grep '^rt: note: must-fail/' "$log" || { echo "$what: failed"; exit 1; }
 }
 
-# The crates that use this one, directly or indirectly, except those of tests.
+# The crates that use this one, directly or indirectly, except crates of tests.
 crates_above() {
     awk -F: -v crate="$crate" '
         { uses[$1] = $2 " " }

@@ -1,13 +1,13 @@
 #!/usr/bin/env python3
-"""Checks the pages of PAGES, which quote theorems and each definition that these reach.
+"""Checks the pages of PAGES, which quote theorems and each definition that theorems reach.
 
     quotes.py            names each place that is wrong, and says what to do
-    quotes.py --write    first replaces each definition that differs by the source's text
+    quotes.py --write    first puts the source's text in place of each definition that differs
 
-A block of ```agda or ```rust is a quote; the last link in the paragraph above it leads to its file.
-A definition is quoted once, whole and with its comment. In code `..` replaces what is left out. A
-section says that the contracts which it quotes 'reach N definitions', and a page that it 'quotes N
-definitions'. A page, or one before it in PAGES, explains in a list the names that libraries have.
+A block of ```agda or ```rust is a quote; the last link in the paragraph above leads to its source.
+A definition is quoted once, whole and with its comment. In code, `..` replaces what is left out. A
+section says that the contracts quoted there 'reach N definitions', and a page says that it 'quotes
+N definitions'. A page, or one before it in PAGES, has a list that explains names from libraries.
 """
 import re
 import sys
@@ -31,7 +31,7 @@ def file_of(link: str) -> Path:
 
 class Quote(NamedTuple):
     page: Path
-    first: int      # the number of its first line on the page, from 0 on
+    first: int      # the number of its first line on the page, counting from 0
     section: int    # the line of the heading above it
     file: Path
     lines: List[str]
@@ -44,7 +44,7 @@ class Quote(NamedTuple):
         return antt.Source(lines, self.page)
 
     def things(self) -> Set[Thing]:
-        """The things that it names, if it is code."""
+        """The things that the quote names, if it is code."""
         text = "\n".join(self.lines) if self.file.suffix == ".rt" else ""
         return antt.things_in(text, self.file) if text else set()
 
@@ -99,7 +99,7 @@ def of_code(lines: List[str]) -> List[str]:
 
 
 def wrong_code(quote: Quote) -> Iterator[str]:
-    """Lines that the file doesn't have in this order, and premises of functions that are left out.
+    """Lines that the file doesn't have in this order, and functions' premises that are left out.
     The lines that `..` replaces are indented at least as far as `..`, so the next line belongs to
     the same item."""
     source, at, indent = of_code(quote.file.read_text().split("\n")), 0, 0
@@ -161,7 +161,7 @@ def wrong_counts(page: Page) -> Iterator[str]:
 
 
 def wrong_text(page: Page) -> Iterator[str]:
-    """Links that don't lead to what they name, and quoted words that the link's target lacks."""
+    """Links that don't lead to what they name, and quoted words that their link's target lacks."""
     for number, text in page.paragraphs():
         for words, said, target in re.findall(rf"(?:`([^`]+)` in )?{LINK}", text):
             file, name = file_of(target) if target else page.path, re.sub(r"^\w+::|\..*", "", said)

@@ -2,10 +2,10 @@
 """Checks what neither the prover nor the compiler checks. The status is 1 if anything is wrong.
 With --words it shows how many words each page has.
 
-In the pages: names in backticks that nothing has, links that lead nowhere, quotations that TRUST
-and README don't have, pages that are too long, and misspelt words. In the sources: lines that are
-too wide, lemmas that are stated twice, names with two meanings, definitions in the wrong folder,
-and edits that don't fit. It also checks the picture of the crates and the version numbers.
+In the pages: unknown names in backticks, links that lead nowhere, quotations that are neither in
+TRUST nor in README, pages that are too long, and misspelt words. In the sources: lines that are too
+wide, lemmas that are stated twice, names with two meanings, definitions in the wrong folder, and
+edits that can't be applied. It also checks the picture of the crates and the version numbers.
 """
 import functools
 import os
@@ -21,8 +21,8 @@ sys.dont_write_bytecode = True
 import antt
 from antt import ROOT, shown
 
-# The maximum number of words of each page; code and links' targets don't count, nor parts that
-# gate/interface.py compares. `crates/NAME/` is the page of that crate's specs.
+# The maximum number of words of each page. Code, targets of links, and parts that gate/interface.py
+# compares don't count. `crates/NAME/` is the page on that crate's specs.
 MOST_WORDS = {shown(path): 670 for path in sorted(ROOT.glob("crates/*/specs/*.md"))}
 MOST_WORDS.update({shown(path): 140 for path in sorted(ROOT.glob("bench/*/README.md"))})
 MOST_WORDS.update((re.sub("/$", "/specs/README.md", name), int(most)) for name, most in (
@@ -50,7 +50,7 @@ SPELLINGS = ("anothers", "bu", "crate", "grat", "lits", "nd", "somes")
 
 @functools.lru_cache(maxsize=None)
 def files(pattern: str = r".*") -> List[Path]:
-    """The files of the repository whose names match, in order, except built ones."""
+    """The repository's files whose paths match, in order, without built ones."""
     found: List[Path] = []
     for folder, folders, names in os.walk(ROOT):
         folders[:] = [name for name in folders if name not in ("out", ".git", "__pycache__")]
@@ -72,7 +72,7 @@ def prose(path: Path) -> str:
 
 
 def words_of(name: str) -> int:
-    """Code in backticks is one word, and so is a macro's argument; titles don't count."""
+    """Counts words: one for code in backticks or for a macro's arguments, and none for titles."""
     if name.endswith(".1"):
         text = without(r'^\.\\" (\w+): gate/[\s\S]*?^\.\\" end of \1$', (ROOT / name).read_text())
         text = without(r"^\.Bd[\s\S]*?^\.Ed$", text)
@@ -95,7 +95,7 @@ def long_pages() -> Iterator[str]:
 
 @functools.lru_cache(maxsize=None)
 def anchors(path: Path) -> Set[str]:
-    """The anchors that GitHub gives to headings; of equal headings the later ones get a number."""
+    """The anchors that GitHub gives to headings. A repeated heading gets a number."""
     titles = re.findall(r"^#+ (.*)$", prose(path).lower(), re.M)
     slugs = [re.sub(r"[^\w\- ]", "", title).replace(" ", "-") for title in titles]
     counts = [slugs[:at].count(slug) for at, slug in enumerate(slugs)]
@@ -112,7 +112,7 @@ def dead_links() -> Iterator[str]:
 
 
 def false_quotations() -> Iterator[str]:
-    """Sentences that these pages quote, but TRUST and README don't have."""
+    """Sentences that these pages quote, but that are neither in TRUST nor in README."""
     pages = (ROOT / "README.md").read_text(), (ROOT / "docs/TRUST.md").read_text()
     sources = " ".join(" ".join(pages).lower().split())
     for path in files(r"docs/(AUDIT|THEOREMS|PROOFS_AND_ROUNDS)\.md"):
@@ -125,7 +125,7 @@ def false_quotations() -> Iterator[str]:
 
 @functools.lru_cache(maxsize=None)
 def known_names() -> Set[str]:
-    """The words of code, definitions and scripts, and of file names."""
+    """All words in code, definitions, scripts and file names."""
     names = FOREIGN.union(re.findall(r"[^\W\d][\w-]*", "\n".join(map(shown, files()))))
     endings = r".*(\.(rt|antt|c|cpp|h|py|sh|awk|in|toml|txt|v|1)|/[^.]*|Makefile)"
     for path in files(rf"(?!gate/style){endings}"):
@@ -137,8 +137,8 @@ def known_names() -> Set[str]:
 
 
 def unknown_names() -> Iterator[str]:
-    """In a span of several words, only options and words with an underscore, an inner capital, `::`
-    or a slash count."""
+    """Unknown names in backticks. In a span of several words, only options and words with an
+    underscore, an inner capital, `::` or a slash count."""
     targets = re.findall(r"^([a-z-]+):", (ROOT / "Makefile").read_text(), re.M)
     for path in files(r".*\.md"):
         text = prose(path)
@@ -160,8 +160,8 @@ def unknown_names() -> Iterator[str]:
 
 
 def misspelt() -> Iterator[str]:
-    """What codespell finds in pages, code and comments. Without codespell nothing is checked, which
-    fails in CI."""
+    """What codespell finds in pages, code and comments. Without codespell nothing is checked, and
+    that is an error in CI."""
     if shutil.which("codespell"):
         names = map(str, files(r".*\.(md|1|rt|antt|py|sh|awk|c|cpp|h)|Makefile|tools/[^.]*"))
         words = ["codespell", "-q", "3", "-L", ",".join(SPELLINGS), *names]
@@ -179,8 +179,8 @@ def crate_of(path: Path) -> str:
 
 
 def wide_lines() -> Iterator[str]:
-    """Lines of Python, clauses, definitions and statements of lemmas beyond 100 columns, and lines
-    of proofs beyond 140."""
+    """Lines of Python, clauses, definitions and lemmas' statements that are over 100 columns wide,
+    and lines of proofs over 140."""
     for path in files(r".*\.py|crates/\w+/(src/.*\.rt|(specs|proofs)/.*\.antt)"):
         lines = path.read_text().splitlines()
         if path.suffix == ".py" or "/proofs/" in shown(path):
@@ -209,8 +209,8 @@ def all_below(crate: str) -> Set[str]:
 
 
 def normal(statement: str) -> Optional[str]:
-    """A lemma's statement with numbers for the names that it binds; None for a function, whose type
-    says nothing about its arguments."""
+    """A lemma's statement, numbers replacing the names that it binds; None for a function, whose
+    type says nothing about its arguments."""
     found = re.findall(r"[({]([^(){}:]+) :|λ ([^\s.]+)\.", statement)
     bound = " ".join(names + single for names, single in found).split()
     words = r"[^\s(){}\[\],;.]+"
@@ -221,7 +221,7 @@ def normal(statement: str) -> Optional[str]:
 
 
 def repeated() -> Iterator[str]:
-    """Lemmas that are stated twice, in one crate or in two crates with a common one below; and
+    """Lemmas that are stated twice, in one crate or in two that have a crate below in common; and
     names with two meanings."""
     lemmas, meanings = defaultdict(list), defaultdict(dict)
     for path in files(r"crates/\w+/(specs|proofs)/.*\.antt"):
@@ -244,8 +244,8 @@ def repeated() -> Iterator[str]:
 
 
 def misplaced() -> Iterator[str]:
-    """specs/ itself has definitions for contracts of public functions, internal/ those for private
-    ones, and lemmas/ has lemmas."""
+    """What is in the wrong folder: specs/ has definitions for contracts of public functions,
+    specs/internal/ those for private functions, and specs/lemmas/ the lemmas."""
     for path in files(r"crates/\w+/(specs|src)/.*\.(antt|rt)"):
         page, folder = shown(path), path.relative_to(ROOT).parts[3]
         own = "." if folder.endswith(".antt") else crate_of(path).removesuffix("_tests") + "."
@@ -258,7 +258,7 @@ def misplaced() -> Iterator[str]:
 
 
 def misfits() -> Iterator[str]:
-    """Edits that can't be applied: rt tries those of the gate, but only after the proofs."""
+    """Edits that can't be applied. rt finds those of the gate, too, but only after the proofs."""
     for edit in files(r"gate/edits/.*|crates/\w+/must-fail/.*"):
         is_gates = edit.parent.name == "must-fail"
         crate = edit.parent.parent if is_gates else ROOT / "crates" / edit.parent.name
@@ -280,7 +280,7 @@ def misfits() -> Iterator[str]:
 
 def wrong_arrows() -> Iterator[str]:
     """The picture in ARCHITECTURE has an arrow from each crate, except those for tests, to each
-    crate that it uses directly and through no other."""
+    crate that it uses directly and not through another."""
     below = {crate: all_below(crate) - {crate} for crate in antt.crates()
              if not crate.endswith(("_tests", "_support"))}
     wanted = {(crate, name) for crate, names in below.items() for name in names

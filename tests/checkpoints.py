@@ -14,8 +14,8 @@ MOST_CLAUSES = 16_777_215  # of a formula
 
 
 def printed(variables: int, entries: Iterable[Entry]) -> str:
-    """A formula of these clauses. A comment before a clause has its identity, unless the identity
-    is its number in the formula."""
+    """A formula with these clauses. A comment before a clause gives the clause's identity, unless
+    that is the clause's number in the formula."""
     lines = []
     for place, (identity, literals) in enumerate(entries, 1):
         note = f"c id {identity}\n" if identity != place else ""

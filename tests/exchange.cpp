@@ -1,5 +1,5 @@
-// Tests which clauses lrup-engines-mpi sends, and places in another process, without MPI or
-// engines. Failures are shown, and give status 1.
+// Tests, without MPI or engines, which clauses lrup-engines-mpi sends, and which ones it places in
+// another process. A failure is shown, and the status is then 1.
 #include <cstdio>
 #include <memory>
 
@@ -53,7 +53,7 @@ struct Process {
     }
 };
 
-// The round, and how many clauses have how many literals, in order.
+// The message's round, and for each length the number of clauses, such as `2: 7 of 2`.
 std::string text_of(Message message) {
     uint64_t round = 0;
     struct { uint32_t engine, identity, length; } sent;
@@ -78,7 +78,8 @@ Message collected(Process &process, const std::string &wanted) {
     return message;
 }
 
-// The totals of clauses that were placed, were dropped, and may be read by others.
+// Places the clauses of a message, and compares three totals: clauses that were placed, that were
+// dropped, and that others may read.
 void place(Process &process, Message message, const std::string &wanted) {
     process.exchange.place(message);
     const Traffic &all = process.exchange.traffic;
@@ -98,7 +99,7 @@ int main() {
     Process one(0, 2), other(THIRD, 1);
     for (int engine : { 1, 2 })
         one.give(engine, 4, 500), one.give(engine, 1, 5), one.give(engine, 3, 10);
-    collected(one, "1:");                           // their lines aren't sent yet
+    collected(one, "1:");                           // the clauses' lines aren't sent yet
     one.clear();
     // 2998 literals; the budget is 1500 for each engine
     Message first = collected(one, "1: 10 of 1 20 of 3 732 of 4");
@@ -113,7 +114,7 @@ int main() {
     STORE(one.shared->saved_round, 1);
     one.give(1, 2, 6);
     one.clear();
-    collected(one, "1:");  // their identities may be those of the next round
+    collected(one, "1:");  // their identities may belong to the next round
     one.give(1, 2, 6);
     one.clear();
     STORE(one.shared->round, 2);

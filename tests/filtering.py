@@ -23,8 +23,8 @@ def is_refuting(path: object) -> bool:
 
 
 def check(program: str, formula: Path, streams: Sequence[Tuple[object, int]]) -> None:
-    """Each stream has the expected number of additions, or fewer if it ends with the empty clause;
-    the formula is refuted."""
+    """Checks that the formula is refuted, and that each stream has the expected number of
+    additions, or fewer if it ends with the empty clause."""
     done = run([program, "--tries", "1000000", formula, *(path for path, _ in streams)])
     *lines, verdict = done.out.splitlines() or [""]
     want((len(lines), verdict, done.status), (len(streams), "s UNSATISFIABLE", 0),

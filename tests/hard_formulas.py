@@ -10,8 +10,8 @@ Bits = List[int]
 
 def parity(numbers: random.Random, vertices: int, is_odd: bool) -> str:
     """A variable for each edge of a graph whose vertices have three edges each. The sum of a
-    vertex's edges has to be even, but odd at the first vertex if `is_odd`. Then no assignment gives
-    these sums, since each edge counts twice."""
+    vertex's edges has to be even, but if `is_odd`, that of the first vertex's edges has to be odd.
+    No assignment can give such sums, since each edge counts twice."""
     ends = [vertex for vertex in range(vertices) for _ in range(3)]
     pairs = list(zip(ends[::2], ends[1::2]))
     while any(one == other for one, other in pairs):
@@ -25,7 +25,7 @@ def parity(numbers: random.Random, vertices: int, is_odd: bool) -> str:
 
 
 def table(holds: Callable[..., bool], variables: Sequence[int]) -> List[List[int]]:
-    """A clause for each row of the truth table in which the function is false."""
+    """A clause for each row that is false in the function's truth table."""
     rows = [[number >> place & 1 for place in range(len(variables))]
             for number in range(1 << len(variables))]
     return [[-variable if bit else variable for variable, bit in zip(variables, row)]
@@ -47,8 +47,8 @@ class Circuit:
         return out
 
     def product(self, one: Bits, other: Bits, from_the_end: bool) -> Bits:
-        """Adds column by column, by adders of three bits or two; the caller chooses from which end
-        bits are taken."""
+        """Multiplies by adding the bits of each column, three or two at a time; the caller chooses
+        from which end of a column they are taken."""
         columns: List[Bits] = [[] for _ in range(len(one) + len(other))]
         for place, wire in enumerate(one):
             for more, second in enumerate(other):
@@ -65,8 +65,8 @@ class Circuit:
 
 
 def miter(bits: int, numbers: random.Random, is_faulty: bool) -> str:
-    """Says that two multipliers differ. If `is_faulty`, one output of the second is replaced by the
-    output before it."""
+    """A formula that says that two multipliers differ. If `is_faulty`, one output of the second is
+    replaced by the output before it."""
     circuit = Circuit()
     one, other = circuit.inputs(bits), circuit.inputs(bits)
     first, second = circuit.product(one, other, False), circuit.product(other, one, True)

@@ -49,8 +49,9 @@ COMPRESSED = {"zcat": b"\x1f\x8b\x08\0", "xzcat": b"\xfd7zXZ\0", "bzcat": b"BZh9
               "zstdcat": b"\x28\xb5\x2f\xfd"}
 VERDICTS = {0: "s UNSATISFIABLE", 3: "s UNKNOWN", 8: "s UNSATISFIABLE UNDER ASSUMPTIONS"}
 
-# Shells start background processes with the first two of these signals ignored, and nohup with the
-# third; then programs under test would ignore them, too. Handlers aren't inherited.
+# A shell starts background processes with the first two of these signals ignored, and nohup starts
+# a program with the third one ignored. Programs under test would inherit that, but they don't
+# inherit handlers.
 signal.signal(signal.SIGINT, signal.default_int_handler)
 signal.signal(signal.SIGQUIT, signal.SIG_DFL)
 if signal.getsignal(signal.SIGHUP) == signal.SIG_IGN:
@@ -132,7 +133,7 @@ def run_by_another(program: str, words: Words, work: Path) -> Ran:
 
 
 def within(limit: Optional[int]) -> None:
-    """Limits the size of files that a starting program may write."""
+    """Limits the size of files that the program about to start may write."""
     if limit is not None:
         signal.signal(signal.SIGXFSZ, signal.SIG_IGN)
         resource.setrlimit(resource.RLIMIT_FSIZE, (limit, limit))
@@ -230,7 +231,7 @@ def dimacs(variables: int, clauses: Sequence[Sequence[int]]) -> str:
 
 def random_clauses(numbers: random.Random, variables: int, count: int,
                    lengths: Sequence[int] = (3,)) -> List[List[int]]:
-    """Clauses over that many variables, with lengths drawn from these."""
+    """Random clauses over that many variables, each with one of these lengths."""
     clauses = []
     for _ in range(count):
         chosen = numbers.sample(range(1, variables + 1), min(variables, numbers.choice(lengths)))
@@ -247,7 +248,7 @@ def compiler(*flags: str) -> List[str]:
 
 
 def compiled(program: Path, sources: Sequence[Path], *flags: str, by: Sequence[str] = ()) -> Path:
-    """Replaces the program atomically, since it may be running."""
+    """Compiles a program, and replaces it atomically, since it may be running."""
     new = program.with_name(f"{program.name}-{os.getpid()}")
     subprocess.run([*(by or compiler()), "-o", str(new), *map(str, sources), *flags], check=True)
     new.replace(program)
@@ -277,8 +278,9 @@ SANITIZING = {"ASAN_OPTIONS": "exitcode=99", "UBSAN_OPTIONS": "exitcode=99:print
 
 @functools.lru_cache(maxsize=None)
 def sanitizer() -> List[str]:
-    """A compiler that has the sanitizers: clang if it is installed, since it finds more, such as an
-    offset to a null pointer. An empty list if there is none, but never in CI, which has clang."""
+    """The command of a compiler that has the sanitizers, or an empty list: clang if it is
+    installed, since it finds more, such as an offset to a null pointer; otherwise $CC or cc, but in
+    CI no other one is tried."""
     with tempfile.TemporaryDirectory() as work:
         source, one = (written("int main(void) { return 0; }\n", Path(work), "one.c"),
                        Path(work) / "one")
@@ -290,8 +292,8 @@ def sanitizer() -> List[str]:
 
 
 def for_tests(program: Path, sources: Iterable[Path], *flags: str) -> Path:
-    """A build that checks its invariants, and reports undefined behaviour if the compiler can. It
-    is built if it is out of date, or was built by another command."""
+    """A build that checks its invariants, and reports undefined behaviour if the compiler supports
+    that. It is made if it is out of date, or was made by another command."""
     sources, helps = sorted(sources), ROOT / "out" / "objects"
     words = ["-DCHECKED", "-I", str(helps), *flags]
     words += SANITIZE if sanitizer() else ["-std=c11", "-O1"]
@@ -332,13 +334,13 @@ def sanitized_explain() -> Path:
 
 
 def report(said: Sequence[str], status: int) -> str:
-    """A report with these lines of streams, and the verdict for this status."""
+    """A report that says this about the streams, with the verdict for this status."""
     return ("".join(f"c stream {number}: {words}\n" for number, words in enumerate(said, 1))
             + VERDICTS[status] + "\n")
 
 
 def watched_ends(err: str) -> List[str]:
-    """The lines of --watch on each stream that ended, in all rounds."""
+    """What --watch printed at the end of each stream, in all rounds."""
     return re.findall(r"^lrupd: stream \d+: (\d+ added, \d+ deleted, .*)$", err, re.M)
 
 
@@ -350,7 +352,7 @@ def unwatched(err: str) -> str:
 
 
 def added(said: Iterable[str]) -> int:
-    """The sum of the additions in these lines of streams."""
+    """The total number of additions, from texts such as `3 added, 1 deleted, ended`."""
     return sum(int(words.split(" added, ")[0]) for words in said)
 
 
@@ -408,7 +410,7 @@ def parametrized(rows: Iterable[Row]) -> Callable[[Row, Path], None]:
     return test
 
 
-# A mark of rows that run again if they take too long beside others.
+# A mark for rows that are run again if they time out, since other rows may slow them down.
 AGAIN_IF_LATE = pytest.mark.flaky(
     reruns=1, condition="getattr(sys, 'last_type', type).__name__ == 'TimeoutExpired'")
 
@@ -423,6 +425,6 @@ def lacking(why: str) -> NoReturn:
 
 
 def needs(command: str) -> None:
-    """Skips the row if this program of a package is missing."""
+    """Skips the row if this command isn't installed."""
     if not shutil.which(command):
         lacking(f"there is no {command} on the PATH")

@@ -120,8 +120,9 @@ def program(body: str, work: Path) -> Path:
 
 def run_with(body: str, words: Sequence[object], text: str, work: Path, lrupd: object = PROGRAM,
              front: object = SOLVE, may_leave: bool = False, **how: Any) -> Answer:
-    """A run, which must leave nothing in its own temporary folder, and no process. If it may leave
-    processes, they are ended here. Each output line has to be an answer, a value or a comment."""
+    """A run. It must leave nothing in its own temporary folder, and no process, or with `may_leave`
+    only processes that are ended here. Each output line has to be an answer, a value or a
+    comment."""
     formula, files, mark = written(text, work), work / "temporary", marked(work)
     files.mkdir()
     word = "-" if "given" in how else formula

@@ -14,8 +14,8 @@ GRAMMAR = re.compile(f"{NUMBER}( -?{NUMBER})* 0( {NUMBER})* 0\n|{NUMBER} d( {NUM
 
 
 def lrat_fault(formula: List[List[int]], proof: str) -> str:
-    """The fault in the first wrong line; empty if all lines are right, and one derives the empty
-    clause."""
+    """The fault in the first wrong line; empty if all lines are right and one of them derives the
+    empty clause."""
     clauses, last, is_refuted = dict(enumerate(formula, 1)), len(formula), False
     for number, line in enumerate(proof.splitlines(True), 1):
         if not GRAMMAR.fullmatch(line):

@@ -77,7 +77,7 @@ def flipped(pattern: str) -> Change:
 
 
 def filled(pattern: str) -> Change:
-    """Puts bad lines at the beginning of a file, more than a pipe holds."""
+    """Puts bad lines at the beginning of a file, more of them than fit into a pipe."""
     def change(kept: Path, numbers: random.Random) -> str:
         path = any_of(kept, numbers, pattern)
         path.write_bytes(b"x\n" * (1 << 20) + path.read_bytes())
@@ -151,7 +151,7 @@ CHANGES: Dict[str, Change] = {
 
 
 def want_no_other(answer: Answer, status: int, formula: Path, kept: Path, names: str) -> None:
-    """There is the right answer; or there is none, and a message names one of these files."""
+    """Checks that the answer is right, or missing while a message names one of these files."""
     if answer.status == status:
         answer.said = ""
         return want_answer(answer, status, formula)
@@ -163,7 +163,7 @@ def want_no_other(answer: Answer, status: int, formula: Path, kept: Path, names:
 
 
 def with_digests(kept: Path) -> None:
-    """Writes the list with the digests of the files as they are now."""
+    """Writes the list again, with the digests that the files have now."""
     lines = (kept / "rounds.sha256").read_text().splitlines()
     names = [line[66:] for line in lines if (kept / line[66:]).exists()]
     (kept / "rounds.sha256").write_text("".join(

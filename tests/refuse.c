@@ -4,10 +4,10 @@
      allocate:N     malloc, calloc, realloc and the like return NULL
      thread:N       pthread_create returns EAGAIN. Each started thread begins LATE milliseconds
                     later, so a program that doesn't wait for it continues before that. At the next
-                    write MARK gets three numbers: how many threads were started, how many of them
+                    write, MARK gets three numbers: how many threads were started, how many of them
                     had begun, and how many ended within ten seconds
-     read:N:HOW     read; HOW is EIO, EINTR, or short or half: one byte, or half of those asked for
-     write:N:HOW    write; HOW is EIO, ENOSPC, EPIPE, or short or half
+     read:N:HOW     read; HOW is EIO, EINTR, `short` (one byte) or `half` (of the bytes asked for)
+     write:N:HOW    write; HOW is EIO, ENOSPC, EPIPE, `short` or `half`
      open:N:HOW     an open without O_CREAT; HOW is EACCES, EMFILE, ENOENT or ELOOP
      create:N:HOW   an open with O_EXCL; HOW is EACCES, EMFILE or ENOSPC
      hold:N:HOW     an open of /dev/null before any other file is opened; HOW is EMFILE

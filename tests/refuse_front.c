@@ -1,7 +1,7 @@
-// Refuses one call of lrup-solve's front or supervisor. The linker puts these functions before the
-// library's: --wrap=NAME for each NAME of the table. In the environment REFUSE is NAME:K:HOW. The
-// K-th call of NAME fails, counted over the front and its children; HOW is the number of an error,
-// or `short`: one byte is read or written. Then the file MARK is created.
+// Refuses one call of lrup-solve's front or supervisor. The linker calls these functions in
+// place of the library's: --wrap=NAME for each NAME of the table. In the environment, REFUSE is
+// NAME:K:HOW. Of all calls of NAME in the front and its children, the K-th one fails, and the file
+// MARK is created. HOW is the number of an error, or `short`: one byte is read or written.
 // A tool for tests, not part of the program.
 #define _GNU_SOURCE
 #include <errno.h>
@@ -13,12 +13,12 @@
 #include <string.h>
 #include <sys/mman.h>
 
-// Each argument and result is an integer or a pointer, and fits one register on Linux.
+// Each argument and result is an integer or a pointer, and fits into one register on Linux.
 #define SIX(type) type a, type b, type c, type d, type e, type f
 #define GIVEN a, b, c, d, e, f
 #define REAL(name) __real_##name(GIVEN)
 
-// What a failing call returns, besides the error. If the library lacks a function, its __real_
+// What a failing call returns; it also sets errno. If the library lacks a function, its __real_
 // function has no address, and isn't called.
 #define TABLE(CALL) \
     CALL(access, -1) CALL(calloc, 0) CALL(close, (REAL(close), -1)) CALL(dprintf, -1) \
@@ -37,9 +37,9 @@
     long __wrap_##name(SIX(long));
 TABLE(DECLARE)
 
-static atomic_long *calls;      // of the function; shared with children
+static atomic_long *calls;      // the number of calls so far; shared with children
 static const char *refused, *mark;
-static long number, error;      // 0: short
+static long number, error;      // error 0: short
 
 __attribute__((constructor)) static void begin(void) {
     char *words = getenv("REFUSE"), *rest = words ? strdup(words) : NULL;
@@ -60,7 +60,7 @@ static bool is_refused(const char *name) {
     return true;
 }
 
-// From now on writes fail as on a full device.
+// From now on, writes to standard output fail as on a full device.
 static long full(void) {
     int device = (int)__real_open((long)"/dev/full", O_WRONLY | O_CLOEXEC, 0, 0, 0, 0);
     __real_dup2(device, 1, 0, 0, 0, 0);

@@ -15,7 +15,7 @@ Saved = Union[None, str, Tuple[Optional[str], ...]]
 
 
 class Answer(NamedTuple):
-    """The two outputs, the status, and the text of the checkpoint, if one was created; in rounds
+    """The two outputs, the status, and the text of the checkpoint, if one was created; in rounds,
     the texts of all checkpoints."""
     out: str
     err: str
@@ -42,7 +42,7 @@ HELD = 3  # opens of /dev/null, for closed standard streams
 # minute.
 SECONDS = 20
 HANGS = 300  # seconds after which a run counts as hanging
-LATE = 50  # milliseconds that threads take to begin, if one isn't started
+LATE = 50  # milliseconds before a thread begins, in runs where another one isn't started
 
 
 class Input:
@@ -200,9 +200,9 @@ def unmixed(err: str, watched: Set[str], how: str) -> str:
 
 
 def without_watched_ends(answer: Answer, refuse: str, mixes: bool) -> Answer:
-    """Removes the lines of --watch on how each stream ended. If they don't agree with the report,
-    the answer has no status. A truncated report may say less, and so may these lines if a write
-    fails. Lines of several threads may mix only if a write is short."""
+    """Removes the lines of --watch about how each stream ended. If they don't agree with the
+    report, the answer has no status. A truncated report may say less, and so may these lines if a
+    write fails. Lines of several threads may mix only if a write is short."""
     kind, _, how = (refuse.split(":") + ["", ""])[:3]
     is_short, fails = kind == "write" and how in SHORT, kind == "write" and how not in SHORT
     reported = {re.sub("^c", "lrupd:", line) for line in answer.out.splitlines(keepends=True)
@@ -217,7 +217,7 @@ def without_watched_ends(answer: Answer, refuse: str, mixes: bool) -> Answer:
 
 
 def without_lines(answer: Answer) -> Answer:
-    """Removes the lines of --watch on streams and rounds; an incomplete line stays."""
+    """Removes the lines of --watch about streams and rounds, but not an incomplete line."""
     lines = r"^lrupd: (stream \d+: .*|round \d+: \d+ clauses, \d+ literals, paused for \d+ ms)\n"
     return answer._replace(err=re.sub(lines, "", answer.err, flags=re.M))
 
@@ -237,7 +237,7 @@ def is_unsaved(answer: Answer, ample: Answer, cause: str) -> bool:
 
 
 def openings(given: Input) -> List[Answer]:
-    """The answers for each refused open, in order."""
+    """The answer for each open that may be refused, in order."""
     streams = [stopped(5, f"cannot open stream {number}") for number in range(1, given.streams + 1)]
     return [NO_FORMULA, *[NO_ASSUMPTIONS] * given.assumes, *streams]
 
@@ -286,8 +286,8 @@ def is_refused_allocation(answer: Answer, ample: Answer, given: Input) -> bool:
 
 
 def is_failed_read(answer: Answer, given: Input, machine: Machine) -> bool:
-    """Whether the formula or the assumptions weren't read; or one stream failed, and the other
-    streams' results are as if its rest were missing."""
+    """Whether the formula or the assumptions weren't read; or whether one stream failed, and the
+    other streams' results are as if the rest of it were missing."""
     if answer == NO_FORMULA or answer == NO_ASSUMPTIONS and given.assumes:
         return True
     failed = re.findall(r"^c stream (\d+): .*, read failed at line (\d+)$", answer.out, re.M)
@@ -296,8 +296,8 @@ def is_failed_read(answer: Answer, given: Input, machine: Machine) -> bool:
 
 
 def is_failed_write(answer: Answer, ample: Answer) -> bool:
-    """Whether a write to the checkpoint, standard output or standard error failed; a failing
-    standard error changes no status."""
+    """Whether a write to the checkpoint, standard output or standard error failed. On standard
+    error that doesn't change the status."""
     return (is_cut(answer, ample)
             or is_unsaved(answer, ample, NOT_WRITTEN) and answer.saved != ample.saved
             or (answer == ample._replace(err=answer.err) and ample.err.startswith(answer.err)))
@@ -313,8 +313,8 @@ def may_be_ample(kind: str, how: str, ample: Answer, given: Input) -> bool:
 
 
 def are_due(kind: str, ample: Answer, given: Input) -> bool:
-    """Whether the run must make calls of this kind. Each run that gets to the formula reads, and
-    each run that reports something writes."""
+    """Whether the run must make calls of this kind. A run that opens the formula has to read, and a
+    run that reports something has to write."""
     return (kind in ["allocate", "write"] or kind == "read" and given.streams > 0
             and ample != NO_ASSUMPTIONS)
 
@@ -374,7 +374,7 @@ def in_turn(kind: str, how: str, given: InRounds) -> List[Answer]:
     found = [given.stopped(1, "cannot read formula", 5)]
     for number in range(1, given.reached + 1):
         if number > 1:
-            # Without a file of sizes those of the round before apply, which are the same.
+            # Without a file of sizes, the sizes of the round before apply, which are the same.
             found.append(given.ended(given.count) if how == "ENOENT"
                          else given.stopped(number, "cannot read sizes", 5))
         found += [failed_opening(number, stream, how, given) for stream in streams
@@ -383,8 +383,8 @@ def in_turn(kind: str, how: str, given: InRounds) -> List[Answer]:
 
 
 def threads_of_round(number: int, given: InRounds) -> Iterator[Answer]:
-    """The answers for each thread of a round that isn't started. With --watch, first come the
-    threads that watch openings, of the formula or of sizes, and of streams: without them the run
+    """For each thread of a round, the answers if it isn't started. With --watch, the first threads
+    are those that watch openings, of the formula or of sizes, and of streams: without them the run
     ends as usual. Then come the threads of the streams."""
     streams = range(1, given.streams + 1) if number <= given.count else []
     if "--watch" in given.words:
@@ -415,8 +415,8 @@ def without_memory(given: InRounds) -> Iterator[Answer]:
 
 
 def is_failed_stream(answer: Answer, cause: str, given: InRounds, machine: Machine) -> bool:
-    """Whether one stream ended with this cause in a line: answer and checkpoint are those of a run
-    of only this round, with the stream up to that line; and no round follows."""
+    """Whether one stream ended with this cause at a line, and no round follows. Then answer and
+    checkpoint have to be those of a run of this round only, in which the stream ends there."""
     failed = re.findall(rf"^c stream (\d+): .*, {cause} at line (\d+)$", answer.out, re.M)
     number = int((re.findall(r"^c round (\d+)$", answer.out, re.M) or [1])[0])
     if len(failed) != 1 or number > given.count:

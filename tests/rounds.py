@@ -1,16 +1,16 @@
-"""Two proofs in three rounds over the four clauses, with one stream and with two, and lrupd's
-reports and checkpoints, all by hand. Also rows of runs with --rounds."""
+"""Two proofs in three rounds over the four clauses, one of one stream and one of two, and lrupd's
+reports and checkpoints, all written by hand. Also rows of runs with --rounds."""
 from typing import Dict, Iterator, List, Mapping, NamedTuple, Optional, Sequence, Tuple
 
 from harness import FOUR, Pieces, Wanted, report
 
-Texts = Sequence[Sequence[str]]  # for each round the texts of its streams
+Texts = Sequence[Sequence[str]]  # for each round, the texts of its streams
 Named = Tuple[str, Wanted]
 
 
 class Proof(NamedTuple):
-    """For each round the streams, their lines in the report, and the next round's checkpoint. Round
-    3 derives the empty clause."""
+    """For each round, the streams, their lines in the report, and the next round's checkpoint.
+    Round 3 derives the empty clause."""
     texts: List[List[str]]
     said: List[List[str]]
     saved: List[str]
@@ -22,7 +22,7 @@ ONE = Proof([["5 2 0 1 2 0\n5 d 1 0\n"], ["5 1 0 4 2 0\n5 d 1 0\n"], ["5 0 3 4 2
             [["1 added, 1 deleted, ended"], ["1 added, 1 deleted, ended"],
              ["1 added, 0 deleted, ended"]],
             [SAVED, "p cnf 2 4\nc id 2\n1 -2 0\nc id 3\n-1 -2 0\nc id 4\n2 0\nc id 5\n1 0\n", ""])
-# Round 1 keeps clause 4, which only one stream drops; in round 3 stream 2 cites stream 1's clause.
+# Round 1 keeps clause 4, which only one stream drops; in round 3, stream 2 cites stream 1's clause.
 TWO = Proof([["5 2 0 1 2 0\n5 d 1 0\n", "6 d 4 1 0\n"], ["5 d 1 0\n", "6 1 0 4 2 0\n6 d 1 0\n"],
              ["5 -1 0 3 2 0\n", "6 0 5 4 0\n"]],
             [["1 added, 1 deleted, ended", "0 added, 2 deleted, ended"],

@@ -63,7 +63,7 @@ def hooks(tested: Mapping[str, object]) -> str:
 
 def in_environment(tested: Optional[Mapping[str, object]] = None,
                    more: Optional[Mapping[str, str]] = None) -> Dict[str, str]:
-    """The environment of lrup-solve; in a build for tests all engines start at once."""
+    """The environment of lrup-solve. In a build for tests, all engines start at once."""
     given = {} if tested is None else {"LRUP_SOLVE_HOOKS": hooks({"AT_ONCE": 1, **tested})}
     return {**os.environ, **(more or {}), **given}
 
@@ -75,8 +75,8 @@ def solve(words: Sequence[object], tested: Optional[Mapping[str, object]] = None
 
 def want_answer(answer: Answer, status: Optional[int], formula: Optional[Path] = None,
                 verdict: Optional[str] = None) -> None:
-    """Checks the status and its line and, for a satisfiable formula, that the assignment makes each
-    clause true."""
+    """Checks the status and the answer's line and, for a satisfiable formula, that the assignment
+    makes each clause true."""
     assert status is not None
     wanted = ([verdict or ANSWERS[status]], status, "")
     want((answer.answers, answer.status, answer.said), wanted,
@@ -101,8 +101,8 @@ def random_formula(seed: int) -> str:
 
 
 def check_again(kept: Path, env_more: Optional[Mapping[str, str]] = None) -> None:
-    """The record's command checks the streams again, in any folder. The last report is the same,
-    and nothing is written."""
+    """Runs the record's command, which checks the streams again, from another folder. The last
+    report has to be the same, and no file may change."""
     before = {path: path.lstat().st_mtime_ns for path in [kept, *kept.iterdir()]}
     done, report = (run(["sh", kept / "command"], cwd="/", env=in_environment(more=env_more)),
                     (kept / "report").read_text())
@@ -222,7 +222,7 @@ def none_left(mark: str) -> None:
 
 
 def end_all(mark: str) -> None:
-    """Ends the processes that a run may leave once its front has ended, even stopped ones."""
+    """After a run's front has ended, ends the processes that the run left, even stopped ones."""
     for number in (signal.SIGCONT, signal.SIGKILL):
         for pid in processes_of(mark):
             with contextlib.suppress(ProcessLookupError):
@@ -251,7 +251,7 @@ def is_built(path: Path) -> bool:
 
 
 def built(target: str, for_tests: bool) -> None:
-    """One worker builds what is out of date, by `make`; if a package is missing, rows are
+    """One worker builds what is out of date, with `make`. If a package is missing, rows are
     skipped."""
     TESTED.parent.mkdir(parents=True, exist_ok=True)
     with alone(OUT / "lock"):
@@ -268,7 +268,7 @@ def built(target: str, for_tests: bool) -> None:
             assert not status and not re.search(r"warning: .*\[-W", err), out + err
 
 
-# Marks of files whose rows need the first build, or both. A row may fail twice, since solvers race
-# with each other and with signals.
+# Marks for files whose rows need the first build, or both builds. A row may fail twice, since
+# solvers race with each other and with signals.
 LRUP_SOLVE = [pytest.mark.usefixtures("lrup_solve"), pytest.mark.flaky(reruns=2)]
 FOR_TESTS = [pytest.mark.usefixtures("solve_for_tests"), pytest.mark.flaky(reruns=2)]

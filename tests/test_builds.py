@@ -2,8 +2,8 @@
 
 For the filter, lrup-trim, lrup-solve, lrup-engines-mpi and the example solver, checks the commands
 that make prints, with flags from the command line and from the environment. Compiles the filter in
-a copy, and again after a change of a source, a header or flags. Installs everything in a folder,
-and uninstalls it."""
+a copy of the sources, and again after a change of a source, a header or flags. Installs everything
+in a folder, and uninstalls it."""
 import os
 import re
 import shutil
@@ -40,7 +40,7 @@ def commands(target: str, words: Sequence[str], env: Dict[str, str]) -> List[Lis
 
 
 def with_flags(target: str, by_environment: bool, work: Path) -> None:
-    """Each command has the flags of its language, and neither another language's nor -O2."""
+    """Each command has its language's flags, but no flags of another language, and no -O2."""
     words, env = [f"{name}={value}" for name, value in WORDS.items()], {}
     found = commands(target, *(([], WORDS) if by_environment else (words, env)))
     compilers = {word for line in found for word in line[:2]
@@ -109,9 +109,9 @@ def again(work: Path) -> None:
 
 
 def installed(work: Path) -> None:
-    """Installs built programs without the toolchain: with -n make installs nothing, then each
-    program with a manual page and a completion. Uninstalling leaves nothing. A missing program is
-    reported."""
+    """Installs built programs without the toolchain: `make -n install` installs nothing, and `make
+    install` each program with a manual page and a completion. Uninstalling leaves nothing. A
+    missing program is reported."""
     program = written("#!/bin/sh\necho 'usage: lrupd [--lines N] [--help]'\n", work, "lrupd")
     program.chmod(0o755)
     words = ["RT=none", f"DESTDIR={work}/a place", "PREFIX=/usr"]
@@ -142,7 +142,7 @@ def installed(work: Path) -> None:
 
 
 def packaged(work: Path) -> None:
-    """Each link of the package's pages leads to a file of the package."""
+    """Each link on the package's pages leads to a file in the package."""
     for command in ("dpkg-deb", "dpkg-shlibdeps"):
         needs(command)
     place = work / "package"

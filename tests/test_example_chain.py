@@ -1,10 +1,10 @@
-"""Runs examples/chain.py, which cuts streams into rounds, and lrup-chain on the rounds, beside a
-single run.
+"""Runs examples/chain.py, which cuts streams into rounds, and lrup-chain on these rounds; compares
+these with a single run.
 
-Streams that were recorded, and streams of the example solver with imports and deletions, are cut
-into one to nine rounds. The last round has to end with status 0, and the rounds' additions have to
-be those of a single run. With the sizes of the largest round, a single run can't hold all
-additions. If an addition loses its hints, its round has to be the last, with a bad line."""
+Recorded streams, and streams of the example solver with imports and deletions, are cut into one to
+nine rounds. The last round has to end with status 0, and the rounds' additions have to be those of
+a single run. With the sizes of the largest round, a single run can't hold all additions. If an
+addition loses its hints, its round has to be the last, with a bad line."""
 import re
 import sys
 from pathlib import Path
@@ -22,8 +22,8 @@ RECORDED = [("four-clause.cnf", ["four-clause.lrup"], (1, 2, 3)),
             ("pigeonhole.cnf", ["pigeonhole.lrup"], (2, 7)),
             ("bmc.cnf", ["bmc.lrup"], (3, 9)), ("pigeonhole.cnf", TWO, (1, 3)),
             ("bmc.cnf", FOUR_SOLVERS, (1, 2, 3, 7)), ("two-groups.cnf", TWO_GROUPS, (3,))]
-# The generator's arguments, the number of streams, the LBD up to which clauses are shared, the
-# rounds.
+# The generator's arguments, the number of streams, the LBD up to which clauses are shared, and the
+# number of rounds.
 SOLVED = [("random 170 4", 3, 100, 4), ("pigeons 7", 2, 100, 5), ("order 15", 5, 4, 3),
           ("random 180 3", 8, 2, 6), ("random 150 1", 1, 4, 5)]
 
@@ -74,7 +74,7 @@ def solved(program: str, solver: str, words: str, streams: int, share: int, coun
 
 
 def too_much_for_one_run(program: str, place: int, fault: str, count: int, work: Path) -> None:
-    """In rounds the streams refute the formula; a single run with the rounds' largest size stops.
+    """In rounds, the streams refute the formula; a single run with the rounds' largest size stops.
     That run is --serial, so that no stream gives up before another stream is full."""
     formula, streams = example("bmc.cnf"), list(map(example, FOUR_SOLVERS))
     want_refuted(chain(program, count, formula, streams, TRIES, work), count)

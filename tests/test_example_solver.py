@@ -1,7 +1,7 @@
 """Runs the example solver on small formulas with one to eight streams, and the program on its
 streams.
 
-Each report has to say that each stream ended, with the additions and deletions that the solver
+Each report has to say that each stream ended, with as many additions and deletions as the solver
 printed; if the formula is unsatisfiable, the status has to be 0. If nothing is shared, the streams
 also go to files, for which --serial has to give the same report. Imports change none of this. All
 imports of a run also form a stream of their own, once as they are and once followed by a garbled
@@ -20,8 +20,8 @@ OPTIONS = ["--tries", "1000000"]
 LARGE = OPTIONS + ["--lines", "1000000", "--room", "10000000"]
 UNSATISFIABLE, SATISFIABLE = 20, 10
 
-# The generator's arguments, the answer, the streams, the LBD up to which clauses are shared. The
-# seed is the row's number.
+# The generator's arguments, the answer, the number of streams, and the LBD up to which clauses are
+# shared. The seed is the row's number.
 ROWS = [
     ("random 100 1", UNSATISFIABLE, 1, 4),
     ("random 100 1", UNSATISFIABLE, 2, 4),
@@ -39,7 +39,7 @@ ROWS = [
     ("random 120 8 5", UNSATISFIABLE, 3, 0),
 ]
 
-# Rows with imports: the solvers run long enough to take clauses over.
+# Rows with imports: the solvers run long enough to import clauses.
 IMPORTS = [
     ("random 170 4", UNSATISFIABLE, 3, 100),
     ("random 200 9", SATISFIABLE, 4, 4),
@@ -111,9 +111,9 @@ def garbled(line: str) -> str:
 
 def imported(program: str, solver: List[str], words: str, answer: int, streams: int,
              work: Path) -> None:
-    """Checks the files with a stream of all their imports, which then also gets a garbled import.
-    If one thread had the answer before the others began, there are no imports, and another seed is
-    taken."""
+    """Checks the streams together with another one that has all their imports, then with a garbled
+    import after these. If a thread had the answer before the others began, there are no imports,
+    and another seed is taken."""
     for seed in [*solver[-1:], *range(101, 120)]:
         command = [*solver[:-1], str(seed), "--streams", str(streams + 1)]
         path, files, said, (ended, status) = record(command, words, answer, streams, work)

@@ -3,12 +3,12 @@
 There are 2,000 (or --count) faulty runs of one to five solvers: hints are left out, doubled and
 reordered, literals get wrong signs, deletions and imports are inserted, or bytes are garbled. Then
 come 1,000 (or --count) mutants of test_filter_mutants.py, most of which aren't proofs in this form.
-For each stream, fault and line have to be those of lrupd --serial; with threads, too, if no stream
-deletes what others cite. Each chain that is offered has to be right: lrupd accepts the line with
-this chain as its hints. If only hints are wrong, a chain has to be offered. lrup-explain also has
-to end while streams are rewritten and truncated. It is built for tests, with
--fsanitize=address,undefined if the compiler can; three of four runs on faulty streams use the
-normal build."""
+For each stream, fault and line have to be those that lrupd --serial reports, and those that lrupd
+reports with threads, too, if no stream deletes what others cite. Each chain that is offered has to
+be right: lrupd accepts the line with this chain as its hints. If only hints are wrong, a chain has
+to be offered. lrup-explain also has to end while streams are rewritten and truncated. It is built
+for tests, with -fsanitize=address,undefined if the compiler can; three of four runs on faulty
+streams use the normal build."""
 import functools
 import os
 import random
@@ -189,7 +189,7 @@ def sizes_for(found: Base, numbers: random.Random) -> List[str]:
 
 
 def without_identity(text: str, identity: str) -> str:
-    """The stream with deletions that don't name this identity."""
+    """The stream without this identity in its deletions."""
     lines = [line.split(" ") for line in text.split("\n")]
     for words in lines:
         if words[1:2] == ["d"]:
@@ -410,14 +410,14 @@ FAULTS = [
      "  a right chain: 5 3 4    (if 5 isn't deleted)\n"),
     ("missing, never derived", ["5 2 0 1 9 0\n"], "", "stream 1 (f1), line 1: missing 9\n"
      + ONE_FALSE + row(9, "BAD", "-", "stream 1, no such line so far")
-     + "  why: 9 is of stream 1, this one, and none of its lines derives it\n" + RIGHT),
+     + "  why: 9 belongs to stream 1, this one, and none of its lines derives it\n" + RIGHT),
     ("missing, the line's own", ["5 2 0 1 5 0\n"], "", "stream 1 (f1), line 1: missing 5\n"
      + ONE_FALSE + row(5, "BAD", "-", "stream 1, no such line so far")
      + "  why: 5 is what this line derives: no line cites itself\n" + RIGHT),
     ("missing, derived later", ["5 2 0 1 7 0\n7 2 0 1 2 0\n"], "",
      "stream 1 (f1), line 1: missing 7\n" + ONE_FALSE
      + row(7, "BAD", "-", "stream 1, no such line so far")
-     + "  why: 7 is of stream 1, this one, which derives it later, in its line 2\n" + RIGHT),
+     + "  why: 7 belongs to stream 1, this one, which derives it later, in its line 2\n" + RIGHT),
     ("missing, beyond the last", ["5 2 0 1 9 0\n"], "--lines 3",
      "stream 1 (f1), line 1: missing 9\n" + ONE_FALSE
      + row(9, "BAD", "-", "above the last identity, 7")
@@ -426,15 +426,15 @@ FAULTS = [
     ("missing, of another one", ["5 2 0 1 8 0\n", "6 2 0 1 2 0\n"], "",
      "stream 1 (f1), line 1: missing 8\n" + ONE_FALSE
      + row(8, "BAD", "-", "stream 2, no such line so far")
-     + "  why: 8 is of stream 2, and none of its lines derives it\n" + RIGHT),
+     + "  why: 8 belongs to stream 2, and none of its lines derives it\n" + RIGHT),
     ("missing with --serial", ["5 2 0 1 6 0\n", "6 2 0 1 2 0\n"], "--serial",
      "stream 1 (f1), line 1: missing 6\n" + ONE_FALSE
-     + row(6, "BAD", "-", "stream 2, no such line so far") + "  why: 6 is of stream 2, which "
+     + row(6, "BAD", "-", "stream 2, no such line so far") + "  why: 6 belongs to stream 2, which "
      "derives it in its line 1, but with --serial only later: threads wait for it\n" + RIGHT),
     ("a circle", ["5 2 0 6 0\n", "6 2 0 7 0\n", "7 2 0 6 0\n"], "",
      "stream 2 (f2), line 1: missing 7\n  derives  2    so at first -2 is true\n" + HINTS
      + row(7, "BAD", "-", "stream 3, no such line so far")
-     + "  why: 7 is of stream 3, whose line 1 waits for 6, in a cycle that leads back to this "
+     + "  why: 7 belongs to stream 3, whose line 1 waits for 6, in a cycle that leads back to this "
      "line\n" + RIGHT + "stream 1 (f1), line 1: missing 6, of stream 2, whose line 1 is bad\n"
      "stream 3 (f3), line 1: missing 6, of stream 2, whose line 1 is bad\n"),
     ("a consequence of another fault", ["5 0 6 8 0\n", "6 2 0 1 0\n8 -2 0 3 4 0\n", "7 x\n"], "",
@@ -521,21 +521,21 @@ FAULTS = [
      "       only the import has -2\n"),
     ("an import that is missing", ["6 i 2 0\n", "8 2 0 1 2 0\n"], "",
      "stream 1 (f1), line 1: missing 6\n  states   2\n"
-     "  why: 6 is of stream 2, and none of its lines derives it\n"),
+     "  why: 6 belongs to stream 2, and none of its lines derives it\n"),
     ("an import of a stream without lines", ["6 i 2 0\n", ""], "",
      "stream 1 (f1), line 1: missing 6\n  states   2\n"
-     "  why: 6 is of stream 2, and none of its lines derives it\n"
+     "  why: 6 belongs to stream 2, and none of its lines derives it\n"
      "       stream 2 has no lines: was it left out?\n"),
     ("one of four streams", ["5 2 0 1 6 0\n9 2 0 1 2 0\n13 2 0 1 2 0\n"], "",
      "stream 1 (f1), line 1: missing 6\n" + ONE_FALSE
      + row(6, "BAD", "-", "stream 1, no such line so far")
-     + "  why: 6 is of stream 1, this one, and none of its lines derives it\n"
+     + "  why: 6 belongs to stream 1, this one, and none of its lines derives it\n"
      "       the identities of stream 1 go up by 4, as with 4 streams, but 1 is given: was "
      "one left out?\n" + RIGHT),
     ("one stream with a gap", ["5 2 0 1 7 0\n6 2 0 1 2 0\n9 2 0 1 2 0\n"], "",
      "stream 1 (f1), line 1: missing 7\n" + ONE_FALSE
      + row(7, "BAD", "-", "stream 1, no such line so far")
-     + "  why: 7 is of stream 1, this one, and none of its lines derives it\n" + RIGHT),
+     + "  why: 7 belongs to stream 1, this one, and none of its lines derives it\n" + RIGHT),
     ("two of three streams", [FIRST, "7 2 0 1 2 0\n10 2 0 1 2 0\n16 2 0 1 2 0\n"], "",
      "stream 2 (f2), line 1: identity\n  derives  2\n"
      "  why: 7 belongs to stream 1: 2 streams take turns above 4\n"
@@ -609,8 +609,8 @@ FORMS = [
 
 
 def fault(streams: Sequence[str], options: str, said: str, work: Path) -> None:
-    """Explains a fault; lrupd reports the same, with threads or --serial, and waits only a moment
-    for a clause that never comes."""
+    """Explains a fault; lrupd reports the same, with threads and with --serial, and waits only a
+    moment for a clause that never comes."""
     names = [written(text, work, f"f{number}").name for number, text in enumerate(streams, 1)]
     words = [*options.split(), written(FOUR, work), *names]
     done = explain(words, work)
@@ -673,7 +673,7 @@ def carried(work: Path) -> None:
     want(explain([written(FOUR, work), "d"], work), Ran(SAID_OF_CARRIED, "", BAD), "the messages")
 
 
-# The example solver without one hint: that of the last unit clause at level 0.
+# The example solver leaves out one hint: of the unit clauses of level 0, the last one.
 
 RIGHT_LINE = "for (size_t k = 0; k < level_zero.length; k++) PUSH(hints, level_zero.items[k]);"
 LEFT_OUT = (r"^       (-?\d+ would follow here from|"
@@ -682,7 +682,7 @@ WRONG_LINE = "for (size_t k = 1; k < level_zero.length; k++) PUSH(hints, level_z
 
 
 def emitter(work: Path) -> None:
-    """Applying what is offered for each bad line leads to a good stream."""
+    """If each bad line gets the hints that are offered for it, the stream becomes good."""
     learn = (EXAMPLES / "solver" / "learn.c").read_text()
     want(learn.count(RIGHT_LINE), 1, f"how often learn.c has '{RIGHT_LINE}'")
     sources = shutil.copytree(EXAMPLES / "solver", work / "solver",

@@ -2,11 +2,12 @@
 
 There are chains of 10 to 1,000,000 steps, of units and of one failed literal, and the other
 formulas of bench/solve/easy.py. lrupd has to accept each stream to its end, with 'unsatisfiable',
-and the stream's bytes and lines have to be linear in the formula. Proofs are written by hand, or by
-CaDiCaL if it is on the PATH. Some have chains of more hints than a line may have, clauses with that
-many literals, root units that chains need in the worst order, or streams without identities to
-spare. A build that allows six hints in a line, with -fsanitize=address,undefined if the compiler
-can, splits nearly all chains of recorded proofs and of random formulas, also in rounds."""
+and the numbers of its bytes and lines have to be linear in those of the formula. Proofs are written
+by hand, or by CaDiCaL if it is on the PATH. Some have chains of more hints than a line may have,
+clauses with that many literals, root units that chains need in the worst order, or streams without
+identities to spare. A build that allows six hints in a line, with -fsanitize=address,undefined if
+the compiler can, splits nearly all chains of recorded proofs and of random formulas, also in
+rounds."""
 import functools
 import os
 import random
@@ -26,8 +27,8 @@ from solving import PROGRAM, built, solve, want_answer
 sys.path.insert(0, str(ROOT / "bench" / "solve"))
 import easy
 
-MOST = 65536            # hints of a line
-FEW = 6                 # of the build that splits nearly all chains
+MOST = 65536            # the most hints of a line
+FEW = 6                 # the same in the build that splits nearly all chains
 STEPS = (10, 65535, 65536, 65537, 1000000)
 RANDOM = 300            # formulas, half of which have a proof
 Text = Union[str, bytes]
@@ -60,7 +61,8 @@ def filtered(words: Sequence[object], given: Text, program: Path = FILTER) -> st
 
 
 def want_linear(text: str, formula: Path, proof_lines: int, steps: int) -> None:
-    """The stream has few bytes more than the formula, and few lines more than the proof."""
+    """The stream has only a few more bytes than the formula, and a few more lines than the
+    proof."""
     most = (formula.stat().st_size + 4096, proof_lines + 2 + steps // 16384)
     found = (len(text), len(text.splitlines()))
     want([one <= other for one, other in zip(found, most)], [True, True],
@@ -99,7 +101,7 @@ def by_cadical(kind: str, numbers: Sequence[int], backwards: bool, work: Path) -
 
 
 def by_solve(kind: str, numbers: Sequence[int], backwards: bool, work: Path) -> None:
-    """No engine is lost, and all streams together are linear."""
+    """No engine is lost, and the size of each stream is linear in the formula's."""
     built("solve", for_tests=False)
     formula = make(work, kind, *numbers, backwards=backwards)
     answer = solve(["-v", "-j", "2", "--proofs", work / "kept", formula])
@@ -124,7 +126,7 @@ AFTER = "{0} 1 2 0\n{0} 1 -2 0\n{0} -1 2 0\n{0} -1 -2 0\n"
 
 def units_needed(steps: int, order: str, work: Path) -> None:
     """Units from variable 3 on, each implying the next, without a contradiction. The proof needs
-    the last unit first, or a unit in between."""
+    the last unit first, or one in between."""
     last = steps + 2
     chain = "".join(f"-{variable} {variable + 1} 0\n" for variable in range(3, last))
     formula = written(f"p cnf {last} {steps + 4}\n3 0\n{chain}{AFTER.format(-last)}", work)
@@ -150,8 +152,8 @@ def circuit(gates: Iterable[Tuple[int, int]], given: Sequence[int], first: int) 
 
 
 def clause_of_many(count: int, gates: int, work: Path) -> None:
-    """A clause that needs all gates, each over the gate before it and any other. Each gate
-    depends on most of the clause's literals."""
+    """A clause whose chain needs all gates. A gate's inputs are the gate before it and a random
+    earlier variable, so it depends on most of the clause's literals."""
     numbers, inputs = random.Random(count), range(1, count + 1)
     clauses = circuit(((last, numbers.randrange(1, last)) for last in range(count, count + gates)),
                       inputs, count + 1)
@@ -182,7 +184,8 @@ def many_at_once(count: int, work: Path) -> None:
 
 
 def wide(count: int, refuted: bool, work: Path) -> None:
-    """A clause whose literals are all false. Beyond what two lines can hold there is no chain."""
+    """A clause whose literals are all false. If two lines can't hold their units, the filter
+    stops."""
     units = "".join(f"{variable} 0\n" for variable in range(1, count + 1))
     formula = written(f"p cnf {count} {count + 1}\n{units}"
                       + " ".join(f"-{variable}" for variable in range(1, count + 1)) + " 0\n", work)
@@ -238,14 +241,14 @@ def in_rounds(formula: Path, proof: Text, form: str, memory: str, least: int, wo
 
 
 def of_stream(name: str, stream: str, form: str, check: Callable[..., None], *more: Any) -> None:
-    """Runs this check on a recorded stream, as a proof in another form."""
+    """Runs this check on a recorded stream that is written as a proof in another form."""
     word, make_proof = FORMS[form]
     proof = b"".join(make_proof(read_formula(example(name)), read_steps(example(stream))))
     check(example(name), proof, word, *more)
 
 
 def random_formula(seed: int) -> str:
-    """A formula with units, and with clauses too long for a line of so few hints."""
+    """A formula with units, and with clauses that are too long for lines of six hints."""
     numbers = random.Random(seed)
     variables = numbers.randrange(8, 50)
     clauses = random_clauses(numbers, variables, round(numbers.uniform(3, 5.5) * variables),
@@ -260,8 +263,8 @@ def random_formula(seed: int) -> str:
 
 
 def random_proofs(first: int, count: int, work: Path) -> None:
-    """CaDiCaL's proofs as DRUP, as FRAT, and as LRAT with long lines, with a third of the hints
-    left out."""
+    """CaDiCaL's proofs as DRUP, as FRAT, and as LRAT with long lines. A third of the additions in
+    LRAT have no hints."""
     needs("cadical")
     checked = 0
     for seed in range(first, first + count):

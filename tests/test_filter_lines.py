@@ -1,5 +1,5 @@
-"""Runs the filter on proofs of a few lines: what it writes, which the program accepts, and what it
-refuses, with the line or byte."""
+"""Runs the filter on proofs of a few lines. The program has to accept what the filter writes, and
+the message on a proof that it refuses has to name the line or byte."""
 import random
 from pathlib import Path
 from typing import List
@@ -17,7 +17,7 @@ NO_CLAUSE = "no conflict by unit propagation, and the step cites the clause"
 
 
 def stops(formula: str, proof: Text, cause: str, lines: str, words: List[str], work: Path) -> None:
-    """The filter stops at the line or byte of the cause, after writing the lines before it."""
+    """The filter stops at the line or byte in `cause`, after writing these lines."""
     text, said, status = exact([*words, written(formula, work)], proof)
     want((text, status), (lines, 1), "the output")
     assert said.startswith("lrup-exact: ") and cause in said and said.count("\n") == 1, (
@@ -70,8 +70,8 @@ def far_names(program: str, count: int, work: Path) -> None:
 
 
 def held_hints(program: str, count: int, work: Path) -> None:
-    """Hints come before those that make them unit, in one step after another over the same
-    literals: no step affects the next."""
+    """In many steps over the same literals, hints come before the hints that make them unit: no
+    step affects the next."""
     numbers, proof = random.Random(count), ""
     clauses = [[-variable, -variable - 1, -variable - 2, variable + 3]
                for variable in range(1, count + 1)]
@@ -100,14 +100,15 @@ def compressed(name: str, words: List[str], work: Path) -> None:
 
 
 def bad_other(line: str, work: Path) -> None:
-    """The file of --other isn't LRAT text with rising identities over the formula's literals."""
+    """The file of --other isn't LRAT text with increasing identities over the formula's
+    literals."""
     other = written(f"{line}\n8 2 0 1 2 0\n", work, "other")
     stops(FOUR, FIRST + "7 1 -2 0 8 0\n", f"line 2: {other}: ", FIRST,
           ONE_OF_TWO + ["--other", f"2={other}"], work)
 
 
 def another(program: str, work: Path) -> None:
-    """Enough clauses of another stream for the filter to give back their memory."""
+    """Another stream has so many clauses that the filter gives memory back."""
     formula, count = written(FOUR, work), 9000
     theirs = ("".join(f"{6 + 2 * number} 1 2 0 1 0\n" for number in range(count))
               + f"{6 + 2 * count} 2 0 1 2 0\n")
@@ -127,7 +128,7 @@ def summary(work: Path) -> None:
 
 
 def refusals() -> List[Row]:
-    """LRAT, DRUP and DRAT text."""
+    """Refused proofs in LRAT, DRUP and DRAT text."""
     return [
         ("a RAT step with hints", FOUR, FIRST + "6 1 0 -3 4 0\n", "line 2: a RAT step", FIRST, []),
         ("a RAT step without hints", "p cnf 2 1\n1 2 0\n", "1 2 0\n1 0\n",
@@ -240,7 +241,7 @@ def refusals_of_frat() -> List[Row]:
 
 
 def refusals_in_binary() -> List[Row]:
-    """Messages have the byte at which the step begins, counted from 1."""
+    """Messages name the byte at which the step begins; the first byte has number 1."""
     drat, lrat = ["--format", "binary-drat"], ["--format", "binary-lrat"]
     two, five = b"a" + codes([2]), b"a" + code(5) + codes([2]) + codes([1, 2])
     return [

@@ -2,12 +2,12 @@
 
 There are 10,000 (or --count) mutants, from number --first on; a number always gives the same
 mutant. In small proofs of each form, bytes are flipped, cut off, inserted and removed, steps
-doubled, swapped and left out, numbers made huge and words replaced by letters. Some formulas, and
-other streams, are mutated as well; the filter refuses exactly the formulas that the program
-refuses. The filter is built with -fsanitize=address,undefined, by clang, $CC or cc, and checks its
+doubled, swapped and left out, numbers made huge and words replaced by letters. Some formulas and
+files of --other are mutated, too; the filter refuses exactly the formulas that the program refuses.
+The filter is built with -fsanitize=address,undefined, by clang, $CC or cc, and checks its
 invariants. It has to end soon with status 0 and no message, or with status 1 and one line on
-standard error. Its output has to be lines of a stream, by the grammar here; and the program, which
-reads each stream that isn't empty, has to accept it to its end, except for identities beyond
+standard error. Its output has to be lines of a stream, by the grammar in this file. The program
+reads each stream that isn't empty, and has to accept it to its end, except for identities beyond
 --lines and clauses of streams that aren't there. A mutant that fails is kept in
 tools/exact/out/mutants."""
 import functools
@@ -25,7 +25,7 @@ from proof_forms import FORMS, Clause, Step, frat, read_formula, read_steps, var
 
 KEPT = FILTER.parent / "mutants"
 SECONDS = 120
-A_ROW = 100     # mutants
+A_ROW = 100     # mutants in a row
 
 # The argument of --format, the formula and the steps.
 Base = Tuple[str, bytes, List[bytes]]
@@ -57,7 +57,7 @@ def in_each_form(name: str, steps_of: Callable[[List[Clause]], List[Step]]) -> L
 
 
 def copies(formula: List[Clause]) -> List[Step]:
-    """The formula's clauses again and again, each deleted at once."""
+    """Adds the formula's clauses again and again, and deletes each at once."""
     steps: List[Step] = []
     for number in range(LONG):
         original, identity = number % len(formula), len(formula) + 1 + number

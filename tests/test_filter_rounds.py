@@ -4,9 +4,9 @@ rounds.
 There are recorded proofs in each form, and proofs of CaDiCaL and CryptoMiniSat if these are on the
 PATH. Each run has to end with status 0, with as many additions as the proof has, and leave only an
 empty file. Then come proofs that are truncated, have a wrong line, or continue after the empty
-clause; formulas without clauses, or with no room in a row; folders that aren't empty; and either
-side killed at any time. Neither may wait for the other forever. The filter is also built for tests,
-with -fsanitize=address,undefined if the compiler can."""
+clause; formulas without clauses, or too large for a row; folders that aren't empty; and runs in
+which either side is killed at any time. Neither side may wait for the other forever. The filter is
+also built for tests, with -fsanitize=address,undefined if the compiler can."""
 import contextlib
 import functools
 import os
@@ -30,7 +30,7 @@ from rounds import last
 from solving import in_place_of_lrupd, of_process
 
 Text = Union[str, bytes]
-WORDS = 4000    # words of lrupd's largest row, as one build assumes
+WORDS = 4000    # the words of lrupd's largest row, as one build assumes
 GONE = "the reader of standard output, which runs lrupd, ended before it read "
 
 
@@ -74,8 +74,8 @@ def lrupd_words(formula: Path) -> List[object]:
 
 def check_beside(running: "subprocess.Popen[bytes]", formula: Path, work: Path,
                  lrupd: object = PROGRAM) -> Checked:
-    """lrupd begins when the filter says so, and has the filter's standard output, which it closes
-    at its end. The report is that of the last round."""
+    """lrupd begins when the filter says so, and keeps the pipe from the filter's standard output
+    open until it ends. Its report has to be that of the last round."""
     assert running.stdout
     ready = running.stdout.readline()
     if not ready:
@@ -114,7 +114,7 @@ def want_refuted(checked: Checked, least: int, most: int, work: Path) -> None:
 
 
 def tidied(steps: Sequence[Step]) -> List[Step]:
-    """Each clause is deleted once it isn't cited any more, so that little is carried over."""
+    """Each clause is deleted after it is cited last, so that little is carried over."""
     additions = [step for step in steps if step.kind == "a"]
     last: Dict[int, int] = {}
     for place, step in enumerate(additions):
@@ -164,14 +164,14 @@ def recorded(name: str, stream: str, memory: str, least: int, most: int, form: s
 
 def sanitized(name: str, stream: str, memory: str, least: int, most: int, form: str,
               work: Path) -> None:
-    """The same by the build for tests."""
+    """Does what `recorded` does, with the build for tests."""
     if not sanitizer():
         lacking(f"the C compiler doesn't build with {SANITIZE[3]}")
     recorded(name, stream, memory, least, most, form, True, sanitized_filter(), work)
 
 
-# The solver's command, the form if it has to be given, the generator's arguments, the memory, the
-# rounds.
+# The solver's command, the form if it has to be given, the generator's arguments, the memory, and
+# the least and the largest number of rounds.
 EARLY = "cadical -q --reduceint=20 --elimint=10 --probeint=10 --subsumeint=10"
 SOLVED = [("cadical -q", "binary-drat", "random 180 3", "500K", 3, 8),
           ("cadical -q --no-binary", "", "random 180 3", "600K", 3, 8),
@@ -211,13 +211,13 @@ def behind(work: Path) -> None:
     want((checked.status, checked.filter_status, checked.filter_said),
          (0, 1, "lrup-exact: line 1003: a variable that the formula doesn't have: 3, above the "
           "header's 2\n"),
-         "the end of one with a wrong line there")
+         "the end of a proof with a wrong line after the empty clause")
 
 
 def rows_grow(work: Path) -> None:
     """The first row has 2^20 words, for clauses of 16 literals; the next is twice as large, for
-    clauses as long as the earlier ones, but at most 200. A row has enough lines for clauses of half
-    that length."""
+    clauses as long as the earlier ones, but of at most 200. A row has enough lines for clauses of
+    half that length."""
     literals = list(range(3, 1003))
     formula = written(dimacs(1002, [[1, 2], [-1, 2], [1, -2], [-1, -2], literals]), work)
     text = " ".join(map(str, literals))
@@ -372,7 +372,7 @@ def put_in_place(how: str, work: Path) -> None:
 
 
 def another_folder(work: Path) -> None:
-    """If another folder takes the name, nothing in it is written or removed."""
+    """If another folder takes the folder's name, nothing in it is written or removed."""
     formula, names = written(FOUR, work), ["round-1.sizes", "round-1.stream-1", "round-2.sizes",
                                            "round-2.stream-1"]
     with filtering([formula, written("2 0\n0\n", work, "proof")], work) as running:
@@ -402,8 +402,8 @@ def without_errors(closing: str, work: Path) -> None:
 
 
 def locked(work: Path) -> None:
-    """A run locks its folder until it ends, in whatever way, also between rounds, and against runs
-    that use another name for the folder."""
+    """A run locks its folder until it ends, however it ends, also between rounds. The lock holds
+    for runs that use another name for the folder, too."""
     os.symlink("d", work / "link")
     with in_a_round(work) as sides:
         for name in ("d", "link"):
@@ -491,7 +491,7 @@ class Sides(NamedTuple):
 
 
 def is_on(pipe: IO[bytes], work: Path) -> bool:
-    """Everything is read, but the third round, or a later one, hasn't ended."""
+    """Whether everything is read, and the current round is the third or a later one."""
     time.sleep(0.05)
     return waiting(pipe.fileno()) == 0 and [int(re.sub(r"round-(\d+)\.cnf|.*", r"\1", name) or 0)
                                             > 3 for name in left(work)] == [True]

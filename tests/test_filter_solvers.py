@@ -71,7 +71,7 @@ def make_formula(words: str, work: Path) -> Path:
 
 
 def in_bash(program: str, commands: str, work: Path) -> Ran:
-    """The outputs of the commands, in a folder with the repository's tools."""
+    """Runs the commands in a folder with the repository's tools; returns outputs and status."""
     os.symlink(ROOT / "tools", work / "tools")
     os.symlink(program, work / "lrupd")
     for pipe in ("proof", "proof1", "proof2"):

@@ -53,8 +53,8 @@ def with_imports(path: Path, others: Iterable[Path], seed: str, out: Path) -> No
 
 
 def mangle(path: Path, seed: str, keep: Callable[[int], bool], out: Path) -> None:
-    """Shuffles hints, doubles some, and adds spaces. A third of the lines lose one hint, or all,
-    except for those to be kept."""
+    """Shuffles hints, doubles some, and adds spaces. A third of the lines lose one hint or all of
+    them, but never a hint that has to be kept."""
     numbers = random.Random(seed)
     with open(path) as stream, open(out, "w") as file:
         file.write("c a comment\n\n")
@@ -83,8 +83,8 @@ def imports_in(text: str) -> List[List[str]]:
 
 def exact_stream(name: str, number: int, names: List[str], formula: Path, seed: int, imports: bool,
                  work: Path) -> Path:
-    """A recorded stream, mangled, and filtered. With imports the filter sees only that stream,
-    otherwise all."""
+    """A recorded stream, mangled and then filtered. With imports, the filter sees only that stream,
+    otherwise all streams."""
     source, loose = example(name), work / f"loose{number}"
     clauses, count = len(read_formula(formula)), len(names)
     others = {other: example(names[other - 1]) for other in range(1, count + 1) if other != number}
@@ -120,7 +120,7 @@ def without_hints(program: str, formula: Path, proof: Path, stream: int, count: 
 
 
 def as_lrat(formula: Path, proof: Path, work: Path) -> None:
-    """The output for a single proof is LRAT for any LRAT checker, which also finds faults in it."""
+    """An LRAT checker accepts the output for a single proof, and finds faults put into it."""
     text, said, status = exact([formula, proof])
     clauses, lines = read_formula(formula), text.splitlines(True)
     want((lrat_fault(clauses, text), said, status), ("", "", 0), "as LRAT")
@@ -257,7 +257,7 @@ LINES = ["5 2 0 1 2 0", "5 d 1 0", "6 0 3 4 5 0"]
 
 
 def parts_of(form: str) -> Tuple[List[bytes], bytes]:
-    """The lines of the three steps, each with what comes before it; and what follows."""
+    """The lines of the three steps, the first with all that precedes it; and what follows."""
     _, make = FORMS[form]
     parts = make(read_formula(example("four-clause.cnf")), STEPS)
     before = len([part for part in parts if part.startswith(b"o ")])
@@ -266,8 +266,8 @@ def parts_of(form: str) -> Tuple[List[bytes], bytes]:
 
 
 def is_whole(form: str, proof: bytes, length: int) -> bool:
-    """Whether a step of a text form ends at this length, perhaps without LF; FRAT's hints may be
-    missing."""
+    """Whether a proof in a text form ends with a whole step if it is cut to this length. The step's
+    LF may be missing, and FRAT's hints, too."""
     line = proof[:length].rsplit(b"\n", 1)[-1]
     without_hints = form.startswith("FRAT") and line.startswith(b"a ") and line.split()[-1] == b"0"
     return not line or proof[length:length + 1] == b"\n" or without_hints
@@ -315,7 +315,7 @@ def closed_input(work: Path) -> None:
 
 
 def fails(proof: str, out: Any, work: Path) -> None:
-    """The stream can't be written: one line, and status 1."""
+    """The stream can't be written: there is one line of message, and status 1."""
     done = run([FILTER, written(FOUR, work)], proof, stdout=out)
     want((done.status, done.err.count("\n"), done.err[:12]), (1, 1, "lrup-exact: "),
          "the status and the lines")
@@ -337,7 +337,7 @@ def left(work: Path) -> None:
 
 
 def unreadable(words: List[str], work: Path) -> None:
-    """A file that can't be read: one line, and status 1."""
+    """A file can't be read: there is one line of message, and status 1."""
     formula = written(FOUR, work)
     text, said, status = exact([word.format(formula=formula, work=work) for word in words])
     want((text, status, said.count("\n"), said[:12]), ("", 1, 1, "lrup-exact: "),

@@ -1,9 +1,9 @@
-"""Runs lrup-chain with the program, by each installed shell, and under failures.
+"""Runs lrup-chain with the program, in each installed shell, and under failures.
 
-lrupd decides the verdict; the tests check which arguments lrupd gets, that its report and
-status are passed on, and which files are left. A file that replaces a round's formula changes
-nothing. Then come wrong scripts, each an edit of the right one: for each, some row has to fail.
-Expected results follow from the clauses, by the rules of rounds."""
+lrupd decides the verdict; the tests check which arguments lrupd gets, that its report and status
+are passed on, and which files are left. A file that replaces a round's formula changes nothing.
+Then come wrong scripts, each an edit of the right one: for each, some row has to fail. Expected
+results follow from the clauses and the rules of rounds."""
 import os
 import re
 import shutil
@@ -264,7 +264,7 @@ def words() -> Iterator[Named]:
 
 
 def where(shell: str, script: Path, work: Path) -> None:
-    """lrupd is looked for beside the script, and then on the PATH."""
+    """lrupd is looked for in the script's folder, and then on the PATH."""
     lay(work)
     for folder in ("a b", "c"):
         (work / folder).mkdir()
@@ -317,7 +317,7 @@ def endless_sizes(source: str, shell: str, script: Path, work: Path) -> None:
 
 
 def killed(number: int, by: int, shell: str, script: Path, work: Path) -> None:
-    """lrupd is killed in this round, at an unfinished stream. Nothing is removed."""
+    """lrupd is killed in this round, while it reads an unfinished stream. Nothing is removed."""
     lay(work)
     (work / f"d/round-{number}.stream-1").unlink()
     with held(work / f"d/round-{number}.stream-1") as pipe:
@@ -383,8 +383,8 @@ def live(shell: str, script: Path, work: Path) -> None:
 # A file that replaces a round's formula.
 
 SATISFIABLE = "p cnf 2 3\n1 2 0\n-1 2 0\n1 -2 0\n"
-# A formula from which round 1 derives 2; what replaces its checkpoint; round 2's stream, with its
-# line of the report.
+# A formula from which round 1 derives 2; what replaces its checkpoint; round 2's stream, the
+# status, and how the report says that the stream ended.
 FORGED = [("unsatisfiable", SATISFIABLE, "p cnf 2 4\n1 2 0\n-1 2 0\n2 0\n-2 0\n", "5 0 3 4 0\n", 3,
            "bad line 1 (not unit 3)"),
           ("a contradiction", SATISFIABLE, OTHER, "3 0 1 2 0\n", 3, "bad line 1 (identity)"),
@@ -420,7 +420,7 @@ def forged(formula: str, forgery: Optional[str], stream: str, status: int, endin
     want(saved.read_text() if saved.exists() else None, forgery, "the forged file")
 
 
-# Wrong scripts, each with a row that notices.
+# Wrong scripts, each with a row that has to fail.
 
 WRONG = [
     ("exec \"$lrupd\" \"$@\"", 'exec "$lrupd" "$@" 2> /dev/null', "another lrupd"),

@@ -2,7 +2,7 @@
 
 One to eight engines solve known formulas with each status, and 300 random ones with early
 inprocessing. Each child is killed in turn; there are signals, a full disk and closed outputs. In a
-build for tests the rules of sharing are left out one by one: each omission has to be noticed.
+build for tests, the rules of sharing are left out one by one: each omission has to be noticed.
 `make` builds both programs, with --flags for the compilers; if it doesn't find CaDiCaL's library,
 everything is skipped."""
 import fcntl
@@ -50,7 +50,7 @@ def answers_of(words_or_name: str, status: int, options: List[str], work: Path) 
 
 
 def without_a_clause(work: Path) -> None:
-    """A formula that is refuted, and its clauses except one, which are satisfiable."""
+    """A formula that is refuted, and a satisfiable one that lacks one of its clauses."""
     clauses = read_formula(example("pigeonhole.cnf"))
     formula = written(dimacs(30, clauses[1:]), work)
     want_answer(solve([formula]), 10, formula)
@@ -85,8 +85,8 @@ def solved_alone(words: Sequence[object], **how: Any) -> int:
 
 
 def unordered(text: str, seed: int) -> str:
-    """The clauses, and the literals of each clause, in another order, some of them doubled, and
-    some clauses that are always true."""
+    """The formula with its clauses, and the literals of each, in another order. Some of both are
+    repeated, and a few tautologies are added."""
     numbers, (header, *lines) = random.Random(seed), text.splitlines()
     clauses = [[int(word) for word in line.split()[:-1]] for line in lines]
     clauses += [[1, *numbers.choice(clauses), -1] for _ in range(5)] + numbers.sample(clauses, 5)
@@ -98,7 +98,7 @@ def unordered(text: str, seed: int) -> str:
 
 
 def as_alone(words: str, seed: int, work: Path) -> None:
-    """A single engine searches like `cadical` on the file, in whatever order the file is."""
+    """A single engine searches as `cadical` does on the same file, whatever the file's order."""
     needs("cadical")
     formula = generated(words, work)
     if seed:
@@ -124,7 +124,7 @@ def holes(work: Path) -> None:
 
 
 def impostor(body: str, cause: str, work: Path) -> None:
-    """Another program in place of lrupd, which accepts the formula and proves nothing."""
+    """In place of lrupd there is a program that accepts the formula and proves nothing."""
     path = in_place_of_lrupd(f"case \"$*\" in *' /dev/null') exit 3;; esac\n{body}", work)
     answer = solve(["--lrupd", path, example("bmc.cnf")])
     want_answer(answer, 0)
@@ -238,7 +238,7 @@ def randomly_cubed(seed: int, work: Path) -> None:
 
 
 def killed_with_a_cube(name: str, work: Path) -> None:
-    """Another engine takes the cube of a killed one, and the answer comes."""
+    """Another engine takes the cube of a killed one, and there is an answer."""
     formula, hooks = generated("pigeons 9", work), {"SLICE": 200}
     with subprocess.Popen(command(["-v", "-j", "4", formula], hooks), env=in_environment(hooks),
                           text=True, start_new_session=True, stdout=subprocess.PIPE,
@@ -336,7 +336,7 @@ def time_is_up(work: Path) -> None:
 
 
 def full(words: List[str], out: str, most: int, cause: str, work: Path) -> None:
-    """The disk is full for the answer; the streams meet a limit on the size of files."""
+    """The disk is full, so the answer or the streams can't be written."""
     if not os.path.exists("/dev/full"):
         pytest.skip("there is no /dev/full")
     limit = lambda: resource.setrlimit(resource.RLIMIT_FSIZE, (most, most)) if most else None
@@ -372,8 +372,8 @@ def read_terminal(leader: int) -> bytes:
 
 
 def shown_on_terminal(words: List[str], count: int, columns: int, work: Path) -> Tuple[bytes, str]:
-    """What is shown until that many progress lines have come, or for some turns of the program's
-    loop; and standard output."""
+    """What is shown for some turns of the program's loop, and until that many progress lines have
+    come; and standard output."""
     leader, terminal = pty.openpty()
     fcntl.ioctl(terminal, termios.TIOCSWINSZ, struct.pack("HHHH", 24, columns, 0, 0))
     fcntl.fcntl(leader, fcntl.F_SETFL, os.O_NONBLOCK)
@@ -398,7 +398,7 @@ def shown_on_terminal(words: List[str], count: int, columns: int, work: Path) ->
 
 
 def progress(words: List[str], wanted: bool, columns: int, work: Path) -> None:
-    """One line is overwritten and finally removed, only on a terminal, and within its columns."""
+    """On a terminal, progress is one line within its columns, overwritten and finally removed."""
     seen, out = shown_on_terminal(words, 3 * wanted, columns, work)
     want(out.splitlines()[-1], "s UNKNOWN", "the answer")
     shown, width = PROGRESS.findall(seen), (columns or 80) - 1
@@ -469,7 +469,7 @@ def terminal_that_stops(work: Path) -> None:
 
 
 def miter(name: str, change: Optional[Tuple[str, str]], status: int, work: Path) -> None:
-    """Two circuits, equal or with one of them wrong."""
+    """Two circuits that are equal, or one of which is wrong."""
     needs("yosys")
     text = (MITERS / f"{name}.v").read_text()
     if change:
@@ -528,13 +528,13 @@ def options_listed(work: Path) -> None:
          "options of the manual page")
 
 
-# Rules of sharing: leaving one out is noticed, and with the rule nothing of the kind happens.
+# Rules of sharing: if a rule is left out, some run breaks; with all rules, none does.
 
 
 def rests_on(what: str, count: int, found: str, variables: Tuple[int, int], early: str,
              work: Path) -> None:
-    """Runs that many formulas, with the rule and without, and more if no run without it broke,
-    which depends on timing. Without the rule a stream waits a second, not a minute, for a clause
+    """Runs that many formulas with the rule and without it, and more if no run without it broke,
+    which depends on timing. Without the rule, a stream waits a second, not a minute, for a clause
     that never comes."""
     seen = {True: 0, False: 0}
     for seed in range(10 * count):

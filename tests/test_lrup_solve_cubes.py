@@ -152,7 +152,7 @@ def of_a_folder(work: Path) -> None:
 
 
 def of_a_record(work: Path) -> None:
-    """The file isn't overwritten."""
+    """A file of cubes that has the name of a stream in the record isn't overwritten."""
     kept = work / "kept"
     kept.mkdir()
     file = written("a 1 0\n", kept, "round-1.stream-1")

@@ -9,8 +9,8 @@ file. The disk of some records is full now and then. The verdict is checked by t
 the record's command and by the LRAT text that lrup-trim makes.
 
 --seed, 1 by default, determines the formulas and the options; much of the rest depends on timing.
-With --minutes larger formulas are solved, from this seed and those after it, until that time has
-passed; otherwise there is one row of each kind, which takes less than a minute."""
+With --minutes, larger formulas are solved, from this seed on, until that time has passed; otherwise
+there is one row of each kind, which takes less than a minute."""
 import contextlib
 import os
 import random
@@ -32,8 +32,8 @@ from solving import (ANSWERS, EARLY, Answer, command, in_environment, is_alive, 
 
 END = time.monotonic() + 60 * MINUTES
 SIZE = 1 if MINUTES else 0
-RUNS = 100      # of one formula
-SOON = 10       # seconds, after which files are removed
+RUNS = 100      # of one formula, at most
+SOON = 10       # seconds after which files have to be removed
 KILOBYTE = 1024
 
 
@@ -91,7 +91,7 @@ class Chain:
         self.log: List[str] = []
 
     def words(self) -> List[object]:
-        """The words of the next run, each time with other options."""
+        """The words of the next run, whose options are different each time."""
         numbers = self.numbers
         how = ["--resume" if (self.kept / "files").exists() else "--proofs", self.kept]
         clock = ["--save-every", numbers.choice((0.1, 0.3))] if self.tested is None else []
@@ -321,7 +321,7 @@ def rows(seed: int) -> List[Row]:
 
 @pytest.fixture(autouse=True)
 def in_time(request: pytest.FixtureRequest) -> None:
-    """With --minutes no row begins after that time."""
+    """With --minutes, no row begins after that time."""
     if MINUTES and time.monotonic() > END:
         request.session.shouldstop = f"{MINUTES} minutes have passed"
         pytest.skip(f"{MINUTES} minutes have passed")

@@ -29,8 +29,8 @@ def open_to_others(mode: int, taken: bool, work: Path) -> None:
 
 
 def another_in_place(ends: int, work: Path) -> None:
-    """If another folder has the temporary folder's name at the end, it isn't removed, nor is the
-    target of a link in the temporary folder; the run's own files are."""
+    """Another folder that has the temporary folder's name at the end isn't removed, nor is the
+    target of a link in the temporary folder. The run's own files are removed."""
     files, mine = work / "files", written("mine", work / "mine", "mine")
     files.mkdir()
     with started(command(["-j", "1", generated("pigeons 11", work)]),
@@ -49,8 +49,8 @@ def another_in_place(ends: int, work: Path) -> None:
 
 
 def without_processes(work: Path) -> None:
-    """With a limit on processes, as another user, no file is left, no matter which process can't be
-    started."""
+    """A run by another user, with a limit on processes, leaves no file, no matter which process
+    can't be started."""
     (work / "bin").mkdir()
     for path in (SOLVE, SOLVE.with_name("lrup-engines"), Path(PROGRAM)):
         shutil.copy(path, work / "bin")
@@ -87,8 +87,8 @@ def cleaner_stopped(work: Path) -> None:
 
 
 def from_the_current_folder(how: str, work: Path) -> None:
-    """A tool in the current folder isn't run: neither if the PATH has that folder, nor if the
-    program's own path is unknown since it is too long."""
+    """A tool in the current folder isn't run, even if the PATH has that folder, or if the program's
+    own path is too long and therefore unknown."""
     for name in ("lrup-trim", "lrup-explain", "lrupd", "-mpi"):
         written(f"#!/bin/sh\n{f': > {work}/ran' * (name != 'lrupd')}\nexit 3\n", work,
                 name).chmod(0o755)

@@ -1,5 +1,5 @@
-"""Runs lrup-solve with programs in place of lrup-engines that lie, die, and write to whatever they
-can.
+"""Runs lrup-solve with programs that lie, die, and write to whatever they can, in place of
+lrup-engines.
 
 Whatever they do, 's UNSATISFIABLE' is printed only if lrupd has ended with status 0 on the named
 formula, and 's SATISFIABLE' only with an assignment that makes each clause and the assumptions
@@ -36,8 +36,8 @@ def hostile(body: str, wanted: str, words: List[str], text: str, work: Path) -> 
 
 
 def by_pipe(work: Path) -> None:
-    """The program can't write to the sealed copy of a formula from a pipe, to make it
-    unsatisfiable."""
+    """If a formula comes from a pipe, the program can't write to its sealed copy, and so can't make
+    that unsatisfiable."""
     body = """files = f"/proc/{front}/fd/"
 copies = [files + name for name in os.listdir(files)
           if "memfd:lrup-solve" in os.readlink(files + name)]
@@ -97,7 +97,7 @@ def expects(body: str, expected: str, line: str, status: int, text: str, work: P
 
 
 def expects_nothing(body: str, work: Path) -> None:
-    """No line, and no status that claims the expected answer."""
+    """There is no line, and no status that claims the expected answer."""
     for expected in ("unsat", "sat", "unsat-under-assumptions", "x", "unsat: s UNKNOWN", "unknown"):
         folder = work / re.sub(r"\W", "", expected)
         folder.mkdir()
@@ -107,7 +107,7 @@ def expects_nothing(body: str, work: Path) -> None:
 
 
 def help_expected(work: Path) -> None:
-    """lrup-engines answers --help, so its status counts for nothing beside --expect."""
+    """lrup-engines answers --help, so its status can't mean that --expect is met."""
     engines = in_place_of_lrupd("exit 0", work)
     for word in ("--help", "--version", "-h"):
         done = run([SOLVE, "--lrupd", PROGRAM, "--engines", engines, "--expect", "unsat", word,
@@ -143,7 +143,7 @@ write(b"c " + 10000 * b"x")"""
 
 
 def impostor(status: int, words: List[str], wanted: str, work: Path) -> None:
-    """In a requested run, lrupd ends with this other status. 8 counts only under assumptions."""
+    """lrupd ends a requested run with this status. Status 8 counts only under assumptions."""
     path = before_lrupd(
         f"echo s UNSATISFIABLE{' UNDER ASSUMPTIONS' * (status == 8)}; exit {status}", work)
     cube = written("2 0\n", work, "cube")
@@ -270,7 +270,7 @@ with open(sys.argv[1], "w") as proof:
 
 def asked_again(body: str, wanted: str, text: str, how: str, work: Path) -> None:
     """lrupd waits for its stream, and is killed; then the program asks for another lrupd, which
-    begins with the formula. The formula is named, or comes by a pipe."""
+    begins with the formula. The formula is named, or comes from a pipe."""
     begin = AGAIN + """
 def killed():
     os.mkfifo(folder + '/round-1.stream-1')
@@ -295,8 +295,8 @@ hears('probe')
 
 
 def asked_for_more(body: str, starts: int, wanted: str, work: Path) -> None:
-    """A program in lrupd's place counts its starts while it is requested three times. That program
-    is started again only after a signal, and nothing that the killed one wrote counts."""
+    """A program in lrupd's place counts its starts while it is requested three times. It is started
+    again only if a signal has ended it, and nothing that was written before counts."""
     lrupd = in_place_of_lrupd(f"case \"$*\" in *' /dev/null') exit 3;; esac\n"
                               f"echo x >> {work}/starts; count=$(wc -l < {work}/starts)\n{body}",
                               work)
@@ -366,7 +366,7 @@ def missing(work: Path) -> None:
 
 
 def endless(work: Path) -> None:
-    """An endless input is copied only as far as a formula may go."""
+    """An endless input is copied only up to the largest size of a formula."""
     free = re.search(r"MemAvailable:\s+(\d+)", Path("/proc/meminfo").read_text())
     if not free or int(free[1]) < 5000000:
         pytest.skip("less than 5 GB of memory are free")

@@ -1,8 +1,9 @@
 """Refuses each call of lrup-solve's front, sends random signals, and runs hostile programs.
 
-Whatever fails or dies, the answer is right, or 's UNKNOWN', or a message with status 1, or none if
-a signal ended the front. Each run ends, and leaves no process and no file, unless its row says so.
-About 60 (or --count) signals are sent; with 600, each call is also refused in each kind of run."""
+Whatever fails or dies, the answer is right or 's UNKNOWN', or there is a message with status 1, or
+nothing if a signal ended the front. Each run ends, and leaves no process and no file, unless its
+row says otherwise. About 60 (or --count) signals are sent; with 600, each call is also refused in
+each kind of run."""
 import contextlib
 import errno
 import functools
@@ -35,8 +36,8 @@ STATUSES = {UNKNOWN: 0, FOUND: 10, PROVED: 20, UNDER: 20}
 
 
 def want_no_other(answer: Answer, right: str, formula: Path) -> None:
-    """There is no verdict other than this one. 's UNKNOWN' may come at any time, or a reason for no
-    answer."""
+    """There is no verdict other than this one, but there may be 's UNKNOWN' at any time, or a
+    message that says why there is no answer."""
     found, has_message = answer.answers, answer.status in (1, 127) and answer.said != ""
     is_answer, is_killed = found in ([right], [UNKNOWN]), (answer.status or 0) < 0
     is_whole = is_answer and answer.status == STATUSES[found[0]]
@@ -125,7 +126,7 @@ def run_of(kind: Kind, front: Path, work: Path) -> Answer:
 
 
 def refused(function: str, how: str, kind: Kind, work: Path) -> None:
-    """Refuses each call in turn, until a run makes no further call."""
+    """Refuses each call of the function in turn, until a run makes no further call."""
     front = refusing_front()
     for number in range(1, MOST + 1):
         folder = Path(tempfile.mkdtemp(dir=work))       # its name marks the processes
@@ -149,7 +150,7 @@ def refused(function: str, how: str, kind: Kind, work: Path) -> None:
 @functools.lru_cache(maxsize=None)
 def refusing_front() -> Path:
     """Wraps the functions that the front calls; none is inlined or replaced by the compiler. One
-    worker builds it."""
+    worker builds that front."""
     flags = ["-std=c11", "-O0", "-g", "-fno-builtin", "-U_FORTIFY_SOURCE"]
     place = OUT / "refusing"
     front = place / "lrup-solve"
@@ -182,7 +183,7 @@ DEADLY = (signal.SIGHUP, signal.SIGINT, signal.SIGQUIT, signal.SIGABRT, signal.S
           signal.SIGUSR1, signal.SIGALRM, signal.SIGTERM, signal.SIGPIPE, signal.SIGSEGV,
           signal.SIGXCPU, signal.SIGKILL)
 SOON = 20       # seconds within which everything ends once the front is killed
-A_ROW = 6       # signals
+A_ROW = 6       # signals in a row
 
 
 def sent(numbers: random.Random, pid: int) -> Tuple[str, str]:
@@ -287,7 +288,7 @@ SLOW = "case \"$*\" in *' /dev/null') sleep 1;; esac\nexec " + PROGRAM + ' "$@"'
 
 
 def no_other(name: str, body: str, words: Sequence[str], text: str, right: str, work: Path) -> None:
-    """The program doesn't crash, and brings about no other answer than the right one."""
+    """lrup-solve doesn't crash, and gives no answer other than the right one."""
     cube, lrupd = written("2 0\n", work, "cube"), Path(PROGRAM)
     if name.endswith(", slow"):
         lrupd = in_place_of_lrupd(SLOW, work)

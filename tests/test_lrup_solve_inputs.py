@@ -103,8 +103,8 @@ def links_in_a_record(work: Path) -> None:
 
 
 def earlier_run(work: Path) -> None:
-    """A new run leaves nothing of the old record; its formula may come from that record, by a pipe.
-    What the record doesn't list isn't removed."""
+    """A new run leaves nothing of the old record; its formula may come from that record, through a
+    pipe. What the record doesn't list isn't removed."""
     kept = work / "kept"
     rounds = [f"round-{k}.{name}" for k in (1, 2, 9, 10, 123)
               for name in ("sizes", "stream-1", "stream-2", "stream-64")]
@@ -114,7 +114,7 @@ def earlier_run(work: Path) -> None:
              ".round-9.sizes.new", *rounds, "round-7.sizes"]
     for name in [*names[1:-1], *others]:
         written("of an earlier run\n", kept, name)
-    # The run was killed before it had written a name.
+    # The run was killed in the middle of writing a name.
     written("\n".join([*names, "round-1.str"]), kept, "files")
     shutil.copy(example("bmc.cnf"), kept / "formula.cnf")
     in_shell('cat "$2"/formula.cnf | "$0" --lrupd "$1" -j 2 --replace --proofs "$2" -',
@@ -331,7 +331,7 @@ def from_fifo(work: Path) -> None:
 
 
 def beside(work: Path) -> None:
-    """lrupd is looked for beside the program, then on the PATH."""
+    """lrupd is looked for in the program's folder, then on the PATH."""
     for folder in ("one", "two"):
         (work / folder).mkdir()
     shutil.copy(SOLVE.with_name("lrup-engines"), work / "one")
@@ -396,7 +396,7 @@ def verbose(work: Path) -> None:
 
 
 def refused(words: Sequence[object], cause: str, work: Path) -> None:
-    """One line on standard error, and status 1."""
+    """There is one line on standard error, and status 1."""
     formula = written(FOUR, work)
     for name, begins in COMPRESSED.items():
         written(begins, work, name)
@@ -508,8 +508,8 @@ int pthread_create(pthread_t *thread, const pthread_attr_t *how, void *(*work)(v
 
 def refused_early(work: Path) -> None:
     """The reading thread refuses the formula before the main thread has that thread's id, and lrupd
-    refuses it later: only one thread waits for lrupd's answer, since what the front says is read
-    once."""
+    refuses it later: only one thread waits for lrupd's answer, since the front's message can be
+    read only once."""
     source = written(LATE_THREAD, work, "late.c")
     late = compiled(work / "late.so", [source], "-shared", "-fPIC", "-ldl")
     formula = written("p cnf 2 1\n1000000000000000000 2 0\n", work)
@@ -521,7 +521,7 @@ def refused_early(work: Path) -> None:
 
 
 def reading_killed(text: str, work: Path) -> None:
-    """lrupd is killed while it reads the formula, which counts like any killed lrupd."""
+    """lrupd is killed while it reads the formula. That is like any other death of lrupd."""
     path = in_place_of_lrupd(
         "case \"$*\" in *' /dev/null') kill -9 $$;; esac\nexec " + shlex.quote(PROGRAM) + ' "$@"',
         work)

@@ -294,7 +294,8 @@ def moved_together(assumes: bool, work: Path) -> None:
 
 
 def only_with(tools: Sequence[str], work: Path) -> Dict[str, str]:
-    """A PATH with only those of these programs that are installed, and what any script may call."""
+    """A PATH that has only those of these programs that are installed, and what scripts may
+    call."""
     place = work / "programs"
     place.mkdir()
     for name in [*tools, "sh", "tr", "find", "mktemp", "mkfifo", "ln", "rm", "rmdir", "perl"]:
@@ -624,7 +625,7 @@ def written_into_a_record(work: Path) -> None:
 
 def on_a_disk(kilobytes: int, words: List[object], tested: Optional[Dict[str, object]],
               work: Path) -> Answer:
-    """A disk of that size for the record, or for temporary files if there is none."""
+    """A disk of that size for the record, or, without a record, for temporary files."""
     (work / "full").mkdir()
     how = ["unshare", "-m" if os.getuid() == 0 else "-rm", "sh", "-c"]
     mounts = f"mount -t tmpfs -o size={kilobytes}k tmpfs full"

@@ -1,11 +1,11 @@
 """Runs lrup-solve in small rows, and kills each of its processes in turn, and lrupd repeatedly.
 
 Each of 10 formulas, or --count, is solved in an undisturbed run, and then once for each name of a
-process, which is killed some time after its start. The answer has to be right, or 's UNKNOWN'; if
-the front is killed, right or none. No process and no file may be left. If a run keeps a record,
-lrupd is killed up to five times: the answer has to be right, and the record is checked again. A
-program in lrupd's place that ends with a status isn't started again, and one that always dies by a
-signal starts three times."""
+process, which is killed some time after it starts. The answer has to be right, or 's UNKNOWN'; if
+the front is killed, it may be missing, but not wrong. No process and no file may be left. If a run
+keeps a record, lrupd is killed up to five times: the answer has to be right, and the record is
+checked again. A program in lrupd's place that ends with a status isn't started again, and one that
+always dies by a signal starts three times."""
 import os
 import random
 import re
@@ -88,7 +88,7 @@ class Kills:
         self.rounds: List[int] = []
 
     def round(self) -> int:
-        """The round that has begun last."""
+        """The last round that has begun."""
         return max((int(re.findall(r"\d+", path.name)[0])
                     for path in self.kept.glob("round-*.sizes")), default=0)
 
@@ -126,8 +126,8 @@ def hard(words: str, work: Path) -> Path:
 
 def killed_again(words: str, count: int, most: float, hooks: Optional[Mapping[str, object]],
                  options: Sequence[str], work: Path) -> None:
-    """The right answer, with a line for each start after the first. The record's command checks all
-    rounds."""
+    """The answer is right, with a line for each start after the first. The record's command checks
+    all rounds."""
     numbers, mark, kept, files = (random.Random(f"{words} {count}"), marked(work), work / "kept",
                                   work / "temporary")
     files.mkdir()

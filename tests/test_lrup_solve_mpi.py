@@ -69,7 +69,7 @@ def rounds_of(answer: Answer) -> int:
 
 
 def of_processes(answer: Answer, what: str) -> List[int]:
-    """This figure of each process."""
+    """This figure in the line of each process."""
     return [int(number.replace(",", ""))
             for number in re.findall(rf"^c process \d+: .*?([\d,]+) {what}", answer.out, re.M)]
 
@@ -125,7 +125,7 @@ def cubes_of_a_file(processes: int, engines: int, work: Path) -> None:
 
 
 def exchanges(work: Path) -> None:
-    """Clauses that are sent arrive or are late; some are used. Without sharing none are sent."""
+    """Clauses that are sent arrive or are late; some are used. Without sharing, none are sent."""
     for options, share in ([], True), (["--no-share"], False):
         answer = solve(3, ["-v", "-j", "1", *options, generated("pigeons 8", work)],
                        {"EXCHANGING": 50})
@@ -223,7 +223,7 @@ def breaks(answer: Answer) -> bool:
 
 
 def rests_on(what: str, late: str, work: Path) -> None:
-    """Late messages break nothing, and are dropped. Without that rule nearly every run breaks."""
+    """Late messages break nothing, and are dropped. Without that rule, nearly all runs break."""
     broken = 0
     for seed in range(3):
         words = ["-v", "-j", "1", generated(f"random 250 {seed} 5", work)]
@@ -238,8 +238,8 @@ def rests_on(what: str, late: str, work: Path) -> None:
 
 
 def lines_first(work: Path) -> None:
-    """Streams are sent in pieces once they are whole, and only then what follows from them: in a
-    run of one round engine 1 gets no gift. Without the rule it gets some."""
+    """Streams are sent only once they are whole, and clauses that rest on them only after that: in
+    a run of one round, engine 1 gets no clause. Without the rule it gets some."""
     for omitted in ({}, {"WITHOUT": "clearing"}):
         tested = {**SMALL, "FIRST_WORDS": 8000000, "EXCHANGING": 10, "LATE": "lines"}
         answer = solve(3, ["-v", "-j", "1", generated("random 220 0 5", work)],
@@ -291,7 +291,7 @@ def not_started(body: str, end: str, work: Path) -> None:
 
 
 class Running:
-    """A long run, with the ids of its processes: by MPI process, by name."""
+    """A long run, with the ids of its processes: for each MPI process, by name."""
 
     def __init__(self, formula: Path, processes: int, tested: Optional[Mapping[str, object]] = None,
                  more: Sequence[str] = (), options: Sequence[object] = ()) -> None:
@@ -360,7 +360,8 @@ def ends(process: int, name: str, number: int, cause: str, work: Path) -> None:
 
 
 def files_of_mpi(work: Path) -> None:
-    """Open MPI's files go with the processes, even if all but the cleaners are killed at once."""
+    """Open MPI's files are removed with the processes, even if all but the cleaners are killed at
+    once."""
     running = Running(generated("pigeons 11", work), 2)
     until("each process has its file", lambda: running.segments() == 2)
     for pid in {pid for one in running.ids for name, pid in one.items() if name != "cleaner"}:
@@ -370,7 +371,7 @@ def files_of_mpi(work: Path) -> None:
 
 
 def goes_on(processes: int, process: int, name: str, lost: str, work: Path) -> None:
-    """The others find the answer."""
+    """The remaining engines find the answer."""
     running = Running(generated("pigeons 9", work), processes)
     os.kill(running.ids[process][name], signal.SIGKILL)
     answer = Answer(running.end())

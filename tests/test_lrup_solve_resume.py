@@ -30,7 +30,7 @@ PROVED = "s UNSATISFIABLE"
 SCRIPT = ROOT / "examples" / "resume" / "slurm.sh"
 NOT_RESUMED = (": the run can't be resumed: restore the file, or begin again with --proofs and "
                "--replace")
-SOON = 20       # seconds, after which a run should have ended
+SOON = 20       # seconds after which a run should have ended
 
 
 def ended(words: Sequence[object], tested: Mapping[str, object], after: float,
@@ -209,7 +209,7 @@ def saved_at_the_end(number: Optional[signal.Signals], tested: Mapping[str, obje
 
 
 def second_signal(work: Path) -> None:
-    """While lrupd is stopped nothing can be saved: the second signal ends the run at once."""
+    """While lrupd is stopped, nothing can be saved: the second signal ends the run at once."""
     marked(work)
     formula, kept = generated("pigeons 11", work), work / "kept"
     recorded(["-j", "2", formula], kept, 1, SMALL)
@@ -255,8 +255,8 @@ def by_the_clock(work: Path) -> None:
 
 
 def in_jobs(work: Path) -> None:
-    """The script for Slurm, under a batch system that ends each job after its time: it warns the
-    script by a signal, or kills everything at once."""
+    """The script for Slurm, under a batch system that ends each job after its time: the system
+    warns the script by a signal, or kills everything at once."""
     numbers, mark = random.Random(3), marked(work)
     formula, kept = generated("pigeons 9", work), work / "it's kept"
     path = ":".join([str(SOLVE.parent), str(Path(PROGRAM).parent), os.environ["PATH"]])
@@ -344,8 +344,8 @@ def contradictory(kept: Path) -> None:
 
 
 def another_beginning(kept: Path) -> None:
-    """Replaces the formula's clauses at the beginning, so that an assignment satisfies another
-    formula."""
+    """Replaces the formula's clauses at the beginning, so that assignments that are found satisfy
+    another formula."""
     checkpoint = kept / f"checkpoint-{saved_rounds(kept)}.cnf"
     lines = checkpoint.read_text().splitlines(True)
     checkpoint.write_text(
@@ -430,7 +430,7 @@ def of_another(work: Path) -> None:
     (work / "d" / "formula.sha256").write_text(digest)
     want_answer(solve([*under, formula], tested=SMALL, cwd=work), 20,
                 verdict="s UNSATISFIABLE UNDER ASSUMPTIONS")
-    refused([*under, formula], "d has its proof: sh d/command checks it", work)
+    refused([*under, formula], "d already has a proof: sh d/command checks it", work)
 
 
 def kept_by_others(work: Path) -> None:
@@ -459,7 +459,7 @@ def kept_by_others(work: Path) -> None:
 
 
 def unnamed(work: Path) -> None:
-    """If the formula isn't named, it has to come by standard input."""
+    """If the formula isn't named, it has to come from standard input."""
     marked(work)
     formula, kept = generated("pigeons 7", work), work / "d"
     recorded(["-j", "2", formula], kept, 1, SMALL)
@@ -474,7 +474,7 @@ def unnamed(work: Path) -> None:
 
 
 def of_two(work: Path) -> None:
-    """Another run holds the record; a run that has just been killed ends first."""
+    """A record is refused while another run has it, but not right after that run is killed."""
     marked(work)
     formula, kept = generated("pigeons 11", work), work / "d"
     with started(command(["-j", "1", "--proofs", kept, formula]),
@@ -496,7 +496,7 @@ def unsaved(work: Path) -> None:
     lrupd = before_lrupd(f"mkdir -p {kept}/checkpoint-2.cnf", work)
     answer = solve(["-j", "2", "--lrupd", lrupd, "--proofs", kept, formula], tested=SMALL)
     want_answer(answer, 20)
-    expected = f"round 1 isn't saved: cannot write {kept}/checkpoint-2.cnf: "
+    expected = f"round 1 couldn't be saved: cannot write {kept}/checkpoint-2.cnf: "
     want(any(line.startswith(expected) for line in answer.comments), True,
          f"whether a comment says so, in\n{answer.out}")
     check_again(kept)

@@ -91,8 +91,8 @@ def randomly(seed: int, work: Path) -> None:
 
 
 def assuming(engines: int, work: Path) -> None:
-    """The clause that contradicts the assumptions comes after some rounds; the formula without them
-    is satisfiable. The record's check has the same verdict."""
+    """The clause that contradicts the assumptions comes after some rounds; the formula without
+    assumptions is satisfiable. The record's check has the same verdict."""
     clauses = [[9999, *clause] for clause in random_clauses(random.Random(7), 130, 600)]
     formula = written(dimacs(9999, clauses), work)
     for literal, status in (("-9999", 20), ("9999", 10)):
@@ -109,7 +109,7 @@ def assuming(engines: int, work: Path) -> None:
 
 
 def rows_grow(work: Path) -> None:
-    """Each row is twice the one before, up to --memory, including the formula."""
+    """Each row, including the formula, is twice the one before, up to --memory."""
     answer = solve(["-v", "-j", "2", "--memory", "3200K", generated("random 220 5", work)],
                    tested={"FIRST_WORDS": 10000})
     want_answer(answer, 20)
@@ -144,7 +144,7 @@ def one_clause(work: Path) -> None:
 
 
 def doubled_literals(work: Path) -> None:
-    """A row has each literal of a clause once: 1,500 words are enough for these four."""
+    """A row has each literal of a clause only once, so 1,500 words are enough for these clauses."""
     formula = written(
         dimacs(2, [[one] * 300 + [other] * 300 for one in (1, -1) for other in (2, -2)]), work)
     for engines in ("1", "3"):
@@ -212,10 +212,10 @@ def largest_formula(work: Path) -> None:
 
 
 class Running:
-    """A run that has reached that round, or a later one, whose lrupd will save round-N.cnf. With
-    `pause` lrupd is then stopped, and the run stays in the pause at the round's end until `go_on`;
-    slices are long, so that little is taken over before the pause. Processes that haven't ended are
-    killed when the block is left."""
+    """A run that has reached that round or a later one, at whose end lrupd will save round-N.cnf.
+    With `pause`, lrupd is then stopped, and the run stays in the pause at the round's end until
+    `go_on`; slices are long, so that few clauses are taken over before the pause. Processes that
+    haven't ended are killed when the block is left."""
 
     def __init__(self, words: Sequence[object], number: int, work: Path, pause: bool = False,
                  **tested: object) -> None:
@@ -313,7 +313,7 @@ def killed(names: List[str], status: int, cause: str, work: Path) -> None:
 def killed_in_a_pause(names: List[str], status: int, cause: str, options: Sequence[str],
                       work: Path) -> None:
     """A filter dies while it waits for lrupd to save: others may still take over what it gave away.
-    With a record another lrupd saves what the killed one hasn't."""
+    With a record, another lrupd saves what the killed one hasn't saved."""
     kill([word.format(work=work) for word in options], 1, True, 150000, names, status, cause, work)
     if options:
         check_again(work / "kept")
@@ -338,7 +338,7 @@ def ended_by(number: int, round_number: int, pause: bool, work: Path) -> None:
 
 
 def nobody_looks(pause: bool, work: Path) -> None:
-    """While lrupd is stopped, filters wait: in the pause until it saves, and in a round because
+    """While lrupd is stopped, filters wait: in the pause until lrupd saves, and in a round because
     their streams are far ahead."""
     with Running(["-j", "2", generated("pigeons 11", work)], 1, work, pause,
                  FIRST_WORDS=150000 if pause else 1 << 24, AHEAD=1000) as running:
@@ -370,7 +370,7 @@ def is_whole(path: Path) -> bool:
 
 def forged(work: Path) -> None:
     """A contradiction replaces lrupd's checkpoint before anybody has read it: the filters miss
-    their clauses. lrupd doesn't read it, and no verdict depends on it."""
+    their clauses. lrupd doesn't read the replacement, so no verdict depends on it."""
     with Running(["-j", "2", generated("pigeons 11", work)], 1, work, True,
                  FIRST_WORDS=50000) as running:
         os.kill(running.children["lrup-engines"], signal.SIGSTOP)
@@ -454,7 +454,7 @@ def read(path: Path) -> List[List[int]]:
 
 
 def impostor(body: str, status: int, cause: str, work: Path) -> None:
-    """Another program in place of lrupd, which reads the streams of round 1. It may save `$saved`,
+    """In place of lrupd there is a program that reads the streams of round 1. It may save `$saved`,
     and wait for the next round."""
     path = in_place_of_lrupd("""case "$*" in *' /dev/null') exit 3;; esac
 while [ "$1" != --rounds ]; do shift; done
@@ -508,8 +508,8 @@ def stays_small(work: Path) -> None:
              f"kilobytes of {name}, {before[name]} and then {size}")
 
 
-# Rules of sharing between rounds: leaving one out is noticed, and with the rule nothing of the
-# kind happens.
+# Rules of sharing between rounds: if a rule is left out, some run breaks; with all rules, none
+# does.
 
 
 def rests_on(what: str, found: str, tested: Mapping[str, object], work: Path) -> None:

@@ -1,8 +1,8 @@
-"""Runs lrup-solve with common solvers by --solver, and with misbehaving scripts.
+"""Runs lrup-solve --solver with common solvers, and with misbehaving scripts.
 
 CaDiCaL, CryptoMiniSat and PicoSAT, if they are on the PATH, and the example solver run alone,
 together and beside engines, on known formulas and random ones, in one round and in many. A solver
-that dies, lies, writes nonsense or hangs is lost: alone it gives no verdict; beside a good solver
+that dies, lies, writes nonsense or hangs is lost: alone, it gives no verdict; beside a good solver,
 the answer is the good solver's. No process of a command outlives the run."""
 import os
 import random
@@ -44,7 +44,7 @@ def by(commands: Sequence[str]) -> List[str]:
 
 
 def example_solver(work: Path) -> str:
-    """LRUP text, with hints."""
+    """The command of the example solver, which writes LRUP text with hints."""
     exact = EXAMPLES.parent / "tools" / "exact"
     sources = [*sorted((EXAMPLES / "solver").glob("*.c")),
                *(exact / f"{name}.c" for name in ("errors", "formula", "lists", "literals"))]
@@ -119,8 +119,8 @@ def gaps(work: Path) -> None:
 
 
 def small_outbox(work: Path) -> None:
-    """Engines beside a solver, which reads no outbox: more clauses go through a small outbox than
-    it holds, each with three words or more. The proof is longer than what a pipe holds, so that
+    """Engines beside a solver, which reads no outbox: more clauses, each of three words or more, go
+    through a small outbox than it holds. The proof is longer than what a pipe holds, so that
     engines don't get ahead of their filters, which are slow in a build for tests."""
     answer = solve(["-v", "-j", "2", *by(["sleep 1000 # %formula %proof"]),
                     given("random 235 3", work)],
@@ -133,7 +133,7 @@ def small_outbox(work: Path) -> None:
 
 
 def renamed(words: List[str], names: Mapping[str, str]) -> List[str]:
-    """Renumbers an addition or a deletion; literals stay."""
+    """Renumbers an addition or a deletion; the literals don't change."""
     end = words.index("0") if words[1] != "d" else 1
     return [names.get(words[0], words[0]), *words[1:end + 1],
             *(names.get(word, word) for word in words[end + 1:])]
@@ -144,7 +144,7 @@ def by_example(name: str, status: int, work: Path) -> None:
 
 
 def early(seed: int) -> str:
-    """Early inprocessing, by the options that this CaDiCaL has."""
+    """The options for early inprocessing that this CaDiCaL has."""
     has = run(["cadical", "--help"]).out if shutil.which("cadical") else ""
     options = [option for option in EARLY if option.split("=")[0] + "=" in has]
     return " ".join(["cadical -q", *options, f"--seed={seed} %formula %proof"])
@@ -185,8 +185,8 @@ def names(work: Path) -> None:
 
 
 def sealed(work: Path) -> None:
-    """A solver can't write to the copy of a formula from a pipe, to have the changed copy
-    refuted."""
+    """If a formula comes from a pipe, a solver can't write to its copy, and so can't have a changed
+    copy refuted."""
     text = generated("random 120 7 3.6", work).read_text()
     writing = ("(printf 'p cnf 1 2\\n1 0\\n-1 0\\n' > %formula; printf '1 0' 1<> %formula) "
                "2> /dev/null; " + CADICAL)
@@ -250,7 +250,7 @@ STANDING = ["sleep 1000 # %formula %proof", "sleep 1000 > %proof # %formula",
 
 
 def wrong(command: str, cause: str, work: Path) -> None:
-    """A wrong solver alone gives a reason, not a verdict; beside a good solver, the good one
+    """Alone, a wrong solver gives a reason, not a verdict; beside a good solver, the good one
     answers."""
     formula = given("random 120 5", work)
     answer = solve(["--time", "60", *by([command]), formula])
@@ -262,7 +262,7 @@ def wrong(command: str, cause: str, work: Path) -> None:
 
 
 def nothing_runs(command: str, cause: str, work: Path) -> None:
-    """If the only solver ends at its start, that is an error, not an answer."""
+    """If the only solver exits as soon as it is started, that is an error, not an answer."""
     formula = given("random 120 5", work)
     answer = solve(by([command]) + [formula])
     said = f"lrup-solve: nothing could run: {cause}"
@@ -328,7 +328,7 @@ def background(work: Path) -> None:
 
 def killed(number: int, whom: str, work: Path) -> None:
     """The first process or an engine's process is killed: no process of the command is left. The
-    hard formula isn't solved meanwhile."""
+    formula is too hard to be solved meanwhile."""
     mark, command = marked(work), "sleep 1000 & " + CADICAL
     words = [SOLVE, "--lrupd", PROGRAM, *by([command]), given("pigeons 11", work)]
     with started(words, stdout=subprocess.PIPE, text=True) as running:
@@ -425,8 +425,8 @@ def rows() -> List[Row]:
         (["--solver", "cadical %proof"], need + "'cadical %proof'"),
         (["--solver", CADICAL, "--assume", "{cube}"],
          "--assume and --solver: a solver doesn't get the assumptions"),
-        (["--solver", CADICAL, "-j", "64"], "more than 64 engines, with those of --solver"),
-        (["--solver", CADICAL] * 65, "more than 64 engines, with those of --solver"))]
+        (["--solver", CADICAL, "-j", "64"], "more than 64 engines, including solvers"),
+        (["--solver", CADICAL] * 65, "more than 64 engines, including solvers"))]
     return found
 
 

@@ -16,7 +16,7 @@ from solving import FLAGS, LRUP_SOLVE, PROGRAM, Answer, in_place_of_lrupd
 FOLDER = ROOT / "tools" / "solve" / "front"
 MARK = re.compile(r"// trusted \(([^)]*)\)")
 LINES = (FOLDER / "front.c").read_text().splitlines(keepends=True)
-# The words of each mark, by its line's number from 0 on.
+# The words of each mark, by the number of its line, counting from 0.
 MARKS = {number: found[1] for number, line in enumerate(LINES) for found in MARK.finditer(line)}
 UNSATISFIABLE, UNDER = "s UNSATISFIABLE", "s UNSATISFIABLE UNDER ASSUMPTIONS"
 # While the front is stopped, lrupd ends, and a line is added after its last one.

@@ -20,8 +20,8 @@ FILES = {"formula": FOUR, "one": ONE, "two": TWO}
 FOUR_SOLVERS = [f"bmc-four.{number}" for number in range(1, 5)]
 ASSUMED = [example("assumed.cnf"), example("assumed.lrup")]
 CUBE = example("assumed.cube")
-# Watched runs, and how many lines --watch prints: the end of each stream in each round, and the
-# start of each round but the first.
+# Watched runs, and how many lines --watch prints: one at the end of each stream in each round, and
+# one at the start of each round but the first.
 TOLD = [(["--watch", *options, "formula", *["one"] * count], count)
         for options in ([], ["--serial"]) for count in (1, 5)]
 TOLD += [(["--watch", *options, "--rounds", "d", "formula", "d/round-1.stream-1"], 3)
@@ -41,7 +41,7 @@ def recorded(name: str, options: str, *files: str) -> Named:
 
 def streams(name: str, options: str, status: int, *said_and_text: Any,
             formula: str = FOUR) -> Named:
-    """The report's line for each stream, and the streams' texts, or what makes them."""
+    """For each stream come its line in the report, and its text or the function that makes it."""
     said, texts = said_and_text[::2], said_and_text[1::2]
     names = [f"stream{number}" for number in range(1, len(texts) + 1)]
     files = {"formula": formula, **dict(zip(names, texts))}
@@ -287,7 +287,7 @@ def refused_assumptions() -> Iterator[Named]:
 
 
 def watched() -> Iterator[Named]:
-    """With --watch standard error has lines during the run; standard output and the status are the
+    """With --watch, standard error has lines during the run; standard output and the status are the
     same."""
     said = ["0 added, 0 deleted, bad line 1 (spelling)", "0 added, 0 deleted, ended"]
     lines = "".join(f"lrupd: stream {number}: {words}\n" for number, words in enumerate(said, 1))
@@ -322,7 +322,7 @@ def large() -> Iterator[Named]:
 
 def largest() -> Iterator[Named]:
     """Up to 2 GB: a row with room for 110,000,000 literals, and a formula of more than 1 GB, which
-    is one long comment before the four clauses."""
+    has one long comment before the four clauses."""
     for options in WAYS:
         yield streams(f"a room of 110,000,000 literals {options}", f"--room 110000000 {options}", 0,
                       BOTH_ADDED, TWO)
@@ -341,7 +341,7 @@ def little_memory() -> Iterator[Named]:
 
 
 def full_outputs() -> Iterator[Named]:
-    """A standard error that can't be written changes no status."""
+    """If standard error can't be written, the status is the same."""
     cut = "lrupd: cannot write report\n"
     for name, shell, status, words, err in [
             ("a full output", 'exec "$@" > /dev/full', 7, ["formula", "one"], cut),
@@ -356,8 +356,8 @@ def full_outputs() -> Iterator[Named]:
 
 
 def usage(program: str, words: List[str], work: Path) -> None:
-    """No report, but help or one usage fault, not in lrupd's own words; its first line comes
-    once."""
+    """There is no report, but help or one usage fault, whose words aren't lrupd's own. Its first
+    line comes once."""
     out, err, status = answered(program,
                                 Wanted(words, 2, files={**FILES, "cube": CUBE.read_text()}), work)
     want((out, status), ("", 2), "the output and the status")

@@ -1,8 +1,8 @@
 """Runs the program with --checkpoint, and compares its answers and checkpoints.
 
-Rows have the checkpoint's bytes; for recorded streams the bytes follow from the rules. If no file
-may be created, nothing is touched; if saving fails, there is still a report. A checkpoint is a
-formula that the program accepts; a part of a checkpoint, as a full disk leaves it, isn't."""
+Rows have the checkpoint's bytes; for recorded streams, they follow from the rules. If no file may
+be created, nothing is touched; if saving fails, there is still a report. A checkpoint is a formula
+that the program accepts; a part of a checkpoint, as a full disk leaves it, isn't."""
 import os
 import shutil
 from pathlib import Path
@@ -96,7 +96,7 @@ def formulas() -> Iterator[Named]:
 
 
 def several_streams() -> Iterator[Named]:
-    """Clauses that all streams dropped are left out, those that only some dropped aren't;
+    """Clauses that all streams dropped are left out, but not those that only some dropped;
     identities are in order, no matter who owns them."""
     both = ["5 d 1 2 0\n", "6 d 3 1 0\n"]
     kept = "c id 2\n-1 2 0\nc id 3\n1 -2 0\nc id 4\n-1 -2 0\n"
@@ -138,7 +138,7 @@ def not_created() -> Iterator[Named]:
 
 
 def order_of_work() -> Iterator[Named]:
-    """The file is created after everything is opened, and once there is a layout."""
+    """The file is created once everything has been opened and there is a layout."""
     refused = {**FILES, "refused": "p cnf 1\n", "cube": "-2  0\n"}
     for cause, status, words in [
             ("cannot read formula", 5, ["absent", "one"]),
@@ -284,7 +284,7 @@ def recorded(program: str, way: str, formula: Path, names: List[str], part: floa
     streams = []
     for name in names:
         lines = example(name).read_text().splitlines(True)
-        # In turn, a line comes after what it cites if all streams have that many lines.
+        # All streams keep as many lines, so that, in turn, a line comes after what it cites.
         count = int(part * min(len(example(other).read_text().splitlines()) for other in names))
         streams.append(written("".join(lines[:count]), work, name))
     entries, saved = live(formula, streams), work / "saved"

@@ -1,10 +1,10 @@
 """Counts the program's instructions with valgrind, and compares them with the recorded figures.
 
 PROGRAM is built by LLVM. With --serial, runs over the same files take the same number of
-instructions. The count is for the lines, so a run over empty streams is subtracted. Each count has
-to be within 5 % of its figure: the toolchain is fixed, and the margin is for other C libraries and
-processors. If a change is meant to move a count, replace its figure by the printed one. How the
-work grows with an assumed cube is compared by ratios, which need no figure."""
+instructions. Only the lines are to be counted, so a run over empty streams is subtracted. Each
+count has to be within 5 % of its figure: the toolchain is fixed, and the margin is for other C
+libraries and processors. If a change is meant to move a count, replace its figure with the printed
+one. How the work grows with an assumed cube is compared by ratios, which need no figure."""
 import os
 import re
 from pathlib import Path
@@ -46,8 +46,8 @@ def four_solvers(program: str, work: Path) -> None:
 
 
 def long_lines(program: str, work: Path) -> None:
-    """A line with the most literals, and one with the most hints, neither whole within a read. The
-    third hint is one too many."""
+    """A line with the most literals, and one with the most hints, neither of which fits into a
+    read. The third hint is one too many."""
     stream = written(f"5 {'2 ' * LITERALS}0 1 2 0\n6 2 0 1 2 {'100001 ' * (HINTS - 2)}0\n", work)
     want_count(program, example("four-clause.cnf"), [stream],
                report(["1 added, 0 deleted, bad line 2 (excess 100001)"], 3), LONG_LINES)
@@ -65,8 +65,8 @@ def assumed(program: str, literals: int, lines: int, work: Path) -> int:
 
 
 def lines_under_a_cube(program: str, work: Path) -> None:
-    """A cube is searched by halving: lines under a large cube take little more than under a small
-    one."""
+    """A cube is searched by bisection: lines under a large cube need only a few more instructions
+    than under a small one."""
     few, many = [assumed(program, count, LINES, work) - assumed(program, count, 0, work)
                  for count in (1, ASSUMED)]
     print(f"{many} instructions under {ASSUMED:,} literals, {few} under one")

@@ -1,5 +1,5 @@
-"""Runs the program under valgrind: each block of memory has to be freed, and no invalid memory
-used."""
+"""Runs the program under valgrind: each block of memory has to be freed, and no invalid memory may
+be used."""
 from pathlib import Path
 from typing import Iterator, List, Tuple
 
@@ -20,8 +20,8 @@ RUNS: List[Tuple[int, List[object]]] = [
     (4, [FIRST, FIRST]),
     (5, [FOUR, FIRST, example("no such file")]),
 ]
-# Runs in rounds: to the empty clause, without it, to a wrong line and to faults; with sizes of
-# round 2.
+# Runs in rounds that end with the empty clause, without it, with a wrong line and with faults; and
+# the sizes of round 2.
 ROUNDS: List[Tuple[int, Texts, str]] = [
     (0, ONE.texts, "1 9 9\n"),
     (0, TWO.texts, "2 9 9\n"),

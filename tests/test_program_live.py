@@ -21,7 +21,7 @@ BAD = "lrupd: stream 1: 0 added, 0 deleted, bad line 1 (spelling)\n"
 
 
 class Late(NamedTuple):
-    """Words, the pipes, which of them have their writers late, in the order of opening, and the
+    """The arguments, the pipes, those whose writers come late, in the order of opening, and the
     answer without the lines of --watch."""
     words: str
     pipes: List[str]
@@ -29,7 +29,7 @@ class Late(NamedTuple):
     answer: Ran
 
 
-LATE = 1.5  # seconds for which a late pipe has no writer, with --watch after it was named
+LATE = 1.5  # seconds for which a late pipe has no writer; with --watch, after it is named
 TEXTS = {"formula": FOUR, "cube": "-2 0\n", "one": "5 2 0 1 2 0\n7 0 5 3 4 0\n",
          "other": "6 -2 0 3 4 0\n", stream_name(1): "5 2 0 1 2 0\n", "d/round-2.sizes": "1 9 9\n",
          stream_name(2): "6 0 5 3 4 0\n"}
@@ -99,8 +99,8 @@ def checkpoint_at_the_end(program: str, work: Path) -> None:
 
 
 def late_writers(row: Late, program: str, work: Path) -> None:
-    """With --watch each pipe that has no writer for a second is named; without --watch none is.
-    Each late pipe gets its writer after some time, with --watch after the line that names it."""
+    """With --watch, each pipe that has no writer for a second is named; without it, none is. Each
+    late pipe gets its writer after some time, with --watch after the line that names the pipe."""
     for name in row.pipes:
         pipe = piped(work / name)
         if name not in row.late:

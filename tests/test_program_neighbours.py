@@ -21,12 +21,12 @@ Process = Any
 
 
 def own(identity: int) -> str:
-    """The identity of stream 1 of two for an identity of a single stream."""
+    """Turns an identity of a single stream into one of stream 1 of two."""
     return str(identity if identity <= CLAUSES else CLAUSES + 1 + 2 * (identity - CLAUSES - 1))
 
 
 def renumbered(line: str) -> str:
-    """A line of a single stream, as a line of stream 1 of two."""
+    """Turns a line of a single stream into one of stream 1 of two."""
     words = line.split()
     if words[1] == "d":
         return " ".join([own(int(words[0])), "d",
@@ -53,7 +53,7 @@ def is_alone(process: Process) -> bool:
 
 
 def silent(process: Process, serial: bool) -> Pieces:
-    """Writes nothing until stream 1 has ended. With --serial stream 1 waits for this stream, which
+    """Writes nothing until stream 1 has ended. With --serial, stream 1 waits for this stream, which
     then stays silent for only a second."""
     yield 1.0
     while not serial and process.poll() is None and not is_alone(process):

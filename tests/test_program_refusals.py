@@ -4,10 +4,10 @@ in turn, and compares each answer and checkpoint with the permitted ones.
 It builds refuse.c, which the loader puts before the C library, and runs the program with the first
 call of a kind refused, then the second, and so on until a run meets no refusal; that run has to
 give the normal answer. Then it does so with a few of the crates' tests: runs without the program
-around them, calls that can be repeated, and calls that allocate nothing. They are as `rt ci` built
-them; if there are none, --rt builds them. If a thread isn't started, the started ones have ended
-before that is reported, and pipes that stay open delay nothing; a program that waits for no thread
-has to be found wrong. Last, the memory of a store has to be given back."""
+around them, calls that can be repeated, and calls that allocate nothing. Tests that `rt ci` built
+are used as they are; others are built with --rt. If a thread isn't started, those that were started
+have to end before that is reported, and pipes that stay open may delay nothing; a program that
+waits for no thread has to be found wrong. Last, the memory of a store has to be given back."""
 import itertools
 import os
 import re
@@ -46,7 +46,7 @@ ERRORS_OF_OPENINGS = ["EACCES", "EMFILE", "ELOOP", "ENOENT"]
 ERRORS_OF_CREATIONS = ["EACCES", "EMFILE", "ENOSPC"]
 ERRORS_OF_FLUSHES = ["EIO", "ENOSPC"]
 MANY = 5_000
-# Both need the same number of allocations: lines need none.
+# Both inputs need the same number of allocations: lines need none.
 ONE_LINE, MANY_LINES = "a line and an import", f"{MANY} lines and imports"
 BURDENED = " under assumptions, after a drop"
 FEW_CLAUSES, MANY_CLAUSES = "two clauses", f"{MANY} clauses"
@@ -251,7 +251,7 @@ def tests() -> Iterator[Test]:
     yield Test("stream_threads", "ring::a_refused_ring_can_be_made_again", [])
     yield Test("stream_threads", "jobs::refused_jobs_can_be_made_again", ["AllocError"], last=20)
     # Some allocations are the test's own; each later one is for the set of dropped identities, and
-    # ends the stream.
+    # its refusal ends the stream.
     yield Test("stream_check", "memory::a_refused_growth_ends_the_reading", ["AllocError"])
     # The last allocation is the test's own, and comes after a thousand calls of each kind.
     yield Test("propagate", "the_ninth_allocation_comes_after_all_calls",
@@ -321,10 +321,10 @@ def unjoined(folder: Path) -> None:
 
 
 def leave(machine: Machine, folder: Path, count: int) -> Tuple[int, List[str]]:
-    """How many threads were refused beside a number of pipes that stay open after their first line,
-    and what went wrong.
+    """Refuses each thread in turn, beside that many pipes that stay open after their first line.
+    Returns how many threads were refused, and what went wrong.
 
-    The run ends all the same, and reads no pipe.
+    The run has to end all the same, and to read no pipe.
     """
     line, wrong = b"5 2 0 1 2 0\n", []
     paths = [piped(folder / f"pipe_{count}_{number}") for number in range(1, count + 1)]

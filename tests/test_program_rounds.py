@@ -1,7 +1,7 @@
 """Runs the program with --rounds, and compares its answers and checkpoints.
 
-Each row runs with threads and with --serial. Rounds end by each verdict and by wrong lines, in the
-first one and in later ones; streams and sizes are files and pipes, and a checkpoint is replaced
+Each row runs with threads and with --serial. Rounds end with each verdict and with wrong lines, the
+first one and later ones; streams and sizes are files and pipes, and a checkpoint is replaced
 between two rounds. What stops a round is in test_program_rounds_faults.py."""
 import re
 import shutil
@@ -46,7 +46,7 @@ def ends() -> Iterator[Named]:
     yield from rounds("a stream that isn't one of the round's", 0, texts, end, saved=saved,
                       others={stream_name(2, 2): BAD, stream_name(3, 0): BAD,
                               "d/round-2.stream-01": BAD})
-    # Files of round 1 are given as arguments; files of no round are ignored.
+    # Round 1 is given by arguments: its files in the folder are ignored, and so are round 5's.
     yield from rounds("sizes and a formula of round 1, and sizes of round 5", 0, texts, end,
                       saved=saved, others={"d/round-1.sizes": "x", "d/round-1.cnf": OTHER,
                                            "d/round-5.sizes": "x", "d/round-02.sizes": "x"})
@@ -83,7 +83,7 @@ def places() -> Iterator[Named]:
 
 def formulas() -> Iterator[Named]:
     """Only the clauses and the header's variables are carried over; the next identities follow the
-    places of the checkpoint."""
+    numbers of the checkpoint's clauses."""
     def formula(text: str) -> Dict[str, str]:
         return {"formula": text}
 
@@ -243,8 +243,8 @@ def lay(texts: Texts, work: Path) -> None:
 
 
 def whole_when_opened(program: str, way: List[str], work: Path) -> None:
-    """A producer makes the pipe of a round's sizes before the previous round ends: once it is read,
-    the checkpoint is whole, and then the round's streams are made."""
+    """A producer makes the pipe of a round's sizes before the previous round ends: once that pipe
+    is opened, the checkpoint is whole, and then the round's streams are made."""
     texts, said, saved = TWO
     lay(texts[:1], work)
     seen, number = [], 2
@@ -320,7 +320,8 @@ def unended_sizes(size: int, program: str, way: List[str], work: Path) -> None:
 
 
 def killed(program: str, way: List[str], work: Path) -> None:
-    """A run killed in round 2 leaves round 1's checkpoint, and another run continues with it."""
+    """A run that is killed in round 2 leaves round 1's checkpoint, and another run continues with
+    it."""
     texts, said, saved = TWO
     lay([texts[0], ["", texts[1][1]]], work)
     (work / stream_name(2)).unlink()
@@ -343,7 +344,7 @@ def killed(program: str, way: List[str], work: Path) -> None:
 
 def watched_rounds(texts: Texts, out: str, lines: Sequence[str], program: str, way: List[str],
                    work: Path) -> None:
-    """With --watch standard error has these lines; the streams of a round may end in any order."""
+    """With --watch, standard error has these lines; the streams of a round may end in any order."""
     lay(texts, work)
     found = run([program, "--watch", *TRIES.split(), *way, *first_words(texts)], cwd=work)
     err = re.sub(r"paused for \d+ ms$", "paused", found.err, flags=re.M)
@@ -367,7 +368,7 @@ def lines_of(said: Sequence[str]) -> List[str]:
 
 
 def pause(program: str, way: List[str], work: Path) -> None:
-    """With --watch a round that is held back is reported."""
+    """With --watch, a round that is held back is reported."""
     texts, said, _ = ONE
     lay(texts, work)
     piped(work / "d/round-2.sizes")
@@ -390,8 +391,8 @@ def pause(program: str, way: List[str], work: Path) -> None:
 
 def many(count: int, limits: str, options: str, program: str, way: List[str], work: Path) -> None:
     """The formula says that x1 holds, that each variable implies the next, and that the last
-    doesn't hold: round R derives the next variable, and drops what it used. No file stays open,
-    and no memory is kept: there is enough for a few rounds."""
+    doesn't hold: round R derives the next variable, and drops what it used. No file stays open, and
+    no memory is kept: there is only enough for a few rounds."""
     texts, saved = [], []
     for number in range(1, count):
         clauses = count + 2 - number

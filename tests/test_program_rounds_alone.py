@@ -1,6 +1,6 @@
 """Runs the program with --rounds, and each of these rounds separately, with --checkpoint, on the
-checkpoint of the round before: the last report is that of the last run, and each file has the same
-bytes.
+checkpoint of the round before: the last report has to be that of the last run, and each file has to
+have the same bytes.
 
 Recorded streams are cut into rounds, and random ones are derived on the way, with some wrong
 lines."""
@@ -17,7 +17,7 @@ from rounds import first_words, saved_name, stream_name
 
 TRIES = ["--tries", "1000000"]
 WAYS: List[List[str]] = [[], ["--serial"]]
-# Each with its numbers of rounds.
+# Each with the numbers of rounds into which it is cut.
 RECORDED = [("four-clause.cnf", ["four-clause.lrup"], (1, 2)),
             ("pigeonhole.cnf", ["pigeonhole.lrup"], (2, 7)), ("bmc.cnf", ["bmc.lrup"], (3, 9)),
             ("pigeonhole.cnf", ["pigeonhole-two.1", "pigeonhole-two.2"], (3,)),
@@ -117,7 +117,8 @@ class Writer:
 
     def write_line(self) -> None:
         kind, live = self.numbers.random(), sorted(self.clauses)
-        # Usually wrong; clauses of other streams aren't cited, since their timing is unknown.
+        # This is usually wrong. Clauses of other streams aren't cited, since their timing is
+        # unknown.
         if kind < 0.004:
             self.lines.append(f"{self.next} {self.numbers.choice((1, -2, 99))} 0 "
                               f"{self.numbers.choice([*live, 10 ** 9])} 0")

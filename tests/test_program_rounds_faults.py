@@ -239,7 +239,7 @@ def sizes() -> Iterator[Named]:
 
 
 def counts() -> Iterator[Named]:
-    """The number of streams stays the same, too."""
+    """Without a file of sizes, the number of streams stays the same, too."""
     def derived(count: int, first: int = 5) -> List[str]:
         return [f"{number} 2 0 1 2 0\n" for number in range(first, first + count)]
 

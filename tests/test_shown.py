@@ -2,7 +2,7 @@
 
 A command comes after '$ ' in a block that is indented by four spaces or more. If its line ends with
 a backslash, a bar or '&&', it continues on the next one. The text below it is the expected output,
-including standard error: a line '..' stands for any lines, and in a line with lrup-solve's times
+including standard error: a line '..' stands for any lines, and in a line with lrup-solve's times,
 each number stands for any other. If there is no text, any output is fine. Some commands aren't run,
 since they would prove the program: see NOT_RUN. Then the examples' scripts get wrong arguments,
 files and answers."""
@@ -19,8 +19,8 @@ from solving import LRUP_SOLVE, PROGRAM, SOLVE
 
 LIMIT = 120  # seconds for a page
 NOT_RUN = ["make try", "make install PREFIX=$HOME/.local", "sudo make packages && make test"]
-# The files in a page's folder besides the examples, which are copies and generated formulas; and
-# the packages that the page's commands need.
+# The files in a page's folder besides the examples: copies and generated formulas; and the packages
+# that the page's commands need.
 PAGES: List[Tuple[str, Sequence[str], Sequence[str]]] = [
     ("README.md", ["random 150 1 > formula.cnf"], ["cadical"]),
     ("docs/USING.md", ["random 150 1 > formula.cnf"], ["cadical", "cryptominisat5"]),
@@ -119,7 +119,7 @@ PROGRAMS = {"lrupd": Path(PROGRAM), "lrup-solve": SOLVE,
 
 
 def all_known() -> List[Row]:
-    """Each command that isn't run is on a page."""
+    """Each command in NOT_RUN has to be on a page."""
     texts = {command.text for name, *_ in PAGES for command in commands_of(ROOT / name)}
     return [(f"not run: {text}", unknown, text) for text in NOT_RUN if text not in texts]
 
@@ -138,7 +138,7 @@ def refused(script: str, words: Sequence[str], given: bytes, said: str, status: 
 
 
 def wrong_answers(script: str, words: Sequence[str], what: str) -> Iterator[Row]:
-    """The scripts refuse these answers to a satisfiable question; one is too short for its
+    """The scripts refuse these answers to a satisfiable question; one answer is too short for its
     formula."""
     name, cause = (Path(script).name,
                    "the answer isn't s SATISFIABLE with an assignment of this formula")

@@ -4,10 +4,10 @@ There are 300 (or --count) random runs of one to five solvers, with and without 
 seven rounds, some under an assumption, some with new hints; and as many garbled records. The core
 has to consist of clauses of the formula; lines have to be numbered densely, and each clause has to
 be cited, and deleted right after its last use. With the commands that lrup-trim prints, lrupd has
-to accept the lines over the core and over the formula; of garbled streams, both or none, as the
-LRAT checker does; and none if the formula is satisfiable. Records of lrup-solve are trimmed if
-CaDiCaL's library is installed. While streams are rewritten and truncated, all outputs are written
-or none. lrup-trim is built for tests, with -fsanitize=address,undefined if the compiler can."""
+to accept the lines over the core and over the formula; for garbled streams, both or none, as the
+LRAT checker does, and none if the formula is satisfiable. Records of lrup-solve are trimmed if
+CaDiCaL's library is installed. While streams are rewritten and truncated, all outputs or none are
+written. lrup-trim is built for tests, with -fsanitize=address,undefined if the compiler can."""
 import hashlib
 import mmap
 import os
@@ -45,7 +45,7 @@ def outputs_of(work: Path, names: Sequence[str] = OUTPUTS) -> List[object]:
 
 
 def core_of(path: Path) -> Tuple[int, List[int], List[Clause]]:
-    """The header's variables, and each clause's number and literals: a line for each."""
+    """The header's number of variables; each clause's number and literals, a line for each."""
     header, *lines = path.read_text().splitlines()
     numbers = [int(line[len("c id "):]) for line in lines[::2] if line.startswith("c id ")]
     clauses = [[int(word) for word in line.split()] for line in lines[1::2]]
@@ -113,7 +113,7 @@ def are_right(formula: Path, said: str, work: Path, status: int = 0) -> None:
 
 def trimmed(formula: Path, proof: Sequence[Path], work: Path, assumptions: Optional[Path] = None,
             rehints: bool = False) -> str:
-    """The printed lines."""
+    """Checks all outputs of lrup-trim, and returns the lines that it prints."""
     words = [*(["--assume", assumptions] if assumptions else []), *["--re-hint"] * rehints]
     done = trim([*outputs_of(work), *words, formula, *proof], work)
     want((done.err, done.status, (work / "lrat.re-hint").exists()), ("", 0, False),
@@ -140,7 +140,7 @@ def proof_in_rounds(formula: Path, streams: List[Path], rounds: int, work: Path)
 
 
 def selected(path: Path, literal: int) -> None:
-    """Each clause gets this literal of a new variable, so the streams derive it."""
+    """Adds this literal of a new variable to each clause, so the streams derive the literal."""
     lines = []
     for line in path.read_text().splitlines():
         words = line.split()
@@ -167,7 +167,7 @@ def at_random(seed: int, work: Path) -> None:
 
 
 def longer_than_a_row(output: str, formula: str, work: Path) -> None:
-    """Checks this output with small rows of the filter, by the line that lrup-trim prints."""
+    """Checks this output with small rows of the filter, with the command that lrup-trim prints."""
     trimmed(example("bmc.cnf"), [example("bmc.lrup")], work)
     os.symlink(example("bmc.cnf"), work / "bmc.cnf")
     command = (f'"$1" --rounds live --memory 48K {formula} {output} | {{ read ready && '
@@ -179,8 +179,8 @@ def longer_than_a_row(output: str, formula: str, work: Path) -> None:
 
 
 def two_halves(count: int, rounds: int, work: Path) -> None:
-    """A pigeonhole formula, and a satisfiable one over other variables: the core is of the first
-    only."""
+    """A pigeonhole formula, and a satisfiable one over other variables: the core has clauses of the
+    first only."""
     pigeons = written(run([sys.executable, GENERATOR, "pigeons", "5"]).out, work, "pigeons")
     first, numbers = read_formula(pigeons), random.Random(count)
     below = max(abs(literal) for clause in first for literal in clause)
@@ -218,7 +218,7 @@ def whole_pages(work: Path) -> None:
 
 
 def other_hints(work: Path) -> None:
-    """With new hints fewer lines are needed."""
+    """With new hints, fewer lines are needed."""
     streams = [example(name) for name in ("bmc-four.1", "bmc-four.2", "bmc-four.3", "bmc-four.4")]
     lines = []
     for rehints in (False, True):
@@ -254,8 +254,8 @@ def few_in_rounds(proof: Proof, stream: str, work: Path) -> None:
 
 
 def fewer_streams(work: Path) -> None:
-    """Round 2 has fewer streams, by its sizes; the file of another stream is ignored, and so is a
-    file after the round with the empty clause."""
+    """According to its sizes, round 2 has fewer streams; the file of another stream is ignored, and
+    so is a file after the round with the empty clause."""
     files = {"round-1.stream-1": "5 2 0 1 2 0\n5 d 1 0\n", "round-1.stream-2": "6 d 4 1 0\n",
              "round-2.sizes": "1 9 9\n", "round-2.stream-1": "5 1 0 4 2 0\n6 0 5 4 3 0\n",
              "round-2.stream-2": "x", "round-3.stream-1": "x"}

@@ -1,4 +1,4 @@
-/* The sweep has to refuse this program: it starts six threads, as lrupd does for three streams, and
+/* The sweep has to reject this program: it starts six threads, as lrupd does for three streams, and
    if one isn't started, it says so without waiting for the others. It tests the tests, and isn't
    part of lrupd. */
 #include <pthread.h>

@@ -1,5 +1,5 @@
 #!/bin/sh
-# Writes bash completions of the options that each program's --help names:
+# Writes bash completions for the options that each program's --help names:
 #
 #     sh tools/completions.sh PROGRAMS FOLDER
 #

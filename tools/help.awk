@@ -3,7 +3,8 @@
 #     awk -v program=lrup-check -f tools/help.awk docs/lrup-*.1
 #
 # The program's own page has the synopsis and, up to .Pp, what the program does. Each item of a list
-# below a comment 'help of lrup-solve, lrup-check' is taken up to the end of its first sentence.
+# below a comment like 'help of lrup-solve, lrup-check' is taken up to the end of its first
+# sentence.
 
 # Returns the line without macros.
 function plain(line,    end, name) {

@@ -52,7 +52,7 @@ def write_formula(path, clauses, literals):
 
 
 def best(program, formula, out):
-    """For each way of saving the best pass, in milliseconds."""
+    """For each way of saving, the best pass in milliseconds."""
     lines = subprocess.run([program, formula, out], check=True, capture_output=True,
                            text=True).stdout.splitlines()
     found = {}

@@ -1,5 +1,5 @@
-/* printing FORMULA OUT: prints a formula's clauses from an array to a file, by code of its own
- * with a buffer of 65,536 bytes, and by fprintf, and prints the nanoseconds of each pass. */
+/* printing FORMULA OUT: prints a formula's clauses from an array to a file, with code of its own
+ * and a buffer of 65,536 bytes, and with fprintf. Also prints the nanoseconds of each pass. */
 #include <fcntl.h>
 #include <stdint.h>
 #include <stdio.h>

@@ -7,8 +7,8 @@ The formulas are random 3-SAT, pigeonholes, and the bounded model check of examp
 refutes each of them, and the filter makes a stream of its proof. Then, N times (5 by default),
 check.c of bench/program checks the stream, and the filter reads it as it is, with its hints
 shuffled and with as many wrong ones added, and the solver's proof as text and in binary. All files
-are cached; the least processor time of each counts. Needs Python 3, a C compiler and `cadical` on
-the PATH."""
+are cached, and for each program the run with the least processor time counts. Needs Python 3, a C
+compiler and `cadical` on the PATH."""
 import argparse
 import os
 import random
@@ -38,8 +38,8 @@ def make_formula(words, path):
 
 
 def with_other_hints(stream, more, out):
-    """Writes the stream with the hints of each line shuffled, and if `more` as many random ones
-    added."""
+    """Writes the stream with the hints of each line shuffled and, if `more`, with as many random
+    ones added."""
     numbers = random.Random(1)
     with open(stream) as lines, open(out, "w") as file:
         for line in lines:

@@ -5,10 +5,10 @@
 
 SOLVE, lrup-solve with two engines, and TRIM, lrup-trim, make the proofs, which FOLDER keeps. lrupd,
 both checkers of ACL2, and check.c, an unverified one, have to accept all of them; each runs N times
-in turn, 3 by default, and the least user time counts. With 0 nothing is timed. Then one fault each
-is put into copies of an LRAT proof. The tables of RESULTS are printed. The status is 1 if a good
-proof is refused, if lrupd accepts a faulty proof that both others refuse, except a proof with a
-literal twice, or if lrupd accepts a proof for a satisfiable formula. It needs Python 3, a C
+in turn, 3 by default, and the least user time counts. With N = 0, nothing is timed. Then one fault
+each is put into copies of an LRAT proof. The tables of RESULTS are printed. The status is 1 if a
+good proof is refused, if lrupd accepts a faulty proof that both others refuse, except a proof with
+a literal twice, or if lrupd accepts a proof for a satisfiable formula. It needs Python 3, a C
 compiler, and Debian's acl2, acl2-books and acl2-books-certs."""
 import argparse
 import collections
@@ -150,7 +150,7 @@ def negated(word):
     return word[1:] if word[0] == "-" else "-" + word
 
 
-# Each changes a line with literals and at least two hints, not the last line.
+# Each of these changes a line with literals and at least two hints, but not the last line.
 FAULTS = {
     "a hint left out": lambda line, numbers: line.hints.pop(place(numbers, line.hints)),
     "two hints in another order": lambda line, numbers: line.hints.insert(
@@ -166,7 +166,7 @@ FAULTS = {
     "an id that was used": lambda line, numbers: setattr(line, "identity",
                                                          other_clause(numbers, line)),
 }
-# Each changes the list at a line's place.
+# Each of these changes the list of lines at one line's index.
 LIST_FAULTS = {
     "a line left out": lambda lines, at, numbers: lines.pop(at),
     "a line twice": lambda lines, at, numbers: lines.insert(at, lines[at]),
@@ -191,7 +191,7 @@ def faulty_proof(text, kind, numbers):
 
 
 def verdicts(lrupd, formula, proofs, work):
-    """For each proof whether lrupd and the two others accept it."""
+    """For each proof, whether lrupd and the two others accept it."""
     ended = [subprocess.run([*lrupd[:-2], formula, proof], stdout=subprocess.PIPE,
                             stderr=subprocess.PIPE) for proof in proofs]
     found = [[done.returncode == 0 for done in ended]]

@@ -3,11 +3,11 @@
 //     check [--threads] [--lines N] FORMULA STREAM...
 //
 // Without --threads it checks all streams on one thread, one line of each in turn. With --threads
-// each stream has a thread, and a hint of another stream is tried a million times, a microsecond
-// apart. All share one array of pointers to clauses; a pointer's lowest bit means that the clause
-// was retired. Each stream has N identities, 65,536 by default; room has no limit. For good streams
-// it prints the same as lrupd; for a bad line it names a hint's fault, and otherwise prints 'not
-// taken'.
+// each stream has a thread, and a hint that names another stream's clause is tried a million times,
+// a microsecond apart. All streams share one array of pointers to clauses; a pointer's lowest bit
+// means that the clause was retired. Each stream has N identities, 65,536 by default; room has no
+// limit. For good streams it prints the same report as lrupd; for a bad line it names a hint's
+// fault, and otherwise prints 'not taken'.
 #include <fcntl.h>
 #include <stdatomic.h>
 #include <stdint.h>
@@ -84,8 +84,8 @@ static inline uint32_t code(int64_t literal) {
     return literal < 0 ? (uint32_t)(-literal) * 2 + 1 : (uint32_t)literal * 2;
 }
 
-// Reads a number whose first byte was already read. Returns the byte after it, or -2 without a
-// number.
+// Reads a number whose first byte has already been read. Returns the byte after the number, or -2
+// if there is no number.
 static inline int number(Reader *reader, int byte, int64_t *value) {
     int negative = byte == '-';
     if (negative) byte = next(reader);
@@ -99,7 +99,7 @@ static inline int number(Reader *reader, int byte, int64_t *value) {
     return byte;
 }
 
-// Reads numbers with a space after each, up to 0. Returns the byte after the 0.
+// Reads numbers with a space after each, up to the next 0. Returns the byte after the 0.
 static inline int numbers(Reader *reader, List *list) {
     list->len = 0;
     for (;;) {

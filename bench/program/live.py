@@ -3,10 +3,10 @@
 
     live.py PROGRAM
 
-It prints the processor time of 64 silent pipes; of a hint that is tried 1,000,000 times and never
-comes, with nothing after it, and with more bytes after it than its ring holds; the time from a line
-after silence to the report; and for 1,000 and 10,000 lines a second the processor time of a line,
-and the time from the last line to the report."""
+It prints the processor time of 64 silent pipes; of a hint that is tried 1,000,000 times in vain,
+with nothing after it, and with more bytes after it than its ring holds; the time from a line after
+silence to the report; and, for 1,000 and 10,000 lines a second, the processor time of a line and
+the time from the last line to the report."""
 import os
 import statistics
 import subprocess

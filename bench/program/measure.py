@@ -4,8 +4,8 @@
     ./measure.py [--rounds N] 'COMMAND' 'OTHER COMMAND'
 
 Prints the medians of each command's wall and processor time in seconds and of its peak memory in
-MiB, and the ratios of the first to the second. Both commands have to print the same and end with
-the same status in every run. On a busy machine only the ratios within one run count."""
+MiB, and the ratios of the first to the second. Both commands have to print the same output and
+end with the same status in every run. On a busy machine only the ratios within one run count."""
 import argparse
 import os
 import shlex

@@ -66,7 +66,7 @@ def sizes(formula, streams):
 
 
 def compare(ours, theirs, rounds):
-    """For each command the medians of wall time, processor time and memory."""
+    """For each command, the medians of wall time, processor time and memory."""
     results = [], []
     for _ in range(rounds):
         for command, found in zip((ours, theirs), results):

@@ -3,8 +3,8 @@
 
 Times `dimacs` on formulas (FILE.cnf), `lrup_text` on streams (any other file), and a C program that
 only adds up their numbers. A formula is read as a whole, a stream in pieces of 65,536 bytes. The
-two run in turn; each round takes the best pass of each, and the figures are medians over the
-rounds. Needs the toolchain's `rt`, and `cc`."""
+reader and the C program run in turn; each round takes the best pass of each, and the figures are
+medians over the rounds. Needs the toolchain's `rt`, and `cc`."""
 
 import argparse
 import os

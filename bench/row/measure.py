@@ -3,10 +3,10 @@
 
 Measures how fast the row of words (`idwords`) and the clause store over it (`clause_store`, through
 its desks) publish and read clauses, on one thread and on four. A C program does the same with the
-same words in plain memory, by C's sequentially consistent loads, stores and exchanges. The script
-also measures how long it takes to open a row, and to touch each page of as much zeroed memory. The
-programs run in turn; each round takes the best pass of each, and the figures are medians over the
-rounds. All programs have to find the same sums.
+same words in plain memory, using C's sequentially consistent loads, stores and exchanges. The
+script also measures how long it takes to open a row, and to touch each page of as much zeroed
+memory. The programs run in turn; each round takes the best pass of each, and the figures are
+medians over the rounds. All programs have to find the same sums.
 The programs in FOLDER are used if they exist, and otherwise built there. Needs the toolchain's
 `rt`, `cc`, and 5 GiB of memory."""
 
@@ -48,7 +48,7 @@ def build(folder):
 
 
 def run(*words):
-    """For each part the best pass in milliseconds, and the sums; and the peak memory in MiB."""
+    """For each part, the best pass in milliseconds, and the sums; and the peak memory in MiB."""
     child = subprocess.Popen(list(map(str, words)), stdout=subprocess.PIPE, text=True)
     lines = [line.split() for line in child.stdout]
     _, status, usage = os.wait4(child.pid, 0)

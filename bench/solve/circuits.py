@@ -54,11 +54,11 @@ class Circuit:
         return bits, carry
 
     def difference(self, one, other):
-        """The difference, of as many bits, and whether it is at least zero."""
+        """The difference, with the same number of bits, and whether it is at least zero."""
         return self.sum(one, [-bit for bit in other], self.true)
 
     def product(self, one, other, width=None):
-        """The product row by row: all its bits, or the lowest ones."""
+        """The product, computed row by row: all its bits, or the lowest ones."""
         width = width or len(one) + len(other)
         total = [-self.true] * width
         for place, factor in enumerate(other):

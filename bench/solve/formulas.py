@@ -13,10 +13,10 @@
     formulas.py squares BITS            (a + b) (a - b) isn't a a - b b, for words
     formulas.py count BITS              the ones of a word, counted one by one and in a tree, differ
     formulas.py gripper BALLS STEPS     a plan for a robot with two hands that brings balls from one
-                                        room to the other; satisfiable from 2 BALLS - 1 steps on if
-                                        BALLS is even, from 2 BALLS + 1 if it is odd
-    formulas.py tiles STEPS             a plan for eight tiles that need 31 moves; satisfiable from
-                                        31 steps on
+                                        room to the other; satisfiable with 2 BALLS - 1 steps or
+                                        more if BALLS is even, 2 BALLS + 1 if it is odd
+    formulas.py tiles STEPS             a plan for eight tiles that need 31 moves; satisfiable with
+                                        31 steps or more
     formulas.py chessboard SIZE         dominoes cover a board without two opposite corners
     formulas.py waerden A B COUNT       COUNT numbers in two colours, without A evenly spaced ones
                                         of the first, and B of the second; satisfiable below van der
@@ -48,7 +48,7 @@ FAMILIES = {
     # A prime has no factors.
     "factoring": (("factor 4294967291", "32 bits"), ("factor 8589934583", "33 bits"),
                   ("factor 17179869143", "34 bits")),
-    # Identities of words, bit-blasted like in an SMT solver.
+    # Identities of words, bit-blasted as in an SMT solver.
     "bit vectors": (("distribute 7", "(a + b) c = a c + b c, 7 bits"),
                     ("squares 9", "(a + b) (a - b) = a a - b b, 9 bits"),
                     ("count 72", "the ones of 72 bits")),

@@ -6,8 +6,8 @@
 
 It prints a line for each round: the row, the clauses that were derived and those that were carried
 over, and the pause; and each process's own peak memory, in MB. --svg draws the clauses that each
-round carried over, and the memory over time. With --proofs the run keeps a record; its size is
-printed, and how long its check takes. With --kills the run is killed N times, each time after
+round carried over, and the memory over time. With --proofs, the run keeps a record; its size is
+printed, and how long its check takes. With --kills, the run is killed N times, each time after
 SECONDS, and resumed."""
 import argparse
 import re

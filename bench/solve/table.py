@@ -242,7 +242,7 @@ def note(given: argparse.Namespace, bench: Bench, every: List[Formula],
 
 def panels_of(engines: List[int],
               of: Callable[[int, str], Optional[float]]) -> List[Dict[int, float]]:
-    """For each measure a dot for each number of engines that has a value."""
+    """For each measure, a dot for each number of engines that has a value."""
     panels = [{count: of(count, name) for count in engines} for name in MEASURES.values()]
     return [{count: value for count, value in panel.items() if value is not None}
             for panel in panels]

@@ -3,9 +3,9 @@
 #
 #     sbatch examples/resume/slurm.sh formula.cnf /scratch/kept
 #
-# A minute before the limit Slurm sends SIGTERM to this script only (B:), which forwards it, so that
-# the current round is saved. A job that is killed loses everything after the last saved round. The
-# answer is in /scratch/kept.answer at the end.
+# A minute before the limit, Slurm sends SIGTERM to this script only (B:), which forwards it, so
+# that the current round is saved. A job that is killed loses everything after the last saved round.
+# The answer is in /scratch/kept.answer at the end.
 #SBATCH --array=1-100%1
 #SBATCH --time=4:00:00
 #SBATCH --signal=B:TERM@60

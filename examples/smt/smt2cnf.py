@@ -1,5 +1,5 @@
 #!/usr/bin/python3
-"""Turns a bit-vector problem in SMT-LIB (QF_BV) into DIMACS CNF, by Z3's bit-blaster.
+"""Turns a bit-vector problem in SMT-LIB (QF_BV) into DIMACS CNF, using Z3's bit-blaster.
 
     smt2cnf.py PROBLEM.smt2 > FORMULA.cnf
 

@@ -4,8 +4,8 @@
     demo.py PROGRAM SOLVER [FORMULA]
 
 Shows once a second how many lines each stream has, and lrupd's messages; then the solvers' output,
-the report, and how long after the solvers' last byte it came. Without FORMULA the solvers get a
-random 3-SAT formula that takes some ten seconds. The status is lrupd's."""
+the report, and how long after the solvers' last byte the report came. Without FORMULA the solvers
+get a random 3-SAT formula that takes some ten seconds. The status is lrupd's."""
 import os
 import subprocess
 import sys

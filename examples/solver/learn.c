@@ -15,8 +15,8 @@ static void clear_marks(Solver *solver) {
     solver->marked.length = 0;
 }
 
-// How many of a clause's literals are of the last level and weren't seen before; those of the
-// levels between 0 and the last go into the learnt clause.
+// How many of a clause's literals are of the last level and haven't been seen before; its literals
+// of the levels between 0 and the last go into the learnt clause.
 static int look_at(Solver *solver, const Clause *clause) {
     int found = 0;
     for (unsigned k = 0; k < clause->length; k++) {
@@ -49,7 +49,7 @@ static void analyse(Solver *solver, const Clause *conflict) {
     }
 }
 
-// Whether the clause's other literals imply that this one is false, by reasons on the trail.
+// Whether the clause's other literals imply that this one is false, through reasons on the trail.
 static bool redundant(Solver *solver, Literal literal, int depth) {
     int variable = variable_of(literal), seen = solver->marks[variable];
     const Clause *reason = solver->reasons[variable];
@@ -132,7 +132,8 @@ unsigned lbd_of(Solver *solver, const Literals *literals) {
     return count;
 }
 
-// The unit clauses of a clause's literals, without the first `skipped`, and then the clause itself.
+// The hints are the unit clauses of the clause's literals, except of the first `skipped` ones, and
+// then the clause itself.
 static void hint_at_level_zero(Solver *solver, const Clause *clause, unsigned skipped) {
     solver->hints.length = 0;
     for (unsigned k = skipped; k < clause->length; k++)
@@ -161,7 +162,7 @@ void name_units(Solver *solver) {
     }
 }
 
-// A conflict at level 0: the empty clause.
+// Derives the empty clause from a conflict at level 0.
 void refute(Solver *solver, const Clause *conflict) {
     name_units(solver);
     hint_at_level_zero(solver, conflict, 0);

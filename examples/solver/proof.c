@@ -8,8 +8,8 @@
 #include "solver.h"
 #include "stream.h"
 
-// With m clauses in the formula and n streams, line k of stream s, from 0, has the identity m + s +
-// k n. So each solver counts on its own, and an identity shows its owner.
+// With m clauses in the formula and n streams, line k of stream s has the identity m + s + k n; the
+// first line is line 0. So each solver counts on its own, and an identity shows its owner.
 void proof_open(Proof *proof, const char *path, uint64_t clauses, int stream, int streams) {
     proof->path = path;
     proof->file = open(path, O_WRONLY | O_CREAT | O_TRUNC, 0666);  // waits for the reader of a FIFO

@@ -105,7 +105,7 @@ static void watch(Solver *solver, Clause *clause) {
         PUSH(&solver->watches[clause->literals[k]], ((Watch){ clause, clause->literals[1 - k] }));
 }
 
-// A literal to watch instead of the second one, which is false; or none.
+// Watches another literal instead of the second one, which is false; false if there is none.
 static bool watch_another(Solver *solver, Clause *clause) {
     for (unsigned k = 2; k < clause->length; k++) {
         Literal literal = clause->literals[k];
@@ -118,8 +118,8 @@ static bool watch_another(Solver *solver, Clause *clause) {
     return false;
 }
 
-// Visits the clauses that watch a literal which has become false. Each implies its other watch, or
-// is the conflict.
+// Visits the clauses that watch a literal which has become false. A clause without another literal
+// to watch implies its other watched literal, or is the conflict.
 static Clause *visit(Solver *solver, Literal falsified) {
     Watches *list = &solver->watches[falsified];
     Clause *conflict = NULL;
@@ -181,7 +181,7 @@ static Clause *install_formula(Solver *solver) {
 
 // Exchange, at level 0.
 
-// Flushes the lines of clauses before they are given away, all at once: the others may cite a
+// Flushes the lines of clauses before it gives the clauses away, all at once: the others may cite a
 // clause as soon as they have it, and lrupd then looks for its line.
 static void give(Solver *solver) {
     if (solver->gifts.length == 0) return;
@@ -255,7 +255,7 @@ static void reduce(Solver *solver) {
     clauses->length = kept;
 }
 
-// 1, 1, 2, 1, 1, 2, 4, ..: Luby's sequence, from 1.
+// Luby's sequence: 1, 1, 2, 1, 1, 2, 4, .. The first index is 1.
 static uint64_t luby(uint64_t place) {
     uint64_t power = 1;
     while (2 * power <= place + 1) power *= 2;

@@ -112,7 +112,7 @@ typedef struct Solver {
 } Solver;
 
 // learn.c
-// leaves it in `learnt`, and its chain in `hints`
+// leaves the clause in `learnt`, and its chain in `hints`
 void find_clause(Solver *solver, Clause *conflict);
 unsigned lbd_of(Solver *solver, const Literals *literals);
 void name_units(Solver *solver);

@@ -35,7 +35,7 @@ static int64_t as_literal(uint64_t number) {
     return number & 1 ? -(int64_t)(number >> 1) : (int64_t)(number >> 1);
 }
 
-// Reads numbers up to 0.
+// Reads numbers up to the next 0.
 static void numbers(Input *input, Numbers *list) {
     for (uint64_t found; (found = number(input)) != 0;) {
         if (list->length == MOST_NUMBERS) stop("a step of more than %d numbers", MOST_NUMBERS);
@@ -74,9 +74,9 @@ static bool has_odd(const Numbers *list, size_t start) {
     return false;
 }
 
-// Identities that are written as literals are even numbers, since RUP steps have no negative ones.
-// So an odd number shows that they are plain. Otherwise the first addition decides: its identity is
-// above the formula's.
+// Identities that are written as literals are even numbers, since RUP steps have no negative hints.
+// So an odd number shows that identities are plain. Otherwise the first addition decides: its
+// identity is above the formula's.
 static Coding coding_of(const Filter *filter, const Numbers *list, size_t hints, bool addition) {
     int64_t first = addition ? list->items[0] : 0, formula = (int64_t)filter->formula.clauses;
     if (first & 1 || has_odd(list, hints)) return PLAIN;

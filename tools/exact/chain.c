@@ -1,8 +1,8 @@
 // Unverified, like the whole filter. Option --rounds: writes a stream for each round of lrupd
 // --rounds, through FIFOs. Each FIFO exists before the previous round's stream ends, since lrupd
-// then looks for it. Once lrupd has opened the FIFO, it is removed with the file of sizes; a
-// checkpoint is removed once it is read. So the folder has files of an unfinished round only while
-// this program waits for lrupd.
+// then looks for it. Once lrupd has opened the FIFO, this program removes both the FIFO and the
+// file of sizes; it removes a checkpoint once it has read it. So the folder has files of an
+// unfinished round only while this program waits for lrupd.
 #define _XOPEN_SOURCE 700
 #include <dirent.h>
 #include <errno.h>
@@ -31,7 +31,7 @@ static const char *folder;
 static int held;                            // the open folder, even if it is renamed
 static Filter *filter;
 static Rows rows;
-static Row used;                            // of the round's row
+static Row used;                            // what the round has used of its row
 static uint64_t round_number;               // from 1
 static char sizes[LONGEST_PATH], stream[LONGEST_PATH];      // paths
 static volatile sig_atomic_t is_awaited;    // whether the program waits for lrupd
@@ -98,7 +98,7 @@ static void remove_files(void) {
     is_awaited = 0;
 }
 
-// If lrupd waits at the FIFO, or is about to, it gets an empty stream, or finds none.
+// If lrupd is opening the FIFO, or is about to, it gets an empty stream, or finds no file.
 static void end_by_signal(int number) {
     if (is_awaited) {
         openat(held, name_in(stream), O_RDWR | O_NONBLOCK | O_NOFOLLOW);  // until this process ends
@@ -114,8 +114,8 @@ static void take_signals(void) {
         if (signal(numbers[k], end_by_signal) == SIG_IGN) signal(numbers[k], SIG_IGN);
 }
 
-// Waits until lrupd opens the FIFO, too. lrupd never will if standard output is a pipe and its
-// reader, which runs lrupd, has ended.
+// Waits until lrupd opens the FIFO. That never happens if standard output is a pipe and its reader,
+// which runs lrupd, has ended.
 static void open_stream(void) {
     struct pollfd reader = { .fd = STDOUT_FILENO };
     struct stat found;
@@ -186,7 +186,7 @@ static void derived(const Filter *one) {
 
 static bool never_ends(void) { return false; }
 
-// Call after the formula is read. Prints the path of the first stream once lrupd may start.
+// Call after the formula has been read. Prints the path of the first stream once lrupd may start.
 void chain_begin(Filter *one, uint64_t memory) {
     static const Hooks hooks = { .ends = never_ends, .derives = derives, .derived = derived };
     filter = one;

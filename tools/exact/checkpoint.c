@@ -1,5 +1,5 @@
 // Unverified, like the whole filter. Reads a checkpoint of lrupd. A comment before a clause gives
-// its previous identity, unless that equals its index, counted from 1.
+// the clause's previous identity, unless that equals the clause's index (the first is 1).
 #include "checkpoint.h"
 #include "errors.h"
 #include "input.h"

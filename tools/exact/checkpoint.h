@@ -10,8 +10,8 @@
 extern "C" {
 #endif
 
-// The clauses' previous identities, in rising order. A clause's new identity is its index, counted
-// from 1.
+// The clauses' previous identities, in rising order. A clause's new identity is its index here,
+// where the first index is 1.
 typedef struct {
     Identities old;
     uint64_t literals;

@@ -62,7 +62,7 @@ void clauses_delete(Clauses *clauses, ClauseRef ref);
 // the next clause that isn't deleted, or 0; after 0 the first
 ClauseRef clauses_after(const Clauses *clauses, ClauseRef ref);
 void clauses_age(Clauses *clauses);
-// to a new row, without deleted clauses; returns the old row
+// moves the clauses to a new row, except deleted ones; returns the old row
 uint64_t *clauses_begin_move(Clauses *clauses);
 ClauseRef clauses_moved(const uint64_t *old, ClauseRef ref);  // 0 for a deleted clause
 void clauses_end_move(Clauses *clauses, uint64_t *old);

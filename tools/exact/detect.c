@@ -1,4 +1,4 @@
-// Unverified, like the whole filter. Detects the form of a proof by its first bytes, and reads no
+// Unverified, like the whole filter. Detects the form of a proof from its first bytes, and reads no
 // further than necessary.
 #include "detect.h"
 #include "errors.h"
@@ -49,8 +49,8 @@ static uint64_t number_ahead(Input *input, size_t *at) {
 }
 
 // DRAT's first addition begins with a literal of the formula, and LRAT's with an identity above the
-// formula's, plain or doubled. A number may be both. An earlier deletion with a number that is no
-// literal shows that the proof is LRAT.
+// formula's, plain or doubled. Some numbers can be either. If an earlier deletion has a number that
+// isn't a literal, the proof is LRAT.
 static Form binary_form(Input *input, const Formula *formula) {
     uint64_t last_literal = 2 * (uint64_t)formula->variables + 1, found;
     for (size_t at = 0;;) {

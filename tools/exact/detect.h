@@ -1,4 +1,4 @@
-// Unverified: the form of a proof, by its first bytes.
+// Unverified: detects the form of a proof from its first bytes.
 #ifndef DETECT_H
 #define DETECT_H
 

@@ -1,5 +1,5 @@
-// Unverified, like the whole filter. Turns each step of a proof into lines of the stream, perhaps
-// none, or ends the program.
+// Unverified, like the whole filter. Turns each step of a proof into any number of lines of the
+// stream, or ends the program.
 #include <stdio.h>
 
 #include "errors.h"
@@ -56,8 +56,8 @@ static uint64_t owner(const Filter *filter, uint64_t identity) {
     return (identity - filter->formula.clauses - 1) % filter->streams + 1;
 }
 
-// Reads the literals of a step, each once, and marks them. False if the formula lacks one of the
-// variables.
+// Reads the literals of a step without repetitions, and marks them. False if the formula lacks one
+// of the variables.
 static bool mark_literals(Filter *filter, const int64_t *numbers, size_t length, bool *tautology) {
     unsigned char *marks = filter->hints.marks;
     int64_t variables = filter->formula.variables;
@@ -90,7 +90,7 @@ static bool mark_or_stop(Filter *filter, const int64_t *numbers, size_t length) 
          *numbers < 0 ? -(long long)*numbers : (long long)*numbers, (long long)variables);
 }
 
-// The clause of this name if another stream derived it, or 0.
+// The clause with this name if another stream derived it, or 0.
 static ClauseRef find_other(Filter *filter, int64_t name) {
     uint64_t identity = (uint64_t)name;
     if (filter->frat || name <= (int64_t)filter->formula.clauses) return 0;
@@ -126,7 +126,7 @@ uint64_t filter_next_identity(const Filter *filter) {
     return identity;
 }
 
-// The stream's next identity, or LRAT's own if there is only one stream, or other streams may cite
+// The stream's next identity; or LRAT's own, if there is only one stream or other streams may cite
 // the clause.
 static uint64_t new_identity(const Filter *filter, const Addition *addition) {
     int64_t formula = (int64_t)filter->formula.clauses, name = addition->name;
@@ -183,8 +183,8 @@ static void write_addition(Filter *filter, const Addition *addition, Found found
     write_line(filter);
 }
 
-// Adds the other literals of the clause to those of the step. False if, besides the pivot, one of
-// them has a literal and the other its complement.
+// Adds the clause's literals, except the pivot's complement, to those of the step. False if, for
+// another variable, too, the clause has a literal and the step has the complement.
 static bool resolve(Filter *filter, const Clause *clause, Literal complement) {
     for (unsigned k = 0; k < clause->length; k++) {
         Literal literal = clause->literals[k];
@@ -201,8 +201,8 @@ static bool has_literal(const Clause *clause, Literal literal) {
     return false;
 }
 
-// Whether the clause, which isn't RUP, is RAT on its first literal: each resolvent with another
-// clause follows. Used only for a message, before the program ends.
+// Whether the clause, which isn't RUP, is RAT on its first literal, that is, whether each resolvent
+// with another clause follows. Used only for a message, before the program ends.
 static bool is_rat(Filter *filter) {
     Literals *literals = &filter->literals;
     size_t length = literals->length;
@@ -235,7 +235,7 @@ static _Noreturn void stop_without_cause(Filter *filter, const char *none) {
          clause);
 }
 
-// If the step cites a clause that isn't there, this is the most likely reason.
+// If the step cites a clause that isn't there, that is the most likely reason.
 static _Noreturn void stop_without_conflict(Filter *filter, const Addition *addition) {
     static const char none[] = "no conflict by unit propagation";
     int64_t missing = 0;
@@ -261,7 +261,7 @@ static _Noreturn void stop_without_conflict(Filter *filter, const Addition *addi
          none, name, stream, stream);
 }
 
-// Finds a chain by unit propagation. A round may end at each lemma that is written for the chain.
+// Finds a chain by unit propagation. A round may end before each lemma that is written for it.
 static void look_for_chain(Filter *filter, const Addition *addition, bool has_lemmas) {
     Propagation *propagation = &filter->propagation;
     ClauseRef conflict = propagation_conflict(propagation, &filter->literals);
@@ -282,7 +282,7 @@ static void look_for_chain(Filter *filter, const Addition *addition, bool has_le
 }
 
 // Makes a chain from the hints or, if that fails, by unit propagation. NO_CHAIN if the empty clause
-// was derived instead of this clause.
+// has been derived instead of this clause.
 static Found find_chain(Filter *filter, const Addition *addition) {
     bool has_lemmas = has_identities(filter, addition);
     Found found = addition->hinted > 0 ? try_hints(filter, addition) : NO_CHAIN;
@@ -451,7 +451,7 @@ void filter_delete(Filter *filter, const int64_t *names, size_t length) {
     filter_write_deletion(filter);
 }
 
-// A clause with these literals that wasn't taken before, or 0.
+// A clause with these literals that hasn't been taken yet, or 0.
 static ClauseRef take_set(Filter *filter, const int64_t *literals, size_t length) {
     bool tautology;
     ClauseRef ref = 0;
@@ -504,7 +504,7 @@ void filter_rename(Filter *filter, const int64_t *pairs, size_t length) {
 #ifdef CHECKED
 // Invariants.
 
-// Unless a clause was renumbered, each name is the clause's identity in the stream.
+// Unless some clause has been renumbered, each clause's name is its identity in the stream.
 static void identities_check(const Filter *filter) {
     const Clauses *clauses = &filter->clauses;
     for (ClauseRef ref = 0; (ref = clauses_after(clauses, ref)) != 0;) {

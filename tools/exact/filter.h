@@ -39,11 +39,11 @@ struct Filter {
     Formula formula;
     uint64_t stream, streams;
     uint64_t last;                  // the identity of the last line written
-    uint64_t spared;                // the formula's first `spared` clauses are in each round
+    uint64_t spared;                // no round deletes the formula's first `spared` clauses
     bool keeps_identities;          // the stream has LRAT's identities
     bool renumbered;  // some clause has another identity in the stream than in the proof
     bool frat;                      // the proof's names aren't identities, not even the formula's
-    bool keeps_clauses;             // deletions aren't written, so shared clauses stay
+    bool keeps_clauses;             // deletions aren't written: lrupd keeps the clauses
     bool ignores_deletions;         // the proof's deletions
     int marked;                     // how many marks precede the next addition
     bool refuted;                   // the stream has the empty clause, and needs nothing more
@@ -67,10 +67,10 @@ typedef struct {
     int64_t name;
     const int64_t *literals, *hints;
     size_t length, hinted;
-    const Line *line;               // if it is spelled as in a stream, else NULL
+    const Line *line;               // the step's line if it is spelled as in a stream, or NULL
 } Addition;
 
-// call between steps; it checks rarely enough to take no longer than they do
+// call between steps; it checks rarely enough to take no longer than the steps do
 void filter_check(const Filter *filter);
 
 static inline bool filter_ends(const Filter *filter) {

@@ -18,7 +18,7 @@ typedef struct {
     uint64_t passed;                    // how many bytes came before bytes[0]
 } Input;
 
-// *end is LF; ends: the file has it, too
+// *end is LF; ends: whether the file has this LF
 typedef struct { unsigned char *start, *end; bool ends; } Line;
 
 void input_open(Input *input, const char *path);        // NULL: standard input

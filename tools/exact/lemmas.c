@@ -15,9 +15,9 @@ enum { NONE = -1 };
 _Static_assert((int)MOST_NEEDED <= (int)LITERALS_OF_A_LINE,
                "a lemma has as many literals as a clause may need");
 
-// The end of a conflict's chain, from a position on the trail: its hints, and the literals that it
-// needs from before the position, which a lemma would have. `met` counts the clause's own literals,
-// `open` the others, and `marked` the variables marked so far.
+// The end of a conflict's chain, from a position on the trail: its hints, and those literals from
+// before the position that it needs, and that a lemma would have. `met` counts the clause's own
+// literals, `open` the others, and `marked` the variables marked so far.
 typedef struct { size_t position, hints, open, met, marked; } Cut;
 
 // Writes the lemma that a clause and all its reasons imply: the lemma's literals are the assumed

@@ -11,7 +11,8 @@
 extern "C" {
 #endif
 
-// 2 v is the literal of the variable v, counted from 0, and 2 v + 1 its complement.
+// With the first variable as number 0, 2 v is the literal of variable v, and 2 v + 1 its
+// complement.
 typedef int Literal;
 
 static inline Literal complement_of(Literal literal) { return literal ^ 1; }

@@ -1,5 +1,5 @@
-// Unverified: reads the words of a command line, by a table of the options. lrup-solve's front has
-// a table of its own, since the front is trusted.
+// Unverified: reads the words of a command line, using a table of options. lrup-solve's front has a
+// table of its own, since the front is trusted.
 #ifndef OPTIONS_H
 #define OPTIONS_H
 
@@ -14,7 +14,7 @@ extern "C" {
 
 typedef LIST_OF(const char *) Texts;
 
-// An option that has neither flag, value nor values ends the reading, like --help.
+// An option without a flag, value or values, such as --help, ends the reading.
 typedef struct {
     const char *name;           // without --; NULL if it has only a letter: such options come last
     char letter;                // 0: none
@@ -23,13 +23,13 @@ typedef struct {
     Texts *values;              // gets each value of an option that may be given several times
 } Option;
 
-// Puts other words, and those after --, into `files`. Returns the name of an option that ended the
-// reading, or NULL. `refusing` must not return.
+// Puts the words that aren't options, and those after --, into `files`. Returns the name of an
+// option that ended the reading, or NULL. `refusing` must not return.
 const char *options_read(const Option *options, int count, char **words, Texts *files,
                          bool last_counts, void (*refusing)(const char *cause, const char *word));
 
-// The same for a program that has the two options below, refuses a value that is given twice, and
-// doesn't read standard input for -.
+// Like `options_read`, for a program that has the two options below, refuses an option whose value
+// is given twice, and doesn't read standard input for -.
 #define HELP_AND_VERSION { .name = "help", .letter = 'h' }, { .name = "version" }, { .name = NULL }
 const Texts *arguments_read(const char *program, const char *help, const Option *options, int count,
                             char **words);

@@ -32,7 +32,7 @@ static void keep(Other *other, const Words *words) {
              (Literal)(numbers[k] > 0 ? 2 * (numbers[k] - 1) : 2 * (-numbers[k] - 1) + 1));
     }
     if (numbers[0] <= (int64_t)other->last || words->zeros == 0 || words->first_zero == 0)
-        stop("%s: not a step of LRAT text, or an identity that isn't above the one before",
+        stop("%s: not a step of LRAT text, or an identity that isn't above the previous one",
              other->input.path);
     other->last = (uint64_t)numbers[0];
     size_t length = literals_sort(literals->items, literals->length);
@@ -53,7 +53,7 @@ static void read_to(Other *other, uint64_t identity) {
 }
 
 // Moves the clause with this identity from the other stream to `clauses`; 0 if there is none, or it
-// was moved before.
+// has been moved already.
 ClauseRef other_clause(Other *other, Clauses *clauses, uint64_t identity) {
     read_to(other, identity);
     ClauseRef ref = clauses_named(&other->clauses, identity);

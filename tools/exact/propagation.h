@@ -9,7 +9,7 @@
 
 #include "clauses.h"
 
-// `other` is twice the other watched literal, plus 1 if the clause has no more than these two.
+// `other` is twice the other watched literal, plus 1 if the clause has no other literals.
 typedef struct { ClauseRef clause; uint32_t other; } Watch;
 typedef struct { Watch *items; uint32_t length, capacity; } Watches;
 typedef LIST_OF(uint32_t) Positions;     // on the trail
@@ -38,7 +38,7 @@ typedef struct {
 
 void propagation_open(Propagation *propagation, Clauses *clauses, int variables);
 void propagation_settle(Propagation *propagation);
-// the assumptions stay
+// leaves the assumptions on the trail
 ClauseRef propagation_conflict(Propagation *propagation, const Literals *literals);
 void propagation_take_back(Propagation *propagation);
 bool propagation_trace(Propagation *propagation, const Literals *literals, ClauseRef conflict,

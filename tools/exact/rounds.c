@@ -22,8 +22,8 @@ static void mark(const Filter *filter, unsigned char *marks, uint64_t identity) 
 }
 
 // Deletes the clauses of the formula and of the stream, except those that are spared, those in
-// `kept` and, if another round follows, those that the filter has. The stream has deleted none
-// before.
+// `kept` and, if another round follows, those that the filter has. The stream has deleted none of
+// them before.
 void round_delete(Filter *filter, const Identities *kept, bool goes_on) {
     uint64_t formula = filter->formula.clauses, first = formula + filter->stream;
     uint64_t own = filter->last ? (filter->last - first) / filter->streams + 1 : 0;
@@ -48,16 +48,16 @@ uint64_t round_clauses(const Filter *filter, uint64_t *literals) {
     return count;
 }
 
-// Call before a line. If the row has no room for it, the stream ends here, since lrupd would refuse
-// the line; `next_round` makes room, or ends the program.
+// Call before each line. If the row has no room for it, the stream ends here, since lrupd would
+// refuse the line; `next_round` makes room, or ends the program.
 void round_make_room(const Filter *filter, bool (*has_room)(uint64_t literals),
                      void (*next_round)(uint64_t literals)) {
     size_t length = filter->literals.length;
     while (!has_room(length)) next_round(length);
 }
 
-// Continues with what was saved, as another stream. From now on no name of the proof is an
-// identity.
+// Continues with the saved clauses, as the stream of the given number. From now on, the proof's
+// names aren't identities.
 void round_begin(Filter *filter, const Checkpoint *checkpoint, uint64_t stream, uint64_t streams) {
     for (ClauseRef ref = 0; (ref = clauses_after(&filter->clauses, ref)) != 0;) {
         Clause *clause = clause_at(&filter->clauses, ref);

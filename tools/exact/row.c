@@ -9,8 +9,8 @@
 
 #define USUAL_MEMORY (UINT64_C(1) << 29)
 #define LEAST_MEMORY (UINT64_C(1) << 26)
-#define FIRST_WORDS (UINT64_C(1) << 20)  // of the first round's streams; or, if that is more:
-#define FIRST_OF_EACH (UINT64_C(1) << 18)       // of each stream
+#define FIRST_WORDS (UINT64_C(1) << 20)  // for all streams in round 1; or, if that is more:
+#define FIRST_OF_EACH (UINT64_C(1) << 18)       // for each stream
 
 enum { LEAST_WORDS = 64 };                      // of a stream
 enum { LEAST_SHARE = 8 };  // several streams have at least an eighth of the largest row
@@ -41,7 +41,7 @@ static uint64_t bytes_of_machine(void) {
 }
 
 // By default a row has an eighth of the machine's memory, up to half a gigabyte, and grows to a
-// quarter at most: when it starts, lrupd takes twice the row's memory.
+// quarter at most: lrupd takes twice the row's memory when it starts.
 void rows_open(Rows *rows, uint64_t memory, uint64_t most, uint64_t streams) {
     uint64_t all = bytes_of_machine();
     if (!memory) memory = lesser(USUAL_MEMORY, greater(all / 8, LEAST_MEMORY));

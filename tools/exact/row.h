@@ -13,7 +13,7 @@ typedef struct { uint64_t lines, room; } Row;       // what each stream has, or 
 
 typedef struct {
     uint64_t usual, most;       // words of a row that several streams share
-    uint64_t largest;           // words of a row that one stream has alone
+    uint64_t largest;           // words of a row that has only one stream
     uint64_t words;             // for all streams together, if the row has that many
     uint64_t formula;           // words that the round's formula takes
     Row row;                    // of the round
@@ -26,14 +26,14 @@ typedef struct {
 
 // such as 2000000000, 2000M or 2G; 0: no size; above MOST_MEMORY: too much
 uint64_t memory_read(const char *word);
-// memory, most: bytes; 0: by the machine's memory
+// memory, most: bytes; 0: chosen from the machine's memory
 void rows_open(Rows *rows, uint64_t memory, uint64_t most, uint64_t streams);
 void rows_grow(Rows *rows);                     // before the next round
 
 // Sizes the row of a round whose formula has this many clauses and literals. Clauses are expected
-// to have the average length of those that all streams derived in the round before. `wanted` is the
-// length of a clause for which a stream had no room, or 0. If the formula leaves too little of the
-// largest row, the streams get what is left, perhaps nothing, and the result is false.
+// to have the average length of those that all streams derived in the previous round. `wanted` is
+// the length of a clause for which a stream had no room, or 0. If the formula leaves too little of
+// the largest row, the streams get what is left, perhaps nothing, and the result is false.
 bool rows_size(Rows *rows, uint64_t streams, uint64_t clauses, uint64_t literals, Row used,
                uint64_t wanted);
 

@@ -1,6 +1,6 @@
 // Unverified, like the whole filter. Reads LRAT text, whose hints may be in any order, too many or
-// too few, and DRUP or DRAT text, which has none. A step is a line. Each form may have comments,
-// empty lines, extra spaces, and a first line that begins with %.
+// too few, and DRUP or DRAT text, which has no hints. A step is a line. Each form may have
+// comments, empty lines, extra spaces, and a first line that begins with %.
 #include "errors.h"
 #include "readers.h"
 #include "words.h"

@@ -28,8 +28,8 @@ static int64_t other_word(unsigned char **at) {
 #define EACH(byte) (UINT64_C(0x0101010101010101) * (byte))
 
 // Reads up to seven digits, without a branch for each. Returns how many there are, or 8 for more.
-// The highest bits of eight bytes mark the bytes that are no digits; then neighbours are joined to
-// numbers of two digits, and these to numbers of four and eight.
+// The highest bits of eight bytes mark the bytes that aren't digits; then neighbours are joined
+// into numbers of two digits, and these into numbers of four and eight.
 static inline unsigned short_number(const unsigned char *at, uint64_t *value) {
     uint64_t digits;
     memcpy(&digits, at, sizeof digits);
@@ -64,7 +64,7 @@ static inline int64_t with_sign(uint64_t value, bool negative) {
     return ((int64_t)value ^ sign) - sign;
 }
 
-// Reads a line of numbers in the spelling of a stream; false if anything else is met.
+// Reads a line of numbers in the spelling of a stream; false if it meets anything else.
 static bool read_plain(Words *words, Line line) {
     unsigned char *at = line.start;
     int64_t *next = words->numbers.items;

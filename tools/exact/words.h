@@ -1,4 +1,4 @@
-// Unverified: the words of a line, as numbers. Letters, and words that are no numbers, have codes
+// Unverified: the words of a line, as numbers. Letters, and words that aren't numbers, have codes
 // below all numbers.
 #ifndef WORDS_H
 #define WORDS_H
@@ -24,7 +24,7 @@ typedef struct {
 } Words;
 
 void words_read(Words *words, Line line);
-void words_check(const Words *words, size_t start, size_t end);     // stops if one is no number
+void words_check(const Words *words, size_t start, size_t end);     // stops if one isn't a number
 void words_check_whole(const Words *words, Line line);  // stops if the proof ends within a step
 bool line_is_text(Line line);
 

@@ -2,8 +2,8 @@
 // propagation: over the line's hints first, and then over all clauses that the line may cite.
 //
 // Unit clauses without an identity make the clause's literals false at the beginning of the trail.
-// Then the hints are used in their order, each if it can be: clauses that make its literals false
-// come before it. Clauses that the conflict doesn't need are left out at the end.
+// Then each hint that can be used is added, in the given order, after the clauses that make its
+// literals false. Clauses that the conflict doesn't need are left out at the end.
 #include "../exact/propagation.h"
 #include "explain.h"
 
@@ -89,7 +89,7 @@ static void put(Search *search, ClauseRef ref) {
     search->values[complement_of(open)] = -1;
 }
 
-// Whether the literal is false by propagation, but not yet by the chain.
+// Whether propagation makes the literal false, but the chain so far doesn't.
 static bool is_wanted(const Search *search, Literal literal) {
     return search->propagation.values[literal] < 0 && search->values[literal] >= 0;
 }
@@ -108,8 +108,8 @@ static void want(Search *search, ClauseRef ref, Literal left, size_t *behind) {
     }
 }
 
-// Adds the clauses by which propagation made the clause's literals false, except `left`, in the
-// order of propagation.
+// For each literal of the clause except `left`, adds the clauses by which propagation made it
+// false, in the order of propagation.
 static void bring(Search *search, ClauseRef ref, Literal left) {
     const Propagation *propagation = &search->propagation;
     size_t behind = 0;          // after the last position needed
@@ -124,8 +124,8 @@ static void bring(Search *search, ClauseRef ref, Literal left) {
     }
 }
 
-// The literal for which a hint will be unit: the one that propagation doesn't make false, or else
-// the last one that it makes false.
+// The literal that will be left when the hint is unit: the one that propagation doesn't make false,
+// or, if there is none, the last one that it makes false.
 static Literal left_by(const Search *search, ClauseRef ref) {
     const Clause *clause = clause_at(&search->clauses, ref);
     Literal open = CONFLICT, last = CONFLICT;
@@ -164,7 +164,7 @@ static void collect(Search *search, Identities *hints) {
         PUSH(hints, clause_at(&search->clauses, chain->items[k])->identity);
 }
 
-// How many clauses that the line may cite have no true literal. Hints are in the store twice, and
+// How many clauses that the line may cite have no true literal. Hints are in the store twice, but
 // are counted once.
 static size_t count_open(const Search *search) {
     size_t count = 0;

@@ -33,8 +33,8 @@ typedef struct {
     uint64_t line;
 } Known;
 
-// Where a clause that a round begins with comes from: a line, or, if the stream is 0, the formula's
-// clause with that number.
+// The origin of a clause that a round begins with: a line, or, if the stream is 0, the clause of
+// the formula that has this number.
 typedef struct { uint32_t round, stream; uint64_t number; } Origin;
 
 typedef struct {
@@ -46,13 +46,13 @@ typedef struct {
     Known *known;                       // by its identities
     Clauses dropped;                    // names only: of the formula's and other streams' clauses
     uint64_t awaited;                   // an identity of another stream, or 0
-    bool over, told;                    // ended; its fault is explained
+    bool over, told;                    // ended; its fault has been explained
     Fault fault;
 } Stream;
 
 typedef struct {
     int variables;
-    Clauses store;  // all clauses, deleted ones too; literals as written, each once
+    Clauses store;  // all clauses, also deleted ones; literals as written, each once
     uint32_t round;
     uint64_t clauses, literals;         // of the round's formula
     ClauseRef *first;                   // the formula's clauses
@@ -98,7 +98,7 @@ void forget_values(Replay *replay);
 void replay_all(Replay *replay, const char *formula, const char *folder, const char *const *paths,
                 uint32_t count);
 Line line_at_hand(const Stream *stream, bool *is_whole);
-// the number of the line, from the current one on, that derives the clause; or 0
+// the number of the line that derives the clause, if it is the current line or a later one; or 0
 uint64_t line_deriving(const Stream *stream, uint64_t identity);
 // the number of the first line, up to the current one, that deletes the clause; or 0
 uint64_t line_deleting(const Stream *stream, uint64_t identity);
@@ -128,7 +128,7 @@ Chain chain_find(const Replay *replay, const Stream *stream, uint64_t also);
 
 // tell.c
 void tell(const Replay *replay, const Stream *stream);  // explains the fault of the current line
-// the same in one line, for a later fault
+// explains a later fault in one line
 void tell_short(const Replay *replay, const Stream *stream);
 void tell_place(const Replay *replay, uint64_t identity);       // where the clause is from
 void tell_list(const int64_t *numbers, size_t count);

@@ -70,7 +70,7 @@ static bool are_digits(State state) {
         state == DELETED_DIGITS || state == STATED_DIGITS;
 }
 
-// How many words there are up to one that begins with 0, or to the end.
+// How many words come before one that begins with 0, or before the end.
 static size_t count_on(const unsigned char *at, const unsigned char *end) {
     size_t count = 0;
     for (bool begins = true; at < end && !(begins && *at == '0'); at++) {

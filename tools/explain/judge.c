@@ -146,7 +146,7 @@ static Fault judge_addition(Replay *replay, const Stream *stream, const Reading 
     return is_conflict ? no_fault : fault(FAULT_NO_CONFLICT, 0, 0);
 }
 
-// Whether both are the same set of literals.
+// Whether the line and the clause have the same set of literals.
 static bool is_same(Replay *replay, const Reading *line, const Clause *clause) {
     size_t distinct = 0, met = 0;
     for (size_t k = 0; k < line->length; k++) {
@@ -169,7 +169,7 @@ static Fault judge_import(Replay *replay, const Stream *stream, const Reading *l
     return is_same(replay, line, clause) ? no_fault : fault(FAULT_DIFFERS, line->identity, 0);
 }
 
-// Identities before the one that can't be deleted are deleted.
+// If an identity can't be deleted, those before it in the line have been deleted.
 static Fault take_deletion(Replay *replay, Stream *stream, const Reading *line) {
     for (size_t k = 0; k < line->count; k++) {
         uint64_t identity = (uint64_t)line->cited[k];

@@ -177,8 +177,8 @@ static Origin origin_of(const Replay *replay, uint64_t identity) {
                      known_of(replay, identity)->line };
 }
 
-// True for the formula's clauses, except those that all streams deleted, and for derived clauses
-// that their owners didn't delete.
+// True for the formula's clauses, except those that all streams have deleted, and for derived
+// clauses that their owners haven't deleted.
 static bool is_carried(const Replay *replay, uint64_t identity) {
     if (identity > replay->clauses)
         return clause_of(replay, identity) != 0 && !known_of(replay, identity)->deleted;
@@ -231,7 +231,7 @@ void replay_all(Replay *replay, const char *formula, const char *folder, const c
 
 // Searches for lines.
 
-// The number of the line, from the current one on, that derives the clause; or 0.
+// The number of the line that derives the clause, if it is the current line or a later one; or 0.
 uint64_t line_deriving(const Stream *stream, uint64_t identity) {
     char word[24];
     size_t length = (size_t)snprintf(word, sizeof word, "%llu ", (unsigned long long)identity);

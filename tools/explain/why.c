@@ -22,7 +22,7 @@ static int tell_byte(unsigned char byte) {
                         : printf("\\x%02x", byte);
 }
 
-// Prints the bytes around the decisive one, with a caret below that.
+// Prints the bytes around the decisive one, with a caret below it.
 static void tell_bytes(Line line, bool is_whole, size_t place) {
     size_t length = (size_t)(line.end - line.start),
            first = place > BYTES_BEFORE ? place - BYTES_BEFORE : 0;
@@ -108,7 +108,7 @@ static uint32_t number_of_owner(const Replay *replay, uint64_t identity) {
     return (uint32_t)((identity - replay->clauses - 1) % replay->count) + 1;
 }
 
-// Reads the next line, from `at` on, that is well-formed and derives a clause. False at the end.
+// Reads the first well-formed line, at `at` or later, that derives a clause. False at the end.
 static bool next_addition(const Stream *stream, unsigned char **at, Reading *reading) {
     for (unsigned char *end; (end = memchr(*at, '\n', (size_t)(stream->end - *at))) != NULL;) {
         Line line = { *at, end, true };
@@ -119,7 +119,7 @@ static bool next_addition(const Stream *stream, unsigned char **at, Reading *rea
 }
 
 // The greatest common divisor of the differences between the stream's identities; 0 if there are
-// fewer than three identities, since their difference may be chance.
+// fewer than three identities, since the difference of two may be chance.
 static uint64_t step_of(const Stream *stream) {
     uint64_t step = 0, last = 0, count = 0;
     Reading reading;
@@ -146,7 +146,7 @@ static bool tell_left_out(const Replay *replay, const Stream *stream) {
     return true;
 }
 
-// Prints a line if all identities of the stream, at least two, belong to one other stream.
+// Prints a line if the stream has two or more identities that all belong to one other stream.
 static void tell_order(const Replay *replay, const Stream *stream) {
     uint64_t count = 0;
     uint32_t owner = 0;
@@ -286,7 +286,7 @@ static void why_missing(const Replay *replay, const Stream *stream, uint64_t hin
         printf("  why: %llu is what this line derives: no line cites itself\n", (Printed)hint);
         return;
     }
-    printf("  why: %llu is of stream %u", (Printed)hint, owner->number);
+    printf("  why: %llu belongs to stream %u", (Printed)hint, owner->number);
     if (owner == stream && later)
         printf(", this one, which derives it later, in its line %llu\n", (Printed)later);
     else if (owner == stream) printf(", this one, and none of its lines derives it\n");
@@ -321,7 +321,8 @@ static void why_deleted(const Replay *replay, const Stream *stream, uint64_t hin
                "that others cite\n");
 }
 
-// The first clause that is now unit with this literal, or the conflict for CONFLICT; 0 if none is.
+// The first clause that is now unit with this literal, or, for CONFLICT, the first that is a
+// conflict; 0 if there is none.
 static uint64_t clause_with_unit(const Replay *replay, const Stream *stream, Literal literal) {
     uint64_t last = last_derived(replay);
     for (uint64_t identity = 1; identity <= last; identity++)

@@ -47,7 +47,7 @@ bool is_program(const std::string &path) {
     return stat(path.c_str(), &found) == 0 && S_ISREG(found.st_mode) && access(path.c_str(), X_OK) == 0;
 }
 
-// Searches absolute folders only: programs in the current one aren't run.
+// Searches absolute folders only: programs in the current folder aren't run.
 std::string on_the_path(const std::string &name) {
     const char *list = getenv("PATH");
     std::istringstream rest(list ? list : "");
@@ -75,14 +75,15 @@ void Front::find(int &count, char **&words) {
     output_of_lrupd = name(of_lrupd);
 }
 
-// On another host that name may lead to another file, or to none, so the words have an inode, too.
+// On another host, a name in /proc may lead to another file, or to none. So the words also have the
+// inode of the pipe.
 std::vector<std::string> Front::words() const {
     struct stat found;
     if (fstat(file, &found) != 0) refuse("cannot find lrup-solve: " + error_text());
     return { "--front", given, std::to_string(found.st_ino) };
 }
 
-// Opens the front's pipes by their names in /proc.
+// Opens the front's pipes through their names in /proc.
 void Front::open() {
     struct stat found;
     file = ::open(name(told).c_str(), O_RDONLY | O_NONBLOCK | O_CLOEXEC);
@@ -100,7 +101,7 @@ void Front::say(const std::string &line) const {
     while (heard >= 0 && write(heard, block.data(), BLOCK) < 0 && errno == EINTR) {}
 }
 
-// Whether the probe ended with a status other than 3, and not by a signal.
+// Whether the probe has exited, not by a signal, with a status other than 3.
 bool Front::has_refused() const {
     return probe.child.ended() && WIFEXITED(probe.child.status) && !probe.child.ended_with(UNKNOWN_STATUS);
 }
@@ -185,7 +186,7 @@ void Checker::start(Row row, const std::vector<int> &files) {
 
 bool Checker::was_killed() const { return child.ended() && WIFSIGNALED(child.status); }
 
-// Call once all output of the killed lrupd is read. Another one appends its lines to the same file.
+// Call once all output of the killed lrupd has been read. Another lrupd appends to the same file.
 void Checker::renew() {
     opener.end();
     close_file(sizes);
@@ -229,7 +230,7 @@ void Checker::begin_round(Row row, const std::vector<int> &files) {
     close_file(sizes);
 }
 
-// Writes what the pipe takes. With `drop` the memory of what was fed is given back.
+// Writes what the pipe takes. With `drop`, gives back the memory of what has been fed.
 bool Checker::feed(size_t number, uint64_t bytes, bool drop) {
     Stream &stream = streams[number];
     static std::vector<char> piece(PIECE);

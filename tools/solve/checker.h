@@ -44,7 +44,7 @@ public:
     // asks the front to start it; round 1 reads these files
     void start(Row row, const std::vector<int> &files);
     bool was_killed() const;                // a signal has ended it
-    void renew();                           // after that; then another one may be started
+    void renew();                           // call after that; then another lrupd may be started
 
     // Call expect_round before a round's streams end, with the beginning of the names that the next
     // round's files have in lrupd's folder. Once lrupd has saved the round, begin_round gives it
@@ -55,7 +55,7 @@ public:
 
     void look();                        // looks whether lrupd has opened something
     std::vector<pollfd> full_pipes() const;     // for when they have room
-    // up to this byte of the file; true if all are fed
+    // feeds the file up to this byte; true once all of that has been fed
     bool feed(size_t stream, uint64_t bytes, bool drop);
     // this file has the stream's next bytes
     void go_on_in(size_t stream, int file) { streams[stream].file = file; }
@@ -89,15 +89,15 @@ private:
     std::string sizes_of(Row row);
 };
 
-// The front, which trusts nothing that this process reports by a pipe (front/front.c). Files are
-// given by the names of the front's descriptors.
+// The front, which trusts nothing that this process reports through a pipe (front/front.c). Files
+// are given by the names of the front's descriptors.
 struct Front {
     // empty if no front has started this process
     std::string output_of_probe, output_of_lrupd, lrupd, formula, assumptions;
     std::string stopped;  // describes the signal that ends the run without waiting
     Checker probe;                      // an lrupd that reads the formula, and no stream
 
-    void find(int &count, char **&words);  // by LRUP_FRONT, or by words, which it removes
+    void find(int &count, char **&words);  // from LRUP_FRONT, or from words, which it removes
     std::vector<std::string> words() const;             // for a process that MPI starts
     void open();                                        // in one process only
     pollfd says() const { return { file, POLLIN, 0 }; }

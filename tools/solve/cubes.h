@@ -4,7 +4,7 @@
 // Each of these assumes the literals of a cube. What it learns doesn't depend on them, and is given
 // away as usual; the clause that refutes a cube is a clause like any other. So nothing in proofs is
 // about cubes. The first engine stays on the whole formula, since a cube may be as hard as the
-// formula. After some conflicts it chooses the variables by which cubes are made, and all engines
+// formula. After some conflicts it chooses the variables that cubes are made of, and all engines
 // keep these variables. The first process deals cubes out: an idle engine gets the cube of a lost
 // engine, or half of the oldest cube. Before its first cube, an engine works on the whole formula.
 //
@@ -62,7 +62,7 @@ class Dealer {
 public:
     uint64_t dealt = 0, handed_on = 0;
     uint64_t taken = 0, refuted = 0;    // of the user's cubes
-    std::deque<size_t> queue;           // the next ones, from 0
+    std::deque<size_t> queue;           // indices of the next cubes
     uint64_t elsewhere = 0;             // cubes that may still come from process 0
     uint64_t refuted_elsewhere = 0;     // by other processes
 

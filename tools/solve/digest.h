@@ -1,4 +1,5 @@
-// Unverified, like the whole solver. SHA-256, by libmd: it identifies a record's formula and files.
+// Unverified, like the whole solver. SHA-256, computed by libmd: it identifies a record's formula
+// and files.
 #ifndef DIGEST_H
 #define DIGEST_H
 

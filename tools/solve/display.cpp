@@ -209,7 +209,7 @@ void Display::causes(const std::string &cause) const {
     tell(cause);
 }
 
-// Without --proofs the record is in the run's temporary folder, for a core and LRAT text.
+// Without --proofs, the record is in the run's temporary folder, for a core and LRAT text.
 void Display::record() const {
     const Options &options = inputs.options;
     const char *what = options.record ? "" : ", until a core or LRAT text is written";

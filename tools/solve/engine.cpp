@@ -1,13 +1,13 @@
 // Unverified, like the whole solver. An engine's process: CaDiCaL, what it gives away, and what it
 // takes over.
 //
-// Sharing depends on these rules; without one of them proofs break silently:
+// Sharing depends on these rules; without one of them, proofs break silently:
 // - A clause over a variable that this engine eliminated or substituted isn't taken over: CaDiCaL
 //   would restore clauses that the proof has deleted, without a line. Whenever the number of active
 //   variables has changed, the witnesses are read again.
-// - The line of an import is written before the clause is added: CaDiCaL may shorten the clause by
-//   what it knows at the root, and then traces the shorter clause, which follows only from the
-//   import.
+// - The line of an import is written before the clause is added: CaDiCaL may shorten the clause
+//   using what it knows at the root, and then traces the shorter clause, which follows only from
+//   the import.
 // - The filter publishes a clause only once its line is written, and doesn't delete it in the round
 //   in which it was given away.
 // - Identities change from round to round. So a clause is asked for by its position in the outbox.
@@ -122,9 +122,9 @@ private:
         }
     }
 
-    // A single engine has CaDiCaL's default options. With each call of `solve` CaDiCaL restarts its
+    // A single engine has CaDiCaL's default options. Each call of `solve` restarts CaDiCaL's
     // rephasing: it inverts all phases, and hardly ever reaches better ones. Two engines are faster
-    // without rephasing; with cubes a pipeline formula took longer without it.
+    // without rephasing; with cubes, a pipeline formula took longer without it.
     void configure() {
         solver.set("quiet", 1);
         solver.set("seed", engine.options->seed + engine.number - 1);
@@ -305,7 +305,7 @@ private:
     }
 
     // Writes the clause that the filter waits for. CaDiCaL has usually traced it, but not if the
-    // formula has it, or with assumptions.
+    // formula has the clause, or if there are assumptions.
     void write_end() {
         collect_failed();
         putc_unlocked('a', proof);

@@ -102,8 +102,8 @@ static void out(const char *bytes, size_t length) {
 
 // Rounds.
 
-// Keeps what others gave away from this filter's floor on: the filter may still have to take it
-// over.
+// Keeps the clauses that others gave away at this filter's floor or later: the filter may still
+// have to take them over.
 static void keep_for_imports(void) {
     uint64_t formula = filter.formula.clauses;
     for (int k = 0; k < own->shared->engines; k++) {
@@ -258,7 +258,8 @@ static bool is_wanted(void) {
     return true;
 }
 
-// Gives away all units, and what the engine marked. The line is in the buffer; `out` publishes it.
+// Gives away all units, and what the engine marked. The line is still in the buffer; others see the
+// clause only after `out`.
 static void derived(const Filter *one) {
     size_t length = one->literals.length;
     count();
@@ -291,7 +292,7 @@ static void passed(uint64_t engine, uint64_t position) {
 }
 
 // The filter is already open, since a round may end before the first bytes arrive. If a binary
-// proof may be DRAT or LRAT, it is taken for DRAT.
+// proof could be either DRAT or LRAT, it is taken for DRAT.
 static Form form_found(const Formula *formula) {
     Form form = form_of(&input, formula);
     if (form != FRAT) filter_name_formula(&filter);
@@ -325,8 +326,8 @@ static void end_proof(void) {
 }
 
 // Doesn't return. The formula was read before the fork; the filter's changes to it stay in this
-// process. The stream deletes no clause before its round ends: others may cite what was given away
-// at any time, and lrupd reuses no memory of deleted clauses.
+// process. The stream deletes no clause before its round ends: at any time, others may cite what
+// was given away, and lrupd doesn't reuse the memory of deleted clauses.
 void filter_process(const Filtering *filtering, const void *formula) {
     static const Hooks hooks = { .ends = ends, .derives = derives, .derived = derived,
                                   .gift = gift, .passed = passed,

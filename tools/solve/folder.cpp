@@ -23,8 +23,8 @@ int place = -1, folder_file = -1;           // the parent folder; the folder its
 Pipe life;                                  // closed when this process ends
 pid_t cleaner = 0;
 
-// Removes everything whose name has this beginning, by descriptors only, since a name may lead to
-// another file by now. Closes `file`.
+// Removes everything whose name has this beginning, using only descriptors, since a name may lead
+// to another file by now. Closes `file`.
 void remove_within(int file, const std::string &beginning = "") {
     DIR *list = file < 0 ? nullptr : fdopendir(file);
     while (const dirent *entry = list ? readdir(list) : nullptr) {

@@ -49,8 +49,8 @@ Inputs::Inputs(const Options &given) : options(given) {
     errors_handle(refused);
 }
 
-// A path by which the input can be read more than once. The front has copied an input that isn't a
-// file on disk; a record keeps that copy.
+// A path from which the input can be read more than once. The front has copied an input that isn't
+// a file on disk; a record keeps that copy.
 std::string Inputs::again(const std::string &path, const std::string &fronts,
                           const char *kept_as) const {
     if (is_read_again(path)) return path[0] == '-' ? "./" + path : path;
@@ -167,7 +167,7 @@ void Inputs::read_first_formula(const std::string &path) {
     first_formula = Formula();
     formula_read(&first_formula, path.c_str());
     if (first_formula.variables != formula.variables || first_formula.clauses < formula.clauses)
-        refuse(path + " isn't of this formula" + NOT_RESUMED);
+        refuse(path + " doesn't belong to this formula" + NOT_RESUMED);
 }
 
 // Whether the literals are separated correctly is for lrupd to judge.

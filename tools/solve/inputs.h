@@ -25,7 +25,7 @@ public:
     void read(const Meanwhile &meanwhile);
     void read_formula();
     void read_first_formula(const std::string &path);
-    double deadline() const;                    // by --time; INFINITY without
+    double deadline() const;                    // set by --time; INFINITY without it
     std::string contradiction() const;          // of the assumptions; or ""
     bool is_model(const signed char *values) const;
     std::string fault_of_assumptions() const;   // in their spelling; "" if unknown

@@ -32,7 +32,7 @@ namespace {
 const uint64_t EXCHANGING = 500;        // milliseconds
 const double STARTING = 600;            // seconds
 
-// Decides by the variables that mpirun and SLURM's launcher set before MPI is initialised.
+// Decides from the variables that mpirun and SLURM's launcher set before MPI is initialised.
 bool is_process_0() {
     for (const char *name : { "OMPI_COMM_WORLD_RANK", "PMIX_RANK", "PMI_RANK" })
         if (const char *rank = getenv(name)) return atoi(rank) == 0;
@@ -46,7 +46,7 @@ bool is_process_0() {
 int solve(int count, char **words) {
     if (front.is_there() && is_process_0()) front.open();
     Options options = read_words(count, words);
-    if (!front.is_there()) refuse("lrup-solve --mpi starts this program");
+    if (!front.is_there()) refuse("this program has to be started by lrup-solve --mpi");
     start_by_mpi(options, count, words);
     if (options.engines == 0) options.engines = half_of_the_cores();
     Link link;

@@ -115,7 +115,7 @@ public:
     Traffic traffic = {};
 
     void open(Shared *all, const std::vector<uint32_t *> &boxes);
-    // the lines of clauses before that position are sent
+    // the lines of clauses before that position have been sent
     void clear(int engine, uint64_t used) { cleared[size_t(engine)] = used; }
     std::string collect();              // what was given away since the last time
     // it has collected in this round
@@ -165,7 +165,7 @@ public:
     void open();                        // once shared memory exists
     void look();                        // takes messages, and exchanges
     double next_look() const;
-    int silent_process() const;         // one that was silent for too long, or -1
+    int silent_process() const;         // one that has been silent for too long, or -1
     void leave(double seconds);         // takes the others' last messages
 
 private:

@@ -183,7 +183,7 @@ void check_resumed(Options &options) {
 
 void check_engines(const Options &options) {
     if (options.solvers.size() + size_t(options.engines) > MOST_ENGINES)
-        refuse("more than 64 engines, with those of --solver");
+        refuse("more than 64 engines, including solvers");
     if (options.cubes && options.engines == 0 && !options.solvers.empty())
         refuse("--cubes without engines: -j sets how many");
     if (options.cubes && !options.share && options.engines != 1)

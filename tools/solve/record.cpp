@@ -75,7 +75,7 @@ bool is_of_a_round(const std::string &name) {
     return name.compare(0, line, "round") == 0 && (rest == "sizes" || is_stream);
 }
 
-// Whether a run gives a file this name, complete or not.
+// Whether runs give this name to a file, complete or unfinished.
 bool is_of_a_record(const std::string &name) {
     for (const char *known : NAMES)
         if (name == known || name == unfinished(known)) return true;
@@ -127,7 +127,7 @@ void read_list(const std::string &path) {
     kept_open(list_file);
 }
 
-// Whether the record has a proof, by lrupd's report.
+// Whether the record has a proof, according to lrupd's report.
 bool has_proof() {
     if (listed.count("report") == 0) return false;
     int file = openat(record_folder, "report", O_RDONLY | O_NOFOLLOW | O_NONBLOCK | O_CLOEXEC);
@@ -291,9 +291,10 @@ void check_plain(const std::string &path, const std::string &name) {
 
 // The folder.
 
-// Locks the folder until this process ends, in any way; without locks in the file system, another
-// run isn't noticed. Refuses a folder in which others may write, since they could replace streams
-// that are opened again by name. Waits, since an earlier run's processes may still be ending.
+// Locks the folder until this process ends, however that happens; if the file system has no locks,
+// another run isn't noticed. Refuses a folder in which others may write, since they could replace
+// streams that are opened again by name. Waits, since an earlier run's processes may still be
+// ending.
 static void hold_folder(const std::string &folder, double seconds) {
     int file = open(folder.c_str(), O_RDONLY | O_DIRECTORY | O_CLOEXEC);
     if (file < 0) refuse(folder + ": " + error_text());
@@ -338,7 +339,8 @@ void open_record_again(const std::string &folder) {
     hold_folder(folder, ENDING);
     read_list(folder + "/" + LIST);
     if (list_file < 0) refuse(folder + " has no record: --proofs makes one");
-    if (has_proof() && is_there(folder + "/command")) refuse(folder + " has its proof: sh " + quoted(folder + "/command") + " checks it");
+    if (has_proof() && is_there(folder + "/command"))
+        refuse(folder + " already has a proof: sh " + quoted(folder + "/command") + " checks it");
     check_own(folder, files_of(folder));
 }
 
@@ -371,7 +373,7 @@ int open_in_record(const std::string &name) {
     return openat(record_folder, name.c_str(), O_RDONLY | O_NOFOLLOW | O_NONBLOCK | O_CLOEXEC);
 }
 
-// Removes the files for resuming a run, which has its proof now.
+// Removes the files for resuming the run, since it has its proof now.
 void remove_checkpoints(const std::string &folder) {
     std::set<std::string> left;
     for (const std::string &name : listed) {

@@ -11,7 +11,7 @@
 
 namespace {
 
-const uint64_t SHORT_STREAMS = UINT64_C(1) << 20;   // bytes of all streams that lrupd waits for
+const uint64_t SHORT_STREAMS = UINT64_C(1) << 20;   // bytes in all streams before lrupd starts
 const uint64_t ALL_FED = UINT64_MAX / 2;     // more bytes than a stream has, so no filter waits
 const double CROWDED = 0.75;        // how much of the largest row live clauses may take
 const int MOST_STARTS = 3;          // how often lrupd is started without saving a new round
@@ -131,8 +131,8 @@ size_t Rounds::first_streams() const { return ended.count() > 0 ? ended.streams(
 
 // Checks all rounds, even if the record has moved: each input is first looked for at its path
 // relative to the record. Names are values of variables, and occur nowhere else. lrupd reads the
-// same open files whose digests are checked. In rounds it also writes files, so it runs in a new
-// folder with links to the record's files; a packed stream comes through a pipe.
+// same open files whose digests are checked. In rounds, lrupd also writes files, so it runs in a
+// new folder with links to the record's files; a packed stream comes through a pipe.
 static const char CHECK_AGAIN[] = R"sh(
 CDPATH=
 clean() { printf '%s' "$1" | LC_ALL=C tr '\001-\037\177' '?'; }
@@ -297,7 +297,7 @@ void Rounds::start_checker(Row wanted) {
     if (goes_on) checker.expect_round(Folder::name() + "/" + name_of_round(checked + 1));
 }
 
-// The record has what the killed lrupd read. The next one may be killed, too, so the number of
+// The record has what the killed lrupd read. The next lrupd may be killed, too, so the number of
 // starts is limited.
 bool Rounds::may_check_again() {
     if (!checker.was_killed()) return false;
@@ -497,7 +497,7 @@ std::string Rounds::how_to_go_on() {
 // Ends all streams. Paused filters continue, so that they can end their streams.
 void Rounds::end_round(bool full) {
     is_full = full;
-    teams.start_others();       // all engines begin with round 1
+    teams.start_others();       // every engine takes part in round 1
     STORE(teams.shared->ending_round, number);
     teams.tell_filters();
     pause_begun = now();

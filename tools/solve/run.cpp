@@ -108,8 +108,8 @@ std::string Run::why_it_is_asked() const {
     return now() >= inputs.deadline() ? "time is up" : "";
 }
 
-// Before it ends, a run saves what it found since its last round, or checks its proof, if that
-// takes only some seconds. Returns whether it is still doing so.
+// Before it ends, a run saves what it has found since its last round, or checks its proof, if that
+// takes only a few seconds. Returns whether it is still doing so.
 bool Run::saves_first() {
     if (saving == 0) {
         saving = now() + SAVING;
@@ -138,7 +138,7 @@ void Run::look() {
 
 bool Run::may_check_again() { return asked.empty() && rounds.may_check_again(); }
 
-// Another lrupd begins, while engines continue, once no filter reads what the killed one has saved.
+// Starts another lrupd once no filter reads what the killed one has saved. Engines continue.
 void Run::look_at_killed() {
     if (!may_check_again() || rounds.state == Rounds::MAPPING) return;
     display.show_lines();
@@ -198,7 +198,7 @@ void Run::look_at_team(size_t k) {
     if (phase != SOLVING || team.told || said == SATISFIABLE) return;
     bool both_ended = team.engine.ended() && team.filter.ended_with(0);
     if (look_at_end(k) || !team.filter.ended() || !(both_ended || !team.filter.ended_with(0))) return;
-    if (facts.proof_ended && team.engine.running) return;       // it held the proof open, and ends now
+    if (facts.proof_ended && team.engine.running) return;       // it held the proof open, and ends
     std::string end = facts.cause[0] ? std::string("stopped: ") + facts.cause : team.filter.end();
     tell_lost(k, inputs.options.check && facts.cause[0] ? facts.cause : end_before(k) + "its filter " + end);
     team.engine.signal(SIGKILL);
@@ -223,7 +223,7 @@ std::string Run::end_before(size_t k) const {
     return teams.engine_status(k).proof_ended && !is_usual(teams[k].engine) ? end_of(k) + "; " : "";
 }
 
-// Whether an engine has ended without an answer, which isn't its filter's fault.
+// Whether an engine has ended without an answer, and not because of its filter.
 bool Run::look_at_end(size_t k) {
     Team &team = teams[k];
     const EngineStatus &facts = teams.engine_status(k);
@@ -281,7 +281,8 @@ void Run::end_streams() {
     phase = CHECKING;
 }
 
-// Depends only on lrupd's status. The answer is printed even if the report can't be kept.
+// The verdict depends only on lrupd's status. The answer is printed even if the report can't be
+// kept.
 void Run::verdict() {
     display.show_lines();
     bool is_proved = checker.child.ended_with(0) || checker.child.ended_with(8);

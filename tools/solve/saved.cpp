@@ -241,7 +241,7 @@ std::string Saver::look() {
     if (now.round == 0 || child.running) return "";
     bool is_saved = child.ended_with(0);
     std::string why = child.ended_with(1) ? cause : "its process " + child.end();
-    std::string line = "round " + std::to_string(now.round - 1) + " isn't saved: " + why;
+    std::string line = "round " + std::to_string(now.round - 1) + " couldn't be saved: " + why;
     if (is_saved) saved = now.round, on_disk = now.digests.size();
     now = Work();
     if (next.round != 0) start();

@@ -1,8 +1,8 @@
 // Unverified, like the whole solver. The complete rounds of a record, from which a run can be
 // resumed. The record's rounds.sha256 has the digests of their sizes and streams, and of
-// checkpoint-R.cnf: the clauses with which round R begins, the first round that the record doesn't
-// have. None of this is trusted: lrupd begins with FORMULA, and gets these streams before those of
-// the current round.
+// checkpoint-R.cnf, the clauses with which round R begins. Round R is the first one that the record
+// doesn't have. None of this is trusted: lrupd begins with FORMULA, and gets these streams before
+// those of the current round.
 #ifndef SAVED_H
 #define SAVED_H
 

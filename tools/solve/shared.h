@@ -17,7 +17,7 @@
 #include "test_hooks.h"
 
 enum { MOST_ENGINES = 64, LONGEST_CAUSE = 320, LONGEST_PATH = 4096 };
-// variables by which cubes are made; literals of one cube
+// variables that cubes are made of; literals of one cube
 enum { VARIABLES_OF_CUBES = 64, MOST_OF_A_CUBE = 20 };
 
 // event_count.c: wakes one waiting process when others have stored something.
@@ -61,14 +61,14 @@ typedef struct {
     uint64_t kept;              // bytes of the stream that the record has then
     char unkept[LONGEST_CAUSE]; // why the record hasn't more
     char cause[LONGEST_CAUSE];  // why the filter stopped; read it once the filter has ended
-    int proof_ended;            // it had then read the whole proof
+    int proof_ended;            // when it ended, it had read the whole proof
     // The first process writes:
     uint64_t stream;            // its number in this round, or in the next; 0: it has none
     uint64_t fed;               // bytes of its stream that lrupd has got
     int gone;                   // the filter has ended
     EventCount events;          // for the filter: when the first process writes here or below
     uint64_t cube_number;       // of its last cube; 0: none, or one is being written
-    int cube_of_file;           // a cube of the user's, from 1, plus these literals; 0: only these
+    int cube_of_file;           // a user's cube (1: the first), plus these literals; 0: only these
     int cube_length, cube[MOST_OF_A_CUBE];
 } EngineStatus;
 
@@ -110,7 +110,7 @@ enum { OUTBOX_WORDS = 1 << 20, HEAD_OF_A_GIFT = 2 };
 
 static inline uint32_t length_of(const uint32_t *gift) { return gift[0] & ~OF_A_CUBE; }
 
-// The gift at position `at`, which then moves to the next gift; NULL at the end.
+// Returns the gift at position `at`, and moves `at` to the next gift; NULL at the end.
 static inline uint32_t *next_gift(const Shared *shared, uint32_t *outbox, uint64_t *at,
                                   uint64_t end) {
     uint64_t size = shared->outbox_words;
@@ -126,8 +126,8 @@ static inline const Literal *literals_of(const uint32_t *gift) {
 }
 
 // Which clauses an engine begins with: the user's formula, and the short clauses that an earlier
-// run saved. Each longer clause, up to a length, goes to one engine, since most of them had been
-// derived by only one engine, and no engine deletes what it begins with.
+// run saved. Each longer clause, up to a length, goes to only one engine: most longer clauses were
+// derived by a single engine, and no engine deletes what it begins with.
 typedef struct {
     uint64_t formula;               // clauses of the user's formula, which come first
     uint64_t for_all, for_one;      // most literals
@@ -169,9 +169,9 @@ _Noreturn void filter_process(const Filtering *filtering, const void *formula); 
 // event_count.c
 uint64_t events_so_far(const EventCount *events);
 void events_advance(EventCount *events);                        // after the store
-bool events_begin_wait(EventCount *events, uint64_t seen);  // false if something came since then
+bool events_begin_wait(EventCount *events, uint64_t seen);  // false if something came after `seen`
 void events_end_wait(EventCount *events, bool is_readable);     // whether its file is readable
-// until something comes, or the file (-1: none) can be read: then true
+// waits until something comes, or the file (-1: none) can be read; true if the file can be read
 bool events_await(EventCount *events, uint64_t seen, int file);
 
 // outbox.c: engines are counted from 1.

@@ -21,7 +21,7 @@ struct Options {
     // commands, or paths of proofs: the last engines, which share nothing
     std::vector<const char *> solvers;
     double seconds = 0;         // for the run; 0: no limit
-    // bytes of lrupd's row: the usual and the largest size; 0: by the machine's memory
+    // bytes of lrupd's row: the usual and the largest size; 0: chosen from the machine's memory
     uint64_t memory = 0, most_memory = 0;
     int share_size = 4;         // most literals of a clause that is given away; units always are
     bool share = true;
@@ -107,7 +107,7 @@ void give_way();  // makes the system kill this process first if memory is short
 
 // folder.cpp: the run's temporary folder. It is removed however this process ends.
 namespace Folder {
-    void make();                    // if it isn't made yet
+    void make();                    // if it hasn't been made yet
     std::string make_if_possible();
     const std::string &name();
     std::string numbers();          // this process's id, and the folder's descriptor, for the front
@@ -141,9 +141,9 @@ void open_record(const std::string &folder, const std::vector<std::string> &inpu
 void open_record_again(const std::string &folder);      // of a resumed run
 // of an earlier run
 void clear_record(const std::string &folder, const std::vector<std::string> &kept);
-int open_in_record(const std::string &name);            // -1: it can't be
+int open_in_record(const std::string &name);            // -1: it can't be opened
 void remove_checkpoints(const std::string &folder);     // of a run that needs none any more
-bool claim(const Place &place);                         // before a file is made; false: another's
+bool claim(const Place &place);                         // before making a file; false, with errno
 bool is_there(const std::string &path);
 std::string digest_of(int file, const std::string &path);
 std::string digest_of(const std::string &text);
@@ -170,7 +170,7 @@ struct Engine {
 [[noreturn]] void engine_process(const Engine &engine);
 const char *engine_version();
 
-// solver.cpp: the same for a user's solver, which opens these files.
+// solver.cpp: a process for a user's solver, which opens these files.
 std::string solver_command(const std::string &command, const std::string &formula,
                            const std::string &proof);
 [[noreturn]] void solver_process(const Engine &engine, const std::string &command,

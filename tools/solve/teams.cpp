@@ -18,7 +18,7 @@ namespace {
 // the system's limit for all pipes of a user is 1 << 26
 const int PROOF_PIPE = 1 << 20, ALL_PROOF_PIPES = 1 << 24;
 const int CROWDED_PIPE = 1 << 16;
-// seconds for which the first engine runs alone, after the time of READINGS of the formula
+// the first engine runs alone for these seconds, plus READINGS times the time to read the formula
 const double MOMENT = 0.1;
 const int READINGS = 2;
 const uint64_t LEARNED = 1 << 18;   // literals
@@ -116,8 +116,7 @@ void Teams::set_here(int first, int count) {
     shared->engines_here = count;
 }
 
-// Whether the first clause that the proof adds has an identity of stream k, if there are several
-// proofs.
+// Among several proofs: whether the first clause that proof k adds has an identity of stream k.
 bool Teams::is_a_stream(size_t k) const {
     std::string path = inputs.options.solvers[k], head(HEAD, 0), line, second;
     int file = is_read_again(path) ? ::open(path.c_str(), O_RDONLY | O_CLOEXEC) : -1;
@@ -142,8 +141,8 @@ void Teams::find_streams() {
     if (are_streams) cited = inputs.options.solvers;
 }
 
-// Saved clauses take no more room in an engine than the formula does, or than what an engine
-// usually learns. Half of that is for clauses that all engines get.
+// Saved clauses take no more room in an engine than the formula does, or what an engine usually
+// learns, if that is more. Half of that room is for clauses that all engines get.
 void Teams::find_beginning() {
     const Formula &all = inputs.first_formula;
     uint64_t own = inputs.formula.clauses,
@@ -295,7 +294,8 @@ bool Teams::has_refuted(size_t k) const {
 }
 
 // While the filter of an engine that has refuted the formula catches up, the other engines and
-// filters on this host are paused, so that this filter has the cores. They continue if it stops.
+// filters on this host are paused, so that this filter has the cores. They continue if that filter
+// stops.
 void Teams::pause_others() {
     bool wanted = false;
     if (inputs.options.check) return;       // all proofs exist already
@@ -320,8 +320,8 @@ void Teams::go_on() {
     }
 }
 
-// Chooses the engine whose clauses take the most room, and an engine that has refuted the formula
-// only if no other is left.
+// Chooses the engine whose clauses take the most room; an engine that has refuted the formula only
+// if no other is left.
 std::string Teams::choose_leaving(const std::string &cause) {
     size_t found = list.size();
     auto weight = [this](size_t k) { return has_refuted(k) ? 0 : 1 + LOAD(engine_status(k).held); };
@@ -336,7 +336,7 @@ std::string Teams::choose_leaving(const std::string &cause) {
     return why_lost(found);
 }
 
-// Keeps the leaving engine also if it has refuted the formula meanwhile.
+// Also keeps the leaving engine if it has refuted the formula meanwhile.
 void Teams::keep_last() {
     uint64_t leaving = shared->leaving;
     if (leaving == 0) return;

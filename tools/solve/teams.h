@@ -18,7 +18,7 @@ struct Team {
     std::string command;    // a solver's, or the proof's name
     bool told = false, wrong = false, paused = false;
     bool silent = false;    // its filter died before this round
-    bool idle = false;      // it ended at its start, before doing anything
+    bool idle = false;      // it ended as soon as it started, before doing anything
     std::string cause;      // why it was lost
 };
 
@@ -49,7 +49,7 @@ public:
     bool have_all(uint64_t EngineStatus::*field, uint64_t wanted) const;  // for all running filters
     std::vector<Child *> children();
 
-    void open(uint64_t round);          // before the formula is read; round: this run's first one
+    void open(uint64_t round);          // before the formula is read; round: this run's first round
     void open_models();                 // after the formula is read
     void set_here(int first, int count);    // other engines are on other hosts
     void start(bool is_first_alone);    // then the others start a moment later

@@ -1,7 +1,7 @@
 // Unverified, like the whole solver. Everything that tests change in a run, in one table. In a
-// build for tests (SOLVE_TESTS) the variable LRUP_SOLVE_HOOKS says what isn't 0, such as
-// 'slice=20;late_gifts=1;set=elimint=10 probeint=10', and is read first. In other builds the table
-// is constant, so that the compiler removes all code for it. 0 means the usual behaviour.
+// build for tests (SOLVE_TESTS), the variable LRUP_SOLVE_HOOKS, which is read first, sets those
+// that aren't 0: 'slice=20;late_gifts=1;set=elimint=10 probeint=10'. In other builds the table is
+// constant, so that the compiler removes all code for it. 0 means the usual behaviour.
 #ifndef TEST_HOOKS_H
 #define TEST_HOOKS_H
 
@@ -31,9 +31,9 @@
     NUMBER(without_clearing)    /* clauses are sent before their lines */                          \
     /* Make messages of other processes late: */                                                   \
     NUMBER(late_gifts)          /* a round's gifts come in the next round */                       \
-    NUMBER(late_saved)          /* that a round is saved, and all later messages of process 0, */  \
-                                /* come after gifts that it collected once its outboxes had */     \
-                                /* the identities of the next round */                             \
+    NUMBER(late_saved)          /* the message that a round is saved, and all later ones of */     \
+                                /* process 0, come after gifts that it collected once its */       \
+                                /* outboxes had the identities of the next round */                \
     NUMBER(late_lines)          /* a stream's lines come once it is whole, in pieces */
 
 typedef struct {

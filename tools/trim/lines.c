@@ -71,7 +71,7 @@ static int file_without_name(void) {
     return file;
 }
 
-// Unpacks the file into a temporary one. The program itself says why it can't unpack the file.
+// Unpacks the file into a temporary one. If it fails, the program itself prints why.
 static int unpacked(int packed, const char *program, const char *path) {
     int file = file_without_name(), status;
     fflush(NULL);
@@ -258,9 +258,9 @@ void record_check(const char *folder, const char *formula) {
              formula, folder, path);
 }
 
-// Counts the streams' files in round 1; a later round has as many streams as its sizes say, or as
-// the round before. In round 1 the sizes are read only if `row` isn't NULL. Without a file of sizes
-// the row stays as it is.
+// Counts the streams' files in round 1; a later round has as many streams as its file of sizes
+// says, or, without that file, as the round before. In round 1 the sizes are read only if `row`
+// isn't NULL. Without a file of sizes the row stays as it is.
 uint32_t record_streams(const char *folder, size_t round, uint32_t before, Row *row) {
     if (!is_there(record_file(folder, round, "stream-", 1))) return 0;
     uint32_t count = round == 1 ? 1 : before;

@@ -16,16 +16,16 @@ typedef struct {
     const char *text, *hints;           // a copy of the line; where its hints begin
 } Reading;
 
-// with eight more bytes; unpacks a file whose name says that it is compressed
+// the file's bytes, and eight more; unpacks a file whose name says that it is compressed
 unsigned char *file_map(const char *path, size_t *length);
 void file_unmap(unsigned char *start, size_t length);
 void file_check(const char *path);                              // stops if it can't be read twice
-// of a file of one line; NULL for any other file
+// the numbers in a file of one line; NULL for any other file
 const int64_t *numbers_read(const char *path, size_t *count);
 Line line_copy(Line line);              // with LF and zeros; overwrites the last copy
 // NULL, or a fault; overwrites the last reading
 const char *line_read(Line line, Reading *reading);
-const int64_t *line_hints(Line line, size_t *count);  // of what follows a line's literals; or NULL
+const int64_t *line_hints(Line line, size_t *count);  // reads what follows the literals; or NULL
 void lines_free(void);                  // frees the buffers, which are as large as the longest line
 
 // Refuses words other than FORMULA DIR|STREAM... Returns the folder, or NULL.

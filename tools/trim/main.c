@@ -1,6 +1,6 @@
-// Unverified and untrusted: lrupd, or any LRAT checker, checks the output. lrup-trim keeps what the
-// empty clause needs of the streams of a run, or of a record of rounds. docs/lrup-trim.1 describes
-// it, and is also the source of its --help.
+// Unverified and untrusted: lrupd, or any LRAT checker, checks the output. lrup-trim keeps those
+// lines of a run's streams, or of a record of rounds, that the empty clause needs. docs/lrup-trim.1
+// describes it, and is also the source of its --help.
 #define _POSIX_C_SOURCE 200809L
 #include <ctype.h>
 #include <signal.h>
@@ -89,7 +89,7 @@ static void assume(Proof *proof, const char *path) {
         stop("%s: not a line of literals of FORMULA's variables and 0, with single spaces", path);
 }
 
-// Prints a text, and a word that is quoted for a shell, as lrup-solve does, too.
+// Prints a text, and a word that is quoted for a shell in the same way as by lrup-solve.
 static void print(const char *text, const char *word) {
     bool is_plain = *word != 0;
     for (const char *at = word; *at; at++)

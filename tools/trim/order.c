@@ -172,7 +172,7 @@ static void round_end(Proof *proof, const Round *round) {
     }
 }
 
-// Whether another round follows, which is then added.
+// Adds the next round, if there is one; otherwise returns false.
 static bool goes_on(Proof *proof, const unsigned char *dropped) {
     uint32_t index = (uint32_t)proof->rounds.length - 1, before = proof->rounds.items[index].count;
     uint32_t count = proof->target || !proof->folder

@@ -55,7 +55,7 @@ const int64_t *hints_again(const Stream *stream, Number number, size_t *count) {
     return hints;
 }
 
-// How many identities the stream has, by its last addition.
+// How many identities the stream has, judging by its last addition.
 static uint64_t slots_of(const Stream *stream, const Round *round, uint64_t number) {
     Reading reading;
     for (unsigned char *end = stream->end, *start; end > stream->start; end = start) {
@@ -70,7 +70,7 @@ static uint64_t slots_of(const Stream *stream, const Round *round, uint64_t numb
     return 0;
 }
 
-// Opens the stream with this number, from 0, in its round.
+// Opens the stream with this number in its round; the first stream has number 0.
 void stream_open(Proof *proof, Stream *stream, const Round *round, uint64_t number) {
     size_t length;
     stream->at = stream->start = file_map(stream->path, &length);

@@ -1,6 +1,6 @@
-// Unverified and untrusted: lrupd, or any LRAT checker, checks the output. lrup-trim keeps what the
-// empty clause needs of the streams of a run, or of all its rounds. This header is common to its
-// files.
+// Unverified and untrusted: lrupd, or any LRAT checker, checks the output. lrup-trim keeps those
+// lines of a run's streams, or of all its rounds, that the empty clause needs. This header is
+// common to its files.
 //
 // A first pass puts all lines in an order in which each comes after those that it cites (order.c).
 // A second pass, backwards, finds the lines that are needed, and which of them cites a clause last
@@ -13,8 +13,8 @@
 #include "../exact/formula.h"
 #include "lines.h"
 
-// A clause's number over all rounds: FORMULA's clauses have 1, 2 and so on; each stream's clauses
-// follow those of the streams before it.
+// A clause's number over all rounds: FORMULA's clauses have the numbers 1, 2 and so on; each
+// stream's clauses follow those of the streams before it.
 typedef uint32_t Number;
 
 // streams.c: where the lines are.
@@ -41,7 +41,7 @@ typedef struct {
 typedef struct { Number from, to; } Run;        // consecutive lines of one stream
 
 typedef struct {
-    Formula formula;                    // FORMULA, or with --re-hint its core
+    Formula formula;                    // FORMULA, or, with --re-hint, its core
     Number *names;  // numbers of the core's clauses in FORMULA; NULL if formula is FORMULA
     uint64_t clauses, literals;         // of FORMULA
     LIST_OF(Stream) streams;
@@ -51,11 +51,11 @@ typedef struct {
     unsigned char *assumed;             // by literal; NULL: nothing is assumed
     uint64_t numbers;                   // the next free number
     Number target;                      // the clause that ends the proof, or 0
-    // by number: the last line that cites it, 0: not needed; its index among the needed lines,
-    // from 1
+    // by a clause's number: the last line that cites it, or 0 if it isn't needed; its index among
+    // the needed lines, where the first index is 1
     Number *last_use, *place;
     uint64_t lines, bytes;              // read
-    uint64_t core, kept, room;          // needed clauses of FORMULA, lines, literals of these lines
+    uint64_t core, kept, room;          // needed: clauses of FORMULA, lines, literals of the lines
 } Proof;
 
 Line line_at(const Stream *stream, unsigned char *start);

@@ -8,10 +8,10 @@
 // anything, and gives lrupd that open file. It starts lrupd and the probe itself, and collects the
 // exit status of each through a pidfd, opened while only the front can wait for that child. Process
 // ids are never compared, and orphans go to the supervisor. Only lrupd's own exit status sets
-// `verdict`, in one place. If a signal ends lrupd, another one may begin, at the formula's first
-// byte. No other process gets the front's standard output. From lrup-engines it prints comments, in
-// ASCII, and an assignment if that satisfies each clause. The lines on which this rests are marked
-// `trusted`. Others can at worst prevent an answer. It is assumed that they can't trace the front
+// `verdict`, in one place. If a signal ends lrupd, another lrupd may start, at the formula's first
+// byte. No other process gets the front's standard output. From lrup-engines the front prints only
+// comments, in ASCII, and an assignment that satisfies each clause. Lines on which this rests are
+// marked `trusted`; others can at worst prevent an answer. Other processes mustn't trace the front
 // or lrupd, replace lrupd, or write to the formula's file or the user's output (docs/SECURITY.md).
 //
 // lrup-engines gets a line for each child that has ended, and one for a signal. It sends blocks of
@@ -62,8 +62,8 @@ static struct child {
     const char *name;
     int handle;         // -1: it isn't running
     int output;         // in memory, so that a full disk doesn't cost an answer
-    off_t begins;       // in `output`, after the lines of one that a signal has ended
-    pid_t pid;          // 0: it wasn't started, or not since a signal ended it
+    off_t begins;       // in `output`, after the lines of an lrupd that a signal has ended
+    pid_t pid;          // 0: it hasn't been started, or not since a signal ended it
     siginfo_t end;
 } children[CHILDREN] = { { .name = "supervisor", .handle = -1 }, { .name = "probe", .handle = -1 },
                          { .name = "lrupd", .handle = -1 } };
@@ -71,7 +71,7 @@ static enum state state = SOLVING;
 static long until, latest;                      // deadlines, by now(): of the state, of the run
 static const char *self, *lrupd, *formula, *assume;     // paths
 static const char *verdict;                     // a line; NULL: there is none
-static signed char *assignment;                 // from 1 on: 1 true, -1 false
+static signed char *assignment;                 // by variable, from 1: 1 true, -1 false
 static long known;                              // how many variables the assignment has
 static bool is_whole, has_refused;              // the assignment; lrup-engines
 static int ended_by, null, signals, told[2], heard[2];  // a signal; files; pipes of lrup-engines
@@ -148,7 +148,7 @@ static const char *find_program(const char *named, const char *name) {
     errx(1, "no %s that can be run: %s", name, named ? named : "none beside lrup-solve or on PATH");
 }
 
-// A name of the open file for all processes, even once its path leads to another file.
+// A name of the open file that works in all processes, even once its path leads to another file.
 static const char *name_of(int file) { return text("%s/fd/%d", self, file); }
 
 // A sealed copy of what can't be read twice. lrupd takes at most 2^28 literals and clauses, with
@@ -305,7 +305,7 @@ static bool read_line(void) {
     if (strncmp(line, "c ", 2) != 0) return true;           // trusted (comments): nothing else
     for (char *at = line; *at != 0; at++)
         if (*at < ' ' || *at > '~') *at = '?';              // trusted (one line): in ASCII
-    line[BLOCK - 1] = 0;        // with the line feed a pipe takes it at once
+    line[BLOCK - 1] = 0;        // the pipe takes it, with its line feed, at once
     if (!options.quiet && !has_refused && poll(&output, 1, 0) > 0) puts(line);
     fflush(stdout);
     return true;
@@ -325,7 +325,7 @@ static void set_verdict(int status, const char *line) {
     if (pread(children[LRUPD].output, bytes, length, at) < 0) return;
     if (!exited_with(LRUPD, status)) return;                // trusted (exit)
     if (strcmp(bytes, text("%s\n", line)) != 0) return;     // trusted (last line): lrupd's own
-    if (at < children[LRUPD].begins) return;                // trusted (own line): no killed one's
+    if (at < children[LRUPD].begins) return;                // trusted (own line): no killed lrupd's
     assert(verdict == NULL);
     verdict = line;
 }
@@ -355,7 +355,7 @@ static void handle_signal(void) {
         raise(SIGSTOP);
         signal_group(SUPERVISOR, SIGCONT);
     }
-    if (found.ssi_signo != SIGTSTP && ended_by != 0) stop_solving_within(0);    // the second one
+    if (found.ssi_signo != SIGTSTP && ended_by != 0) stop_solving_within(0);    // a second signal
     if (found.ssi_signo == SIGTSTP || ended_by != 0) return;
     ended_by = (int)found.ssi_signo;
     stop_solving_within(GRACE);
@@ -378,7 +378,7 @@ static void await_event(void) {
         if (files[which].revents != 0) collect_end((enum which)which);
 }
 
-// Returns the next state. Each state ends at `until` at the latest; SOLVING gets that from --time.
+// Returns the next state. Each state ends at `until` at the latest; SOLVING gets it from --time.
 static enum state next(void) {
     switch (state) {
     case SOLVING:

@@ -61,7 +61,7 @@ static void end_children(void) {
     }
 }
 
-// Reports how lrup-engines ended, unless it exited with 0 or still runs. 127: it never began.
+// Reports how lrup-engines ended, unless it exited with 0 or still runs. 127: it never started.
 static void report(int says, bool is_mpi) {
     const char *started = is_mpi ? "MPI's command" : "lrup-engines";  // lrup-engines has become it
     char line[BLOCK] = "";

@@ -1,4 +1,4 @@
-// supervisor.c: starts lrup-engines, or MPI's command, and ends everything that this has started.
+// supervisor.c: starts lrup-engines, or MPI's command, and ends it with all its descendants.
 #ifndef SUPERVISOR_H
 #define SUPERVISOR_H
 
